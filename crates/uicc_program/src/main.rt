@@ -2,17 +2,12 @@
 //! writes the trace of every command and answer.
 #![tactic(auto)]
 
-ghost use Rattle.std.specs.Prelude.{◌≡◌, ◌≤◌, ◌↔◌, List, ℕ, Some, length, map, option_map};
+ghost use Rattle.std.specs.Prelude.{◌≡◌, ◌≤◌, ◌↔◌, [], length, map, option_map};
 ghost use Rattle.boxed_applets.specs.Casts.{program_boxes};
 ghost use Rattle.card_layout.specs.declared.sizes.TheConstants.{ROW_COUNT};
-ghost use Rattle.eeprom_model.specs.Bench.{new_bench};
-ghost use Rattle.uicc_run.specs.Answering.{HasLoaded, HasRun, KeepsToScript, NameNoImage, seen};
-ghost use Rattle.uicc_run.specs.Loading.{LoadsFrom};
-ghost use Rattle.uicc_run.specs.Opening.{ReadsFrom, RunsFrom};
+ghost use Rattle.uicc_run.specs.Answering.{HasLoadedOnBench, HasRunOnBench, HasServed, KeepsToScripts, NameNoImage};
 ghost use Rattle.uicc_run.specs.Pages.{AsksForNone, words_of};
-ghost use Rattle.uicc_run.specs.Playing.{Given};
-ghost use Rattle.uicc_run.specs.Stores.{size_of};
-ghost use Rattle.uicc_run.specs.Terminals.{AskForBip, IsBipCaused, TracesBip};
+ghost use Rattle.uicc_run.specs.Scenes.{outside};
 
 use applet_trait::Applet;
 use boxed_applets::{ProgramApplet, make_applets};
@@ -53,16 +48,20 @@ fn serve<H: Files<File = File> + Eprint + AllocGlobal, R: Source, W: Sink>(
 ) -> u8
     requires made { map (option_map ⟦<ProgramApplet as Applet>⟧.mind) cast.items ≡ program_boxes }
     requires shelves { length cast.items ≤ ROW_COUNT }
-    ensures script { AsksForNone (words_of arguments.now) → (given : Given) → ReadsFrom given (words_of arguments.now) (R.left script.old) (W.taken output.old) program_boxes
-        → KeepsToScript given (words_of arguments.now) (seen R.Source W.Sink script.old script.new output.old output.new result) }
-    ensures trace { AsksForNone (words_of arguments.now) → NameNoImage (words_of arguments.now) → (given : Given)
-        → RunsFrom given (words_of arguments.now) (R.left script.old) (W.taken output.old) (Some (new_bench (size_of given.pages)).bytes) (new_bench (size_of given.pages)).meter program_boxes
-        → HasRun given (words_of arguments.now) (seen R.Source W.Sink script.old script.new output.old output.new result) }
-    ensures load { AsksForNone (words_of arguments.now) → NameNoImage (words_of arguments.now) → (given : Given) (start count : ℕ)
-        → LoadsFrom given start count (words_of arguments.now) (W.taken output.old) (Some (new_bench (size_of given.pages)).bytes) (new_bench (size_of given.pages)).meter program_boxes
-        → HasLoaded given start count (seen R.Source W.Sink script.old script.new output.old output.new result) }
-    ensures bip { AsksForNone (words_of arguments.now) → (text : List ℕ) → AskForBip (words_of arguments.now) → R.left script.old ≡ Some text
-        → TracesBip text (W.taken output.old) (R.left script.new) (W.taken output.new) result (IsBipCaused (R.faults script.old) (R.faults script.new) (W.faults output.old) (W.faults output.new)) }
+    ensures script { AsksForNone (words_of arguments.now) → KeepsToScripts (words_of arguments.now) result
+        (outside R.Source W.Sink script.old output.old program_boxes)
+        (outside R.Source W.Sink script.new output.new []) }
+    ensures trace { AsksForNone (words_of arguments.now) → NameNoImage (words_of arguments.now)
+        → HasRunOnBench (words_of arguments.now) result
+        (outside R.Source W.Sink script.old output.old program_boxes)
+        (outside R.Source W.Sink script.new output.new []) }
+    ensures load { AsksForNone (words_of arguments.now) → NameNoImage (words_of arguments.now)
+        → HasLoadedOnBench (words_of arguments.now) result
+        (outside R.Source W.Sink script.old output.old program_boxes)
+        (outside R.Source W.Sink script.new output.new []) }
+    ensures bip { AsksForNone (words_of arguments.now) → HasServed (words_of arguments.now) result
+        (outside R.Source W.Sink script.old output.old program_boxes)
+        (outside R.Source W.Sink script.new output.new []) }
 {
     answer(rt, arguments, script, output, cast)
 }

@@ -14,8 +14,10 @@ use Rattle.script_form.specs.Traces.{trace_text}
 use Rattle.script_form.specs.declared.trace.TraceLine.TheVariants as line
 use Rattle.uicc_run.specs.Endings.{status_of}
 use Rattle.uicc_run.specs.Headline.{Closes, last_text}
+use Rattle.uicc_run.specs.Running.{ServesChannels}
+use Rattle.uicc_run.specs.Scenes.{Scene, Seen, seen}
 use Rattle.uicc_run.specs.Scripts.{StopsAndTells, TellsNext}
-use Rattle.uicc_run.specs.Terminals.{AskForBip, ComesToBip, IsBipCaused, TracesBip}
+use Rattle.uicc_run.specs.Terminals.{AskForBip, ComesToBip, TracesBip}
 use Rattle.uicc_run.specs.declared.endings.Ending.{Ending}
 use Rattle.uicc_run.specs.declared.endings.Ending.TheVariants.{Usage, NoMemory, Section, FormatFailed, EepromFailed, NotACard, NoApplet, Played, Counted, LoadFailed}
 use Rattle.uicc_types.specs.Counts.{Rose}
@@ -50,9 +52,9 @@ good_of text before left put (NoApplet shelf) status comes is good three four = 
 good_of text before left put (Counted lines counts) status comes is good three four = absurd comes
 good_of text before left put LoadFailed status comes is good three four = absurd comes
 
-pub bip_completes : {HasCause : Ending → Type 0} → (text : List ℕ) (before left taken : Option (List ℕ)) (status : ℕ) → TracesBip text before left taken status HasCause → IsGoodScript text → (status ≡ 3 → ⊥) → (status ≡ 4 → ⊥) → (status ≡ 0) ⊎ (status ≡ 5)
-bip_completes text before left taken status traces good three four = elim traces.closes [
-  | inl whole ↦ good_of text before left traces.put traces.ending status traces.comes whole.0 good three four
+pub bip_completes : (text : List ℕ) (before : Option (List ℕ)) (seen : Seen) → TracesBip text before seen → IsGoodScript text → (seen.status ≡ 3 → ⊥) → (seen.status ≡ 4 → ⊥) → (seen.status ≡ 0) ⊎ (seen.status ≡ 5)
+bip_completes text before seen traces good three four = elim traces.closes [
+  | inl whole ↦ good_of text before seen.left traces.put traces.ending seen.status traces.comes whole.0 good three four
   | inr broken ↦ absurd (four broken.0)
 ]
 
@@ -82,10 +84,10 @@ bad_of text begun before left put taken (NoApplet shelf) status found was comes 
 bad_of text begun before left put taken (Counted lines counts) status found was comes is told bad three four = absurd comes
 bad_of text begun before left put taken LoadFailed status found was comes is told bad three four = absurd comes
 
-pub bip_stops_bad : {HasCause : Ending → Type 0} → (text begun : List ℕ) (before left taken : Option (List ℕ)) (status : ℕ) (found : LineList) → before ≡ Some begun → TracesBip text before left taken status HasCause → IsFirstBad text found → (status ≡ 3 → ⊥) → (status ≡ 4 → ⊥)
-    → ((status ≡ 2) × TellsNext found taken) ⊎ (status ≡ 5)
-bip_stops_bad text begun before left taken status found was traces bad three four = elim traces.closes [
-  | inl whole ↦ bad_of text begun before left traces.put taken traces.ending status found was traces.comes whole.0 whole.1 bad three four
+pub bip_stops_bad : (text begun : List ℕ) (before : Option (List ℕ)) (seen : Seen) (found : LineList) → before ≡ Some begun → TracesBip text before seen → IsFirstBad text found → (seen.status ≡ 3 → ⊥) → (seen.status ≡ 4 → ⊥)
+    → ((seen.status ≡ 2) × TellsNext found seen.taken) ⊎ (seen.status ≡ 5)
+bip_stops_bad text begun before seen found was traces bad three four = elim traces.closes [
+  | inl whole ↦ bad_of text begun before seen.left traces.put seen.taken traces.ending seen.status found was traces.comes whole.0 whole.1 bad three four
   | inr broken ↦ absurd (four broken.0)
 ]
 
@@ -107,9 +109,9 @@ zero_of text before left put (NoApplet shelf) comes is = absurd comes
 zero_of text before left put (Counted lines counts) comes is = absurd comes
 zero_of text before left put LoadFailed comes is = absurd comes
 
-pub bip_zero : {HasCause : Ending → Type 0} → (text : List ℕ) (before left taken : Option (List ℕ)) (status : ℕ) → TracesBip text before left taken status HasCause → status ≡ 0 → IsGoodScript text × (left ≡ Some [])
-bip_zero text before left taken status traces zero = elim traces.closes [
-  | inl whole ↦ zero_of text before left traces.put traces.ending traces.comes (sym zero ∙ whole.0)
+pub bip_zero : (text : List ℕ) (before : Option (List ℕ)) (seen : Seen) → TracesBip text before seen → seen.status ≡ 0 → IsGoodScript text × (seen.left ≡ Some [])
+bip_zero text before seen traces zero = elim traces.closes [
+  | inl whole ↦ zero_of text before seen.left traces.put traces.ending traces.comes (sym zero ∙ whole.0)
   | inr broken ↦ let four = broken.0 in absurd (omega arith)
 ]
 
@@ -134,17 +136,34 @@ two_of text begun before left put taken (NoApplet shelf) was comes is told = abs
 two_of text begun before left put taken (Counted lines counts) was comes is told = absurd comes
 two_of text begun before left put taken LoadFailed was comes is told = absurd comes
 
-pub bip_two : {HasCause : Ending → Type 0} → (text begun : List ℕ) (before left taken : Option (List ℕ)) (status : ℕ) → before ≡ Some begun → TracesBip text before left taken status HasCause → status ≡ 2 → StopsAndTells (IsFirstBad text) text left taken
-bip_two text begun before left taken status was traces two = elim traces.closes [
-  | inl whole ↦ two_of text begun before left traces.put taken traces.ending was traces.comes (sym two ∙ whole.0) whole.1
+pub bip_two : (text begun : List ℕ) (before : Option (List ℕ)) (seen : Seen) → before ≡ Some begun → TracesBip text before seen → seen.status ≡ 2 → StopsAndTells (IsFirstBad text) text seen.left seen.taken
+bip_two text begun before seen was traces two = elim traces.closes [
+  | inl whole ↦ two_of text begun before seen.left traces.put seen.taken traces.ending was traces.comes (sym two ∙ whole.0) whole.1
   | inr broken ↦ let four = broken.0 in absurd (omega arith)
 ]
+
+-- ---- all of it
+
+-- what a run comes to whose trace is that of the channels
+pub channels_served : {MemoryIsSame BoxesAreSame : Type 0} → (words : List (List ℕ)) (status : ℕ) (before after : Scene)
+    → ((text : List ℕ) → AskForBip words → before.left ≡ Some text → TracesBip text before.taken (seen status before after)) → (AskForBip words → MemoryIsSame × BoxesAreSame) → (AskForBip words → status ≤ 5)
+    → (status ≡ 3 → Rose before.source after.source) → (status ≡ 4 → Rose before.sink after.sink) → ServesChannels words status before after MemoryIsSame BoxesAreSame
+channels_served words status before after traced same low read put = record {
+  bip = traced;
+  bip_untouched = same;
+  bip_statuses = low;
+  bip_complete = λ text asks told sound good. bip_completes text before.taken (seen status before after) (traced text asks told) good (λ three. sound.source_sound (read three)) (λ four. sound.sink_sound (put four));
+  bip_bad_line = λ text begun asks told was sound found bad.
+      bip_stops_bad text begun before.taken (seen status before after) found was (traced text asks told) bad (λ three. sound.source_sound (read three)) (λ four. sound.sink_sound (put four));
+  bip_complete_only = λ text asks told zero. bip_zero text before.taken (seen status before after) (traced text asks told) zero;
+  bip_bad_line_only = λ text begun asks told was two. bip_two text begun before.taken (seen status before after) was (traced text asks told) two;
+}
 
 -- ---- where no run was begun
 
 -- there was no memory for the device
-pub bip_no_device : (text : List ℕ) (source sink sink_then : ℕ) (before left taken : Option (List ℕ)) (status : ℕ) → left ≡ Some text → Closes NoMemory before taken status → TracesBip text before left taken status (IsBipCaused source source sink sink_then)
-bip_no_device text source sink sink_then before left taken status is closes = record {
+pub bip_no_device : (text : List ℕ) (before : Option (List ℕ)) (seen : Seen) → seen.left ≡ Some text → Closes NoMemory before seen.taken seen.status → TracesBip text before seen
+bip_no_device text before seen is closes = record {
   ending = NoMemory;
   cause = record { read_failed = λ three. absurd (cc); sink_failed = λ four. absurd (cc) };
   put = before;

@@ -4,6 +4,7 @@ mod AnswerLemmas
 mod BipLemmas
 mod BoxLemmas
 mod CardLemmas
+mod EndLemmas
 mod LoadLemmas
 mod ModeLemmas
 mod OneTrace
@@ -12,6 +13,7 @@ mod PlaceLemmas
 mod PlayLemmas
 mod ReadingLemmas
 mod RunLemmas
+mod SceneLemmas
 mod ScriptLemmas
 mod ServingLemmas
 mod StandardNumbers

@@ -17,6 +17,7 @@ use Rattle.card_model.specs.Counts.{IsCounted}
 use Rattle.card_model.specs.Laws.{CountsJoin}
 use Rattle.card_model.specs.States.{HasBox, woken}
 use Rattle.card_opening.specs.Boxes.{IsFirstWithoutBox}
+use Rattle.layout_mount.specs.Mounted.{read_told}
 use Rattle.card_opening.specs.Starts.{Finds, IsMigratedAtMost as IsLeftMigrated, Leaves as FaultLeaves}
 use Rattle.card_opening.specs.declared.faults.OpenFault.{OpenFault}
 use Rattle.card_opening.specs.declared.faults.OpenFault.TheVariants as fault
@@ -142,9 +143,9 @@ fails_to_open given card mark mark_then told told_then leaves stands fixed left 
 -- where it was not, that is for want of memory, or the memory failed
 pub not_loaded : (given : Given) (start count : ℕ) (card : Persistent) (mark mark_then : ℕ) (told told_then : Option (List ℕ)) (boxes : List (Option AppletState)) (leaves : Leaves) (why : OpenFault) → option_map (stands_for mark) told ≡ Some (Ok card) → boxes ≡ given.boxes
     → IsFixedCard given.boxes card → Finds why mark told (with_all_shelves boxes) → FaultLeaves why mark told told_then → mark_then ≡ mark → leaves.held ≡ standing mark_then told_then → IsUnplanned given.meter leaves.meter → (why ≡ fault.Memory → IsCounted given.meter leaves.meter [] []) → ComesToLoad given start count (ending_for_fault why) leaves
-not_loaded given start count card mark mark_then told told_then boxes leaves (fault.NotACard at) stands boxes_are fixed found left same held kept counted = holds_card mark told card at stands found
+not_loaded given start count card mark mark_then told told_then boxes leaves (fault.NotACard at) stands boxes_are fixed found left same held kept counted = holds_card mark told card at stands (read_told told _ found)
 not_loaded given start count card mark mark_then told told_then boxes leaves (fault.NoBox shelf) stands boxes_are fixed found left same held kept counted =
-    has_its_box given.boxes card shelf fixed (subst (λ b. IsFirstWithoutBox card.rows (with_all_shelves b) shelf) boxes_are (lacks_box (with_all_shelves boxes) shelf mark told card stands found))
+    has_its_box given.boxes card shelf fixed (subst (λ b. IsFirstWithoutBox card.rows (with_all_shelves b) shelf) boxes_are (lacks_box (with_all_shelves boxes) shelf mark told card stands (read_told told _ found)))
 not_loaded given start count card mark mark_then told told_then boxes leaves fault.Failed stands boxes_are fixed found left same held kept counted = fails_to_open given card mark mark_then told told_then leaves stands fixed left same held kept
 not_loaded given start count card mark mark_then told told_then boxes leaves fault.PowerLost stands boxes_are fixed found left same held kept counted = fails_to_open given card mark mark_then told told_then leaves stands fixed left same held kept
 not_loaded given start count card mark mark_then told told_then boxes leaves fault.Memory stands boxes_are fixed found left same held kept counted = counted refl

@@ -1,5 +1,5 @@
 -- What is told of the same lines twice, from the same card, is one where nothing fails.
-use Rattle.std.proofs.Common.{◌≡◌, ℕ, false, List, [], ◌∷◌, ◌++◌, Option, Some, None, Result, Ok, Err, refl, sym, ap, ◌∙◌, subst, inl}
+use Rattle.std.proofs.Common.{◌≡◌, ℕ, false, map, List, [], ◌∷◌, ◌++◌, Option, Some, None, Result, Ok, Err, refl, sym, ap, ◌∙◌, subst, inl}
 use Rattle.std.proofs.lemmas.List.{append-nil}
 use Rattle.general_laws.specs.Members.{front_of, back_of}
 use Rattle.applet_trait.specs.Minds.{AppletState}
@@ -15,7 +15,16 @@ use Rattle.run_laws.specs.Faults.{ShowsNoCut, ShowsNoFailure}
 use Rattle.script_form.specs.declared.lines.ScriptLine.{ScriptLine}
 use Rattle.t0_link.specs.Linking.{Answers, Course, Passes, link_answer}
 use Rattle.uicc_run.specs.Accounts.{Account, AreTold, Deed, IsTold, Takes, Transfers, joined}
-use Rattle.uicc_run.specs.Determined.{TracesAreOne}
+use Rattle.handset_model.specs.Legal.{TraceEntry}
+use Rattle.load_runs.specs.Lines.{made_lines}
+use Rattle.load_runs.specs.Runs.{all_heard, entry_line}
+use Rattle.phone_runs.specs.Effects.{phone_lines}
+use Rattle.phone_runs.specs.Laws.{TracesAreOne as PhoneRunsAreOne}
+use Rattle.phone_runs.specs.Runs.{IsPhoneRun}
+use Rattle.phone_runs.specs.Traces.{entries_text}
+use Rattle.trace_counts.specs.Counts.{counts_of}
+use Rattle.uicc_run.specs.Determined.{LoadsAreOne, ServedTracesAreOne, TracesAreOne}
+use Rattle.uicc_run.specs.Loading.{IsFixedCard}
 use Rattle.uicc_run.specs.Playing.{IsOpened}
 use Rattle.uicc_run.specs.Runs.{first_machine}
 use Rattle.uicc_run.specs.Steps.{deeds}
@@ -115,3 +124,32 @@ traces_are_one law given left left' end end' now now' run other same_section sam
     subst (λ (held : Persistent). AreTold (deeds run.played) None (first_machine held given.boxes) other.account other.kept other.machine) (sym start) lines in
     let same = one_account law (deeds run.played) None (first_machine run.start given.boxes) run.machine other.machine run.account other.account run.kept other.kept run.are_told told calm calm' in
     (run.written ∙ ap (λ (shown : List TraceItem). Some (given.before ++ text_of shown)) same.0 ∙ sym other.written, run.stands ∙ ap (λ (m : Machine). Some m.card.persistent) same.1 ∙ sym other.stands)
+
+-- ---- where a handset serves the card
+
+pub served_are_one : PhoneRunsAreOne → ServedTracesAreOne
+served_are_one law given left left' end end' now now' run other same_section same_lines calm calm' =
+    let opened : IsOpened given.boxes given.first given.memory run.section other.start = subst (λ (section : List ScriptLine). IsOpened given.boxes given.first given.memory section other.start) (sym same_section) other.lines_are.opened in
+    let start : run.start ≡ other.start = one_start given.boxes given.first given.memory run.section run.start other.start run.lines_are.opened opened in
+    let theirs : IsPhoneRun (first_machine run.start given.boxes) other.log other.machine = subst (λ (held : Persistent). IsPhoneRun (first_machine held given.boxes) other.log other.machine) (sym start) other.run in
+    let same = law (first_machine run.start given.boxes) run.machine other.machine (phone_lines run.played) run.log other.log
+    (record { run = run.run; lines_are = run.told; rests = run.rests; failures = calm.0; cuts = calm.1 })
+    (record { run = theirs; lines_are = other.told ∙ ap phone_lines (sym same_lines); rests = other.rests; failures = calm'.0; cuts = calm'.1 }) in (
+      run.written ∙ ap (λ (entries : List TraceEntry). Some (given.before ++ entries_text entries)) same.shows ∙ sym other.written,
+      run.stands ∙ ap (λ (m : Machine). Some m.card.persistent) same.card ∙ sym other.stands,
+    )
+
+-- the card of a long run is one
+one_fixed : (boxes : List (Option AppletState)) (card other : Persistent) → IsFixedCard boxes card → IsFixedCard boxes other → card ≡ other
+one_fixed boxes card other a b = ap (λ (made : Result (Option Persistent) _). there_of card (value_of None made)) (sym a ∙ b)
+
+pub loads_are_one : PhoneRunsAreOne → LoadsAreOne
+loads_are_one law given start count lines lines' counts counts' leaves leaves' run other calm calm' =
+    let card : run.card ≡ other.card = one_fixed given.boxes run.card other.card run.is_fixed other.is_fixed in
+    let theirs : IsPhoneRun (first_machine run.card given.boxes) other.counted.log other.counted.machine = subst (λ (held : Persistent). IsPhoneRun (first_machine held given.boxes) other.counted.log other.counted.machine) (sym card) other.counted.run in
+    let same = law (first_machine run.card given.boxes) run.counted.machine other.counted.machine (all_heard (made_lines start count)) run.counted.log other.counted.log
+    (record { run = run.counted.run; lines_are = run.counted.lines_are; rests = run.counted.rests; failures = calm.0; cuts = calm.1 })
+    (record { run = theirs; lines_are = other.counted.lines_are; rests = other.counted.rests; failures = calm'.0; cuts = calm'.1 }) in (
+      run.counted.counts_are ∙ ap (λ (entries : List TraceEntry). counts_of (map entry_line entries)) same.shows ∙ sym other.counted.counts_are,
+      run.left.held ∙ run.counted.stands ∙ ap (λ (m : Machine). Some m.card.persistent) same.card ∙ sym other.counted.stands ∙ sym other.left.held,
+    )

@@ -12,10 +12,11 @@ use Rattle.card_layout.specs.Migration.{migrated}
 use Rattle.card_layout.specs.Persistent.{Persistent}
 use Rattle.card_layout.specs.Standing.{stands_for, standing}
 use Rattle.card_layout.specs.declared.faults.SectionFault.{SectionFault}
-use Rattle.card_model.specs.Counts.{IsCounted, RoseBy}
+use Rattle.card_model.specs.Counts.{IsCounted}
 use Rattle.card_model.specs.Laws.{CountsJoin}
 use Rattle.card_model.specs.States.{IsGood, woken}
 use Rattle.card_opening.specs.Boxes.{IsFirstWithoutBox}
+use Rattle.layout_mount.specs.Mounted.{read_told}
 use Rattle.card_opening.specs.Starts.{Finds, IsMigratedAtMost as IsLeftMigrated, Leaves as FaultLeaves}
 use Rattle.card_opening.specs.declared.faults.OpenFault.{OpenFault}
 use Rattle.card_opening.specs.declared.faults.OpenFault.TheVariants as fault
@@ -46,16 +47,11 @@ use Rattle.uicc_types.specs.declared.plans.TheConstants.Plan.{NONE}
 
 -- ---- counts
 
-idle : (before now : ℕ) → before ≤ now → RoseBy 0 before now
-idle before now kept = omega arith
-
 -- a call that met no fault
 pub caused_counted : {Failed Lost : Type 0} → (old new : Meter) → Caused old new Failed Lost → (Failed → ⊥) → (Lost → ⊥) → IsCounted old new [] []
 caused_counted old new caused no_failure no_loss = record {
-  failures = idle old.faults new.faults caused.faults_kept;
-  cuts = idle old.cuts new.cuts caused.cuts_kept;
-  no_fault = λ failures cuts. caused.no_fault no_failure no_loss;
-  no_cut = λ cuts. caused.no_cut no_loss;
+  failures = caused.no_fault no_failure;
+  cuts = caused.no_cut no_loss;
   plans = caused.plans_kept;
   latest = caused.latest_kept;
   no_plan = λ none. caused.plan_kept ∙ none;
@@ -68,8 +64,8 @@ caused_kept old new caused = record { faults_kept = caused.faults_kept; cuts_kep
 -- behind what met none
 pub kept_on : {Failed Lost : Type 0} → (first middle last : Meter) → IsCounted first middle [] [] → Caused middle last Failed Lost → IsUnplanned first last
 kept_on first middle last counted caused = record {
-  faults_kept = omega (arith, counted.no_fault refl refl, caused.faults_kept);
-  cuts_kept = omega (arith, counted.no_cut refl, caused.cuts_kept);
+  faults_kept = omega (arith, counted.failures, caused.faults_kept);
+  cuts_kept = omega (arith, counted.cuts, caused.cuts_kept);
   plans_kept = caused.plans_kept ∙ counted.plans;
   latest_kept = caused.latest_kept ∙ counted.latest;
   no_plan = λ none. caused.plan_kept ∙ counted.no_plan none;
@@ -77,8 +73,8 @@ kept_on first middle last counted caused = record {
 
 counted_kept : (old new : Meter) → IsCounted old new [] [] → IsUnplanned old new
 counted_kept old new counted = record {
-  faults_kept = omega (arith, counted.no_fault refl refl);
-  cuts_kept = omega (arith, counted.no_cut refl);
+  faults_kept = omega (arith, counted.failures);
+  cuts_kept = omega (arith, counted.cuts);
   plans_kept = counted.plans;
   latest_kept = counted.latest;
   no_plan = counted.no_plan;
@@ -303,7 +299,7 @@ pub refused : (given : Given) (script : ScriptReader) (left taken : Option (List
     → IsMade given script left taken (option_map (stands_for mark) told) meter boxes
     → Comes given left (ending_for why) (record { held = standing mark_then told_then; taken = taken; meter = meter_then; boxes = boxes_then })
 refused given script left taken mark mark_then told told_then meter meter_then boxes boxes_then (fault.NotACard at) join tells finds leaves same caused made =
-    let found = found_no_card mark told at tells finds in
+    let found = found_no_card mark told at tells (read_told told _ finds) in
     let first = made.no_card at found in
     let was = made.kept first in
     record {
@@ -314,7 +310,7 @@ refused given script left taken mark mark_then told told_then meter meter_then b
       counted = join given.meter meter meter_then [] [] [] [] made.counted (caused_counted meter meter_then caused (λ so. cc) (λ so. cc));
     }
 refused given script left taken mark mark_then told told_then meter meter_then boxes boxes_then (fault.NoBox shelf) join tells finds leaves same caused made =
-    let found = found_missing (with_all_shelves boxes) shelf mark told tells finds in
+    let found = found_missing (with_all_shelves boxes) shelf mark told tells (read_told told _ finds) in
     record {
       holds = holds_start given script left taken _ _ meter meter_then boxes boxes_then found.0 made (join given.meter meter meter_then [] [] [] [] made.counted (caused_counted meter meter_then caused (λ so. cc) (λ so. cc))) found.1
           (ap (λ m. standing m told_then) same ∙ ap (λ t. standing mark t) leaves ∙ stands_found mark told (Ok found.0) found.1);
@@ -389,7 +385,7 @@ not_made given script left taken card held_then meter meter_then boxes_then at i
 -- nothing was done
 pub none_counted : (given : Given) (meter : Meter) → meter ≡ given.meter → IsCounted given.meter meter [] []
 none_counted given meter same =
-    subst (λ m. IsCounted given.meter m [] []) (sym same) (record { failures = idle given.meter.faults given.meter.faults (omega arith); cuts = idle given.meter.cuts given.meter.cuts (omega arith); no_fault = λ failures cuts. refl; no_cut = λ cuts. refl; plans = refl; latest = refl; no_plan = λ none. none })
+    subst (λ m. IsCounted given.meter m [] []) (sym same) (record { failures = refl; cuts = refl; plans = refl; latest = refl; no_plan = λ none. none })
 
 -- the script was not begun
 pub not_begun : (given : Given) (left taken : Option (List ℕ)) (mark : ℕ) (told : Option (List ℕ)) (meter : Meter) (boxes boxes_then : List (Option AppletState)) → left ≡ Some given.text → IsGiven given taken (option_map (stands_for mark) told) meter boxes
@@ -452,3 +448,17 @@ reached given script left card at = record {
   said = Say-from_read at.given (at.section ++ Start ∷ []) at.read;
   described = at.described;
 }
+
+-- ---- where no card was open
+
+pub unplanned_then : (first middle last : Meter) → IsUnplanned first middle → IsUnplanned middle last → IsUnplanned first last
+unplanned_then first middle last one two = record {
+  faults_kept = let a = one.faults_kept in let b = two.faults_kept in omega arith;
+  cuts_kept = let a = one.cuts_kept in let b = two.cuts_kept in omega arith;
+  plans_kept = two.plans_kept ∙ one.plans_kept;
+  latest_kept = two.latest_kept ∙ one.latest_kept;
+  no_plan = λ none. two.no_plan (one.no_plan none);
+}
+
+pub unplanned_still : (meter : Meter) → IsUnplanned meter meter
+unplanned_still meter = record { faults_kept = omega arith; cuts_kept = omega arith; plans_kept = refl; latest_kept = refl; no_plan = λ none. none }

@@ -613,6 +613,28 @@ pub not_usage : (ending : Ending) (status : ℕ) → (status ≡ status_of endin
 not_usage ending status closed seven usage =
     ⊎_elim {C = ⊥} (λ own. let one : status ≡ 1 = own ∙ ap status_of usage in omega (arith, seven, one)) (λ four. omega (arith, seven, four)) closed
 
+one_of : (ending : Ending) → status_of ending ≡ 1 → ending ≡ Usage
+one_of Usage is = refl
+one_of NoMemory is = absurd (cc is)
+one_of (Section (script.BadLine number)) is = absurd (cc is)
+one_of (Section script.ReadFailed) is = absurd (cc is)
+one_of (Section (script.NoRoom number)) is = absurd (cc is)
+one_of FormatFailed is = absurd (cc is)
+one_of EepromFailed is = absurd (cc is)
+one_of (NotACard at) is = absurd (cc is)
+one_of (NoApplet shelf) is = absurd (cc is)
+one_of (Played play.Finished) is = absurd (cc is)
+one_of (Played (play.BadLine number)) is = absurd (cc is)
+one_of (Played play.ReadFailed) is = absurd (cc is)
+one_of (Played play.SinkFailed) is = absurd (cc is)
+one_of (Played play.ResetFailed) is = absurd (cc is)
+one_of (Counted lines counts) is = absurd (cc is)
+one_of LoadFailed is = absurd (cc is)
+
+-- a run that ends with 1 ends for its words
+pub one_is : (ending : Ending) (status : ℕ) → (status ≡ status_of ending) ⊎ (status ≡ 4) → status ≡ 1 → ending ≡ Usage
+one_is ending status closed is = ⊎_elim {C = ending ≡ Usage} (λ own. one_of ending (sym own ∙ is)) (λ four. absurd (omega (arith, four, is))) closed
+
 -- ---- status 6
 
 six_of : (ending : Ending) → status_of ending ≡ 6 → (ending ≡ Played play.ResetFailed) ⊎ (IsUnshown ending × (last_text ending ≡ last_text EepromFailed))

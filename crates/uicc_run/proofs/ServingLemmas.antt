@@ -78,6 +78,7 @@ ends_there given script left left_then from now end legal of_card served started
       lines_are = served_lines given ends.found started.section ends.played started.found started.start served started.lines ends.are_served;
       told = told;
       run = ends.run;
+      rests = ends.rests;
       legal = subst (λ (l : List PhoneLine). IsLegal (heard l) (trace ends.log)) told (legal (first_machine started.start given.boxes) ends.machine ends.log ends.run ends.rests);
       of_card = of_card (first_machine started.start given.boxes) ends.machine ends.log ends.run;
       cause = subst (λ s. StopsReading (may_stand s) given.text ends.found left_then end) (sym served) ends.cause;

@@ -2,7 +2,11 @@
 use Rattle.std.specs.Prelude.{◌≡◌, ℕ, List, Option}
 use Rattle.card_sections.specs.declared.behind.PlayEnd.{PlayEnd}
 use Rattle.run_laws.specs.Faults.{ShowsNoCut, ShowsNoFailure}
+use Rattle.phone_runs.specs.Logs.{shown}
+use Rattle.trace_counts.specs.declared.counts.Counts.{Counts}
+use Rattle.uicc_run.specs.Loading.{Loads}
 use Rattle.uicc_run.specs.Playing.{EndsSo, Given, Leaves}
+use Rattle.uicc_run.specs.Serving.{EndsServing}
 
 -- in the run of the card no memory failed and no power was lost
 abbrev pub IsCalm : {given : Given} {left : Option (List ℕ)} {end : PlayEnd} {now : Leaves} → EndsSo given left end now → Type 0
@@ -13,3 +17,29 @@ IsCalm run = ShowsNoFailure run.account.own × ShowsNoCut run.account.own
 abbrev pub TracesAreOne : Type 0
 TracesAreOne = (given : Given) (left left' : Option (List ℕ)) (end end' : PlayEnd) (now now' : Leaves) (run : EndsSo given left end now) (other : EndsSo given left' end' now')
     → run.section ≡ other.section → run.played ≡ other.played → IsCalm run → IsCalm other → (now.taken ≡ now'.taken) × (now.held ≡ now'.held)
+
+-- ---- where a handset serves the card
+
+-- in its run no memory failed and no power was lost
+abbrev pub IsServedCalm : {given : Given} {left : Option (List ℕ)} {end : PlayEnd} {now : Leaves} → EndsServing given left end now → Type 0
+IsServedCalm run = ShowsNoFailure (shown run.log) × ShowsNoCut (shown run.log)
+
+-- Two such runs that were given the same, and of which the section and the lines behind it are the same, have one trace, and their
+-- memories stand for the same behind them.
+abbrev pub ServedTracesAreOne : Type 0
+ServedTracesAreOne =
+    (given : Given) (left left' : Option (List ℕ)) (end end' : PlayEnd) (now now' : Leaves)
+    → (run : EndsServing given left end now) (other : EndsServing given left' end' now')
+    → run.section ≡ other.section → run.played ≡ other.played → IsServedCalm run → IsServedCalm other
+    → (now.taken ≡ now'.taken) × (now.held ≡ now'.held)
+
+-- in a long run no memory failed and no power was lost
+abbrev pub IsLoadedCalm : {given : Given} {start count lines : ℕ} {counts : Counts} {leaves : Leaves} → Loads given start count lines counts leaves → Type 0
+IsLoadedCalm run = ShowsNoFailure (shown run.counted.log) × ShowsNoCut (shown run.counted.log)
+
+-- Two such long runs of the same lines have the same counts, and their memories stand for the same.
+abbrev pub LoadsAreOne : Type 0
+LoadsAreOne =
+    (given : Given) (start count lines lines' : ℕ) (counts counts' : Counts) (leaves leaves' : Leaves)
+    → (run : Loads given start count lines counts leaves) (other : Loads given start count lines' counts' leaves')
+    → IsLoadedCalm run → IsLoadedCalm other → (counts ≡ counts') × (leaves.held ≡ leaves'.held)

@@ -3,7 +3,6 @@ use Rattle.std.specs.Prelude.{◌≡◌, ◌⊎◌, ℕ, false, List, [], ◌∷
 use Rattle.card_layout.specs.Persistent.{Persistent}
 use Rattle.card_sections.specs.declared.behind.PlayEnd.TheVariants as play
 use Rattle.card_sections.specs.declared.faults.ScriptFault.TheVariants as script
-use Rattle.run_words.specs.Model.{AskForRun}
 use Rattle.script_form.specs.declared.trace.TraceLine.{TraceLine}
 use Rattle.script_form.specs.declared.trace.TraceLine.TheVariants as line
 use Rattle.uicc_run.specs.declared.endings.Ending.{Ending}
@@ -110,24 +109,3 @@ KeepsBytes (NoApplet shelf) held = Unit {0}
 KeepsBytes (Played end) held = ⊥
 KeepsBytes (Counted lines counts) held = ⊥
 KeepsBytes LoadFailed held = ⊥
-
--- Why a run under these words ended so, and what it left alone, be its last line taken or not: the source's counts of faults, the
--- memory's counts and the card that it held, what it is for the memory, its bytes and the boxes to be as they were, what a making
--- that failed leaves, and what one does for which there was no memory.
-pub record IsCaused (words : List (List ℕ)) (source source_then : ℕ) (memory memory_then : Meter) (held : Option Persistent) (MemoryIsSame BytesAreSame BoxesAreSame HalfMade WholeOrSame : Type 0) (ending : Ending) : Type 0 where
-  pub usage : ending ≡ Usage → AskForRun words → ⊥
-  pub read_failed : status_of ending ≡ 3 → Rose source source_then
-  pub eeprom_failed : status_of ending ≡ 6 → HasFailed memory memory_then
-  pub untouched : IsEarly ending → MemoryIsSame
-  pub bytes_kept : KeepsBytes ending held → BytesAreSame
-  pub boxes_kept : IsUnopened ending → BoxesAreSame
-  pub half_made : ending ≡ FormatFailed → HalfMade
-  pub no_memory : ending ≡ NoMemory → WholeOrSame
-
--- the same of a long run, which reads no script and makes its card anew: the memory's counts, what it is for the memory and the boxes
--- to be as they were, and what such a run does for which there was no memory
-pub record IsLoadCaused (memory memory_then : Meter) (MemoryIsSame BoxesAreSame WholeOrSame : Type 0) (ending : Ending) : Type 0 where
-  pub eeprom_failed : status_of ending ≡ 6 → HasFailed memory memory_then
-  pub untouched : IsEarly ending → MemoryIsSame
-  pub boxes_kept : IsUnopened ending → BoxesAreSame
-  pub no_memory : ending ≡ NoMemory → WholeOrSame

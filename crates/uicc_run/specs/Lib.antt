@@ -1,5 +1,6 @@
 pub mod Accounts
 pub mod Answering
+pub mod Causes
 pub mod Determined
 pub mod Endings
 pub mod Headline
@@ -9,7 +10,9 @@ pub mod Opening
 pub mod Pages
 pub mod Playing
 pub mod Reading
+pub mod Running
 pub mod Runs
+pub mod Scenes
 pub mod Scripts
 pub mod Serving
 pub mod Steps

@@ -25,6 +25,7 @@ use Rattle.uicc_run.specs.Headline.{Closes, IsMigratedAtMost}
 use Rattle.uicc_run.specs.Opening.{IsGiven}
 use Rattle.uicc_run.specs.Playing.{Given, Leaves}
 use Rattle.uicc_run.specs.Runs.{first_machine}
+use Rattle.uicc_run.specs.Scenes.{Scene}
 use Rattle.uicc_run.specs.Stores.{mark_of, memory_in}
 use Rattle.uicc_run.specs.Unplanned.{IsUnplanned}
 use Rattle.uicc_run.specs.declared.endings.Ending.{Ending}
@@ -32,11 +33,11 @@ use Rattle.uicc_run.specs.declared.endings.Ending.TheVariants.{Usage, NoMemory, 
 use Rattle.uicc_types.specs.Counts.{Meter}
 
 -- the words ask for so many lines from this number, and the run is given the rest
-pub record LoadsFrom (given : Given) (start count : ℕ) (words : List (List ℕ)) (taken contents : Option (List ℕ)) (meter : Meter) (boxes : List (Option AppletState)) : Type 0 where
+pub record LoadsFrom (given : Given) (start count : ℕ) (words : List (List ℕ)) (before : Scene) : Type 0 where
   pub devices : Devices
   pub words_are : IsRequest words (record { mode = Load start count; devices = devices })
   pub store_is : given.pages ≡ devices.pages
-  pub others_are : IsGiven given taken (memory_in given.pages contents) meter boxes
+  pub others_are : IsGiven given before.taken (memory_in given.pages before.contents) before.meter before.boxes
 
 -- the words ask for so many lines from this number
 abbrev pub AskToLoad : List (List ℕ) → ℕ → ℕ → Type 0

@@ -1,5 +1,5 @@
 -- Where a run stands when `start` was read and the card is still to be opened.
-use Rattle.std.specs.Prelude.{◌≡◌, ℕ, List, [], Option, Some, None, Result, Ok, Err, IfSome}
+use Rattle.std.specs.Prelude.{◌≡◌, ℕ, Bool, List, [], Option, Some, None, Result, Ok, Err, IfSome}
 use Rattle.applet_trait.specs.Minds.{AppletState}
 use Rattle.card_layout.specs.Persistent.{Persistent}
 use Rattle.card_layout.specs.Standing.{stands_for}
@@ -15,11 +15,14 @@ use Rattle.run_words.specs.Model.{IsRequest}
 use Rattle.script_form.specs.declared.lines.ScriptLine.{ScriptLine}
 use Rattle.run_words.specs.declared.requests.Request.{Request}
 use Rattle.uicc_run.specs.Headline.{ReadsForCard, first_of, is_served_by}
+use Rattle.uicc_run.specs.Listeners.{is_handset}
 use Rattle.uicc_run.specs.Playing.{Given, IsOpened, IsPlayed}
+use Rattle.uicc_run.specs.Scenes.{Scene}
 use Rattle.uicc_run.specs.Serving.{beginning}
 use Rattle.uicc_run.specs.Stores.{memory_in}
 use Rattle.uicc_run.specs.declared.endings.Ending.{Ending}
 use Rattle.uicc_run.specs.declared.endings.Ending.TheVariants.{NoMemory, EepromFailed, NotACard, NoApplet}
+use Rattle.uicc_run.specs.declared.listeners.Listener.{Listener}
 use Rattle.uicc_types.specs.Counts.{Meter}
 
 -- What a run is given beside the script, read off the sink, the memory, its device and the boxes; the memory tells its bytes.
@@ -38,17 +41,31 @@ pub record IsAskedFor (given : Given) (asked : Request) : Type 0 where
   pub served_is : given.is_served ≡ is_served_by asked.mode
 
 -- a run is given the text, and the rest, and is the one that its words ask for
-pub record RunsFrom (given : Given) (words : List (List ℕ)) (left taken contents : Option (List ℕ)) (meter : Meter) (boxes : List (Option AppletState)) : Type 0 where
-  pub text_is : left ≡ Some given.text
-  pub others_are : IsGiven given taken (memory_in given.pages contents) meter boxes
+pub record RunsFrom (given : Given) (words : List (List ℕ)) (before : Scene) : Type 0 where
+  pub text_is : before.left ≡ Some given.text
+  pub others_are : IsGiven given before.taken (memory_in given.pages before.contents) before.meter before.boxes
   pub is_asked : (asked : Request) → IsRequest words asked → IsAskedFor given asked
 
--- The same of what decides which lines are read: nothing is said of the memory and its counts.
-pub record ReadsFrom (given : Given) (words : List (List ℕ)) (left taken : Option (List ℕ)) (boxes : List (Option AppletState)) : Type 0 where
-  pub text_is : left ≡ Some given.text
-  pub before_is : taken ≡ Some given.before
-  pub boxes_are : boxes ≡ given.boxes
+-- The same of what decides which lines are read: nothing is said of the memory and its counts,
+pub record ReadsFrom (given : Given) (words : List (List ℕ)) (before : Scene) : Type 0 where
+  pub text_is : before.left ≡ Some given.text
+  pub before_is : before.taken ≡ Some given.before
+  pub boxes_are : before.boxes ≡ given.boxes
   pub is_asked : (asked : Request) → IsRequest words asked → IsAskedFor given asked
+
+-- nor of the sink.
+pub record IsToRead (given : Given) (words : List (List ℕ)) (before : Scene) : Type 0 where
+  pub text_is : before.left ≡ Some given.text
+  pub boxes_are : before.boxes ≡ given.boxes
+  pub is_asked : (asked : Request) → IsRequest words asked → IsAskedFor given asked
+
+-- The same of a run of lines for this listener, which are added to this card, if there is one, and over this store.
+pub record IsToPlay (given : Given) (listener : Listener) (pages : Bool) (card : Option Persistent) (before : Scene) : Type 0 where
+  pub text_is : before.left ≡ Some given.text
+  pub boxes_are : before.boxes ≡ given.boxes
+  pub served_is : given.is_served ≡ is_handset listener
+  pub first_is : given.first ≡ card
+  pub store_is : given.pages ≡ pages
 
 -- The store was made ready for the opening. What it stands for, if it does, is the card that is to be opened; where no card is
 -- described it is what it was.

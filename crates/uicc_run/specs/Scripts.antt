@@ -18,6 +18,7 @@ use Rattle.script_form.specs.declared.lines.ScriptLine.TheVariants.{Start}
 use Rattle.script_form.specs.declared.trace.TraceLine.{TraceLine}
 use Rattle.script_form.specs.declared.trace.TraceLine.TheVariants as line
 use Rattle.uicc_run.specs.Playing.{Given}
+use Rattle.uicc_run.specs.Scenes.{Seen}
 use Rattle.uicc_run.specs.Steps.{may_stand}
 use Rattle.uicc_run.specs.Stores.{mark_of}
 use Rattle.uicc_types.specs.Counts.{Rose}
@@ -138,10 +139,10 @@ pub record HoldsDescribed (given : Given) (told : Option (List ℕ)) : Type 0 wh
   pub stands : IfSome told (λ content. stands_for (mark_of given.pages) content ≡ Ok card)
 
 -- neither the source nor the sink failed, and the run didn't end for its memory
-pub record IsUndisturbed (source source_then sink sink_then status : ℕ) : Type 0 where
-  pub source_sound : Rose source source_then → ⊥
-  pub sink_sound : Rose sink sink_then → ⊥
-  pub memory_sound : status ≡ 6 → ⊥
+pub record IsUndisturbed (seen : Seen) : Type 0 where
+  pub source_sound : Rose seen.source seen.source_then → ⊥
+  pub sink_sound : Rose seen.sink seen.sink_then → ⊥
+  pub memory_sound : seen.status ≡ 6 → ⊥
 
 -- what the sink has taken ends with the line that gives the number of the line behind these
 abbrev pub TellsNext : LineList → Option (List ℕ) → Type 0

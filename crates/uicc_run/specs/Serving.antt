@@ -15,8 +15,10 @@ use Rattle.handset_model.specs.Legal.{IsLegal}
 use Rattle.phone_runs.specs.Lines.{told_back}
 use Rattle.phone_runs.specs.Effects.{phone_lines}
 use Rattle.phone_runs.specs.Laws.{EndIsOfTheCard, ShowsBegun}
-use Rattle.phone_runs.specs.Logs.{Event, heard, lines as lines_of, shown, steps, trace}
-use Rattle.phone_runs.specs.Runs.{Beginning, EndsSo, IsPhoneRun}
+use Rattle.handset_model.specs.Rules.{asked}
+use Rattle.handset_model.specs.declared.known.Duty.TheVariants.{Rest}
+use Rattle.phone_runs.specs.Logs.{Event, heard, history, lines as lines_of, shown, steps, trace}
+use Rattle.phone_runs.specs.Runs.{Beginning, RunEnds, IsPhoneRun}
 use Rattle.phone_runs.specs.Traces.{entries_text}
 use Rattle.script_form.specs.declared.lines.ScriptLine.{ScriptLine}
 use Rattle.uicc_run.specs.Playing.{CardComesTo, Given, IsPlayed, Leaves, StopsPlaying, left_at}
@@ -39,6 +41,7 @@ pub record EndsServing (given : Given) (left : Option (List ℕ)) (end : PlayEnd
   pub lines_are : IsPlayed given found section played start
   pub told : lines_of log ≡ phone_lines played
   pub run : IsPhoneRun (first_machine start given.boxes) log machine
+  pub rests : asked (history log) ≡ Rest
   pub legal : IsLegal (heard (phone_lines played)) (trace log)
   pub of_card : IsRun (first_machine start given.boxes) (steps log) (shown log) machine
   pub cause : StopsPlaying given found left end
@@ -60,7 +63,7 @@ pub record StopsServing (given : Given) (end : StepEnd) (now : Leaves) : Type 0 
   pub parted : lines given.text ≡ found ++ more
   pub lines_are : IsPlayed given found section played start
   pub left_is : now ≡ left_at at
-  pub ended : EndsSo (beginning given start) (told_back played) at end
+  pub ended : RunEnds (beginning given start) (told_back played) at end
   pub begun : ShowsBegun (beginning given start) (told_back played) at
   pub of_card : EndIsOfTheCard (beginning given start) (told_back played) at end ended
 

@@ -6,6 +6,7 @@ use Rattle.run_words.specs.declared.requests.Devices.{Devices}
 use Rattle.run_words.specs.declared.requests.Mode.TheVariants.{Bip}
 use Rattle.uicc_run.specs.Endings.{status_of}
 use Rattle.uicc_run.specs.Headline.{Closes}
+use Rattle.uicc_run.specs.Scenes.{Scene, Seen}
 use Rattle.uicc_run.specs.declared.endings.Ending.{Ending}
 use Rattle.uicc_run.specs.declared.endings.Ending.TheVariants.{Usage, NoMemory, Section, FormatFailed, EepromFailed, NotACard, NoApplet, Played, Counted, LoadFailed}
 use Rattle.uicc_types.specs.Counts.{Rose}
@@ -28,26 +29,26 @@ ComesToBip text before left taken (Counted lines counts) = ⊥
 ComesToBip text before left taken LoadFailed = ⊥
 
 -- what it comes to by its words, and leaves alone: what it is for the memory and the boxes to be as they were
-pub record ServesBip (left left_then before taken : Option (List ℕ)) (MemoryIsSame BoxesAreSame : Type 0) (ending : Ending) : Type 0 where
-  pub comes : (text : List ℕ) → left ≡ Some text → ComesToBip text before left_then taken ending
+pub record ServesBip (before after : Scene) (MemoryIsSame BoxesAreSame : Type 0) (ending : Ending) : Type 0 where
+  pub comes : (text : List ℕ) → before.left ≡ Some text → ComesToBip text before.taken after.left after.taken ending
   pub low : status_of ending ≤ 5
   pub memory_kept : MemoryIsSame
   pub boxes_kept : BoxesAreSame
 
 -- why it ended so, be its last line taken or not
-pub record IsBipCaused (source source_then sink sink_then : ℕ) (ending : Ending) : Type 0 where
-  pub read_failed : status_of ending ≡ 3 → Rose source source_then
-  pub sink_failed : status_of ending ≡ 4 → Rose sink sink_then
+pub record IsBipCaused (seen : Seen) (ending : Ending) : Type 0 where
+  pub read_failed : status_of ending ≡ 3 → Rose seen.source seen.source_then
+  pub sink_failed : status_of ending ≡ 4 → Rose seen.sink seen.sink_then
 
 -- The run ended so, for this cause: what it comes to, then the last line.
-pub record TracesBip (text : List ℕ) (before left taken : Option (List ℕ)) (status : ℕ) (HasCause : Ending → Type 0) : Type 0 where
+pub record TracesBip (text : List ℕ) (before : Option (List ℕ)) (seen : Seen) : Type 0 where
   pub ending : Ending
-  pub cause : HasCause ending
+  pub cause : IsBipCaused seen ending
   pub put : Option (List ℕ)
-  pub comes : ComesToBip text before left put ending
-  pub closes : Closes ending put taken status
+  pub comes : ComesToBip text before seen.left put ending
+  pub closes : Closes ending put seen.taken seen.status
 
 -- neither the source nor the sink failed
-pub record IsUnbroken (source source_then sink sink_then : ℕ) : Type 0 where
-  pub source_sound : Rose source source_then → ⊥
-  pub sink_sound : Rose sink sink_then → ⊥
+pub record IsUnbroken (seen : Seen) : Type 0 where
+  pub source_sound : Rose seen.source seen.source_then → ⊥
+  pub sink_sound : Rose seen.sink seen.sink_then → ⊥

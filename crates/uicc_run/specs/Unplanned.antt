@@ -1,5 +1,6 @@
 -- What a run leaves of the counts of its memory's device where no card was opened.
 use Rattle.std.specs.Prelude.{◌≡◌, ◌≤◌}
+use Rattle.uicc_run.specs.Scenes.{Scene}
 use Rattle.uicc_types.specs.Counts.{Meter}
 use Rattle.uicc_types.specs.declared.plans.TheConstants.Plan.{NONE}
 
@@ -10,3 +11,8 @@ pub record IsUnplanned (old new : Meter) : Type 0 where
   pub plans_kept : new.plans ≡ old.plans
   pub latest_kept : new.latest ≡ old.latest
   pub no_plan : old.plan ≡ NONE → new.plan ≡ NONE
+
+-- nothing was put into the sink, and so it is with the counts
+pub record IsQuiet (before after : Scene) : Type 0 where
+  pub silent : after.taken ≡ before.taken
+  pub unplanned : IsUnplanned before.meter after.meter

@@ -1,19 +1,14 @@
 //! What the program answers to the words of its command line.
-ghost use Rattle.std.specs.Prelude.{◌≡◌, ◌≢◌, ◌≤◌, ℕ, List, Some, None, length, map, option_map, slice_get, string_bytes};
+ghost use Rattle.std.specs.Prelude.{◌≡◌, ◌≤◌, ℕ, List, [], Some, None, length, map, option_map, slice_get, string_bytes};
 ghost use Rattle.card_layout.specs.declared.sizes.TheConstants.{ROW_COUNT};
 ghost use Rattle.card_opening.specs.Boxes.{minds_of};
-ghost use Rattle.eeprom_model.specs.Bench.{new_bench};
 ghost use Rattle.run_words.specs.Model.{AskForRun, IsMadeFor};
 ghost use Rattle.script_form.specs.Reads.{IsOnly};
-ghost use Rattle.uicc_run.specs.Answering.{HasLoaded, HasRun, KeepsToScript, NameNoImage, new_meter, seen};
-ghost use Rattle.uicc_run.specs.Headline.{Closes};
-ghost use Rattle.uicc_run.specs.Loading.{AskToLoad, LoadsFrom};
-ghost use Rattle.uicc_run.specs.Opening.{ReadsFrom, RunsFrom};
-ghost use Rattle.uicc_run.specs.Pages.{AsksFor, AsksForNone, IsNoUse, Shows, words_of};
-ghost use Rattle.uicc_run.specs.Playing.{Given};
-ghost use Rattle.uicc_run.specs.Stores.{IsSizeFor, size_of};
-ghost use Rattle.uicc_run.specs.Terminals.{AskForBip, IsBipCaused, TracesBip};
-ghost use Rattle.uicc_types.specs.Counts.{CountsFailure};
+ghost use Rattle.uicc_run.specs.Answering.{HasLoadedOnBench, HasLoadedOver, HasOuterCauses, HasRunOnBench, HasRunOver, HasServed, HasUsedCauses, IsUsage, KeepsToScripts, NameNoImage, RefusesUseless, ShowsPages};
+ghost use Rattle.uicc_run.specs.Causes.{FitsRun};
+ghost use Rattle.uicc_run.specs.Pages.{AsksForNone, words_of};
+ghost use Rattle.uicc_run.specs.Scenes.{new_meter, outside, over_bench, scene};
+ghost use Rattle.uicc_run.specs.Stores.{size_of};
 
 use crate::endings::Ending;
 use crate::images::{image_file, use_of};
@@ -41,28 +36,32 @@ pub fn answer<H: Files<File = File> + Eprint + AllocGlobal, R: Source, W: Sink, 
 ) -> u8
     requires shelves { length cast.items ≤ ROW_COUNT }
     // A page is written and nothing is read.
-    ensures page { (page : Page) → AsksFor (words_of arguments.now) page → Shows page (W.taken output.old) (W.taken output.new) result }
-    ensures unread { (page : Page) → AsksFor (words_of arguments.now) page → script.new ≡ script.old }
+    ensures page { ShowsPages (words_of arguments.now) result
+        (outside R.Source W.Sink script.old output.old (minds_of B.mind cast.items))
+        (outside R.Source W.Sink script.new output.new []) (script.new ≡ script.old) }
 
     // All other words are those of a run. Over any memory, an image too: which scripts are carried out, and what a status says of one.
-    ensures script { AsksForNone (words_of arguments.now) → (given : Given) → ReadsFrom given (words_of arguments.now) (R.left script.old) (W.taken output.old) (minds_of B.mind cast.items)
-        → KeepsToScript given (words_of arguments.now) (seen R.Source W.Sink script.old script.new output.old output.new result) }
+    ensures script { AsksForNone (words_of arguments.now) → KeepsToScripts (words_of arguments.now) result
+        (outside R.Source W.Sink script.old output.old (minds_of B.mind cast.items))
+        (outside R.Source W.Sink script.new output.new []) }
     // Over a new memory of the bench, with power and without a plan: the trace, and the counts of a long run.
-    ensures trace { AsksForNone (words_of arguments.now) → NameNoImage (words_of arguments.now) → (given : Given)
-        → RunsFrom given (words_of arguments.now) (R.left script.old) (W.taken output.old) (Some (new_bench (size_of given.pages)).bytes) (new_bench (size_of given.pages)).meter (minds_of B.mind cast.items)
-        → HasRun given (words_of arguments.now) (seen R.Source W.Sink script.old script.new output.old output.new result) }
-    ensures load { AsksForNone (words_of arguments.now) → NameNoImage (words_of arguments.now) → (given : Given) (start count : ℕ)
-        → LoadsFrom given start count (words_of arguments.now) (W.taken output.old) (Some (new_bench (size_of given.pages)).bytes) (new_bench (size_of given.pages)).meter (minds_of B.mind cast.items)
-        → HasLoaded given start count (seen R.Source W.Sink script.old script.new output.old output.new result) }
-    ensures load_unread { (start count : ℕ) → AskToLoad (words_of arguments.now) start count → script.new ≡ script.old }
-    ensures bip { AsksForNone (words_of arguments.now) → (text : List ℕ) → AskForBip (words_of arguments.now) → R.left script.old ≡ Some text
-        → TracesBip text (W.taken output.old) (R.left script.new) (W.taken output.new) result (IsBipCaused (R.faults script.old) (R.faults script.new) (W.faults output.old) (W.faults output.new)) }
-    ensures usage { IsNoUse (words_of arguments.now) → Closes Ending.Usage (W.taken output.old) (W.taken output.new) result }
-    ensures usage_only { result ≡ 1 → IsNoUse (words_of arguments.now) }
-
-    ensures statuses { result ≤ 8 }
-    ensures source_failed { CountsFailure (R.faults script.old) (R.faults script.new) (result ≡ 3) }
-    ensures sink_failed { CountsFailure (W.faults output.old) (W.faults output.new) (result ≡ 4) }
+    ensures trace { AsksForNone (words_of arguments.now) → NameNoImage (words_of arguments.now)
+        → HasRunOnBench (words_of arguments.now) result
+        (outside R.Source W.Sink script.old output.old (minds_of B.mind cast.items))
+        (outside R.Source W.Sink script.new output.new []) }
+    ensures load { AsksForNone (words_of arguments.now) → NameNoImage (words_of arguments.now)
+        → HasLoadedOnBench (words_of arguments.now) result
+        (outside R.Source W.Sink script.old output.old (minds_of B.mind cast.items))
+        (outside R.Source W.Sink script.new output.new []) }
+    ensures bip { AsksForNone (words_of arguments.now) → HasServed (words_of arguments.now) result
+        (outside R.Source W.Sink script.old output.old (minds_of B.mind cast.items))
+        (outside R.Source W.Sink script.new output.new []) }
+    ensures usage { RefusesUseless (words_of arguments.now) result
+        (outside R.Source W.Sink script.old output.old (minds_of B.mind cast.items))
+        (outside R.Source W.Sink script.new output.new []) }
+    ensures causes { HasOuterCauses (words_of arguments.now) result
+        (outside R.Source W.Sink script.old output.old (minds_of B.mind cast.items))
+        (outside R.Source W.Sink script.new output.new []) (script.new ≡ script.old) }
 {
     let words = behind_name(arguments);
     match page_of(words) {
@@ -81,22 +80,22 @@ fn play<H: Files<File = File> + Eprint + AllocGlobal, R: Source, W: Sink, B: App
     cast: Vec<Option<B>>,
 ) -> u8
     requires shelves { length cast.items ≤ ROW_COUNT }
-    ensures script { (given : Given) → ReadsFrom given (map string_bytes words.now) (R.left script.old) (W.taken output.old) (minds_of B.mind cast.items)
-        → KeepsToScript given (map string_bytes words.now) (seen R.Source W.Sink script.old script.new output.old output.new result) }
-    ensures trace { NameNoImage (map string_bytes words.now) → (given : Given)
-        → RunsFrom given (map string_bytes words.now) (R.left script.old) (W.taken output.old) (Some (new_bench (size_of given.pages)).bytes) (new_bench (size_of given.pages)).meter (minds_of B.mind cast.items)
-        → HasRun given (map string_bytes words.now) (seen R.Source W.Sink script.old script.new output.old output.new result) }
-    ensures load { NameNoImage (map string_bytes words.now) → (given : Given) (start count : ℕ)
-        → LoadsFrom given start count (map string_bytes words.now) (W.taken output.old) (Some (new_bench (size_of given.pages)).bytes) (new_bench (size_of given.pages)).meter (minds_of B.mind cast.items)
-        → HasLoaded given start count (seen R.Source W.Sink script.old script.new output.old output.new result) }
-    ensures load_unread { (start count : ℕ) → AskToLoad (map string_bytes words.now) start count → script.new ≡ script.old }
-    ensures bip { (text : List ℕ) → AskForBip (map string_bytes words.now) → R.left script.old ≡ Some text
-        → TracesBip text (W.taken output.old) (R.left script.new) (W.taken output.new) result (IsBipCaused (R.faults script.old) (R.faults script.new) (W.faults output.old) (W.faults output.new)) }
-    ensures usage_only { result ≡ 1 → AskForRun (map string_bytes words.now) → ⊥ }
-    ensures usage { (AskForRun (map string_bytes words.now) → ⊥) → Closes Ending.Usage (W.taken output.old) (W.taken output.new) result }
-    ensures statuses { result ≤ 8 }
-    ensures source_failed { CountsFailure (R.faults script.old) (R.faults script.new) (result ≡ 3) }
-    ensures sink_failed { CountsFailure (W.faults output.old) (W.faults output.new) (result ≡ 4) }
+    ensures script { KeepsToScripts (map string_bytes words.now) result
+        (outside R.Source W.Sink script.old output.old (minds_of B.mind cast.items))
+        (outside R.Source W.Sink script.new output.new []) }
+    ensures trace { NameNoImage (map string_bytes words.now) → HasRunOnBench (map string_bytes words.now) result
+        (outside R.Source W.Sink script.old output.old (minds_of B.mind cast.items))
+        (outside R.Source W.Sink script.new output.new []) }
+    ensures load { NameNoImage (map string_bytes words.now) → HasLoadedOnBench (map string_bytes words.now) result
+        (outside R.Source W.Sink script.old output.old (minds_of B.mind cast.items))
+        (outside R.Source W.Sink script.new output.new []) }
+    ensures bip { HasServed (map string_bytes words.now) result
+        (outside R.Source W.Sink script.old output.old (minds_of B.mind cast.items))
+        (outside R.Source W.Sink script.new output.new []) }
+    ensures usage { IsUsage (map string_bytes words.now) result (W.taken output.old) (W.taken output.new) }
+    ensures causes { HasOuterCauses (map string_bytes words.now) result
+        (outside R.Source W.Sink script.old output.old (minds_of B.mind cast.items))
+        (outside R.Source W.Sink script.new output.new []) (script.new ≡ script.old) }
 {
     match devices(words) {
         Some(made) => play_on(rt, words, made, script, output, cast),
@@ -115,21 +114,21 @@ fn play_on<H: Files<File = File> + Eprint + AllocGlobal, R: Source, W: Sink, B: 
 ) -> u8
     requires shelves { length cast.items ≤ ROW_COUNT }
     requires used { IsOnly (IsMadeFor (map string_bytes words.now)) made }
-    ensures script { (given : Given) → ReadsFrom given (map string_bytes words.now) (R.left script.old) (W.taken output.old) (minds_of B.mind cast.items)
-        → KeepsToScript given (map string_bytes words.now) (seen R.Source W.Sink script.old script.new output.old output.new result) }
-    ensures trace { made.image ≡ None → (given : Given)
-        → RunsFrom given (map string_bytes words.now) (R.left script.old) (W.taken output.old) (Some (new_bench (size_of given.pages)).bytes) (new_bench (size_of given.pages)).meter (minds_of B.mind cast.items)
-        → HasRun given (map string_bytes words.now) (seen R.Source W.Sink script.old script.new output.old output.new result) }
-    ensures load { made.image ≡ None → (given : Given) (start count : ℕ)
-        → LoadsFrom given start count (map string_bytes words.now) (W.taken output.old) (Some (new_bench (size_of given.pages)).bytes) (new_bench (size_of given.pages)).meter (minds_of B.mind cast.items)
-        → HasLoaded given start count (seen R.Source W.Sink script.old script.new output.old output.new result) }
-    ensures load_unread { (start count : ℕ) → AskToLoad (map string_bytes words.now) start count → script.new ≡ script.old }
-    ensures bip { (text : List ℕ) → AskForBip (map string_bytes words.now) → R.left script.old ≡ Some text
-        → TracesBip text (W.taken output.old) (R.left script.new) (W.taken output.new) result (IsBipCaused (R.faults script.old) (R.faults script.new) (W.faults output.old) (W.faults output.new)) }
-    ensures used { result ≢ 1 }
-    ensures statuses { result ≤ 8 }
-    ensures source_failed { CountsFailure (R.faults script.old) (R.faults script.new) (result ≡ 3) }
-    ensures sink_failed { CountsFailure (W.faults output.old) (W.faults output.new) (result ≡ 4) }
+    ensures script { KeepsToScripts (map string_bytes words.now) result
+        (outside R.Source W.Sink script.old output.old (minds_of B.mind cast.items))
+        (outside R.Source W.Sink script.new output.new []) }
+    ensures trace { made.image ≡ None → HasRunOnBench (map string_bytes words.now) result
+        (outside R.Source W.Sink script.old output.old (minds_of B.mind cast.items))
+        (outside R.Source W.Sink script.new output.new []) }
+    ensures load { made.image ≡ None → HasLoadedOnBench (map string_bytes words.now) result
+        (outside R.Source W.Sink script.old output.old (minds_of B.mind cast.items))
+        (outside R.Source W.Sink script.new output.new []) }
+    ensures bip { HasServed (map string_bytes words.now) result
+        (outside R.Source W.Sink script.old output.old (minds_of B.mind cast.items))
+        (outside R.Source W.Sink script.new output.new []) }
+    ensures causes { HasUsedCauses (map string_bytes words.now) result
+        (outside R.Source W.Sink script.old output.old (minds_of B.mind cast.items))
+        (outside R.Source W.Sink script.new output.new []) (script.new ≡ script.old) }
 {
     let size = device_size(made.pages);
     match image_path(words, made.image) {
@@ -152,7 +151,8 @@ pub fn device_size(pages: bool) -> usize
 /// The path of the image, where one is named.
 fn image_path(words: &[String], place: Option<usize>) -> Option<&String>
     ensures none { place ≡ None → result ≡ None }
-    ensures named { (at : ℕ) → place ≡ Some at → option_map (λ word. string_bytes word.now) result ≡ slice_get (map string_bytes words.now) at }
+    ensures named { (at : ℕ) → place ≡ Some at
+        → option_map (λ word. string_bytes word.now) result ≡ slice_get (map string_bytes words.now) at }
 {
     words.get(place?)
 }
@@ -166,23 +166,23 @@ fn play_on_bench<R: Source, W: Sink, B: Applet>(
     output: &mut W,
     cast: Vec<Option<B>>,
 ) -> u8
-    requires shelves { length cast.items ≤ ROW_COUNT }
-    requires size { IsSizeFor (map string_bytes words.now) size }
+    requires fits { FitsRun (map string_bytes words.now) size cast.items }
     requires used { AskForRun (map string_bytes words.now) }
-    ensures script { (given : Given) → ReadsFrom given (map string_bytes words.now) (R.left script.old) (W.taken output.old) (minds_of B.mind cast.items)
-        → KeepsToScript given (map string_bytes words.now) (seen R.Source W.Sink script.old script.new output.old output.new result) }
-    ensures trace { (given : Given) → RunsFrom given (map string_bytes words.now) (R.left script.old) (W.taken output.old) (Some (new_bench size).bytes) (new_bench size).meter (minds_of B.mind cast.items)
-        → HasRun given (map string_bytes words.now) (seen R.Source W.Sink script.old script.new output.old output.new result) }
-    ensures load { (given : Given) (start count : ℕ)
-        → LoadsFrom given start count (map string_bytes words.now) (W.taken output.old) (Some (new_bench size).bytes) (new_bench size).meter (minds_of B.mind cast.items)
-        → HasLoaded given start count (seen R.Source W.Sink script.old script.new output.old output.new result) }
-    ensures load_unread { (start count : ℕ) → AskToLoad (map string_bytes words.now) start count → script.new ≡ script.old }
-    ensures bip { (text : List ℕ) → AskForBip (map string_bytes words.now) → R.left script.old ≡ Some text
-        → TracesBip text (W.taken output.old) (R.left script.new) (W.taken output.new) result (IsBipCaused (R.faults script.old) (R.faults script.new) (W.faults output.old) (W.faults output.new)) }
-    ensures used { result ≢ 1 }
-    ensures statuses { result ≤ 8 }
-    ensures source_failed { CountsFailure (R.faults script.old) (R.faults script.new) (result ≡ 3) }
-    ensures sink_failed { CountsFailure (W.faults output.old) (W.faults output.new) (result ≡ 4) }
+    ensures script { KeepsToScripts (map string_bytes words.now) result
+        (outside R.Source W.Sink script.old output.old (minds_of B.mind cast.items))
+        (outside R.Source W.Sink script.new output.new []) }
+    ensures trace { HasRunOver (map string_bytes words.now) result
+        (over_bench size (outside R.Source W.Sink script.old output.old (minds_of B.mind cast.items)))
+        (outside R.Source W.Sink script.new output.new []) }
+    ensures load { HasLoadedOver (map string_bytes words.now) result
+        (over_bench size (outside R.Source W.Sink script.old output.old (minds_of B.mind cast.items)))
+        (outside R.Source W.Sink script.new output.new []) }
+    ensures bip { HasServed (map string_bytes words.now) result
+        (outside R.Source W.Sink script.old output.old (minds_of B.mind cast.items))
+        (outside R.Source W.Sink script.new output.new []) }
+    ensures causes { HasUsedCauses (map string_bytes words.now) result
+        (outside R.Source W.Sink script.old output.old (minds_of B.mind cast.items))
+        (outside R.Source W.Sink script.new output.new []) (script.new ≡ script.old) }
 {
     match BenchEeprom::new(alloc, size) {
         Ok(eeprom) => play_over(alloc, words, script, output, eeprom, cast),
@@ -199,24 +199,24 @@ fn play_over<E: Eeprom + Drop, R: Source, W: Sink, B: Applet>(
     eeprom: E,
     cast: Vec<Option<B>>,
 ) -> u8
-    requires shelves { length cast.items ≤ ROW_COUNT }
-    requires size { IsSizeFor (map string_bytes words.now) (E.byte_count eeprom) }
+    requires fits { FitsRun (map string_bytes words.now) (E.byte_count eeprom) cast.items }
     requires new { E.meter eeprom ≡ new_meter }
     requires used { AskForRun (map string_bytes words.now) }
-    ensures script { (given : Given) → ReadsFrom given (map string_bytes words.now) (R.left script.old) (W.taken output.old) (minds_of B.mind cast.items)
-        → KeepsToScript given (map string_bytes words.now) (seen R.Source W.Sink script.old script.new output.old output.new result) }
-    ensures trace { (given : Given) → RunsFrom given (map string_bytes words.now) (R.left script.old) (W.taken output.old) (E.contents eeprom) (E.meter eeprom) (minds_of B.mind cast.items)
-        → HasRun given (map string_bytes words.now) (seen R.Source W.Sink script.old script.new output.old output.new result) }
-    ensures load { (given : Given) (start count : ℕ)
-        → LoadsFrom given start count (map string_bytes words.now) (W.taken output.old) (E.contents eeprom) (E.meter eeprom) (minds_of B.mind cast.items)
-        → HasLoaded given start count (seen R.Source W.Sink script.old script.new output.old output.new result) }
-    ensures load_unread { (start count : ℕ) → AskToLoad (map string_bytes words.now) start count → script.new ≡ script.old }
-    ensures bip { (text : List ℕ) → AskForBip (map string_bytes words.now) → R.left script.old ≡ Some text
-        → TracesBip text (W.taken output.old) (R.left script.new) (W.taken output.new) result (IsBipCaused (R.faults script.old) (R.faults script.new) (W.faults output.old) (W.faults output.new)) }
-    ensures used { result ≢ 1 }
-    ensures statuses { result ≤ 8 }
-    ensures source_failed { CountsFailure (R.faults script.old) (R.faults script.new) (result ≡ 3) }
-    ensures sink_failed { CountsFailure (W.faults output.old) (W.faults output.new) (result ≡ 4) }
+    ensures script { KeepsToScripts (map string_bytes words.now) result
+        (outside R.Source W.Sink script.old output.old (minds_of B.mind cast.items))
+        (outside R.Source W.Sink script.new output.new []) }
+    ensures trace { HasRunOver (map string_bytes words.now) result
+        (scene R.Source W.Sink E.Eeprom B.Applet script.old output.old eeprom cast.items)
+        (outside R.Source W.Sink script.new output.new []) }
+    ensures load { HasLoadedOver (map string_bytes words.now) result
+        (scene R.Source W.Sink E.Eeprom B.Applet script.old output.old eeprom cast.items)
+        (outside R.Source W.Sink script.new output.new []) }
+    ensures bip { HasServed (map string_bytes words.now) result
+        (outside R.Source W.Sink script.old output.old (minds_of B.mind cast.items))
+        (outside R.Source W.Sink script.new output.new []) }
+    ensures causes { HasUsedCauses (map string_bytes words.now) result
+        (outside R.Source W.Sink script.old output.old (minds_of B.mind cast.items))
+        (outside R.Source W.Sink script.new output.new []) (script.new ≡ script.old) }
 {
     let (status, _eeprom, _cast) = run(alloc, words, script, output, eeprom, cast);
     status

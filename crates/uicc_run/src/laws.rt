@@ -1,6 +1,7 @@
-//! A law of whole runs. The function does nothing: its contract is the law.
-ghost use Rattle.uicc_run.specs.Determined.{TracesAreOne};
+//! Laws of whole runs. The functions do nothing: each one's contract is the law.
+ghost use Rattle.uicc_run.specs.Determined.{LoadsAreOne, ServedTracesAreOne, TracesAreOne};
 
+use phone_runs::phone_runs_are_one;
 use run_laws::runs_are_one;
 
 /// Two runs of the same section and the same lines behind `start`, without a handset, in which no memory fails and no power is lost,
@@ -9,4 +10,12 @@ pub fn traces_are_one()
     ensures { TracesAreOne }
 {
     runs_are_one();
+}
+
+/// So have two runs with a handset, and two long runs have the same counts.
+pub fn served_traces_are_one()
+    ensures served { ServedTracesAreOne }
+    ensures loads { LoadsAreOne }
+{
+    phone_runs_are_one();
 }

@@ -16,6 +16,6 @@ mod terminals;
 
 pub use answering::{answer, device_size};
 pub use endings::Ending;
-pub use laws::traces_are_one;
+pub use laws::{served_traces_are_one, traces_are_one};
 pub use run_words::devices;
 pub use running::{close, run};

@@ -1,12 +1,12 @@
 //! A long run: a handset carries out lines that are made from a number, and what it did is counted.
-ghost use Rattle.std.specs.Prelude.{◌≡◌, ◌≢◌, ◌≤◌, ◌⊎◌, [], ℕ, List, Option, Some, Ok, length, option_map, IfSome};
+ghost use Rattle.std.specs.Prelude.{◌≡◌, ◌≤◌, ◌⊎◌, [], ℕ, List, Option, Some, Ok, length, option_map, IfSome};
 ghost use Rattle.card_layout.specs.Persistent.{Persistent};
 ghost use Rattle.card_layout.specs.Places.{memory_size};
 ghost use Rattle.card_layout.specs.Standing.{standing, stands_for};
 ghost use Rattle.card_layout.specs.declared.sizes.TheConstants.{ROW_COUNT};
 ghost use Rattle.card_model.specs.Counts.{IsCounted};
 ghost use Rattle.card_opening.specs.Boxes.{minds_of};
-ghost use Rattle.uicc_run.specs.Endings.{HasFailed, IsEarly, IsUnopened, status_of as status_for};
+ghost use Rattle.uicc_run.specs.Causes.{EndsLoad, FitsStore};
 ghost use Rattle.uicc_run.specs.Loading.{ComesToLoad, HoldsFixed, IsFixedCard, ending_for as ending_for_load};
 ghost use Rattle.uicc_run.specs.Opening.{IsGiven};
 ghost use Rattle.uicc_run.specs.Playing.{Given};
@@ -39,18 +39,21 @@ pub fn load<E: Eeprom, B: Applet>(
     eeprom: E,
     cast: Vec<Option<B>>,
 ) -> (Ending, E, Vec<Option<B>>)
-    requires size { E.byte_count eeprom ≡ size_of pages }
-    requires shelves { length cast.items ≤ ROW_COUNT }
-    ensures comes { (given : Given) (before taken : Option (List ℕ)) → given.pages ≡ pages → IsGiven given before (memory_in given.pages (E.contents eeprom)) (E.meter eeprom) (minds_of B.mind cast.items)
-        → ComesToLoad given start count result.0 (record { held = held_in given.pages (E.contents result.1); taken = taken; meter = E.meter result.1; boxes = minds_of B.mind result.2.items }) }
-    ensures used { result.0 ≢ Ending.Usage }
-    ensures played { result.0 ≢ Ending.Played PlayEnd.ResetFailed }
-    ensures unread { status_for result.0 ≢ 3 }
-    ensures unwritten { status_for result.0 ≢ 4 }
-    ensures untouched { IsEarly result.0 → result.1 ≡ eeprom }
-    ensures no_memory { (given : Given) → given.pages ≡ pages → minds_of B.mind cast.items ≡ given.boxes → result.0 ≡ Ending.NoMemory → (result.1 ≡ eeprom) ⊎ HoldsFixed given (content_in given.pages (E.contents result.1)) }
-    ensures boxes { IsUnopened result.0 → result.2.items ≡ cast.items }
-    ensures memory_cause { status_for result.0 ≡ 6 → HasFailed (E.meter eeprom) (E.meter result.1) }
+    requires fits { FitsStore (E.byte_count eeprom) (size_of pages) cast.items }
+    ensures comes { (given : Given) (before taken : Option (List ℕ)) → given.pages ≡ pages
+        → IsGiven given before (memory_in given.pages (E.contents eeprom)) (E.meter eeprom)
+        (minds_of B.mind cast.items)
+        → ComesToLoad given start count result.0 (record {
+          held = held_in given.pages (E.contents result.1);
+          taken = taken;
+          meter = E.meter result.1;
+          boxes = minds_of B.mind result.2.items;
+        }) }
+    ensures no_memory { (given : Given) → given.pages ≡ pages → minds_of B.mind cast.items ≡ given.boxes
+        → result.0 ≡ Ending.NoMemory
+        → (result.1 ≡ eeprom) ⊎ HoldsFixed given (content_in given.pages (E.contents result.1)) }
+    ensures ends { EndsLoad result.0 (E.meter eeprom) (E.meter result.1)
+        (result.1 ≡ eeprom) (result.2.items ≡ cast.items) }
 {
     match Section::new(alloc) {
         Ok(mut section) => match describe_rows(cast.as_slice(), &mut section) {
@@ -71,18 +74,21 @@ fn load_on<E: Eeprom, B: Applet>(
     eeprom: E,
     cast: Vec<Option<B>>,
 ) -> (Ending, E, Vec<Option<B>>)
-    requires size { E.byte_count eeprom ≡ size_of pages }
-    requires shelves { length cast.items ≤ ROW_COUNT }
-    ensures comes { (given : Given) (before taken : Option (List ℕ)) → given.pages ≡ pages → IsFixedCard given.boxes section.now → IsGiven given before (memory_in given.pages (E.contents eeprom)) (E.meter eeprom) (minds_of B.mind cast.items)
-        → ComesToLoad given start count result.0 (record { held = held_in given.pages (E.contents result.1); taken = taken; meter = E.meter result.1; boxes = minds_of B.mind result.2.items }) }
-    ensures used { result.0 ≢ Ending.Usage }
-    ensures played { result.0 ≢ Ending.Played PlayEnd.ResetFailed }
-    ensures unread { status_for result.0 ≢ 3 }
-    ensures unwritten { status_for result.0 ≢ 4 }
-    ensures late { IsEarly result.0 → ⊥ }
-    ensures no_memory { result.0 ≡ Ending.NoMemory → IfSome (content_in pages (E.contents result.1)) (λ content. stands_for (mark_of pages) content ≡ Ok section.now) }
-    ensures boxes { IsUnopened result.0 → result.2.items ≡ cast.items }
-    ensures memory_cause { status_for result.0 ≡ 6 → HasFailed (E.meter eeprom) (E.meter result.1) }
+    requires fits { FitsStore (E.byte_count eeprom) (size_of pages) cast.items }
+    ensures comes { (given : Given) (before taken : Option (List ℕ)) → given.pages ≡ pages
+        → IsFixedCard given.boxes section.now
+        → IsGiven given before (memory_in given.pages (E.contents eeprom)) (E.meter eeprom)
+        (minds_of B.mind cast.items)
+        → ComesToLoad given start count result.0 (record {
+          held = held_in given.pages (E.contents result.1);
+          taken = taken;
+          meter = E.meter result.1;
+          boxes = minds_of B.mind result.2.items;
+        }) }
+    ensures no_memory { result.0 ≡ Ending.NoMemory
+        → IfSome (content_in pages (E.contents result.1))
+        (λ content. stands_for (mark_of pages) content ≡ Ok section.now) }
+    ensures ends { EndsLoad result.0 (E.meter eeprom) (E.meter result.1) ⊥ (result.2.items ≡ cast.items) }
 {
     if pages {
         let store = PageStore::new(eeprom);
@@ -104,18 +110,19 @@ fn load_over<S: Store, B: Applet>(
     mut store: S,
     cast: Vec<Option<B>>,
 ) -> (Ending, S, Vec<Option<B>>)
-    requires size { S.byte_count store ≡ memory_size }
-    requires shelves { length cast.items ≤ ROW_COUNT }
-    ensures comes { (given : Given) (before taken : Option (List ℕ)) → IsFixedCard given.boxes section.now → IsGiven given before (option_map (stands_for (S.store_mark store)) (S.stable store)) (S.meter store) (minds_of B.mind cast.items)
-        → ComesToLoad given start count result.0 (record { held = standing (S.store_mark result.1) (S.stable result.1); taken = taken; meter = S.meter result.1; boxes = minds_of B.mind result.2.items }) }
-    ensures used { result.0 ≢ Ending.Usage }
-    ensures played { result.0 ≢ Ending.Played PlayEnd.ResetFailed }
-    ensures unread { status_for result.0 ≢ 3 }
-    ensures unwritten { status_for result.0 ≢ 4 }
-    ensures late { IsEarly result.0 → ⊥ }
-    ensures no_memory { result.0 ≡ Ending.NoMemory → IfSome (S.stable result.1) (λ content. stands_for (S.store_mark store) content ≡ Ok section.now) }
-    ensures boxes { IsUnopened result.0 → result.2.items ≡ cast.items }
-    ensures memory_cause { status_for result.0 ≡ 6 → HasFailed (S.meter store) (S.meter result.1) }
+    requires fits { FitsStore (S.byte_count store) memory_size cast.items }
+    ensures comes { (given : Given) (before taken : Option (List ℕ)) → IsFixedCard given.boxes section.now
+        → IsGiven given before (option_map (stands_for (S.store_mark store)) (S.stable store)) (S.meter store)
+        (minds_of B.mind cast.items)
+        → ComesToLoad given start count result.0 (record {
+          held = standing (S.store_mark result.1) (S.stable result.1);
+          taken = taken;
+          meter = S.meter result.1;
+          boxes = minds_of B.mind result.2.items;
+        }) }
+    ensures no_memory { result.0 ≡ Ending.NoMemory
+        → IfSome (S.stable result.1) (λ content. stands_for (S.store_mark store) content ≡ Ok section.now) }
+    ensures ends { EndsLoad result.0 (S.meter store) (S.meter result.1) ⊥ (result.2.items ≡ cast.items) }
 {
     runs_are_counted();
     match format(&mut store, section) {
@@ -132,19 +139,18 @@ fn open_and_load<S: Store, B: Applet>(
     store: S,
     cast: Vec<Option<B>>,
 ) -> (Ending, S, Vec<Option<B>>)
-    requires size { S.byte_count store ≡ memory_size }
-    requires shelves { length cast.items ≤ ROW_COUNT }
-    ensures comes { (given : Given) (taken : Option (List ℕ)) (card : Persistent) → option_map (stands_for (S.store_mark store)) (S.stable store) ≡ Some (Ok card) → IsFixedCard given.boxes card
+    requires fits { FitsStore (S.byte_count store) memory_size cast.items }
+    ensures comes { (given : Given) (taken : Option (List ℕ)) (card : Persistent)
+        → option_map (stands_for (S.store_mark store)) (S.stable store) ≡ Some (Ok card) → IsFixedCard given.boxes card
         → IsCounted given.meter (S.meter store) [] [] → minds_of B.mind cast.items ≡ given.boxes
-        → ComesToLoad given start count result.0 (record { held = standing (S.store_mark result.1) (S.stable result.1); taken = taken; meter = S.meter result.1; boxes = minds_of B.mind result.2.items }) }
-    ensures used { result.0 ≢ Ending.Usage }
-    ensures played { result.0 ≢ Ending.Played PlayEnd.ResetFailed }
-    ensures unread { status_for result.0 ≢ 3 }
-    ensures unwritten { status_for result.0 ≢ 4 }
-    ensures late { IsEarly result.0 → ⊥ }
+        → ComesToLoad given start count result.0 (record {
+          held = standing (S.store_mark result.1) (S.stable result.1);
+          taken = taken;
+          meter = S.meter result.1;
+          boxes = minds_of B.mind result.2.items;
+        }) }
     ensures bytes { result.0 ≡ Ending.NoMemory → S.stable result.1 ≡ S.stable store }
-    ensures boxes { IsUnopened result.0 → result.2.items ≡ cast.items }
-    ensures memory_cause { status_for result.0 ≡ 6 → HasFailed (S.meter store) (S.meter result.1) }
+    ensures ends { EndsLoad result.0 (S.meter store) (S.meter result.1) ⊥ (result.2.items ≡ cast.items) }
 {
     runs_are_counted();
     phone_runs_are_lawful();

@@ -1,15 +1,16 @@
 //! The rest of a script: what is done to the card, line by line.
-ghost use Rattle.std.specs.Prelude.{◌≡◌, ◌<◌, ◌≤◌, List, ℕ, None, Err, OnOk, is_some};
+ghost use Rattle.std.specs.Prelude.{◌≡◌, ◌<◌, List, ℕ, None, Err, OnOk};
 ghost use Rattle.byte_streams.specs.Reading.{IsWithin};
 ghost use Rattle.card_sections.specs.Behind.{GivesRead, IsReading, ReadsTo};
 ghost use Rattle.card_sections.specs.Reading.{reading, room_of};
 ghost use Rattle.card_steps.specs.Ends.{moment_at};
 ghost use Rattle.card_steps.specs.Moves.{step_of};
+ghost use Rattle.card_steps.specs.Tallies.{Tallies, tally};
 ghost use Rattle.uicc_run.specs.Accounts.{kept_behind};
 ghost use Rattle.uicc_run.specs.Playing.{CardComesTo, Given, GivesPlayed, IsPlaying, left_at};
 ghost use Rattle.uicc_run.specs.Steps.{may_follow};
 ghost use Rattle.script_form.specs.declared.lines.ScriptLine.{ScriptLine as AnyLine};
-ghost use Rattle.uicc_types.specs.Counts.{CountsFailure, Rose};
+ghost use Rattle.uicc_types.specs.Counts.{CountsFailure, Rose, raised};
 
 use crate::effects::{Effect, effect_of};
 use applet_trait::Applet;
@@ -29,16 +30,19 @@ pub fn play_lines<S: Store, B: Applet, R: Source, W: Sink>(
     card: &mut CardEnd<S, B>,
     trace: &mut W,
 ) -> PlayEnd
-    ensures played { (given : Given) → IsPlaying given script.old (R.left source.old) None (moment_at card.old (W.taken trace.old))
+    ensures played { (given : Given)
+        → IsPlaying given script.old (R.left source.old) None (moment_at card.old (W.taken trace.old))
         → CardComesTo given (R.left source.new) result (left_at (moment_at card.new (W.taken trace.new))) }
     // Over any memory: which lines were read, and why no more of them.
-    ensures reads { (text : List ℕ) (opening : List AnyLine) → IsReading may_follow opening text script.old (R.left source.old) → ReadsTo may_follow opening text (R.left source.new) result }
-    ensures within { (text : List ℕ) → IsWithin text (reading script.old) (R.left source.old) → IsWithin text (reading script.new) (R.left source.new) }
-    ensures kept { card.old.parts.meter.faults ≤ card.new.parts.meter.faults }
+    ensures reads { (text : List ℕ) (opening : List AnyLine)
+        → IsReading may_follow opening text script.old (R.left source.old)
+        → ReadsTo may_follow opening text (R.left source.new) result }
+    ensures within { (text : List ℕ) → IsWithin text (reading script.old) (R.left source.old)
+        → IsWithin text (reading script.new) (R.left source.new) }
     ensures failed { result ≡ PlayEnd.ResetFailed → Rose card.old.parts.meter.faults card.new.parts.meter.faults }
     ensures source_cause { CountsFailure (R.faults source.old) (R.faults source.new) (result ≡ PlayEnd.ReadFailed) }
-    ensures sink_cause { CountsFailure (W.faults trace.old) (W.faults trace.new) (result ≡ PlayEnd.SinkFailed) }
-    ensures tells { is_some (W.taken trace.new) ≡ is_some (W.taken trace.old) }
+    ensures tallies { Tallies (tally W.Sink card.old trace.old) (tally W.Sink card.new trace.new)
+        (result ≡ PlayEnd.SinkFailed) }
 {
     let mut line = ScriptLine::Passed;
     let mut link = Link::new();
@@ -71,15 +75,19 @@ fn play_line<S: Store, B: Applet, R: Source, W: Sink>(
     answer: &mut Answer,
     trace: &mut W,
 ) -> Result<(), PlayEnd>
-    ensures played { (given : Given) → IsPlaying given script.old (R.left source.old) link.old (moment_at card.old (W.taken trace.old))
+    ensures played { (given : Given)
+        → IsPlaying given script.old (R.left source.old) link.old (moment_at card.old (W.taken trace.old))
         → GivesPlayed given script.new (R.left source.new) link.new (moment_at card.new (W.taken trace.new)) result }
-    ensures reads { (text : List ℕ) (opening : List AnyLine) → IsReading may_follow opening text script.old (R.left source.old) → GivesRead may_follow opening text script.new (R.left source.new) result }
-    ensures within { (text : List ℕ) → IsWithin text (reading script.old) (R.left source.old) → IsWithin text (reading script.new) (R.left source.new) }
-    ensures kept { card.old.parts.meter.faults ≤ card.new.parts.meter.faults }
-    ensures failed { result ≡ Err PlayEnd.ResetFailed → Rose card.old.parts.meter.faults card.new.parts.meter.faults }
+    ensures reads { (text : List ℕ) (opening : List AnyLine)
+        → IsReading may_follow opening text script.old (R.left source.old)
+        → GivesRead may_follow opening text script.new (R.left source.new) result }
+    ensures within { (text : List ℕ) → IsWithin text (reading script.old) (R.left source.old)
+        → IsWithin text (reading script.new) (R.left source.new) }
+    ensures failed { result ≡ Err PlayEnd.ResetFailed
+        → card.new.parts.meter.faults ≡ raised card.old.parts.meter.faults }
     ensures source_cause { CountsFailure (R.faults source.old) (R.faults source.new) (result ≡ Err PlayEnd.ReadFailed) }
-    ensures sink_cause { CountsFailure (W.faults trace.old) (W.faults trace.new) (result ≡ Err PlayEnd.SinkFailed) }
-    ensures tells { is_some (W.taken trace.new) ≡ is_some (W.taken trace.old) }
+    ensures tallies { Tallies (tally W.Sink card.old trace.old) (tally W.Sink card.new trace.new)
+        (result ≡ Err PlayEnd.SinkFailed) }
     ensures nearer { OnOk result (room_of script.new < room_of script.old) }
 {
     runs_are_counted();

@@ -13,11 +13,13 @@ use std::alloc::Global;
 
 /// Has a new terminal carry out the script, and answers why the run ends.
 pub fn serve_channels<R: Source, W: Sink>(alloc: Global, script: &mut R, trace: &mut W) -> Ending
-    ensures comes { (text : List ℕ) → R.left script.old ≡ Some text → ComesToBip text (W.taken trace.old) (R.left script.new) (W.taken trace.new) result }
+    ensures comes { (text : List ℕ) → R.left script.old ≡ Some text
+        → ComesToBip text (W.taken trace.old) (R.left script.new) (W.taken trace.new) result }
     ensures used { result ≢ Ending.Usage }
     ensures low { status_for result ≤ 5 }
     ensures shown { IsUnshown result → ⊥ }
-    ensures taken { (text : List ℕ) → R.left script.old ≡ Some text → IsTaken (MOST_BYTES + 1) text (R.left script.new) }
+    ensures taken { (text : List ℕ) → R.left script.old ≡ Some text
+        → IsTaken (MOST_BYTES + 1) text (R.left script.new) }
     ensures source_cause { CountsFailure (R.faults script.old) (R.faults script.new) (status_for result ≡ 3) }
     ensures sink_cause { CountsFailure (W.faults trace.old) (W.faults trace.new) (status_for result ≡ 4) }
     ensures tells { is_some (W.taken trace.new) ≡ is_some (W.taken trace.old) }

@@ -8,29 +8,31 @@ play_on-requires g c = record { shelves = c.requires.shelves; used = c.in-Some.e
 pub returns-in-Some-clause-trace : goal.returns-in-Some-clause-trace
 returns-in-Some-clause-trace g c = λ none given from. c.play_on.ensures.trace (no_image _ _ c.in-Some.ensures none) given from
 
-pub returns-in-Some-clause-usage_only : goal.returns-in-Some-clause-usage_only
-returns-in-Some-clause-usage_only g c = λ one. absurd (c.play_on.ensures.used one)
+pub returns-in-Some-clause-load : goal.returns-in-Some-clause-load
+returns-in-Some-clause-load g c = λ none given start count from. c.play_on.ensures.load (no_image _ _ c.in-Some.ensures none) given start count from
 
 pub returns-in-Some-clause-usage : goal.returns-in-Some-clause-usage
-returns-in-Some-clause-usage g c = λ none. absurd (none (devices_are_asked _ _ c.in-Some.ensures))
+returns-in-Some-clause-usage g c = record {
+  usage_only = λ one. absurd (c.play_on.ensures.causes.used one);
+  usage = λ none. absurd (none (devices_are_asked _ _ c.in-Some.ensures));
+}
+
+pub returns-in-Some-clause-causes : goal.returns-in-Some-clause-causes
+returns-in-Some-clause-causes g c = c.play_on.ensures.causes.outer
+
+-- ---- words in no form
+
+pub returns-in-None-clause-script : goal.returns-in-None-clause-script
+returns-in-None-clause-script g c = λ given from. keeps_without_words _ (g.W.Sink.taken c.args.output.now) given _ (asks_for_devices _ c.in-None.ensures) c.close.ensures.status from.before_is from.text_is c.close.ensures.closed
 
 pub returns-in-None-clause-trace : goal.returns-in-None-clause-trace
-returns-in-None-clause-trace g c = λ none given from. has_no_words given _ _ _ _ _ _ (asks_for_devices _ c.in-None.ensures) c.close.ensures.status from c.close.ensures.closed
+returns-in-None-clause-trace g c = λ none given from. has_no_words _ _ given _ (asks_for_devices _ c.in-None.ensures) c.close.ensures.status from.others_are.before_is c.close.ensures.closed
 
-pub returns-in-None-clause-usage_only : goal.returns-in-None-clause-usage_only
-returns-in-None-clause-usage_only g c = λ one asks. asks_for_devices _ c.in-None.ensures asks
+pub returns-in-None-clause-load : goal.returns-in-None-clause-load
+returns-in-None-clause-load g c = λ none given start count from. absurd (asks_for_devices _ c.in-None.ensures (loads_run given start count _ _ from))
 
 pub returns-in-None-clause-bip : goal.returns-in-None-clause-bip
 returns-in-None-clause-bip g c = λ text asks told. absurd (asks_for_devices _ c.in-None.ensures (asks_for_run _ asks))
 
-pub returns-in-None-clause-script : goal.returns-in-None-clause-script
-returns-in-None-clause-script g c = λ given from. keeps_without_words given _ _ (asks_for_devices _ c.in-None.ensures) c.close.ensures.status from.text_is
-
-pub returns-in-Some-clause-load : goal.returns-in-Some-clause-load
-returns-in-Some-clause-load g c = λ none given start count from. c.play_on.ensures.load (no_image _ _ c.in-Some.ensures none) given start count from
-
-pub returns-in-None-clause-load : goal.returns-in-None-clause-load
-returns-in-None-clause-load g c = λ none given start count from. absurd (asks_for_devices _ c.in-None.ensures (loads_run given start count _ _ _ _ _ from))
-
 pub returns-in-None-clause-usage : goal.returns-in-None-clause-usage
-returns-in-None-clause-usage g c = λ none. c.close.ensures.closed
+returns-in-None-clause-usage g c = record { usage_only = λ one asks. asks_for_devices _ c.in-None.ensures asks; usage = λ none. c.close.ensures.closed }

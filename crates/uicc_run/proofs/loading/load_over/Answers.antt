@@ -8,11 +8,11 @@ use Rattle.uicc_run.proofs.loading.load_over.Goals as goal
 pub returns-in-Ok-clause-comes : goal.returns-in-Ok-clause-comes
 returns-in-Ok-clause-comes g c = λ given before taken fixed is.
     c.open_and_load.ensures.comes given taken c.args.section.now
-    (stands_now _ _ _ _ c.args.section.now (memory_tells _ _ given.memory is.memory_is) c.in-Ok.ensures.told c.in-Ok.ensures.mark c.in-Ok.ensures.stands) fixed
-    (counted_from _ _ _ is.meter_is c.format.ensures.cause (λ so. cc (so, c.in-Ok.is)) (λ so. cc (so, c.in-Ok.is))) is.boxes_are
+    (stands_now _ _ _ _ c.args.section.now (memory_tells _ _ given.memory is.memory_is) c.in-Ok.ensures.keeps.told c.in-Ok.ensures.keeps.mark c.in-Ok.ensures.stands) fixed
+    (counted_from _ _ _ is.meter_is c.format.ensures.keeps.cause (λ so. cc (so, c.in-Ok.is)) (λ so. cc (so, c.in-Ok.is))) is.boxes_are
 
 pub returns-in-Err-clause-comes : goal.returns-in-Err-clause-comes
-returns-in-Err-clause-comes g c = λ given before taken fixed is. kept_from _ _ _ is.meter_is c.in-Err.ensures.cause
+returns-in-Err-clause-comes g c = λ given before taken fixed is. kept_from _ _ _ is.meter_is c.in-Err.ensures.keeps.cause
 
 pub returns-in-Ok-clause-no_memory : goal.returns-in-Ok-clause-no_memory
 returns-in-Ok-clause-no_memory g c = λ wants.

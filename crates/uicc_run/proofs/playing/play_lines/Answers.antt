@@ -17,8 +17,8 @@ loop-end-preserved g c = record {
   playing = λ given playing. c.in_default.ensures.played given (c.loop-end.invariant.playing given playing);
   reads = λ text opening reading. c.in_default.ensures.reads text opening (c.loop-end.invariant.reads text opening reading);
   within = λ text within. c.play_line.ensures.within text (c.loop-end.invariant.within text within);
-  kept = let before = c.loop-end.invariant.kept in let now = c.play_line.ensures.kept in omega arith;
+  kept = let before = c.loop-end.invariant.kept in let now = c.play_line.ensures.tallies.kept in omega arith;
   source_kept = let before = c.loop-end.invariant.source_kept in let now = c.play_line.ensures.source_cause.kept in omega arith;
-  sink_kept = let before = c.loop-end.invariant.sink_kept in let now = c.play_line.ensures.sink_cause.kept in omega arith;
-  tells = c.play_line.ensures.tells ∙ c.loop-end.invariant.tells;
+  sink_kept = let before = c.loop-end.invariant.sink_kept in let now = c.play_line.ensures.tallies.sink.kept in omega arith;
+  tells = c.play_line.ensures.tallies.tells ∙ c.loop-end.invariant.tells;
 }

@@ -4,214 +4,188 @@ use Rattle.run_words.specs.declared.requests.Mode.TheVariants.{Bip, Load}
 use Rattle.uicc_run.specs.Headline.{first_of, is_served_by}
 use Rattle.uicc_run.specs.Listeners.{is_handset}
 use Rattle.uicc_run.specs.Stores.{mark_of}
-use Rattle.uicc_run.proofs.OpenLemmas.{not_begun}
+use Rattle.uicc_run.proofs.OpenLemmas.{not_begun, unplanned_still}
+use Rattle.uicc_run.proofs.SceneLemmas.{to_play, to_play_told}
 use Rattle.uicc_run.proofs.ModeLemmas.{makes_bare, no_bip, no_load, not_bip, not_bip_load, not_bip_open, not_load, not_load_bip, not_load_open, the_load}
 use Rattle.uicc_run.proofs.running.carry_out.Goals as goal
 
-pub returns-in_default-clause-usage_only : goal.returns-in_default-clause-usage_only
-returns-in_default-clause-usage_only g c = λ same asks. c.in_default.ensures asks.0 asks.1
-
 pub returns-in-Ok-clause-comes : goal.returns-in-Ok-clause-comes
-returns-in-Ok-clause-comes g c = λ given text is asked.
-    let wish = asked c.in-Some.asked c.in-Some.ensures.so in
-    c.read_and_play.ensures.comes given (wish.served_is ∙ sym (ap is_handset c.listener_for-listener.ensures)) text (wish.first_is ∙ makes_bare _ c.in-Play.is ∙ ap Some (sym c.in-Ok.ensures)) wish.store_is is
+returns-in-Ok-clause-comes g c = λ given from.
+    let wish = from.is_asked c.in-Some.asked c.in-Some.ensures.so in
+    c.read_and_play.ensures.comes given (to_play_told given _ _ _ _ _ from (wish.served_is ∙ sym (ap is_handset c.listener_for-listener.ensures)) (wish.first_is ∙ makes_bare _ c.in-Play.is ∙ ap Some (sym c.in-Ok.ensures)) wish.store_is) from.others_are
 
 pub returns-in-Open-clause-comes : goal.returns-in-Open-clause-comes
-returns-in-Open-clause-comes g c = λ given text is asked.
-    let wish = asked c.in-Some.asked c.in-Some.ensures.so in
-    c.read_and_play-in-Open.ensures.comes given (wish.served_is ∙ ap is_served_by c.in-Open.is) text (wish.first_is ∙ ap first_of c.in-Open.is) wish.store_is is
+returns-in-Open-clause-comes g c = λ given from.
+    let wish = from.is_asked c.in-Some.asked c.in-Some.ensures.so in
+    c.read_and_play-in-Open.ensures.comes given (to_play_told given _ _ _ _ _ from (wish.served_is ∙ ap is_served_by c.in-Open.is) (wish.first_is ∙ ap first_of c.in-Open.is) wish.store_is) from.others_are
 
 pub returns-in-Err-clause-comes : goal.returns-in-Err-clause-comes
-returns-in-Err-clause-comes g c = λ given text is asked. not_begun given _ _ (mark_of given.pages) _ _ _ _ text is
+returns-in-Err-clause-comes g c = λ given from. not_begun given _ _ (mark_of given.pages) _ _ _ _ from.text_is from.others_are
 
 pub returns-in-Load-clause-comes : goal.returns-in-Load-clause-comes
-returns-in-Load-clause-comes g c = λ given text is asked.
-    let wish = asked c.in-Some.asked c.in-Some.ensures.so in
+returns-in-Load-clause-comes g c = λ given from.
+    let wish = from.is_asked c.in-Some.asked c.in-Some.ensures.so in
     absurd (no_load _ c.in-Load.start c.in-Load.count c.in-Load.is wish.for_card)
-
-pub returns-in-Ok-clause-reads : goal.returns-in-Ok-clause-reads
-returns-in-Ok-clause-reads g c = λ given text boxes asked.
-    let wish = asked c.in-Some.asked c.in-Some.ensures.so in
-    c.read_and_play.ensures.reads given (wish.served_is ∙ sym (ap is_handset c.listener_for-listener.ensures)) text (wish.first_is ∙ makes_bare _ c.in-Play.is ∙ ap Some (sym c.in-Ok.ensures)) boxes
-
-pub returns-in-Open-clause-reads : goal.returns-in-Open-clause-reads
-returns-in-Open-clause-reads g c = λ given text boxes asked.
-    let wish = asked c.in-Some.asked c.in-Some.ensures.so in
-    c.read_and_play-in-Open.ensures.reads given (wish.served_is ∙ ap is_served_by c.in-Open.is) text (wish.first_is ∙ ap first_of c.in-Open.is) boxes
-
-pub returns-in_default-clause-reads : goal.returns-in_default-clause-reads
-returns-in_default-clause-reads g c = λ given text boxes asked. tt
-
-pub returns-in-Err-clause-reads : goal.returns-in-Err-clause-reads
-returns-in-Err-clause-reads g c = λ given text boxes asked. tt
-
-pub returns-in-Load-clause-reads : goal.returns-in-Load-clause-reads
-returns-in-Load-clause-reads g c = λ given text boxes asked.
-    let wish = asked c.in-Some.asked c.in-Some.ensures.so in
-    absurd (no_load _ c.in-Load.start c.in-Load.count c.in-Load.is wish.for_card)
-
-pub returns-in-Ok-clause-bytes : goal.returns-in-Ok-clause-bytes
-returns-in-Ok-clause-bytes g c = λ given text asked none refusal.
-    let wish = asked c.in-Some.asked c.in-Some.ensures.so in
-    let play = wish.first_is ∙ makes_bare _ c.in-Play.is in absurd (cc)
-
-pub returns-in-Open-clause-bytes : goal.returns-in-Open-clause-bytes
-returns-in-Open-clause-bytes g c = λ given text asked none refusal.
-    let wish = asked c.in-Some.asked c.in-Some.ensures.so in
-    c.read_and_play-in-Open.ensures.bytes given text (wish.first_is ∙ ap first_of c.in-Open.is) wish.store_is none refusal
-
-pub returns-in-Load-clause-bytes : goal.returns-in-Load-clause-bytes
-returns-in-Load-clause-bytes g c = λ given text asked none refusal.
-    let wish = asked c.in-Some.asked c.in-Some.ensures.so in
-    absurd (no_load _ c.in-Load.start c.in-Load.count c.in-Load.is wish.for_card)
-
-pub returns-in-Ok-clause-half_made : goal.returns-in-Ok-clause-half_made
-returns-in-Ok-clause-half_made g c = λ given text boxes asked some failed.
-    let wish = asked c.in-Some.asked c.in-Some.ensures.so in
-    c.read_and_play.ensures.half_made given text (wish.first_is ∙ makes_bare _ c.in-Play.is ∙ ap Some (sym c.in-Ok.ensures)) wish.store_is boxes some failed
-
-pub returns-in-Open-clause-half_made : goal.returns-in-Open-clause-half_made
-returns-in-Open-clause-half_made g c = λ given text boxes asked some failed.
-    let wish = asked c.in-Some.asked c.in-Some.ensures.so in
-    c.read_and_play-in-Open.ensures.half_made given text (wish.first_is ∙ ap first_of c.in-Open.is) wish.store_is boxes some failed
-
-pub returns-in-Load-clause-half_made : goal.returns-in-Load-clause-half_made
-returns-in-Load-clause-half_made g c = λ given text boxes asked some failed.
-    let wish = asked c.in-Some.asked c.in-Some.ensures.so in
-    absurd (no_load _ c.in-Load.start c.in-Load.count c.in-Load.is wish.for_card)
-
-pub returns-in_default-clause-half_made : goal.returns-in_default-clause-half_made
-returns-in_default-clause-half_made g c = λ given text boxes asked some failed. absurd (cc)
-
-pub returns-in-Err-clause-half_made : goal.returns-in-Err-clause-half_made
-returns-in-Err-clause-half_made g c = λ given text boxes asked some failed. absurd (cc)
-
-pub returns-in-Ok-clause-no_memory : goal.returns-in-Ok-clause-no_memory
-returns-in-Ok-clause-no_memory g c = λ given text boxes asked some failed.
-    let wish = asked c.in-Some.asked c.in-Some.ensures.so in
-    inr (c.read_and_play.ensures.no_memory given text (wish.first_is ∙ makes_bare _ c.in-Play.is ∙ ap Some (sym c.in-Ok.ensures)) wish.store_is boxes some failed)
-
-pub returns-in-Open-clause-no_memory : goal.returns-in-Open-clause-no_memory
-returns-in-Open-clause-no_memory g c = λ given text boxes asked some failed.
-    let wish = asked c.in-Some.asked c.in-Some.ensures.so in
-    inr (c.read_and_play-in-Open.ensures.no_memory given text (wish.first_is ∙ ap first_of c.in-Open.is) wish.store_is boxes some failed)
-
-pub returns-in-Load-clause-no_memory : goal.returns-in-Load-clause-no_memory
-returns-in-Load-clause-no_memory g c = λ given text boxes asked some failed.
-    let wish = asked c.in-Some.asked c.in-Some.ensures.so in
-    absurd (no_load _ c.in-Load.start c.in-Load.count c.in-Load.is wish.for_card)
-
-pub returns-in_default-clause-no_memory : goal.returns-in_default-clause-no_memory
-returns-in_default-clause-no_memory g c = λ given text boxes asked some failed. absurd (cc)
-
-pub returns-in-Err-clause-no_memory : goal.returns-in-Err-clause-no_memory
-returns-in-Err-clause-no_memory g c = λ given text boxes asked some failed. inl refl
-
-pub returns-in_default-clause-taken : goal.returns-in_default-clause-taken
-returns-in_default-clause-taken g c = λ text told. IsTaken-none _ text _ told
-
-pub returns-in-Err-clause-taken : goal.returns-in-Err-clause-taken
-returns-in-Err-clause-taken g c = λ text told. IsTaken-none _ text _ told
-
-pub returns-in-Load-clause-taken : goal.returns-in-Load-clause-taken
-returns-in-Load-clause-taken g c = λ text told. IsTaken-none _ text _ told
-
-pub returns-in_default-clause-load : goal.returns-in_default-clause-load
-returns-in_default-clause-load g c = λ given start count taken from. absurd (c.in_default.ensures (record { mode = Load start count; devices = from.devices }) from.words_are)
-
-pub returns-in-Ok-clause-load : goal.returns-in-Ok-clause-load
-returns-in-Ok-clause-load g c = λ given start count taken from. absurd (not_load start count from.devices c.in-Some.asked (c.in-Some.ensures.only (record { mode = Load start count; devices = from.devices }) from.words_are) c.in-Play.is)
-
-pub returns-in-Err-clause-load : goal.returns-in-Err-clause-load
-returns-in-Err-clause-load g c = λ given start count taken from. absurd (not_load start count from.devices c.in-Some.asked (c.in-Some.ensures.only (record { mode = Load start count; devices = from.devices }) from.words_are) c.in-Play.is)
-
-pub returns-in-Open-clause-load : goal.returns-in-Open-clause-load
-returns-in-Open-clause-load g c = λ given start count taken from. absurd (not_load_open start count from.devices c.in-Some.asked (c.in-Some.ensures.only (record { mode = Load start count; devices = from.devices }) from.words_are) c.in-Open.is)
-
-pub returns-in_default-clause-load_unwritten : goal.returns-in_default-clause-load_unwritten
-returns-in_default-clause-load_unwritten g c = λ given start count from. absurd (c.in_default.ensures (record { mode = Load start count; devices = from.devices }) from.words_are)
-
-pub returns-in-Ok-clause-load_unwritten : goal.returns-in-Ok-clause-load_unwritten
-returns-in-Ok-clause-load_unwritten g c = λ given start count from. absurd (not_load start count from.devices c.in-Some.asked (c.in-Some.ensures.only (record { mode = Load start count; devices = from.devices }) from.words_are) c.in-Play.is)
-
-pub returns-in-Err-clause-load_unwritten : goal.returns-in-Err-clause-load_unwritten
-returns-in-Err-clause-load_unwritten g c = λ given start count from. absurd (not_load start count from.devices c.in-Some.asked (c.in-Some.ensures.only (record { mode = Load start count; devices = from.devices }) from.words_are) c.in-Play.is)
-
-pub returns-in-Open-clause-load_unwritten : goal.returns-in-Open-clause-load_unwritten
-returns-in-Open-clause-load_unwritten g c = λ given start count from. absurd (not_load_open start count from.devices c.in-Some.asked (c.in-Some.ensures.only (record { mode = Load start count; devices = from.devices }) from.words_are) c.in-Open.is)
-
-pub returns-in_default-clause-load_unread : goal.returns-in_default-clause-load_unread
-returns-in_default-clause-load_unread g c = λ start count asks. absurd (c.in_default.ensures (record { mode = Load start count; devices = asks.0 }) asks.1)
-
-pub returns-in-Ok-clause-load_unread : goal.returns-in-Ok-clause-load_unread
-returns-in-Ok-clause-load_unread g c = λ start count asks. absurd (not_load start count asks.0 c.in-Some.asked (c.in-Some.ensures.only (record { mode = Load start count; devices = asks.0 }) asks.1) c.in-Play.is)
-
-pub returns-in-Err-clause-load_unread : goal.returns-in-Err-clause-load_unread
-returns-in-Err-clause-load_unread g c = λ start count asks. absurd (not_load start count asks.0 c.in-Some.asked (c.in-Some.ensures.only (record { mode = Load start count; devices = asks.0 }) asks.1) c.in-Play.is)
-
-pub returns-in-Open-clause-load_unread : goal.returns-in-Open-clause-load_unread
-returns-in-Open-clause-load_unread g c = λ start count asks. absurd (not_load_open start count asks.0 c.in-Some.asked (c.in-Some.ensures.only (record { mode = Load start count; devices = asks.0 }) asks.1) c.in-Open.is)
-
-pub returns-in-Load-clause-load : goal.returns-in-Load-clause-load
-returns-in-Load-clause-load g c = λ given start count taken from.
-    let same = c.in-Some.ensures.only (record { mode = Load start count; devices = from.devices }) from.words_are in
-    the_load given start count c.in-Load.start c.in-Load.count from.devices c.in-Some.asked c.load.result.0 _ same c.in-Load.is
-    (c.load.ensures.comes given _ taken (from.store_is ∙ ap (λ r. r.devices.pages) same) from.others_are)
-
-pub returns-in_default-clause-load_no_memory : goal.returns-in_default-clause-load_no_memory
-returns-in_default-clause-load_no_memory g c = λ given start count from wants. absurd (c.in_default.ensures (record { mode = Load start count; devices = from.devices }) from.words_are)
-
-pub returns-in-Ok-clause-load_no_memory : goal.returns-in-Ok-clause-load_no_memory
-returns-in-Ok-clause-load_no_memory g c = λ given start count from wants. absurd (not_load start count from.devices c.in-Some.asked (c.in-Some.ensures.only (record { mode = Load start count; devices = from.devices }) from.words_are) c.in-Play.is)
-
-pub returns-in-Err-clause-load_no_memory : goal.returns-in-Err-clause-load_no_memory
-returns-in-Err-clause-load_no_memory g c = λ given start count from wants. absurd (not_load start count from.devices c.in-Some.asked (c.in-Some.ensures.only (record { mode = Load start count; devices = from.devices }) from.words_are) c.in-Play.is)
-
-pub returns-in-Open-clause-load_no_memory : goal.returns-in-Open-clause-load_no_memory
-returns-in-Open-clause-load_no_memory g c = λ given start count from wants. absurd (not_load_open start count from.devices c.in-Some.asked (c.in-Some.ensures.only (record { mode = Load start count; devices = from.devices }) from.words_are) c.in-Open.is)
-
-pub returns-in-Load-clause-load_no_memory : goal.returns-in-Load-clause-load_no_memory
-returns-in-Load-clause-load_no_memory g c = λ given start count from wants.
-    let same = c.in-Some.ensures.only (record { mode = Load start count; devices = from.devices }) from.words_are in
-    c.load.ensures.no_memory given (from.store_is ∙ ap (λ r. r.devices.pages) same) from.others_are.boxes_are wants
-
--- ---- the channels of a terminal
 
 pub returns-in-Bip-clause-comes : goal.returns-in-Bip-clause-comes
-returns-in-Bip-clause-comes g c = λ given text is asked.
-    let wish = asked c.in-Some.asked c.in-Some.ensures.so in
+returns-in-Bip-clause-comes g c = λ given from.
+    let wish = from.is_asked c.in-Some.asked c.in-Some.ensures.so in
     absurd (no_bip _ c.in-Bip.is wish.for_card)
 
-pub returns-in-Bip-clause-reads : goal.returns-in-Bip-clause-reads
-returns-in-Bip-clause-reads g c = λ given text boxes asked.
-    let wish = asked c.in-Some.asked c.in-Some.ensures.so in
+-- ---- over any memory
+
+pub returns-in_default-clause-untold : goal.returns-in_default-clause-untold
+returns-in_default-clause-untold g c = record {
+  reads = λ given from. tt;
+  quiet = λ given from unopened. record { silent = refl; unplanned = unplanned_still _ };
+  taken = λ text told. IsTaken-none _ text _ told;
+}
+
+pub returns-in-Ok-clause-untold : goal.returns-in-Ok-clause-untold
+returns-in-Ok-clause-untold g c = record {
+  reads = λ given from.
+      let wish = from.is_asked c.in-Some.asked c.in-Some.ensures.so in
+      c.read_and_play.ensures.untold.reads given (to_play given _ _ _ _ _ from (wish.served_is ∙ sym (ap is_handset c.listener_for-listener.ensures)) (wish.first_is ∙ makes_bare _ c.in-Play.is ∙ ap Some (sym c.in-Ok.ensures)) wish.store_is);
+  quiet = λ given from unopened.
+      let wish = from.is_asked c.in-Some.asked c.in-Some.ensures.so in
+      c.read_and_play.ensures.untold.quiet given (to_play given _ _ _ _ _ from (wish.served_is ∙ sym (ap is_handset c.listener_for-listener.ensures)) (wish.first_is ∙ makes_bare _ c.in-Play.is ∙ ap Some (sym c.in-Ok.ensures)) wish.store_is) unopened;
+  taken = c.read_and_play.ensures.untold.taken;
+}
+
+pub returns-in-Open-clause-untold : goal.returns-in-Open-clause-untold
+returns-in-Open-clause-untold g c = record {
+  reads = λ given from.
+      let wish = from.is_asked c.in-Some.asked c.in-Some.ensures.so in
+      c.read_and_play-in-Open.ensures.untold.reads given (to_play given _ _ _ _ _ from (wish.served_is ∙ ap is_served_by c.in-Open.is) (wish.first_is ∙ ap first_of c.in-Open.is) wish.store_is);
+  quiet = λ given from unopened.
+      let wish = from.is_asked c.in-Some.asked c.in-Some.ensures.so in
+      c.read_and_play-in-Open.ensures.untold.quiet given (to_play given _ _ _ _ _ from (wish.served_is ∙ ap is_served_by c.in-Open.is) (wish.first_is ∙ ap first_of c.in-Open.is) wish.store_is) unopened;
+  taken = c.read_and_play-in-Open.ensures.untold.taken;
+}
+
+pub returns-in-Err-clause-untold : goal.returns-in-Err-clause-untold
+returns-in-Err-clause-untold g c = record {
+  reads = λ given from. tt;
+  quiet = λ given from unopened. record { silent = refl; unplanned = unplanned_still _ };
+  taken = λ text told. IsTaken-none _ text _ told;
+}
+
+pub returns-in-Load-clause-untold : goal.returns-in-Load-clause-untold
+returns-in-Load-clause-untold g c = record {
+  reads = λ given from.
+      let wish = from.is_asked c.in-Some.asked c.in-Some.ensures.so in
+      absurd (no_load _ c.in-Load.start c.in-Load.count c.in-Load.is wish.for_card);
+  quiet = λ given from unopened.
+      let wish = from.is_asked c.in-Some.asked c.in-Some.ensures.so in
+      absurd (no_load _ c.in-Load.start c.in-Load.count c.in-Load.is wish.for_card);
+  taken = λ text told. IsTaken-none _ text _ told;
+}
+
+pub returns-in-Bip-clause-untold : goal.returns-in-Bip-clause-untold
+returns-in-Bip-clause-untold g c = record {
+  reads = λ given from.
+      let wish = from.is_asked c.in-Some.asked c.in-Some.ensures.so in
+      absurd (no_bip _ c.in-Bip.is wish.for_card);
+  quiet = λ given from unopened.
+      let wish = from.is_asked c.in-Some.asked c.in-Some.ensures.so in
+      absurd (no_bip _ c.in-Bip.is wish.for_card);
+  taken = c.serve_channels.ensures.taken;
+}
+
+-- ---- what the memory holds
+
+pub returns-in_default-clause-memory : goal.returns-in_default-clause-memory
+returns-in_default-clause-memory g c = λ given from. record { bytes = λ none kept. absurd kept; half_made = λ some failed. absurd (cc); no_memory = λ some wanting. absurd (cc) }
+
+pub returns-in-Ok-clause-memory : goal.returns-in-Ok-clause-memory
+returns-in-Ok-clause-memory g c = λ given from.
+    let wish = from.is_asked c.in-Some.asked c.in-Some.ensures.so in
+    c.read_and_play.ensures.memory given (to_play given _ _ _ _ _ from (wish.served_is ∙ sym (ap is_handset c.listener_for-listener.ensures)) (wish.first_is ∙ makes_bare _ c.in-Play.is ∙ ap Some (sym c.in-Ok.ensures)) wish.store_is)
+
+pub returns-in-Open-clause-memory : goal.returns-in-Open-clause-memory
+returns-in-Open-clause-memory g c = λ given from.
+    let wish = from.is_asked c.in-Some.asked c.in-Some.ensures.so in
+    c.read_and_play-in-Open.ensures.memory given (to_play given _ _ _ _ _ from (wish.served_is ∙ ap is_served_by c.in-Open.is) (wish.first_is ∙ ap first_of c.in-Open.is) wish.store_is)
+
+pub returns-in-Err-clause-memory : goal.returns-in-Err-clause-memory
+returns-in-Err-clause-memory g c = λ given from. record { bytes = λ none kept. refl; half_made = λ some failed. absurd (cc); no_memory = λ some wanting. inl refl }
+
+pub returns-in-Load-clause-memory : goal.returns-in-Load-clause-memory
+returns-in-Load-clause-memory g c = λ given from.
+    let wish = from.is_asked c.in-Some.asked c.in-Some.ensures.so in
+    absurd (no_load _ c.in-Load.start c.in-Load.count c.in-Load.is wish.for_card)
+
+pub returns-in-Bip-clause-memory : goal.returns-in-Bip-clause-memory
+returns-in-Bip-clause-memory g c = λ given from.
+    let wish = from.is_asked c.in-Some.asked c.in-Some.ensures.so in
     absurd (no_bip _ c.in-Bip.is wish.for_card)
 
-pub returns-in-Bip-clause-bytes : goal.returns-in-Bip-clause-bytes
-returns-in-Bip-clause-bytes g c = λ given text asked none refusal. refl
+-- ---- wrong words
 
-pub returns-in-Bip-clause-half_made : goal.returns-in-Bip-clause-half_made
-returns-in-Bip-clause-half_made g c = λ given text boxes asked some failed.
-    let wish = asked c.in-Some.asked c.in-Some.ensures.so in
-    absurd (no_bip _ c.in-Bip.is wish.for_card)
+pub returns-in_default-clause-usage : goal.returns-in_default-clause-usage
+returns-in_default-clause-usage g c = record {
+  usage_only = λ same asks. c.in_default.ensures asks.0 asks.1;
+  usage = λ none. refl;
+  unread = λ none. refl;
+  unused = λ none. refl;
+}
 
-pub returns-in-Bip-clause-no_memory : goal.returns-in-Bip-clause-no_memory
-returns-in-Bip-clause-no_memory g c = λ given text boxes asked some failed. inl refl
+-- ---- a long run
+
+pub returns-in_default-clause-load : goal.returns-in_default-clause-load
+returns-in_default-clause-load g c = record {
+  load = λ given start count taken from. absurd (c.in_default.ensures (record { mode = Load start count; devices = from.devices }) from.words_are);
+  load_unwritten = λ given start count from. absurd (c.in_default.ensures (record { mode = Load start count; devices = from.devices }) from.words_are);
+  load_unread = λ start count asks. absurd (c.in_default.ensures (record { mode = Load start count; devices = asks.0 }) asks.1);
+  load_no_memory = λ given start count from wants. absurd (c.in_default.ensures (record { mode = Load start count; devices = from.devices }) from.words_are);
+}
+
+pub returns-in-Ok-clause-load : goal.returns-in-Ok-clause-load
+returns-in-Ok-clause-load g c = record {
+  load = λ given start count taken from. absurd (not_load start count from.devices c.in-Some.asked (c.in-Some.ensures.only (record { mode = Load start count; devices = from.devices }) from.words_are) c.in-Play.is);
+  load_unwritten = λ given start count from. absurd (not_load start count from.devices c.in-Some.asked (c.in-Some.ensures.only (record { mode = Load start count; devices = from.devices }) from.words_are) c.in-Play.is);
+  load_unread = λ start count asks. absurd (not_load start count asks.0 c.in-Some.asked (c.in-Some.ensures.only (record { mode = Load start count; devices = asks.0 }) asks.1) c.in-Play.is);
+  load_no_memory = λ given start count from wants. absurd (not_load start count from.devices c.in-Some.asked (c.in-Some.ensures.only (record { mode = Load start count; devices = from.devices }) from.words_are) c.in-Play.is);
+}
+
+pub returns-in-Err-clause-load : goal.returns-in-Err-clause-load
+returns-in-Err-clause-load g c = record {
+  load = λ given start count taken from. absurd (not_load start count from.devices c.in-Some.asked (c.in-Some.ensures.only (record { mode = Load start count; devices = from.devices }) from.words_are) c.in-Play.is);
+  load_unwritten = λ given start count from. absurd (not_load start count from.devices c.in-Some.asked (c.in-Some.ensures.only (record { mode = Load start count; devices = from.devices }) from.words_are) c.in-Play.is);
+  load_unread = λ start count asks. absurd (not_load start count asks.0 c.in-Some.asked (c.in-Some.ensures.only (record { mode = Load start count; devices = asks.0 }) asks.1) c.in-Play.is);
+  load_no_memory = λ given start count from wants. absurd (not_load start count from.devices c.in-Some.asked (c.in-Some.ensures.only (record { mode = Load start count; devices = from.devices }) from.words_are) c.in-Play.is);
+}
+
+pub returns-in-Open-clause-load : goal.returns-in-Open-clause-load
+returns-in-Open-clause-load g c = record {
+  load = λ given start count taken from. absurd (not_load_open start count from.devices c.in-Some.asked (c.in-Some.ensures.only (record { mode = Load start count; devices = from.devices }) from.words_are) c.in-Open.is);
+  load_unwritten = λ given start count from. absurd (not_load_open start count from.devices c.in-Some.asked (c.in-Some.ensures.only (record { mode = Load start count; devices = from.devices }) from.words_are) c.in-Open.is);
+  load_unread = λ start count asks. absurd (not_load_open start count asks.0 c.in-Some.asked (c.in-Some.ensures.only (record { mode = Load start count; devices = asks.0 }) asks.1) c.in-Open.is);
+  load_no_memory = λ given start count from wants. absurd (not_load_open start count from.devices c.in-Some.asked (c.in-Some.ensures.only (record { mode = Load start count; devices = from.devices }) from.words_are) c.in-Open.is);
+}
+
+pub returns-in-Load-clause-load : goal.returns-in-Load-clause-load
+returns-in-Load-clause-load g c = record {
+  load = λ given start count taken from.
+      let same = c.in-Some.ensures.only (record { mode = Load start count; devices = from.devices }) from.words_are in
+      the_load given start count c.in-Load.start c.in-Load.count from.devices c.in-Some.asked c.load.result.0 _ same c.in-Load.is
+      (c.load.ensures.comes given _ taken (from.store_is ∙ ap (λ r. r.devices.pages) same) from.others_are);
+  load_unwritten = λ given start count from. refl;
+  load_unread = λ start count asks. refl;
+  load_no_memory = λ given start count from wants.
+      let same = c.in-Some.ensures.only (record { mode = Load start count; devices = from.devices }) from.words_are in
+      c.load.ensures.no_memory given (from.store_is ∙ ap (λ r. r.devices.pages) same) from.others_are.boxes_are wants;
+}
 
 pub returns-in-Bip-clause-load : goal.returns-in-Bip-clause-load
-returns-in-Bip-clause-load g c = λ given start count taken from. absurd (not_load_bip start count from.devices c.in-Some.asked (c.in-Some.ensures.only (record { mode = Load start count; devices = from.devices }) from.words_are) c.in-Bip.is)
+returns-in-Bip-clause-load g c = record {
+  load = λ given start count taken from. absurd (not_load_bip start count from.devices c.in-Some.asked (c.in-Some.ensures.only (record { mode = Load start count; devices = from.devices }) from.words_are) c.in-Bip.is);
+  load_unwritten = λ given start count from. absurd (not_load_bip start count from.devices c.in-Some.asked (c.in-Some.ensures.only (record { mode = Load start count; devices = from.devices }) from.words_are) c.in-Bip.is);
+  load_unread = λ start count asks. absurd (not_load_bip start count asks.0 c.in-Some.asked (c.in-Some.ensures.only (record { mode = Load start count; devices = asks.0 }) asks.1) c.in-Bip.is);
+  load_no_memory = λ given start count from wants. inl refl;
+}
 
-pub returns-in-Bip-clause-load_unwritten : goal.returns-in-Bip-clause-load_unwritten
-returns-in-Bip-clause-load_unwritten g c = λ given start count from. absurd (not_load_bip start count from.devices c.in-Some.asked (c.in-Some.ensures.only (record { mode = Load start count; devices = from.devices }) from.words_are) c.in-Bip.is)
-
-pub returns-in-Bip-clause-load_unread : goal.returns-in-Bip-clause-load_unread
-returns-in-Bip-clause-load_unread g c = λ start count asks. absurd (not_load_bip start count asks.0 c.in-Some.asked (c.in-Some.ensures.only (record { mode = Load start count; devices = asks.0 }) asks.1) c.in-Bip.is)
-
-pub returns-in-Bip-clause-load_no_memory : goal.returns-in-Bip-clause-load_no_memory
-returns-in-Bip-clause-load_no_memory g c = λ given start count from wants. inl refl
-
-pub returns-in-Bip-clause-bip : goal.returns-in-Bip-clause-bip
-returns-in-Bip-clause-bip g c = λ asks. record { comes = c.serve_channels.ensures.comes; low = c.serve_channels.ensures.low; memory_kept = refl; boxes_kept = refl }
+-- ---- the channels of a terminal
 
 pub returns-in_default-clause-bip : goal.returns-in_default-clause-bip
 returns-in_default-clause-bip g c = λ asks. absurd (c.in_default.ensures (record { mode = Bip; devices = asks.0 }) asks.1)
@@ -227,3 +201,6 @@ returns-in-Open-clause-bip g c = λ asks. absurd (not_bip_open asks.0 c.in-Some.
 
 pub returns-in-Load-clause-bip : goal.returns-in-Load-clause-bip
 returns-in-Load-clause-bip g c = λ asks. absurd (not_bip_load c.in-Load.start c.in-Load.count asks.0 c.in-Some.asked (c.in-Some.ensures.only (record { mode = Bip; devices = asks.0 }) asks.1) c.in-Load.is)
+
+pub returns-in-Bip-clause-bip : goal.returns-in-Bip-clause-bip
+returns-in-Bip-clause-bip g c = λ asks. record { comes = c.serve_channels.ensures.comes; low = c.serve_channels.ensures.low; memory_kept = refl; boxes_kept = refl }

@@ -1,10 +1,11 @@
-use Rattle.std.proofs.Common.{ap, ◌∙◌}
+use Rattle.std.proofs.Common.{ap, refl, ◌∙◌}
 use Rattle.card_core.specs.Parts.{CardParts}
 use Rattle.card_core.specs.Cards.{parts_of}
 use Rattle.uicc_run.specs.Listeners.{is_handset}
 use Rattle.uicc_run.specs.Opening.{IsStarted}
 use Rattle.uicc_run.proofs.CardLemmas.{at_end}
-use Rattle.uicc_run.proofs.OpenLemmas.{formatted_then, given_back, refusal_keeps, refused, starts}
+use Rattle.uicc_run.proofs.EndLemmas.{ends_played, rose_as}
+use Rattle.uicc_run.proofs.OpenLemmas.{caused_kept, formatted_then, given_back, refusal_keeps, refused, starts}
 use Rattle.uicc_run.proofs.ReadingLemmas.{reads_behind, reads_refused, reads_start}
 use Rattle.uicc_run.proofs.ServingLemmas.{opening}
 use Rattle.uicc_run.proofs.running.open_and_play.Goals as goal
@@ -17,25 +18,38 @@ returns-in-Ok-clause-comes g c = λ given served told made.
     (c.carry_on-end.ensures.comes given served
     (at_end (IsStarted given c.args.reader.now (g.R.Source.left c.args.script.now)) c.new-card.result (parts_of g.S.Store g.B.Applet c.in-Ok.card) (g.W.Sink.taken c.args.trace.now) c.new-card.ensures.parts c.new-card.ensures.waiting
     (starts given c.args.reader.now (g.R.Source.left c.args.script.now) (g.W.Sink.taken c.args.trace.now) _ _ _ _ (parts_of g.S.Store g.B.Applet c.in-Ok.card)
-    c.runs_are_counted.ensures.join made (c.in-Ok.ensures.card ∙ told) c.in-Ok.ensures.opened c.in-Ok.ensures.on c.in-Ok.ensures.rests c.in-Ok.ensures.ready.good c.in-Ok.ensures.calm)))
-
-pub returns-in-Err-clause-comes : goal.returns-in-Err-clause-comes
-returns-in-Err-clause-comes g c = λ given served told made.
-    rw c.ending_of.ensures (refused given c.args.reader.now (g.R.Source.left c.args.script.now) (g.W.Sink.taken c.args.trace.now) _ _ _ _ _ _ _ _ c.in-Err.fault
-    c.runs_are_counted.ensures.join told c.in-Err.ensures.found c.in-Err.ensures.left c.in-Err.ensures.mark_kept c.in-Err.ensures.cause made)
-
-pub returns-in-Err-clause-bytes : goal.returns-in-Err-clause-bytes
-returns-in-Err-clause-bytes g c = λ refusal.
-    refusal_keeps c.in-Err.fault _ _ _ c.in-Err.ensures.left (rw c.ending_of.ensures at refusal)
-
-pub returns-in-Err-clause-formatted : goal.returns-in-Err-clause-formatted
-returns-in-Err-clause-formatted g c = λ failed. formatted_then c.in-Err.fault (rw c.ending_of.ensures at failed)
+    c.runs_are_counted.ensures.join made (c.in-Ok.ensures.opened.opens.card ∙ told) c.in-Ok.ensures.opened.opened c.in-Ok.ensures.opened.on c.in-Ok.ensures.opened.rests c.in-Ok.ensures.opened.ready.good c.in-Ok.ensures.opened.calm)))
 
 pub returns-in-Ok-clause-reads : goal.returns-in-Ok-clause-reads
 returns-in-Ok-clause-reads g c = λ given described served at.
     reads_behind given (g.R.Source.left c.carry_on-end.new.script) at.section described (is_handset c.args.listener) c.carry_on-end.result served at.described
     (c.carry_on-end.ensures.reads given.text (opening at.section) (reads_start given c.args.reader.now (g.R.Source.left c.args.script.now) described (is_handset c.args.listener) at))
 
+pub returns-in-Err-clause-comes : goal.returns-in-Err-clause-comes
+returns-in-Err-clause-comes g c = λ given served told made.
+    rw c.ending_of.ensures (refused given c.args.reader.now (g.R.Source.left c.args.script.now) (g.W.Sink.taken c.args.trace.now) _ _ _ _ _ _ _ _ c.in-Err.fault
+    c.runs_are_counted.ensures.join told c.in-Err.ensures.refuses.found c.in-Err.ensures.refuses.left c.in-Err.ensures.keeps.mark c.in-Err.ensures.keeps.cause made)
+
 pub returns-in-Err-clause-reads : goal.returns-in-Err-clause-reads
 returns-in-Err-clause-reads g c = λ given described served at.
     rw c.ending_of.ensures (reads_refused given c.args.reader.now (g.R.Source.left c.args.script.now) described c.in-Err.fault at)
+
+pub returns-in-Err-clause-memory : goal.returns-in-Err-clause-memory
+returns-in-Err-clause-memory g c = record {
+  bytes = λ refusal.
+      refusal_keeps c.in-Err.fault _ _ _ c.in-Err.ensures.refuses.left (rw c.ending_of.ensures at refusal);
+  formatted = λ failed. formatted_then c.in-Err.fault (rw c.ending_of.ensures at failed);
+}
+
+pub returns-in-Err-clause-quiet : goal.returns-in-Err-clause-quiet
+returns-in-Err-clause-quiet g c = λ unopened. record { silent = refl; unplanned = caused_kept _ _ c.in-Err.ensures.keeps.cause }
+
+pub returns-in-Ok-clause-ends : goal.returns-in-Ok-clause-ends
+returns-in-Ok-clause-ends g c =
+    let opened = c.in-Ok.ensures.opened.calm in
+    ends_played c.carry_on-end.result _ _ _ _ c.carry_on-end.ensures.source_cause c.carry_on-end.ensures.tallies.sink
+    (λ reset. rose_as (g.S.Store.meter c.args.store) c.new-card.result.parts.meter c.carry_on-end.new.card.parts.meter _
+    (ap (λ (p : CardParts). p.meter.faults) c.new-card.ensures.parts ∙ opened.no_fault (λ none. none))
+    (c.close-store.ensures.meter ∙ ap (λ (p : CardParts). p.meter) c.into_parts-card.ensures.parts)
+    (c.carry_on-end.ensures.failed reset))
+    c.carry_on-end.ensures.tallies.tells

@@ -1,4 +1,4 @@
-use Rattle.std.proofs.Common.{◌≡◌, None, true, false, ap, sym, ◌∙◌, subst}
+use Rattle.std.proofs.Common.{◌≡◌, None, refl, true, false, ap, sym, inr, ◌∙◌, subst}
 use Rattle.std.specs.Prelude.{IfSome, Ok}
 use Rattle.card_layout.specs.Standing.{stands_for}
 use Rattle.byte_streams.specs.Laws.{IsTaken-within, IsWithin-start}
@@ -8,139 +8,148 @@ use Rattle.layout_section.specs.Laying.{KeepsFirstOr}
 use Rattle.uicc_run.specs.Headline.{Comes}
 use Rattle.uicc_run.specs.Scripts.{ReachesStart}
 use Rattle.uicc_run.specs.Stores.{content_in, held_in, mark_of, memory_in}
+use Rattle.uicc_run.specs.Unplanned.{IsUnplanned}
 use Rattle.uicc_types.specs.Told.{Becomes}
-use Rattle.uicc_run.proofs.OpenLemmas.{at_first, at_start_of, described_some, describes_none, reached}
+use Rattle.uicc_run.proofs.OpenLemmas.{at_first, at_start_of, described_some, describes_none, reached, unplanned_still}
 use Rattle.uicc_run.proofs.StoreLemmas.{comes_over, given_over, keeps_over, kept_over}
 use Rattle.uicc_run.proofs.running.read_and_play.Goals as goal
 
 pub returns-in-Err-clause-comes : goal.returns-in-Err-clause-comes
-returns-in-Err-clause-comes g c = λ given served text first store is. (
+returns-in-Err-clause-comes g c = λ given play is. (
   subst (λ b. EndsInSection b given.first given.text (g.R.Source.left c.read_section.new.source) c.in-Err.fault) (ap (minds_of g.B.Applet.mind) c.as_slice.ensures.value ∙ is.boxes_are)
-      (c.in-Err.ensures.card given.first given.text (at_first _ given.first given.text c.new-reader.result _ c.args.card c.new-reader.ensures.reader c.new-reader.ensures.number first text)),
+      (c.in-Err.ensures.card given.first given.text (at_first _ given.first given.text c.new-reader.result _ c.args.card c.new-reader.ensures.reader c.new-reader.ensures.number play.first_is play.text_is)),
   is.before_is,
 )
 
-pub returns-in-Err-clause-reads : goal.returns-in-Err-clause-reads
-returns-in-Err-clause-reads g c = λ given served text first boxes.
-    subst (λ b. EndsInSection b given.first given.text (g.R.Source.left c.read_section.new.source) c.in-Err.fault) (ap (minds_of g.B.Applet.mind) c.as_slice.ensures.value ∙ boxes)
-    (c.in-Err.ensures.card given.first given.text (at_first _ given.first given.text c.new-reader.result _ c.args.card c.new-reader.ensures.reader c.new-reader.ensures.number first text))
+pub returns-in-Err-clause-untold : goal.returns-in-Err-clause-untold
+returns-in-Err-clause-untold g c = record {
+  reads = λ given play.
+      subst (λ b. EndsInSection b given.first given.text (g.R.Source.left c.read_section.new.source) c.in-Err.fault) (ap (minds_of g.B.Applet.mind) c.as_slice.ensures.value ∙ play.boxes_are)
+      (c.in-Err.ensures.card given.first given.text (at_first _ given.first given.text c.new-reader.result _ c.args.card c.new-reader.ensures.reader c.new-reader.ensures.number play.first_is play.text_is));
+  quiet = λ given play unopened. record { silent = refl; unplanned = unplanned_still _ };
+  taken = λ text told.
+      IsTaken-within text _ _ (c.in-Err.ensures.within text (IsWithin-start text _ _ c.new-reader.ensures.reader told));
+}
 
-pub returns-in-Err-clause-taken : goal.returns-in-Err-clause-taken
-returns-in-Err-clause-taken g c = λ text told.
-    IsTaken-within text _ _ (c.in-Err.ensures.within text (IsWithin-start text _ _ c.new-reader.ensures.reader told))
-
-pub returns-in-Err-clause-half_made : goal.returns-in-Err-clause-half_made
-returns-in-Err-clause-half_made g c = λ given text first store boxes some failed. absurd (cc)
-
-pub returns-in-Err-clause-no_memory : goal.returns-in-Err-clause-no_memory
-returns-in-Err-clause-no_memory g c = λ given text first store boxes some failed. absurd (cc)
+pub returns-in-Err-clause-memory : goal.returns-in-Err-clause-memory
+returns-in-Err-clause-memory g c = λ given play. record { bytes = λ none kept. absurd kept; half_made = λ some failed. absurd (cc); no_memory = λ some wanting. absurd (cc) }
 
 -- ---- over the store whose pages move
 
 pub returns-then-pages-clause-comes : goal.returns-then-pages-clause-comes
-returns-then-pages-clause-comes g c = λ given served text first store is.
-    let over = store ∙ c.if-pages.true in
+returns-then-pages-clause-comes g c = λ given play is.
+    let over = play.store_is ∙ c.if-pages.true in
     let device = ap (λ s. s.device) c.new-store.ensures in
-    let at = at_start_of _ given.boxes given.first given.text _ _ _ (ap (minds_of g.B.Applet.mind) c.as_slice.ensures.value ∙ is.boxes_are) (c.in-Ok.ensures.card given.first given.text (at_first _ given.first given.text c.new-reader.result _ c.args.card c.new-reader.ensures.reader c.new-reader.ensures.number first text)) in
-    let comes = c.make_and_play-ending.ensures.comes given served (given_over given true _ (g.E.Eeprom.contents c.args.eeprom) _ (g.E.Eeprom.meter c.args.eeprom) _ _ over (ap (λ e. memory_in true (g.E.Eeprom.contents e)) device) (ap g.E.Eeprom.meter device) is) at in
+    let at = at_start_of _ given.boxes given.first given.text _ _ _ (ap (minds_of g.B.Applet.mind) c.as_slice.ensures.value ∙ is.boxes_are) (c.in-Ok.ensures.card given.first given.text (at_first _ given.first given.text c.new-reader.result _ c.args.card c.new-reader.ensures.reader c.new-reader.ensures.number play.first_is play.text_is)) in
+    let comes = c.make_and_play-ending.ensures.comes given play.served_is (given_over given true _ (g.E.Eeprom.contents c.args.eeprom) _ (g.E.Eeprom.meter c.args.eeprom) _ _ over (ap (λ e. memory_in true (g.E.Eeprom.contents e)) device) (ap g.E.Eeprom.meter device) is) at in
     comes_over given true _ _ (g.E.Eeprom.contents c.into_device.result) _ _ _ over
     (subst (λ e. Comes given (g.R.Source.left c.make_and_play-ending.new.script) c.make_and_play-ending.result.0
     (record { held = held_in true (g.E.Eeprom.contents e); taken = g.W.Sink.taken c.make_and_play-ending.new.trace; meter = g.E.Eeprom.meter e; boxes = minds_of g.B.Applet.mind c.make_and_play-ending.result.2.items })) (sym c.into_device.ensures.device) comes)
 
-pub returns-then-pages-clause-bytes : goal.returns-then-pages-clause-bytes
-returns-then-pages-clause-bytes g c = λ given text first store none refusal.
-    let over = store ∙ c.if-pages.true in
-    let device = ap (λ s. s.device) c.new-store.ensures in
-    let at = c.in-Ok.ensures.card None given.text (at_first _ None given.text c.new-reader.result _ c.args.card c.new-reader.ensures.reader c.new-reader.ensures.number (sym none ∙ first) text) in
-    let kept = kept_over given true c.make_and_play-ending.result.0 (g.E.Eeprom.contents c.args.eeprom) _ over (ap g.E.Eeprom.contents device) refusal in
-    keeps_over given true (g.E.Eeprom.contents c.args.eeprom) (g.E.Eeprom.contents c.into_device.result) over
-    (ap (λ e. content_in true (g.E.Eeprom.contents e)) (c.into_device.ensures.device) ∙ c.make_and_play-ending.ensures.bytes (describes_none _ given.text _ _ _ at) kept ∙ ap (λ e. content_in true (g.E.Eeprom.contents e)) device)
+pub returns-then-pages-clause-untold : goal.returns-then-pages-clause-untold
+returns-then-pages-clause-untold g c = record {
+  reads = λ given play.
+      c.make_and_play-ending.ensures.reads given _ play.served_is (at_start_of _ given.boxes given.first given.text _ _ _ (ap (minds_of g.B.Applet.mind) c.as_slice.ensures.value ∙ play.boxes_are) (c.in-Ok.ensures.card given.first given.text (at_first _ given.first given.text c.new-reader.result _ c.args.card c.new-reader.ensures.reader c.new-reader.ensures.number play.first_is play.text_is)));
+  quiet = λ given play unopened.
+      let quiet = c.make_and_play-ending.ensures.quiet unopened in
+      record {
+        silent = quiet.silent;
+        unplanned = subst (λ m. IsUnplanned m (g.E.Eeprom.meter c.into_device.result)) (ap (λ s. g.E.Eeprom.meter s.device) c.new-store.ensures)
+            (subst (λ e. IsUnplanned (g.E.Eeprom.meter c.new-store.result.device) (g.E.Eeprom.meter e)) (sym c.into_device.ensures.device) quiet.unplanned);
+      };
+  taken = λ text told.
+      IsTaken-within text _ _ (c.make_and_play-ending.ensures.within text (c.in-Ok.ensures.within text (IsWithin-start text _ _ c.new-reader.ensures.reader told)));
+}
 
-pub returns-then-pages-clause-reads : goal.returns-then-pages-clause-reads
-returns-then-pages-clause-reads g c = λ given served text first boxes.
-    c.make_and_play-ending.ensures.reads given _ served (at_start_of _ given.boxes given.first given.text _ _ _ (ap (minds_of g.B.Applet.mind) c.as_slice.ensures.value ∙ boxes) (c.in-Ok.ensures.card given.first given.text (at_first _ given.first given.text c.new-reader.result _ c.args.card c.new-reader.ensures.reader c.new-reader.ensures.number first text)))
-
-pub returns-then-pages-clause-taken : goal.returns-then-pages-clause-taken
-returns-then-pages-clause-taken g c = λ text told.
-    IsTaken-within text _ _ (c.make_and_play-ending.ensures.within text (c.in-Ok.ensures.within text (IsWithin-start text _ _ c.new-reader.ensures.reader told)))
-
-pub returns-then-pages-clause-half_made : goal.returns-then-pages-clause-half_made
-returns-then-pages-clause-half_made g c = λ given text first store boxes some failed.
-    let over = store ∙ c.if-pages.true in
-    let device = ap (λ s. s.device) c.new-store.ensures in
-    let at = at_start_of _ given.boxes given.first given.text _ _ _ (ap (minds_of g.B.Applet.mind) c.as_slice.ensures.value ∙ boxes) (c.in-Ok.ensures.card given.first given.text (at_first _ given.first given.text c.new-reader.result _ c.args.card c.new-reader.ensures.reader c.new-reader.ensures.number first text)) in
-    let card = described_some given.boxes given.first at.section _ at.described some in
-    record {
-      card = card.0;
-      reaches = subst (ReachesStart given) card.1 (reached given _ _ _ at);
-      first_last = subst (λ p. Becomes (KeepsFirstOr (mark_of p) card.0) (content_in p (g.E.Eeprom.contents c.args.eeprom)) (content_in p (g.E.Eeprom.contents c.into_device.result))) (sym over)
-          (subst (λ e. Becomes (KeepsFirstOr (mark_of true) card.0) (content_in true (g.E.Eeprom.contents c.args.eeprom)) (content_in true (g.E.Eeprom.contents e))) (sym c.into_device.ensures.device)
-          (subst (λ e. Becomes (KeepsFirstOr (mark_of true) card.0) (content_in true (g.E.Eeprom.contents e)) (content_in true (g.E.Eeprom.contents c.make_and_play-ending.result.1.device))) device (c.make_and_play-ending.ensures.half_made card.0 card.1 failed)));
-    }
-
-pub returns-then-pages-clause-no_memory : goal.returns-then-pages-clause-no_memory
-returns-then-pages-clause-no_memory g c = λ given text first store boxes some failed.
-    let over = store ∙ c.if-pages.true in
-    let at = at_start_of _ given.boxes given.first given.text _ _ _ (ap (minds_of g.B.Applet.mind) c.as_slice.ensures.value ∙ boxes) (c.in-Ok.ensures.card given.first given.text (at_first _ given.first given.text c.new-reader.result _ c.args.card c.new-reader.ensures.reader c.new-reader.ensures.number first text)) in
-    let card = described_some given.boxes given.first at.section _ at.described some in
-    record {
-      card = card.0;
-      reaches = subst (ReachesStart given) card.1 (reached given _ _ _ at);
-      stands = subst (λ p. IfSome (content_in p (g.E.Eeprom.contents c.into_device.result)) (λ content. stands_for (mark_of p) content ≡ Ok card.0)) (sym over)
-          (subst (λ e. IfSome (content_in true (g.E.Eeprom.contents e)) (λ content. stands_for (mark_of true) content ≡ Ok card.0)) (sym c.into_device.ensures.device) (c.make_and_play-ending.ensures.no_memory card.0 card.1 failed));
-    }
+pub returns-then-pages-clause-memory : goal.returns-then-pages-clause-memory
+returns-then-pages-clause-memory g c = λ given play. record {
+  bytes = λ none refusal.
+      let over = play.store_is ∙ c.if-pages.true in
+      let device = ap (λ s. s.device) c.new-store.ensures in
+      let at = c.in-Ok.ensures.card None given.text (at_first _ None given.text c.new-reader.result _ c.args.card c.new-reader.ensures.reader c.new-reader.ensures.number (sym none ∙ play.first_is) play.text_is) in
+      let kept = kept_over given true c.make_and_play-ending.result.0 (g.E.Eeprom.contents c.args.eeprom) _ over (ap g.E.Eeprom.contents device) refusal in
+      keeps_over given true (g.E.Eeprom.contents c.args.eeprom) (g.E.Eeprom.contents c.into_device.result) over
+      (ap (λ e. content_in true (g.E.Eeprom.contents e)) (c.into_device.ensures.device) ∙ c.make_and_play-ending.ensures.memory.bytes (describes_none _ given.text _ _ _ at) kept ∙ ap (λ e. content_in true (g.E.Eeprom.contents e)) device);
+  half_made = λ some failed.
+      let over = play.store_is ∙ c.if-pages.true in
+      let device = ap (λ s. s.device) c.new-store.ensures in
+      let at = at_start_of _ given.boxes given.first given.text _ _ _ (ap (minds_of g.B.Applet.mind) c.as_slice.ensures.value ∙ play.boxes_are) (c.in-Ok.ensures.card given.first given.text (at_first _ given.first given.text c.new-reader.result _ c.args.card c.new-reader.ensures.reader c.new-reader.ensures.number play.first_is play.text_is)) in
+      let card = described_some given.boxes given.first at.section _ at.described some in
+      record {
+        card = card.0;
+        reaches = subst (ReachesStart given) card.1 (reached given _ _ _ at);
+        first_last = subst (λ p. Becomes (KeepsFirstOr (mark_of p) card.0) (content_in p (g.E.Eeprom.contents c.args.eeprom)) (content_in p (g.E.Eeprom.contents c.into_device.result))) (sym over)
+            (subst (λ e. Becomes (KeepsFirstOr (mark_of true) card.0) (content_in true (g.E.Eeprom.contents c.args.eeprom)) (content_in true (g.E.Eeprom.contents e))) (sym c.into_device.ensures.device)
+            (subst (λ e. Becomes (KeepsFirstOr (mark_of true) card.0) (content_in true (g.E.Eeprom.contents e)) (content_in true (g.E.Eeprom.contents c.make_and_play-ending.result.1.device))) device (c.make_and_play-ending.ensures.memory.half_made card.0 card.1 failed)));
+      };
+  no_memory = λ some failed.
+      let over = play.store_is ∙ c.if-pages.true in
+      let at = at_start_of _ given.boxes given.first given.text _ _ _ (ap (minds_of g.B.Applet.mind) c.as_slice.ensures.value ∙ play.boxes_are) (c.in-Ok.ensures.card given.first given.text (at_first _ given.first given.text c.new-reader.result _ c.args.card c.new-reader.ensures.reader c.new-reader.ensures.number play.first_is play.text_is)) in
+      let card = described_some given.boxes given.first at.section _ at.described some in
+      inr (record {
+        card = card.0;
+        reaches = subst (ReachesStart given) card.1 (reached given _ _ _ at);
+        stands = subst (λ p. IfSome (content_in p (g.E.Eeprom.contents c.into_device.result)) (λ content. stands_for (mark_of p) content ≡ Ok card.0)) (sym over)
+            (subst (λ e. IfSome (content_in true (g.E.Eeprom.contents e)) (λ content. stands_for (mark_of true) content ≡ Ok card.0)) (sym c.into_device.ensures.device) (c.make_and_play-ending.ensures.memory.no_memory card.0 card.1 failed));
+      });
+}
 
 -- ---- over the journal
 
 pub returns-clause-comes : goal.returns-clause-comes
-returns-clause-comes g c = λ given served text first store is.
-    let over = store ∙ c.if-pages.false in
+returns-clause-comes g c = λ given play is.
+    let over = play.store_is ∙ c.if-pages.false in
     let device = ap (λ s. s.device) c.new-store-else-pages.ensures in
-    let at = at_start_of _ given.boxes given.first given.text _ _ _ (ap (minds_of g.B.Applet.mind) c.as_slice.ensures.value ∙ is.boxes_are) (c.in-Ok.ensures.card given.first given.text (at_first _ given.first given.text c.new-reader.result _ c.args.card c.new-reader.ensures.reader c.new-reader.ensures.number first text)) in
-    let comes = c.make_and_play-ending-else-pages.ensures.comes given served (given_over given false _ (g.E.Eeprom.contents c.args.eeprom) _ (g.E.Eeprom.meter c.args.eeprom) _ _ over (ap (λ e. memory_in false (g.E.Eeprom.contents e)) device) (ap g.E.Eeprom.meter device) is) at in
+    let at = at_start_of _ given.boxes given.first given.text _ _ _ (ap (minds_of g.B.Applet.mind) c.as_slice.ensures.value ∙ is.boxes_are) (c.in-Ok.ensures.card given.first given.text (at_first _ given.first given.text c.new-reader.result _ c.args.card c.new-reader.ensures.reader c.new-reader.ensures.number play.first_is play.text_is)) in
+    let comes = c.make_and_play-ending-else-pages.ensures.comes given play.served_is (given_over given false _ (g.E.Eeprom.contents c.args.eeprom) _ (g.E.Eeprom.meter c.args.eeprom) _ _ over (ap (λ e. memory_in false (g.E.Eeprom.contents e)) device) (ap g.E.Eeprom.meter device) is) at in
     comes_over given false _ _ (g.E.Eeprom.contents c.into_device-else-pages.result) _ _ _ over
     (subst (λ e. Comes given (g.R.Source.left c.make_and_play-ending-else-pages.new.script) c.make_and_play-ending-else-pages.result.0
     (record { held = held_in false (g.E.Eeprom.contents e); taken = g.W.Sink.taken c.make_and_play-ending-else-pages.new.trace; meter = g.E.Eeprom.meter e; boxes = minds_of g.B.Applet.mind c.make_and_play-ending-else-pages.result.2.items })) (sym c.into_device-else-pages.ensures.device) comes)
 
-pub returns-clause-bytes : goal.returns-clause-bytes
-returns-clause-bytes g c = λ given text first store none refusal.
-    let over = store ∙ c.if-pages.false in
-    let device = ap (λ s. s.device) c.new-store-else-pages.ensures in
-    let at = c.in-Ok.ensures.card None given.text (at_first _ None given.text c.new-reader.result _ c.args.card c.new-reader.ensures.reader c.new-reader.ensures.number (sym none ∙ first) text) in
-    let kept = kept_over given false c.make_and_play-ending-else-pages.result.0 (g.E.Eeprom.contents c.args.eeprom) _ over (ap g.E.Eeprom.contents device) refusal in
-    keeps_over given false (g.E.Eeprom.contents c.args.eeprom) (g.E.Eeprom.contents c.into_device-else-pages.result) over
-    (ap (λ e. content_in false (g.E.Eeprom.contents e)) (c.into_device-else-pages.ensures.device) ∙ c.make_and_play-ending-else-pages.ensures.bytes (describes_none _ given.text _ _ _ at) kept ∙ ap (λ e. content_in false (g.E.Eeprom.contents e)) device)
+pub returns-clause-untold : goal.returns-clause-untold
+returns-clause-untold g c = record {
+  reads = λ given play.
+      c.make_and_play-ending-else-pages.ensures.reads given _ play.served_is (at_start_of _ given.boxes given.first given.text _ _ _ (ap (minds_of g.B.Applet.mind) c.as_slice.ensures.value ∙ play.boxes_are) (c.in-Ok.ensures.card given.first given.text (at_first _ given.first given.text c.new-reader.result _ c.args.card c.new-reader.ensures.reader c.new-reader.ensures.number play.first_is play.text_is)));
+  quiet = λ given play unopened.
+      let quiet = c.make_and_play-ending-else-pages.ensures.quiet unopened in
+      record {
+        silent = quiet.silent;
+        unplanned = subst (λ m. IsUnplanned m (g.E.Eeprom.meter c.into_device-else-pages.result)) (ap (λ s. g.E.Eeprom.meter s.device) c.new-store-else-pages.ensures)
+            (subst (λ e. IsUnplanned (g.E.Eeprom.meter c.new-store-else-pages.result.device) (g.E.Eeprom.meter e)) (sym c.into_device-else-pages.ensures.device) quiet.unplanned);
+      };
+  taken = λ text told.
+      IsTaken-within text _ _ (c.make_and_play-ending-else-pages.ensures.within text (c.in-Ok.ensures.within text (IsWithin-start text _ _ c.new-reader.ensures.reader told)));
+}
 
-pub returns-clause-reads : goal.returns-clause-reads
-returns-clause-reads g c = λ given served text first boxes.
-    c.make_and_play-ending-else-pages.ensures.reads given _ served (at_start_of _ given.boxes given.first given.text _ _ _ (ap (minds_of g.B.Applet.mind) c.as_slice.ensures.value ∙ boxes) (c.in-Ok.ensures.card given.first given.text (at_first _ given.first given.text c.new-reader.result _ c.args.card c.new-reader.ensures.reader c.new-reader.ensures.number first text)))
-
-pub returns-clause-taken : goal.returns-clause-taken
-returns-clause-taken g c = λ text told.
-    IsTaken-within text _ _ (c.make_and_play-ending-else-pages.ensures.within text (c.in-Ok.ensures.within text (IsWithin-start text _ _ c.new-reader.ensures.reader told)))
-
-pub returns-clause-half_made : goal.returns-clause-half_made
-returns-clause-half_made g c = λ given text first store boxes some failed.
-    let over = store ∙ c.if-pages.false in
-    let device = ap (λ s. s.device) c.new-store-else-pages.ensures in
-    let at = at_start_of _ given.boxes given.first given.text _ _ _ (ap (minds_of g.B.Applet.mind) c.as_slice.ensures.value ∙ boxes) (c.in-Ok.ensures.card given.first given.text (at_first _ given.first given.text c.new-reader.result _ c.args.card c.new-reader.ensures.reader c.new-reader.ensures.number first text)) in
-    let card = described_some given.boxes given.first at.section _ at.described some in
-    record {
-      card = card.0;
-      reaches = subst (ReachesStart given) card.1 (reached given _ _ _ at);
-      first_last = subst (λ p. Becomes (KeepsFirstOr (mark_of p) card.0) (content_in p (g.E.Eeprom.contents c.args.eeprom)) (content_in p (g.E.Eeprom.contents c.into_device-else-pages.result))) (sym over)
-          (subst (λ e. Becomes (KeepsFirstOr (mark_of false) card.0) (content_in false (g.E.Eeprom.contents c.args.eeprom)) (content_in false (g.E.Eeprom.contents e))) (sym c.into_device-else-pages.ensures.device)
-          (subst (λ e. Becomes (KeepsFirstOr (mark_of false) card.0) (content_in false (g.E.Eeprom.contents e)) (content_in false (g.E.Eeprom.contents c.make_and_play-ending-else-pages.result.1.device))) device (c.make_and_play-ending-else-pages.ensures.half_made card.0 card.1 failed)));
-    }
-
-pub returns-clause-no_memory : goal.returns-clause-no_memory
-returns-clause-no_memory g c = λ given text first store boxes some failed.
-    let over = store ∙ c.if-pages.false in
-    let at = at_start_of _ given.boxes given.first given.text _ _ _ (ap (minds_of g.B.Applet.mind) c.as_slice.ensures.value ∙ boxes) (c.in-Ok.ensures.card given.first given.text (at_first _ given.first given.text c.new-reader.result _ c.args.card c.new-reader.ensures.reader c.new-reader.ensures.number first text)) in
-    let card = described_some given.boxes given.first at.section _ at.described some in
-    record {
-      card = card.0;
-      reaches = subst (ReachesStart given) card.1 (reached given _ _ _ at);
-      stands = subst (λ p. IfSome (content_in p (g.E.Eeprom.contents c.into_device-else-pages.result)) (λ content. stands_for (mark_of p) content ≡ Ok card.0)) (sym over)
-          (subst (λ e. IfSome (content_in false (g.E.Eeprom.contents e)) (λ content. stands_for (mark_of false) content ≡ Ok card.0)) (sym c.into_device-else-pages.ensures.device) (c.make_and_play-ending-else-pages.ensures.no_memory card.0 card.1 failed));
-    }
+pub returns-clause-memory : goal.returns-clause-memory
+returns-clause-memory g c = λ given play. record {
+  bytes = λ none refusal.
+      let over = play.store_is ∙ c.if-pages.false in
+      let device = ap (λ s. s.device) c.new-store-else-pages.ensures in
+      let at = c.in-Ok.ensures.card None given.text (at_first _ None given.text c.new-reader.result _ c.args.card c.new-reader.ensures.reader c.new-reader.ensures.number (sym none ∙ play.first_is) play.text_is) in
+      let kept = kept_over given false c.make_and_play-ending-else-pages.result.0 (g.E.Eeprom.contents c.args.eeprom) _ over (ap g.E.Eeprom.contents device) refusal in
+      keeps_over given false (g.E.Eeprom.contents c.args.eeprom) (g.E.Eeprom.contents c.into_device-else-pages.result) over
+      (ap (λ e. content_in false (g.E.Eeprom.contents e)) (c.into_device-else-pages.ensures.device) ∙ c.make_and_play-ending-else-pages.ensures.memory.bytes (describes_none _ given.text _ _ _ at) kept ∙ ap (λ e. content_in false (g.E.Eeprom.contents e)) device);
+  half_made = λ some failed.
+      let over = play.store_is ∙ c.if-pages.false in
+      let device = ap (λ s. s.device) c.new-store-else-pages.ensures in
+      let at = at_start_of _ given.boxes given.first given.text _ _ _ (ap (minds_of g.B.Applet.mind) c.as_slice.ensures.value ∙ play.boxes_are) (c.in-Ok.ensures.card given.first given.text (at_first _ given.first given.text c.new-reader.result _ c.args.card c.new-reader.ensures.reader c.new-reader.ensures.number play.first_is play.text_is)) in
+      let card = described_some given.boxes given.first at.section _ at.described some in
+      record {
+        card = card.0;
+        reaches = subst (ReachesStart given) card.1 (reached given _ _ _ at);
+        first_last = subst (λ p. Becomes (KeepsFirstOr (mark_of p) card.0) (content_in p (g.E.Eeprom.contents c.args.eeprom)) (content_in p (g.E.Eeprom.contents c.into_device-else-pages.result))) (sym over)
+            (subst (λ e. Becomes (KeepsFirstOr (mark_of false) card.0) (content_in false (g.E.Eeprom.contents c.args.eeprom)) (content_in false (g.E.Eeprom.contents e))) (sym c.into_device-else-pages.ensures.device)
+            (subst (λ e. Becomes (KeepsFirstOr (mark_of false) card.0) (content_in false (g.E.Eeprom.contents e)) (content_in false (g.E.Eeprom.contents c.make_and_play-ending-else-pages.result.1.device))) device (c.make_and_play-ending-else-pages.ensures.memory.half_made card.0 card.1 failed)));
+      };
+  no_memory = λ some failed.
+      let over = play.store_is ∙ c.if-pages.false in
+      let at = at_start_of _ given.boxes given.first given.text _ _ _ (ap (minds_of g.B.Applet.mind) c.as_slice.ensures.value ∙ play.boxes_are) (c.in-Ok.ensures.card given.first given.text (at_first _ given.first given.text c.new-reader.result _ c.args.card c.new-reader.ensures.reader c.new-reader.ensures.number play.first_is play.text_is)) in
+      let card = described_some given.boxes given.first at.section _ at.described some in
+      inr (record {
+        card = card.0;
+        reaches = subst (ReachesStart given) card.1 (reached given _ _ _ at);
+        stands = subst (λ p. IfSome (content_in p (g.E.Eeprom.contents c.into_device-else-pages.result)) (λ content. stands_for (mark_of p) content ≡ Ok card.0)) (sym over)
+            (subst (λ e. IfSome (content_in false (g.E.Eeprom.contents e)) (λ content. stands_for (mark_of false) content ≡ Ok card.0)) (sym c.into_device-else-pages.ensures.device) (c.make_and_play-ending-else-pages.ensures.memory.no_memory card.0 card.1 failed));
+      });
+}
