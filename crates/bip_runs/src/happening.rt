@@ -16,9 +16,11 @@ use uicc_types::Octets;
 
 /// Has this happen to the terminal, and writes what is shown of it. A command is written before it is carried out.
 pub fn happen<W: Sink>(what: Happening<'_>, bip: &mut Bip, trace: &mut W) -> Result<(), Failed>
-    ensures kept { (history : List Occurrence) → IsKept (channels_after history) bip.old → OnOk result (IsKept (channels_after (occurrence_for what.entry ∷ history)) bip.new) }
+    ensures kept { (history : List Occurrence) → IsKept (channels_after history) bip.old
+        → OnOk result (IsKept (channels_after (occurrence_for what.entry ∷ history)) bip.new) }
     ensures shown { (history : List Occurrence) → IsKept (channels_after history) bip.old
-        → IsPut (text_of (lines_of (occurrence_for what.entry) (channels_after history))) (W.taken trace.old) (W.taken trace.new) result }
+        → IsPut (text_of (lines_of (occurrence_for what.entry) (channels_after history))) (W.taken trace.old)
+        (W.taken trace.new) result }
     ensures cause { CountsFailure (W.faults trace.old) (W.faults trace.new) (IsErr result) }
     ensures tells { is_some (W.taken trace.new) ≡ is_some (W.taken trace.old) }
 {
@@ -37,9 +39,11 @@ pub fn happen<W: Sink>(what: Happening<'_>, bip: &mut Bip, trace: &mut W) -> Res
 
 /// Writes a proactive command, has the terminal carry it out, and writes its response.
 fn command<W: Sink>(bytes: &Octets, bip: &mut Bip, trace: &mut W) -> Result<(), Failed>
-    ensures kept { (history : List Occurrence) → IsKept (channels_after history) bip.old → OnOk result (IsKept (answered bytes.now (channels_after history)).channels bip.new) }
+    ensures kept { (history : List Occurrence) → IsKept (channels_after history) bip.old
+        → OnOk result (IsKept (answered bytes.now (channels_after history)).channels bip.new) }
     ensures shown { (history : List Occurrence) → IsKept (channels_after history) bip.old
-        → IsPut (text_of (command_lines bytes.now (answered bytes.now (channels_after history)).response)) (W.taken trace.old) (W.taken trace.new) result }
+        → IsPut (text_of (command_lines bytes.now (answered bytes.now (channels_after history)).response))
+        (W.taken trace.old) (W.taken trace.new) result }
     ensures cause { CountsFailure (W.faults trace.old) (W.faults trace.new) (IsErr result) }
     ensures tells { is_some (W.taken trace.new) ≡ is_some (W.taken trace.old) }
 {

@@ -25,10 +25,12 @@ pub fn serve<R: Source, W: Sink>(
     source: &mut R,
     trace: &mut W,
 ) -> Result<PlayEnd, OutOfMemory>
-    ensures comes { (text : List ℕ) → R.left source.old ≡ Some text → IfOk result (ComesTo text (W.taken trace.old) (R.left source.new) (W.taken trace.new)) }
+    ensures comes { (text : List ℕ) → R.left source.old ≡ Some text
+        → IfOk result (ComesTo text (W.taken trace.old) (R.left source.new) (W.taken trace.new)) }
     ensures memory_only { OnErr result ((source.new ≡ source.old) × (trace.new ≡ trace.old)) }
     // No more than 16,777,217 bytes of the script are taken.
-    ensures taken { (text : List ℕ) → R.left source.old ≡ Some text → IsTaken (MOST_BYTES + 1) text (R.left source.new) }
+    ensures taken { (text : List ℕ) → R.left source.old ≡ Some text
+        → IsTaken (MOST_BYTES + 1) text (R.left source.new) }
     ensures source_cause { CountsFailure (R.faults source.old) (R.faults source.new) (result ≡ Ok PlayEnd.ReadFailed) }
     ensures sink_cause { CountsFailure (W.faults trace.old) (W.faults trace.new) (result ≡ Ok PlayEnd.SinkFailed) }
     ensures tells { is_some (W.taken trace.new) ≡ is_some (W.taken trace.old) }
@@ -46,8 +48,10 @@ pub fn serve<R: Source, W: Sink>(
 /// Has a terminal on which no channel is open carry out a script.
 fn serve_script<R: Source, W: Sink>(bip: &mut Bip, source: &mut R, trace: &mut W) -> PlayEnd
     requires new { IsKept none_open bip.old }
-    ensures comes { (text : List ℕ) → R.left source.old ≡ Some text → ComesTo text (W.taken trace.old) (R.left source.new) (W.taken trace.new) result }
-    ensures taken { (text : List ℕ) → R.left source.old ≡ Some text → IsTaken (MOST_BYTES + 1) text (R.left source.new) }
+    ensures comes { (text : List ℕ) → R.left source.old ≡ Some text
+        → ComesTo text (W.taken trace.old) (R.left source.new) (W.taken trace.new) result }
+    ensures taken { (text : List ℕ) → R.left source.old ≡ Some text
+        → IsTaken (MOST_BYTES + 1) text (R.left source.new) }
     ensures source_cause { CountsFailure (R.faults source.old) (R.faults source.new) (result ≡ PlayEnd.ReadFailed) }
     ensures sink_cause { CountsFailure (W.faults trace.old) (W.faults trace.new) (result ≡ PlayEnd.SinkFailed) }
     ensures tells { is_some (W.taken trace.new) ≡ is_some (W.taken trace.old) }
@@ -64,9 +68,11 @@ fn serve_lines<R: Source, W: Sink>(
     source: &mut R,
     trace: &mut W,
 ) -> PlayEnd
-    ensures comes { (text : List ℕ) (before : Option (List ℕ)) → IsServing text before Place.Before script.old (R.left source.old) (W.taken trace.old) bip.old
+    ensures comes { (text : List ℕ) (before : Option (List ℕ))
+        → IsServing text before Place.Before script.old (R.left source.old) (W.taken trace.old) bip.old
         → ComesTo text before (R.left source.new) (W.taken trace.new) result }
-    ensures within { (text : List ℕ) → IsWithin text (reading script.old) (R.left source.old) → IsWithin text (reading script.new) (R.left source.new) }
+    ensures within { (text : List ℕ) → IsWithin text (reading script.old) (R.left source.old)
+        → IsWithin text (reading script.new) (R.left source.new) }
     ensures source_cause { CountsFailure (R.faults source.old) (R.faults source.new) (result ≡ PlayEnd.ReadFailed) }
     ensures sink_cause { CountsFailure (W.faults trace.old) (W.faults trace.new) (result ≡ PlayEnd.SinkFailed) }
     ensures tells { is_some (W.taken trace.new) ≡ is_some (W.taken trace.old) }
@@ -90,9 +96,11 @@ fn serve_line<R: Source, W: Sink>(
     bip: &mut Bip,
     trace: &mut W,
 ) -> Result<(), PlayEnd>
-    ensures served { (text : List ℕ) (before : Option (List ℕ)) → IsServing text before place.old script.old (R.left source.old) (W.taken trace.old) bip.old
+    ensures served { (text : List ℕ) (before : Option (List ℕ))
+        → IsServing text before place.old script.old (R.left source.old) (W.taken trace.old) bip.old
         → GivesServed text before place.new script.new (R.left source.new) (W.taken trace.new) bip.new result }
-    ensures within { (text : List ℕ) → IsWithin text (reading script.old) (R.left source.old) → IsWithin text (reading script.new) (R.left source.new) }
+    ensures within { (text : List ℕ) → IsWithin text (reading script.old) (R.left source.old)
+        → IsWithin text (reading script.new) (R.left source.new) }
     ensures source_cause { CountsFailure (R.faults source.old) (R.faults source.new) (result ≡ Err PlayEnd.ReadFailed) }
     ensures sink_cause { CountsFailure (W.faults trace.old) (W.faults trace.new) (result ≡ Err PlayEnd.SinkFailed) }
     ensures tells { is_some (W.taken trace.new) ≡ is_some (W.taken trace.old) }
@@ -133,7 +141,8 @@ fn next_line<R: Source>(
 ) -> Result<(), PlayEnd>
     ensures gives { (text : List ℕ) (found : LineList) → Follows text found script.old (R.left source.old)
         → GivesLine place text found script.new (R.left source.new) line.new result }
-    ensures within { (text : List ℕ) → IsWithin text (reading script.old) (R.left source.old) → IsWithin text (reading script.new) (R.left source.new) }
+    ensures within { (text : List ℕ) → IsWithin text (reading script.old) (R.left source.old)
+        → IsWithin text (reading script.new) (R.left source.new) }
     ensures cause { CountsFailure (R.faults source.old) (R.faults source.new) (result ≡ Err PlayEnd.ReadFailed) }
     ensures no_sink { result ≢ Err PlayEnd.SinkFailed }
     ensures no_reset { result ≢ Err PlayEnd.ResetFailed }

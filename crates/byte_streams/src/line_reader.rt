@@ -70,26 +70,34 @@ impl LineReader {
         // The lines that are still to come lose the one that was found, and no other.
         ensures line { OnLine result (lines_left self.old (R.left source.old)
             ≡ option_map (λ more. Some self.new.line ∷ more) (lines_left self.new (R.left source.new))) }
-        ensures end { OnEnd result (lines_left self.old (R.left source.old) ≡ option_map (λ _. []) (R.left source.new)) }
+        ensures end { OnEnd result (lines_left self.old (R.left source.old) ≡ option_map (λ _. [])
+            (R.left source.new)) }
         ensures too_long { OnTooLong result (IfSome (lines_left self.old (R.left source.old)) BeginsBad) }
-        ensures failed { OnFailed result (lines_left self.new (R.left source.new) ≡ lines_left self.old (R.left source.old)) }
+        ensures failed { OnFailed result (lines_left self.new (R.left source.new) ≡ lines_left self.old
+            (R.left source.old)) }
 
         // After the other three answers what is left to read is what it was: nothing of it was dropped or passed over.
         ensures stays { result ≢ NextLine.Line → Stays self.old (R.left source.old) self.new (R.left source.new) }
 
         // The same of a whole text, with the lines that were handed out before.
-        ensures one_more { OnLine result ((text : List ℕ) (given : LineList) → HasRead text given self.old (R.left source.old)
+        ensures one_more { OnLine result ((text : List ℕ) (given : LineList)
+            → HasRead text given self.old (R.left source.old)
             → HasRead text (given ++ Some self.new.line ∷ []) self.new (R.left source.new)) }
-        ensures read_out { OnEnd result ((text : List ℕ) (given : LineList) → HasRead text given self.old (R.left source.old)
+        ensures read_out { OnEnd result ((text : List ℕ) (given : LineList)
+            → HasRead text given self.old (R.left source.old)
             → IsReadOut text given (R.left source.new)) }
-        ensures bad { OnTooLong result ((text : List ℕ) (given : LineList) → HasRead text given self.old (R.left source.old)
+        ensures bad { OnTooLong result ((text : List ℕ) (given : LineList)
+            → HasRead text given self.old (R.left source.old)
             → (more : LineList) × (lines text ≡ given ++ None ∷ more)) }
-        ensures cut_short { OnFailed result ((text : List ℕ) (given : LineList) → HasRead text given self.old (R.left source.old)
+        ensures cut_short { OnFailed result ((text : List ℕ) (given : LineList)
+            → HasRead text given self.old (R.left source.old)
             → IsCutShort text given (R.left source.new)) }
 
         // At most one byte more is taken than lines may take up, and none once the next line is known.
-        ensures within { (text : List ℕ) → IsWithin text self.old (R.left source.old) → IsWithin text self.new (R.left source.new) }
-        ensures reach { (text : List ℕ) (given : LineList) → HasRead text given self.old (R.left source.old) → IsTakenFor text given (R.left source.new) }
+        ensures within { (text : List ℕ) → IsWithin text self.old (R.left source.old)
+            → IsWithin text self.new (R.left source.new) }
+        ensures reach { (text : List ℕ) (given : LineList) → HasRead text given self.old (R.left source.old)
+            → IsTakenFor text given (R.left source.new) }
 
         // Each line takes up room, so there are no more lines than bytes.
         ensures room { OnLine result (self.new.room < self.old.room) }
@@ -116,7 +124,8 @@ impl LineReader {
         ensures continues { Continues self.old (R.left source.old) self.new (R.left source.new) }
         ensures idle { self.old.ended ≡ true → source.new ≡ source.old }
         ensures small { length self.new.held ≤ min SIZE (self.new.room + 1) }
-        ensures found { IfOk result (λ found. Finds found self.new.held (min SIZE (self.new.room + 1)) (self.new.ended ≡ true)) }
+        ensures found { IfOk result (λ found. Finds found self.new.held (min SIZE (self.new.room + 1))
+            (self.new.ended ≡ true)) }
         ensures none { OnErr result (NoEndBelow self.new.held (length self.new.held)
             × (length self.new.held < min SIZE (self.new.room + 1)) × (self.new.ended ≡ false)) }
         ensures cause { CountsFailure (R.faults source.old) (R.faults source.new) (IsErr result) }
@@ -146,9 +155,12 @@ impl LineReader {
         requires within { size ≤ length self.old.held }
         ensures less { self.new.room ≤ self.old.room }
         ensures fits { OnLine result (size ≤ self.old.room) }
-        ensures value { result ≡ (if nat_le line LONGEST_LINE && nat_le size self.old.room then NextLine.Line else NextLine.TooLong) }
+        ensures value { result ≡
+            (if nat_le line LONGEST_LINE && nat_le size self.old.room then NextLine.Line else NextLine.TooLong) }
         ensures stays { result ≢ NextLine.Line → self.new ≡ self.old }
-        ensures line { OnLine result (self.new ≡ record { line = take line self.old.held; held = drop size self.old.held; room = self.old.room - size; ended = self.old.ended }) }
+        ensures line { OnLine result
+            (self.new
+            ≡ record { line = take line self.old.held; held = drop size self.old.held; room = self.old.room - size; ended = self.old.ended }) }
     {
         if line > LONGEST_LINE || size > self.room {
             return NextLine::TooLong;

@@ -37,7 +37,8 @@ impl Model for ListSink {
 impl ListSink {
     /// A sink for at most `room` bytes whose calls with the numbers in `fails` fail.
     pub fn new(alloc: Global, room: usize, fails: &[u32]) -> Result<ListSink, OutOfMemory>
-        ensures { IfOk result (λ sink. sink ≡ record { taken = []; room = room; fails = fails.now; calls = 0; faults = 0 }) }
+        ensures { IfOk result
+            (λ sink. sink ≡ record { taken = []; room = room; fails = fails.now; calls = 0; faults = 0 }) }
     {
         let Ok(taken) = Vec::with_capacity(alloc, room) else {
             return Err(OutOfMemory);

@@ -54,7 +54,8 @@ impl Source for SliceSource<'_> {
 
     fn take(&mut self, out: &mut [u8]) -> Result<usize, Failed>
         ensures within { IfOk result (λ count. count ≤ length out.old) }
-        ensures ok { IfOk result (λ count. Some self.old.left ≡ prepend_known (take count out.new) (Some self.new.left)) }
+        ensures ok { IfOk result (λ count. Some self.old.left ≡ prepend_known (take count out.new)
+            (Some self.new.left)) }
         ensures end { IfOk result (λ count. 0 < length out.old → (count ≡ 0) ↔ (self.old.left ≡ [])) }
         ensures err { OnErr result (Some self.new.left ≡ Some self.old.left) }
         ensures cause { CountsFailure self.old.faults self.new.faults (IsErr result) }

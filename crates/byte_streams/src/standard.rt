@@ -43,8 +43,10 @@ impl<I: Read> Source for InputSource<I> {
         ensures cause { CountsFailure (source_faults self.old) (source_faults self.new) (IsErr result) }
 
         // It hands on what the reader gave, and no other bytes.
-        ensures bytes { ReadConsumes (I.remaining (reader_of self.old)) (I.remaining (reader_of self.new)) result out.new }
-        ensures faults { source_faults self.new ≡ (if is_err result then count_after (source_faults self.old) else source_faults self.old) }
+        ensures bytes { ReadConsumes (I.remaining (reader_of self.old))
+            (I.remaining (reader_of self.new)) result out.new }
+        ensures faults { source_faults self.new ≡ (if is_err result then count_after
+            (source_faults self.old) else source_faults self.old) }
     {
         match self.input.read(out) {
             Ok(count) => Ok(count),
@@ -92,8 +94,10 @@ impl<O: Write> Sink for OutputSink<O> {
         ensures cause { CountsFailure (sink_faults self.old) (sink_faults self.new) (IsErr result) }
 
         // The writer was given the whole part.
-        ensures written { OnOk result (Appends (O.contents (writer_of self.old)) (O.contents (writer_of self.new)) part.now) }
-        ensures faults { sink_faults self.new ≡ (if is_err result then count_after (sink_faults self.old) else sink_faults self.old) }
+        ensures written { OnOk result (Appends (O.contents (writer_of self.old))
+            (O.contents (writer_of self.new)) part.now) }
+        ensures faults { sink_faults self.new ≡ (if is_err result then count_after
+            (sink_faults self.old) else sink_faults self.old) }
     {
         match write_out(&mut self.output, part) {
             Ok(()) => Ok(()),

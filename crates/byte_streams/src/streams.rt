@@ -22,7 +22,8 @@ pub trait Source {
     fn take(&mut self, out: &mut [u8]) -> Result<usize, Failed>
         ensures within { IfOk result (λ count. count ≤ length out.old) }
         ensures ok { IfOk result (λ count. left self.old ≡ prepend_known (take count out.new) (left self.new)) }
-        ensures end { IfOk result (λ count. 0 < length out.old → IfSome (left self.old) (λ rest. (count ≡ 0) ↔ (rest ≡ []))) }
+        ensures end { IfOk result (λ count. 0 < length out.old
+            → IfSome (left self.old) (λ rest. (count ≡ 0) ↔ (rest ≡ []))) }
         ensures err { OnErr result (left self.new ≡ left self.old) }
         ensures cause { CountsFailure (faults self.old) (faults self.new) (IsErr result) };
 }

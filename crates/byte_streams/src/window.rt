@@ -81,15 +81,34 @@ impl Window {
         ensures none { OnErr result (NoEndBelow self.new (length self.new) × (length self.new < most) × IsFalse ended) }
         ensures cause { CountsFailure (R.faults source.old) (R.faults source.new) (IsErr result) }
     {
-        let mut searched = 0;
+        match line_end(self.as_slice()) {
+            Some(place) => Ok(Found::LineEnd(place)),
+            None => self.fill_on(source, most, ended),
+        }
+    }
+
+    /// Goes on where no line ends in what is held. Most lines are there whole, and this is out of their way.
+    #[inline(never)]
+    fn fill_on<R: Source>(
+        &mut self,
+        source: &mut R,
+        most: usize,
+        ended: bool,
+    ) -> Result<Found, Failed>
+        requires room { (length self.old ≤ most) × (most ≤ SIZE) }
+        requires searched { NoEndBelow self.old (length self.old) }
+        ensures taken { TakesMore self.old (R.left source.old) self.new (R.left source.new) }
+        ensures idle { IsTrue ended → (self.new ≡ self.old) × (source.new ≡ source.old) }
+        ensures small { length self.new ≤ most }
+        ensures found { IfOk result (λ found. Finds found self.new most (IsTrue ended ⊎ IsAtEnd (R.left source.new))) }
+        ensures none { OnErr result (NoEndBelow self.new (length self.new) × (length self.new < most) × IsFalse ended) }
+        ensures cause { CountsFailure (R.faults source.old) (R.faults source.new) (IsErr result) }
+    {
         'pieces: loop {
-            if let Some(place) = line_end_from(self.as_slice(), searched) {
-                return Ok(Found::LineEnd(place));
-            }
             if ended {
                 return Ok(Found::InputEnd);
             }
-            searched = self.as_slice().len();
+            let searched = self.as_slice().len();
             if searched >= most {
                 return Ok(Found::Full);
             }
@@ -97,6 +116,9 @@ impl Window {
                 Ok(0) => return Ok(Found::InputEnd),
                 Ok(_) => {}
                 Err(Failed) => return Err(Failed),
+            }
+            if let Some(place) = line_end_from(self.as_slice(), searched) {
+                return Ok(Found::LineEnd(place));
             }
         }
     }

@@ -35,9 +35,11 @@ pub fn read_behind<R: Source>(
     source: &mut R,
     line: &mut ScriptLine,
 ) -> Result<(), PlayEnd>
-    ensures gives { (may : AnyLine → Bool) (text : List ℕ) (found : LineList) → Follows text found script.old (R.left source.old)
+    ensures gives { (may : AnyLine → Bool) (text : List ℕ) (found : LineList)
+        → Follows text found script.old (R.left source.old)
         → GivesLine may text found script.new (R.left source.new) line.new result }
-    ensures within { (text : List ℕ) → IsWithin text (reading script.old) (R.left source.old) → IsWithin text (reading script.new) (R.left source.new) }
+    ensures within { (text : List ℕ) → IsWithin text (reading script.old) (R.left source.old)
+        → IsWithin text (reading script.new) (R.left source.new) }
     ensures cause { CountsFailure (R.faults source.old) (R.faults source.new) (result ≡ Err PlayEnd.ReadFailed) }
     ensures sink { result ≢ Err PlayEnd.SinkFailed }
     ensures memory { result ≢ Err PlayEnd.ResetFailed }

@@ -44,8 +44,10 @@ impl ScriptReader {
     ) -> Result<bool, ScriptFault>
         ensures next { (text : List ℕ) (given : LineList) → Follows text given self.old (R.left source.old)
             → GivesNext text given self.new (R.left source.new) line.new result }
-        ensures within { (text : List ℕ) → IsWithin text (reading self.old) (R.left source.old) → IsWithin text (reading self.new) (R.left source.new) }
-        ensures cause { CountsFailure (R.faults source.old) (R.faults source.new) (result ≡ Err ScriptFault.ReadFailed) }
+        ensures within { (text : List ℕ) → IsWithin text (reading self.old) (R.left source.old)
+            → IsWithin text (reading self.new) (R.left source.new) }
+        ensures cause { CountsFailure (R.faults source.old) (R.faults source.new)
+            (result ≡ Err ScriptFault.ReadFailed) }
         // A line uses up something of what may be read.
         ensures nearer { result ≡ Ok true → room_of self.new < room_of self.old }
         ensures counted { result ≡ Ok true → line_count self.new ≡ line_count self.old + 1 }

@@ -5,7 +5,7 @@ ghost use Rattle.card_sections.specs.Cast.{minds_of, kind_on as kind_of_box};
 ghost use Rattle.card_sections.specs.Reading.{GivesSection, GivesSectionLine, InSection, IsAdded, reading, room_of};
 ghost use Rattle.card_sections.specs.Script.{described, ef_described, file_described};
 ghost use Rattle.card_layout.specs.Persistent.{Persistent};
-ghost use Rattle.layout_section.specs.Adding.{Follows as Adds, IsKind};
+ghost use Rattle.layout_section.specs.Adding.{Adds, IsKind};
 ghost use Rattle.uicc_types.specs.Counts.{CountsFailure};
 
 use crate::faults::ScriptFault;
@@ -25,9 +25,11 @@ pub fn read_section<R: Source, B: Applet>(
     cast: &[Option<B>],
     card: &mut Option<Section>,
 ) -> Result<(), ScriptFault>
-    ensures card { (first : Option Persistent) (text : List ℕ) → InSection (minds_of B.mind cast.now) first text script.old (R.left source.old) card.old
+    ensures card { (first : Option Persistent) (text : List ℕ)
+        → InSection (minds_of B.mind cast.now) first text script.old (R.left source.old) card.old
         → GivesSection (minds_of B.mind cast.now) first text script.new (R.left source.new) card.new result }
-    ensures within { (text : List ℕ) → IsWithin text (reading script.old) (R.left source.old) → IsWithin text (reading script.new) (R.left source.new) }
+    ensures within { (text : List ℕ) → IsWithin text (reading script.old) (R.left source.old)
+        → IsWithin text (reading script.new) (R.left source.new) }
     ensures cause { CountsFailure (R.faults source.old) (R.faults source.new) (result ≡ Err ScriptFault.ReadFailed) }
 {
     let mut line = ScriptLine::Passed;
@@ -43,9 +45,11 @@ fn read_section_line<R: Source, B: Applet>(
     card: &mut Option<Section>,
     line: &mut ScriptLine,
 ) -> Result<bool, ScriptFault>
-    ensures line { (first : Option Persistent) (text : List ℕ) → InSection (minds_of B.mind cast.now) first text script.old (R.left source.old) card.old
+    ensures line { (first : Option Persistent) (text : List ℕ)
+        → InSection (minds_of B.mind cast.now) first text script.old (R.left source.old) card.old
         → GivesSectionLine (minds_of B.mind cast.now) first text script.new (R.left source.new) card.new result }
-    ensures within { (text : List ℕ) → IsWithin text (reading script.old) (R.left source.old) → IsWithin text (reading script.new) (R.left source.new) }
+    ensures within { (text : List ℕ) → IsWithin text (reading script.old) (R.left source.old)
+        → IsWithin text (reading script.new) (R.left source.new) }
     ensures cause { CountsFailure (R.faults source.old) (R.faults source.new) (result ≡ Err ScriptFault.ReadFailed) }
     ensures nearer { result ≡ Ok false → room_of script.new < room_of script.old }
 {

@@ -131,7 +131,8 @@ impl FrameStore {
     /// them, than `new` was given.
     #[tactic(auto, using(crate::proofs::Parts::count_parted, crate::proofs::Parts::bytes_parted, crate::proofs::Parts::parted_push))]
     pub fn push(&mut self, part: &[u8]) -> Result<(), Full>
-        ensures room { IsOk result ↔ ((length self.old.parts < self.old.most) × (bytes_in self.old.parts + length part.now ≤ self.old.room)) }
+        ensures room { IsOk result ↔ ((length self.old.parts < self.old.most) ×
+            (bytes_in self.old.parts + length part.now ≤ self.old.room)) }
         ensures ok { OnOk result (self.new ≡ with_parts (self.old.parts ++ part.now ∷ []) self.old) }
         ensures err { OnErr result (self.new ≡ self.old) }
     {

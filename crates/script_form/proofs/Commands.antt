@@ -1,7 +1,9 @@
 -- Lines with a command or a text, which is all that stands behind their first words.
-use Rattle.std.proofs.Common.{◌≡◌, ℕ, true, false, List, [], ◌∷◌, length, take, drop, Option, Some, None, Ok, refl, sym, ap, ◌∙◌, ◌+◌, ◌-◌, arith}
+use Rattle.std.proofs.Common.{◌≡◌, ℕ, true, false, List, [], ◌∷◌, length, take, drop, Option, Some, None, Ok, refl, sym, ap, ◌∙◌, ◌+◌, ◌-◌, ◌≤◌, ◌==◌, get_or, subst, codes, arith}
 use Rattle.std.specs.Prelude.{⊤, position}
 use Rattle.std.specs.List.{join_with_byte}
+use Rattle.std.proofs.lemmas.Bool.{false≢true}
+use Rattle.std.proofs.lemmas.List.{take_rest}
 use Rattle.std.proofs.lemmas.List.Elements.{All-weaker}
 use Rattle.std.proofs.lemmas.List.Splits.{join_with_byte-slice_split, slice_split_none, length-slice_split}
 use Rattle.hex.specs.Hex.{decode_of, is_hex_digit}
@@ -11,9 +13,11 @@ use Rattle.script_form.specs.declared.handset.HandsetLine.TheVariants.{UserType}
 use Rattle.script_form.specs.declared.keywords.Keyword.TheVariants as keyword
 use Rattle.script_form.specs.declared.lines.ScriptLine.{ScriptLine}
 use Rattle.script_form.specs.declared.lines.ScriptLine.TheVariants.{Apdu, Handset}
-use Rattle.script_form.specs.Forms.{IsCommandLine, IsTyping, form_of}
+use Rattle.byte_streams.specs.declared.limits.TheConstants.{LONGEST_LINE}
+use Rattle.script_form.specs.declared.keywords.Keyword.{Keyword}
+use Rattle.script_form.specs.Forms.{IsCommandLine, IsLine, IsTyping, form_of}
 use Rattle.script_form.specs.Reads.{IsOnly, ReadsInto}
-use Rattle.script_form.specs.Values.{IsHex, IsTyped}
+use Rattle.script_form.specs.Values.{IsHex, IsTyped, keyword_text}
 use Rattle.script_form.specs.Words.{words}
 use Rattle.script_form.proofs.Spaces.{is_space, words_at, words_alone}
 
@@ -107,3 +111,77 @@ typing_read rest text all left typed =
       so = record { text = text; behind = rw same left; typed = rw (← same) at typed.so; is = refl };
       only = λ other typing. typing.is ∙ ap (λ (t : List ℕ). Handset (UserType t)) (text_is rest all other left typing ∙ sym same);
     }
+
+-- ---- the word `apdu` and a space at the front of a line
+
+-- the words of such a line are `apdu` and those of what stands behind the space
+words_behind : (digits : List ℕ) → words (97 ∷ 112 ∷ 100 ∷ 117 ∷ 32 ∷ digits) ≡ codes "apdu" ∷ words digits
+unfolding words
+words_behind digits = refl
+
+line_of_command : (digits : List ℕ) (line : ScriptLine) → length (97 ∷ 112 ∷ 100 ∷ 117 ∷ 32 ∷ digits) ≤ LONGEST_LINE
+    → IsCommandLine digits line → IsLine (97 ∷ 112 ∷ 100 ∷ 117 ∷ 32 ∷ digits) line
+line_of_command digits line fits c = record {
+  fits = fits;
+  says = record {
+    word = codes "apdu";
+    others = words digits;
+    value = keyword.Apdu;
+    parted = words_behind digits;
+    first = refl;
+    rest = command_form digits (words digits) line refl c;
+  };
+}
+
+-- it is a word with an `a` in front
+begins_otherwise : (word : List ℕ) → codes "apdu" ≡ word → (get_or word 0 0 == 97) ≡ false → ⊥
+begins_otherwise word same other = false≢true (sym other ∙ ap (λ (w : List ℕ). get_or w 0 0 == 97) (sym same))
+
+-- so it is no other keyword's
+is_apdu : (named : Keyword) → codes "apdu" ≡ keyword_text named → named ≡ keyword.Apdu
+is_apdu keyword.Apdu same = refl
+is_apdu keyword.Df same = absurd (begins_otherwise (codes "df") same refl)
+is_apdu keyword.Ef same = absurd (begins_otherwise (codes "ef") same refl)
+is_apdu keyword.Fill same = absurd (begins_otherwise (codes "fill") same refl)
+is_apdu keyword.Rec same = absurd (begins_otherwise (codes "rec") same refl)
+is_apdu keyword.Pin same = absurd (begins_otherwise (codes "pin") same refl)
+is_apdu keyword.Row same = absurd (begins_otherwise (codes "row") same refl)
+is_apdu keyword.Start same = absurd (begins_otherwise (codes "start") same refl)
+is_apdu keyword.Tpdu same = absurd (begins_otherwise (codes "tpdu") same refl)
+is_apdu keyword.Reset same = absurd (begins_otherwise (codes "reset") same refl)
+is_apdu keyword.Cut same = absurd (begins_otherwise (codes "cut") same refl)
+is_apdu keyword.Fail same = absurd (begins_otherwise (codes "fail") same refl)
+is_apdu keyword.ReadFail same = absurd (begins_otherwise (codes "readfail") same refl)
+is_apdu keyword.User same = absurd (begins_otherwise (codes "user") same refl)
+is_apdu keyword.Net same = absurd (begins_otherwise (codes "net") same refl)
+is_apdu keyword.Time same = absurd (begins_otherwise (codes "time") same refl)
+is_apdu keyword.Cmd same = absurd (begins_otherwise (codes "cmd") same refl)
+
+command_of_line : (digits : List ℕ) (line : ScriptLine) → IsLine (97 ∷ 112 ∷ 100 ∷ 117 ∷ 32 ∷ digits) line → IsCommandLine digits line
+command_of_line digits line l =
+    let both : codes "apdu" ∷ words digits ≡ l.says.word ∷ l.says.others = sym (words_behind digits) ∙ l.says.parted in
+    let word : codes "apdu" ≡ l.says.word = cc in
+    let others : words digits ≡ l.says.others = cc in
+    let named : l.says.value ≡ keyword.Apdu = is_apdu l.says.value (word ∙ l.says.first) in
+    form_command digits l.says.others line (sym others) (let P : Keyword → Type 0 = λ k. form_of k l.says.others line in subst P named l.says.rest)
+
+-- a line by its first five bytes
+pub begins : (line : List ℕ) → 5 ≤ length line → get_or line 0 0 ≡ 97 → get_or line 1 0 ≡ 112 → get_or line 2 0 ≡ 100 → get_or line 3 0 ≡ 117 → get_or line 4 0 ≡ 32
+    → line ≡ 97 ∷ 112 ∷ 100 ∷ 117 ∷ 32 ∷ take (length line - 5) (drop 5 line)
+begins (first ∷ second ∷ third ∷ fourth ∷ fifth ∷ rest) long one two three four five =
+    let whole = take_rest (first ∷ second ∷ third ∷ fourth ∷ fifth ∷ rest) 5 in
+    rw (whole, one, two, three, four, five) refl
+begins (first ∷ second ∷ third ∷ fourth ∷ []) long one two three four five = absurd (omega (arith, long))
+begins (first ∷ second ∷ third ∷ []) long one two three four five = absurd (omega (arith, long))
+begins (first ∷ second ∷ []) long one two three four five = absurd (omega (arith, long))
+begins (first ∷ []) long one two three four five = absurd (omega (arith, long))
+begins [] long one two three four five = absurd (omega (arith, long))
+
+-- a command behind the word is the line's
+pub reads_line : (line digits : List ℕ) → line ≡ 97 ∷ 112 ∷ 100 ∷ 117 ∷ 32 ∷ digits → length line ≤ LONGEST_LINE → (r : Option ⊤) (value : ScriptLine)
+    → ReadsInto (IsCommandLine digits) r value → ReadsInto (IsLine line) r value
+reads_line line digits is fits (Some done) value o = record {
+  so = rw is (line_of_command digits value (rw is at fits) o.so);
+  only = λ other l. o.only other (command_of_line digits other (rw is at l));
+}
+reads_line line digits is fits None value none = λ other l. none other (command_of_line digits other (rw is at l))

@@ -4,7 +4,7 @@ use Rattle.std.specs.Prelude.{IsErr}
 use Rattle.std.specs.List.{range_with_len}
 use Rattle.std.proofs.lemmas.List.{append-nil, drop_all}
 use Rattle.std.proofs.lemmas.List.FromFn.{get_or-map-range_with_len}
-use Rattle.hex.specs.Hex.{decode_of, decode_pairs, decode_sized, digit_or_error, hex_digit_value, pair_value, value_at, ◌>>=◌}
+use Rattle.hex.specs.Hex.{decode_of, decode_pairs, decode_sized, digit_or_error, hex_digit_value, pair_value, ◌>>=◌}
 use Rattle.hex.specs.declared.error.FromHexError.{FromHexError}
 use Rattle.hex.proofs.HexLemmas.{decode_of-even, decode_of-ok, decode_of-same, decode_sized-twice}
 use Rattle.hex.proofs.Pairs.{cons_byte, decode_pairs-err_pair, decode_pairs-ok_pair, drop-pair, prepend, prepend-cons_byte}
@@ -26,7 +26,7 @@ not_sized word count e err bytes sized =
 -- ---- the table
 
 abbrev pub value_or_none : ℕ → ℕ
-value_or_none digit = unwrap_or (hex_digit_value digit) 255
+value_or_none digit = unwrap_or (hex_digit_value digit) 256
 
 table_is : VALUES ≡ map value_or_none (range_with_len 0 256)
 table_is = refl
@@ -39,37 +39,45 @@ value_read digit within =
 value_small : (digit value : ℕ) → hex_digit_value digit ≡ Some value → value < 16
 value_small digit value read = grind (arith)
 
-is_read : (o : Option ℕ) (value : ℕ) → value ≡ unwrap_or o 255 → value < 16 → o ≡ Some value
-is_read (Some other) value same small = ap Some (sym same)
-is_read None value same small = absurd (omega (arith, same))
-
-is_none : (o : Option ℕ) (value : ℕ) → ((other : ℕ) → o ≡ Some other → other < 16) → value ≡ unwrap_or o 255 → 16 ≤ value → o ≡ None
-is_none (Some other) value below same big = absurd (omega (arith, same, below other refl))
-is_none None value below same big = refl
-
--- a digit, by what the table has
-pub digit_read : (digit value : ℕ) → value ≡ unwrap_or (hex_digit_value digit) 255 → value < 16 → hex_digit_value digit ≡ Some value
-digit_read digit value same small = is_read (hex_digit_value digit) value same small
-
-pub digit_refused : (digit value : ℕ) → value ≡ unwrap_or (hex_digit_value digit) 255 → 16 ≤ value → hex_digit_value digit ≡ None
-digit_refused digit value same big = is_none (hex_digit_value digit) value (value_small digit) same big
+pub none_large : (digit : ℕ) → value_or_none digit ≤ 256
+none_large digit = parted (hex_digit_value digit) refl
+  where
+    parted : (o : Option ℕ) → hex_digit_value digit ≡ o → value_or_none digit ≤ 256
+    parted (Some value) is = let small = value_small digit value is in rw is (omega (arith, small))
+    parted None is = rw is (omega arith)
 
 -- ---- pairs of digits
 
-pub pair_read : (upper lower place high low : ℕ) → hex_digit_value upper ≡ Some high → hex_digit_value lower ≡ Some low
+-- what a pair of digits comes to, by what each of them stands for
+pair_is : (upper lower place : ℕ) (first second : Option ℕ) → hex_digit_value upper ≡ first → hex_digit_value lower ≡ second
+    → pair_value upper lower place ≡ (digit_or_error upper place first >>= (λ (high : ℕ). digit_or_error lower (place + 1) second >>= (λ (low : ℕ). Ok (high * 16 + low))))
+pair_is upper lower place first second one other = rw (one, other) refl
+
+-- no byte, where the values are too large together
+pub pair_refused : (upper lower place high low : ℕ) → high ≡ value_or_none upper → low ≡ value_or_none lower → 255 < high * 16 + low
+    → IsErr (pair_value upper lower place)
+pair_refused upper lower place high low first second big = parted (hex_digit_value upper) (hex_digit_value lower) refl refl
+  where
+    parted : (one other : Option ℕ) → hex_digit_value upper ≡ one → hex_digit_value lower ≡ other → IsErr (pair_value upper lower place)
+    parted (Some h) (Some l) one other =
+        let high_is : high ≡ h = rw one at first in
+        let low_is : low ≡ l = rw other at second in
+        absurd (omega (arith, big, high_is, low_is, value_small upper h one, value_small lower l other))
+    parted (Some h) None one other = rw (pair_is upper lower place (Some h) None one other) refl
+    parted None second one other = rw (pair_is upper lower place None second one other) refl
+
+-- else the byte that they write
+pub pair_read : (upper lower place high low : ℕ) → high ≡ value_or_none upper → low ≡ value_or_none lower → high * 16 + low ≤ 255
     → pair_value upper lower place ≡ Ok (high * 16 + low)
-pair_read upper lower place high low first second = rw (first, second) refl
-
-pub upper_refused : (upper lower place : ℕ) → hex_digit_value upper ≡ None → IsErr (pair_value upper lower place)
-upper_refused upper lower place first = rw first refl
-
-lower_then : (upper lower place : ℕ) (o : Option ℕ) → hex_digit_value lower ≡ None
-    → IsErr (digit_or_error upper place o >>= (λ (high : ℕ). value_at lower (place + 1) >>= (λ (low : ℕ). Ok (high * 16 + low))))
-lower_then upper lower place (Some high) second = rw second refl
-lower_then upper lower place None second = refl
-
-pub lower_refused : (upper lower place : ℕ) → hex_digit_value lower ≡ None → IsErr (pair_value upper lower place)
-lower_refused upper lower place second = lower_then upper lower place (hex_digit_value upper) second
+pair_read upper lower place high low first second small = parted (hex_digit_value upper) (hex_digit_value lower) refl refl
+  where
+    parted : (one other : Option ℕ) → hex_digit_value upper ≡ one → hex_digit_value lower ≡ other → pair_value upper lower place ≡ Ok (high * 16 + low)
+    parted (Some h) (Some l) one other =
+        let high_is : high ≡ h = rw one at first in
+        let low_is : low ≡ l = rw other at second in
+        rw (high_is, low_is) (pair_is upper lower place (Some h) (Some l) one other)
+    parted (Some h) None one other = let low_is : low ≡ 256 = rw other at second in absurd (omega (arith, small, low_is))
+    parted None other one _ = let high_is : high ≡ 256 = rw one at first in absurd (omega (arith, small, high_is))
 
 -- ---- a word, pair by pair
 

@@ -36,7 +36,8 @@ fn path_in(bytes: &[u8]) -> Option<Path>
 fn identifier_at(bytes: &[u8]) -> Option<(FileId, &[u8])>
     ensures shorter { IfSome result (λ found. length found.1.now + 2 ≡ length bytes.now) }
     ensures found { IfSome result (λ found. IsFree found.0 × (bytes.now ≡ identifier_bytes found.0 ++ found.1.now)) }
-    ensures only { (identifier : AnIdentifier) (rest : List ℕ) → IsFree identifier → bytes.now ≡ identifier_bytes identifier ++ rest
+    ensures only { (identifier : AnIdentifier) (rest : List ℕ) → IsFree identifier
+        → bytes.now ≡ identifier_bytes identifier ++ rest
         → IsSomeAnd result (λ found. (found.0 ≡ identifier) × (found.1.now ≡ rest)) }
 {
     let [high, low, rest @ ..] = bytes else {

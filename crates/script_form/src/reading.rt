@@ -50,6 +50,7 @@ pub fn read_line_into(bytes: &[u8], number: u32, line: &mut ScriptLine) -> Resul
     }
 }
 
+/// Most lines are commands, so theirs are told from the others at once.
 fn read_into(bytes: &[u8], line: &mut ScriptLine) -> Option<()>
     ensures { ReadsInto (IsLine bytes.now) result line.new }
 {
@@ -57,6 +58,7 @@ fn read_into(bytes: &[u8], line: &mut ScriptLine) -> Option<()>
         return None;
     }
     match bytes {
+        [b'a', b'p', b'd', b'u', b' ', digits @ ..] => command(digits, line),
         [] | [b'#', ..] => {
             *line = ScriptLine::Passed;
             Some(())
@@ -304,7 +306,9 @@ fn apdu(words: &Words<'_>, line: &mut ScriptLine) -> Option<()>
     }
 }
 
-/// Reads a command where the last one was, if the line was one too.
+/// Reads a command where the last one was, if the line was one too. It is most lines' way, and keeps its loop in registers in a
+/// function of its own.
+#[inline(never)]
 #[tactic(auto, using(crate::proofs::Commands::reads_command))]
 fn command(digits: &[u8], line: &mut ScriptLine) -> Option<()>
     ensures { ReadsInto (IsCommandLine digits.now) result line.new }
@@ -318,6 +322,7 @@ fn command(digits: &[u8], line: &mut ScriptLine) -> Option<()>
     }
 }
 
+#[inline(never)]
 #[tactic(auto, using(crate::proofs::Commands::reads_command))]
 fn first_command(digits: &[u8], line: &mut ScriptLine) -> Option<()>
     ensures { ReadsInto (IsCommandLine digits.now) result line.new }

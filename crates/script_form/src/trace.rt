@@ -111,7 +111,8 @@ fn long_command<W: Sink>(sink: &mut W, apdu: &[u8]) -> Result<(), Failed>
 
 /// Writes the line of an answer as `write_trace` does.
 pub fn write_answer<W: Sink>(sink: &mut W, answer: &Answer) -> Result<(), Failed>
-    ensures ok { OnOk result (W.taken sink.new ≡ append_known (W.taken sink.old) (trace_text (line.Answer answer.now))) }
+    ensures ok { OnOk result (W.taken sink.new ≡ append_known (W.taken sink.old)
+        (trace_text (line.Answer answer.now))) }
     ensures err { OnErr result
         (Becomes (TakesFront (trace_text (line.Answer answer.now))) (W.taken sink.old) (W.taken sink.new)) }
     ensures cause { CountsFailure (W.faults sink.old) (W.faults sink.new) (IsErr result) }

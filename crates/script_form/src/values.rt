@@ -110,52 +110,50 @@ pub fn read_bytes<const N: usize>(word: &[u8], bytes: &mut ByteList<N>) -> Optio
         return None;
     }
     for place in 0..count {
-        match pair_of(word[2 * place], word[2 * place + 1]) {
-            Some(byte) => match bytes.push(byte) {
-                Ok(()) => {}
-                Err(Full) => unreachable!(),
-            },
-            None => return None,
+        let value = pair_of(word[2 * place], word[2 * place + 1]);
+        if value > 255 {
+            return None;
+        }
+        match bytes.push(value as u8) {
+            Ok(()) => {}
+            Err(Full) => unreachable!(),
         }
     }
     Some(())
 }
 
-/// The byte that two digits write, the upper one first.
-fn pair_of(upper: u8, lower: u8) -> Option<u8>
-    ensures { (place : ℕ) → MatchOption result (IsErr (pair_value upper lower place)) (λ byte. pair_value upper lower place ≡ Ok byte) }
+/// The byte that two digits write, the upper one first; 256 or more where one of them is none.
+fn pair_of(upper: u8, lower: u8) -> u32
+    ensures byte { (place : ℕ) → result ≤ 255 → pair_value upper lower place ≡ Ok result }
+    ensures none { (place : ℕ) → 255 < result → IsErr (pair_value upper lower place) }
 {
-    let high = digit_of(upper);
-    let low = digit_of(lower);
-    if high > 15 || low > 15 {
-        return None;
-    }
-    Some(high * 16 + low)
+    digit_of(upper) * 16 + digit_of(lower)
 }
 
-/// The value of a hexadecimal digit of either case; 255 where it is none.
-fn digit_of(digit: u8) -> u8
-    ensures { result ≡ unwrap_or (hex_digit_value digit) 255 }
+/// The value of a hexadecimal digit of either case; 256 where it is none.
+fn digit_of(digit: u8) -> u32
+    ensures value { result ≡ unwrap_or (hex_digit_value digit) 256 }
+    ensures small { result ≤ 256 }
 {
     VALUES[usize::from(digit)]
 }
 
 /// What `digit_of` answers for each byte: most bytes of a script are hexadecimal digits, and a table needs no branch.
-static VALUES: [u8; 256] = [
-    255, 255, 255, 255, 255, 255, 255, 255, 255, 255, 255, 255, 255, 255, 255, 255, 255, 255, 255,
-    255, 255, 255, 255, 255, 255, 255, 255, 255, 255, 255, 255, 255, 255, 255, 255, 255, 255, 255,
-    255, 255, 255, 255, 255, 255, 255, 255, 255, 255, 0, 1, 2, 3, 4, 5, 6, 7, 8, 9, 255, 255, 255,
-    255, 255, 255, 255, 10, 11, 12, 13, 14, 15, 255, 255, 255, 255, 255, 255, 255, 255, 255, 255,
-    255, 255, 255, 255, 255, 255, 255, 255, 255, 255, 255, 255, 255, 255, 255, 255, 10, 11, 12, 13,
-    14, 15, 255, 255, 255, 255, 255, 255, 255, 255, 255, 255, 255, 255, 255, 255, 255, 255, 255,
-    255, 255, 255, 255, 255, 255, 255, 255, 255, 255, 255, 255, 255, 255, 255, 255, 255, 255, 255,
-    255, 255, 255, 255, 255, 255, 255, 255, 255, 255, 255, 255, 255, 255, 255, 255, 255, 255, 255,
-    255, 255, 255, 255, 255, 255, 255, 255, 255, 255, 255, 255, 255, 255, 255, 255, 255, 255, 255,
-    255, 255, 255, 255, 255, 255, 255, 255, 255, 255, 255, 255, 255, 255, 255, 255, 255, 255, 255,
-    255, 255, 255, 255, 255, 255, 255, 255, 255, 255, 255, 255, 255, 255, 255, 255, 255, 255, 255,
-    255, 255, 255, 255, 255, 255, 255, 255, 255, 255, 255, 255, 255, 255, 255, 255, 255, 255, 255,
-    255, 255, 255, 255, 255, 255, 255, 255, 255, 255, 255, 255, 255, 255, 255, 255, 255, 255, 255,
-    255, 255, 255,
+static VALUES: [u32; 256] = [
+    256, 256, 256, 256, 256, 256, 256, 256, 256, 256, 256, 256, 256, 256, 256, 256, 256, 256, 256,
+    256, 256, 256, 256, 256, 256, 256, 256, 256, 256, 256, 256, 256, 256, 256, 256, 256, 256, 256,
+    256, 256, 256, 256, 256, 256, 256, 256, 256, 256, 0, 1, 2, 3, 4, 5, 6, 7, 8, 9, 256, 256, 256,
+    256, 256, 256, 256, 10, 11, 12, 13, 14, 15, 256, 256, 256, 256, 256, 256, 256, 256, 256, 256,
+    256, 256, 256, 256, 256, 256, 256, 256, 256, 256, 256, 256, 256, 256, 256, 256, 10, 11, 12, 13,
+    14, 15, 256, 256, 256, 256, 256, 256, 256, 256, 256, 256, 256, 256, 256, 256, 256, 256, 256,
+    256, 256, 256, 256, 256, 256, 256, 256, 256, 256, 256, 256, 256, 256, 256, 256, 256, 256, 256,
+    256, 256, 256, 256, 256, 256, 256, 256, 256, 256, 256, 256, 256, 256, 256, 256, 256, 256, 256,
+    256, 256, 256, 256, 256, 256, 256, 256, 256, 256, 256, 256, 256, 256, 256, 256, 256, 256, 256,
+    256, 256, 256, 256, 256, 256, 256, 256, 256, 256, 256, 256, 256, 256, 256, 256, 256, 256, 256,
+    256, 256, 256, 256, 256, 256, 256, 256, 256, 256, 256, 256, 256, 256, 256, 256, 256, 256, 256,
+    256, 256, 256, 256, 256, 256, 256, 256, 256, 256, 256, 256, 256, 256, 256, 256, 256, 256, 256,
+    256, 256, 256, 256, 256, 256, 256, 256, 256, 256, 256, 256, 256, 256, 256, 256, 256, 256, 256,
+    256, 256, 256,
 ];
 
 /// Exactly `N` bytes.

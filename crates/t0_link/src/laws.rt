@@ -9,5 +9,6 @@ ghost use Rattle.t0_link.specs.Passing.{GivesAnswer, passed_apdu};
 /// data of the card's answer to that, cut to Le, for each answer of at most 256 bytes whose SW1 isn't 61.
 #[tactic(auto, using(crate::proofs::Passed::carried_gives))]
 pub fn commands_have_the_answer_of_the_card()
-    ensures { (kept : Option Answer) (command : Apdu) → IsTrue (is_carried command) → GivesAnswer (passed_apdu command) command.expected (command_answer kept command) }
+    ensures { (kept : Option Answer) (command : Apdu) → IsTrue (is_carried command)
+        → GivesAnswer (passed_apdu command) command.expected (command_answer kept command) }
 {}

@@ -56,8 +56,10 @@ impl Link {
         tpdu: &[u8],
         out: &mut Answer,
     ) -> Result<(), LinkFault>
-        ensures moves { Exchanges E.Endpoint card.old card.new (link_answer self.old tpdu.now) result (record { answer = out.new; kept = self.new }) }
-        ensures off { (result ≡ Err LinkFault.NoPower) ↔ (IsPassed (link_answer self.old tpdu.now) × (E.is_on card.old ≡ false)) }
+        ensures moves { Exchanges E.Endpoint card.old card.new (link_answer self.old tpdu.now) result
+            (record { answer = out.new; kept = self.new }) }
+        ensures off { (result ≡ Err LinkFault.NoPower) ↔ (IsPassed (link_answer self.old tpdu.now) ×
+            (E.is_on card.old ≡ false)) }
         ensures count { CountsFailure (E.losses card.old) (E.losses card.new) (IsErrOf result LinkFault.PowerLost) }
         ensures empty { OnErr result (out.new.body ≡ []) }
         ensures none_kept { OnErr result (self.new ≡ None) }
@@ -86,7 +88,8 @@ impl Link {
         apdu: &[u8],
         out: &mut Answer,
     ) -> Result<(), LinkFault>
-        ensures moves { Exchanges E.Endpoint card.old card.new (Passes apdu.now kept_back) result (record { answer = out.new; kept = self.new }) }
+        ensures moves { Exchanges E.Endpoint card.old card.new (Passes apdu.now kept_back) result
+            (record { answer = out.new; kept = self.new }) }
         ensures off { (result ≡ Err LinkFault.NoPower) ↔ (E.is_on card.old ≡ false) }
         ensures count { CountsFailure (E.losses card.old) (E.losses card.new) (IsErrOf result LinkFault.PowerLost) }
         ensures empty { OnErr result (out.new.body ≡ []) }
@@ -118,7 +121,8 @@ impl Link {
     ) -> Result<(), LinkFault>
         requires { IsTrue (carried apdu.now) }
         ensures moves { IfSome (command_in apdu.now) (λ command.
-            Exchanges E.Endpoint card.old card.new (command_answer self.old command) result (record { answer = out.new; kept = self.new })) }
+            Exchanges E.Endpoint card.old card.new (command_answer self.old command) result
+            (record { answer = out.new; kept = self.new })) }
         ensures off { (result ≡ Err LinkFault.NoPower) ↔ (E.is_on card.old ≡ false) }
         ensures count { CountsFailure (E.losses card.old) (E.losses card.new) (IsErrOf result LinkFault.PowerLost) }
         ensures empty { OnErr result (out.new.body ≡ []) }
@@ -139,7 +143,8 @@ impl Link {
     ) -> Result<(), LinkFault>
         requires carried { IsTrue (is_carried command.now) }
         requires short { length command.now.body ≤ 255 }
-        ensures moves { Exchanges E.Endpoint card.old card.new (command_answer self.old command.now) result (record { answer = out.new; kept = self.new }) }
+        ensures moves { Exchanges E.Endpoint card.old card.new (command_answer self.old command.now) result
+            (record { answer = out.new; kept = self.new }) }
         ensures off { (result ≡ Err LinkFault.NoPower) ↔ (E.is_on card.old ≡ false) }
         ensures count { CountsFailure (E.losses card.old) (E.losses card.new) (IsErrOf result LinkFault.PowerLost) }
         ensures empty { OnErr result (out.new.body ≡ []) }

@@ -14,22 +14,22 @@ returns-then-count-eq0 g c = λ bytes hex.
       | then-count-eq0-via-else-count-eq0+else-count+then-word-eq1 w ↦ absurd (omega (arith, twice, w.if-word-eq1.true))
     ]
 
-pub returns-in-None : goal.returns-in-None
-returns-in-None g c =
+pub returns-then-value-gt255 : goal.returns-then-value-gt255
+returns-then-value-gt255 g c =
     let place = c.loop-place.place in
     let inside = c.loop-place-test.true in
     none_reads c.args.word.now c.loop-place.bytes place g.row.N (omega (arith, c.if-word-eq1.false)) (omega (arith, inside))
-    (c.in-None.ensures (2 * place)) c.loop-place.invariant.read
+    (c.pair_of-value.ensures.none (2 * place) c.if-value-gt255.true) c.loop-place.invariant.read
 
 pub loop-place-preserved : goal.loop-place-preserved
 loop-place-preserved g c =
     let place = c.loop-place.place in
     let inside = c.loop-place-test.true in
     let added = c.in-Ok.ensures.ok in
-    let read = one_read c.args.word.now c.loop-place.bytes place c.in-Some.byte (omega (arith, inside)) (c.in-Some.ensures (2 * place)) c.loop-place.invariant.read in
+    let read = one_read c.args.word.now c.loop-place.bytes place c.pair_of-value.result (omega (arith, inside)) (c.pair_of-value.ensures.byte (2 * place) c.if-value-gt255.false) c.loop-place.invariant.read in
     record {
       read = subst (λ (front : List ℕ). IsRead c.args.word.now front (place + 1)) (sym added) read;
-      size = ap length added ∙ omega (arith, c.loop-place.invariant.size, length-append c.loop-place.bytes (c.in-Some.byte ∷ []));
+      size = ap length added ∙ omega (arith, c.loop-place.invariant.size, length-append c.loop-place.bytes (c.pair_of-value.result ∷ []));
     }
 
 pub returns : goal.returns
