@@ -89,7 +89,7 @@ class Parts(unittest.TestCase):
         ("tools/lint --telephone made.script", "knows no --telephone"),
         ("tools/lynt made.script", "there is no program tools/lynt"),
         ("tools/profile build card.toml -o card.script", ""),
-        ("bench/apdus.sh", ""),
+        ("bench/measure", ""),
         ("cd crates/run_cases", ""), ("cd crates/none", "there is no folder"),
         ("PYTHONPATH=tools python3 made.py", ""), ("python3 none.py", "there is no none.py"),
         ("tools/lint 'x", "no line of a shell"),
