@@ -10,7 +10,7 @@ use Rattle.bip_channels.specs.Traffic.{Occurrence, channels_after}
 use Rattle.bip_runs.specs.Parts.{Part, Blank, Begins, Does, Foreign, occurrences, occurrences_of, part_of}
 use Rattle.bip_runs.specs.Places.{moved, step}
 use Rattle.bip_runs.proofs.ScriptLaws.{moved_by-more}
-use Rattle.bip_runs.specs.Serving.{AreInOrder, AreReadInPlace, ComesTo, EndsServing, IsBadAt, IsServing, Stops, StopsServing, end_for}
+use Rattle.bip_runs.specs.Serving.{AreInOrder, AreReadInPlace, BipComesTo, EndsServing, IsBadAt, IsServing, Stops, StopsServing, end_for}
 use Rattle.bip_runs.specs.Traces.{history, lines_of, shown, text_of}
 use Rattle.bip_runs.specs.declared.effects.Place.{Place}
 use Rattle.bip_runs.specs.declared.effects.Place.TheVariants.{Before, Behind}
@@ -173,7 +173,7 @@ ends_serving text before place script left left_then taken held end order cause 
   in_order = order (history serving.said);
 }
 
-to_end : (text : List ℕ) (before left taken : Option (List ℕ)) (end : PlayEnd) → EndsServing text before left taken end → ComesTo text before left taken end
+to_end : (text : List ℕ) (before left taken : Option (List ℕ)) (end : PlayEnd) → EndsServing text before left taken end → BipComesTo text before left taken end
 to_end text before left taken Finished ends = ends
 to_end text before left taken (BadLine number) ends = ends
 to_end text before left taken ReadFailed ends = ends
@@ -183,7 +183,7 @@ to_end text before left taken ResetFailed ends = absurd ends.cause
 -- no more lines are read
 pub no_more_serve : (text : List ℕ) (before : Option (List ℕ)) (place : Place) (script next : ScriptReader) (left left_then taken : Option (List ℕ)) (held : List Held) (end : PlayEnd) → ((h : List Occurrence) → AreInOrder h)
     → ((found : LineList) → Follows text found script left → Stops place text found left_then end)
-    → IsServing text before place script left taken held → ComesTo text before left_then taken end
+    → IsServing text before place script left taken held → BipComesTo text before left_then taken end
 no_more_serve text before place script next left left_then taken held end order cause serving =
     to_end text before left_then taken end (ends_serving text before place script left left_then taken held end order cause serving)
 

@@ -2,7 +2,7 @@
 use Rattle.std.proofs.Common.{◌≡◌, ℕ, ◌+◌, List, [], ◌∷◌, ◌++◌, length, Option, Some, None, refl, sym, ap, ◌∙◌, subst}
 use Rattle.std.specs.Prelude.{option_and_then}
 use Rattle.bip_runs.specs.Places.{moved, moved_by}
-use Rattle.bip_runs.specs.Scripts.{IsFirstBad, IsGoodScript}
+use Rattle.bip_runs.specs.Scripts.{IsFirstBadBip, IsGoodBip}
 use Rattle.bip_runs.specs.Serving.{EndsServing, IsBadAt, IsUnstarted}
 use Rattle.bip_runs.specs.declared.effects.Place.{Place}
 use Rattle.bip_runs.specs.declared.effects.Place.TheVariants.{Before, Behind}
@@ -127,25 +127,25 @@ one_stop R S agree says_r says_s (Some bytes ∷ found) (Some same ∷ other) ne
 -- ---- what a run comes to by its script
 
 -- a good script stops at no line
-pub good_stops_not : (text : List ℕ) (before left taken : Option (List ℕ)) (number : ℕ) → IsGoodScript text → EndsServing text before left taken (BadLine number) → ⊥
+pub good_stops_not : (text : List ℕ) (before left taken : Option (List ℕ)) (number : ℕ) → IsGoodBip text → EndsServing text before left taken (BadLine number) → ⊥
 good_stops_not text before left taken number good ends =
     no_stop Only IsLine only_first says_itself ends.found ends.cause.next ends.said good.said Before ends.place ends.lines_are.read ends.lines_are.in_place ends.cause.is
     (subst (λ l. Each IsLine l good.said) ends.cause.parted good.good.say) good.good.in_place
 
 -- one with a bad line is not carried out to its end
-pub bad_ends_not : (text : List ℕ) (before left taken : Option (List ℕ)) (found : LineList) → IsFirstBad text found → EndsServing text before left taken Finished → ⊥
+pub bad_ends_not : (text : List ℕ) (before left taken : Option (List ℕ)) (found : LineList) → IsFirstBadBip text found → EndsServing text before left taken Finished → ⊥
 bad_ends_not text before left taken found bad ends =
     no_stop IsLine Only only_last only_says found bad.next bad.said ends.said Before bad.place bad.good.say bad.good.in_place bad.is
     (subst (λ l. Each Only l ends.said) (sym ends.cause.1.lines_are ∙ bad.parted) ends.lines_are.read) (ends.lines_are.in_place ∙ ap Some ends.cause.0)
 
 -- it stops at that line
-pub bad_stops_there : (text : List ℕ) (before left taken : Option (List ℕ)) (found : LineList) (number : ℕ) → IsFirstBad text found → EndsServing text before left taken (BadLine number) → number ≡ length found + 1
+pub bad_stops_there : (text : List ℕ) (before left taken : Option (List ℕ)) (found : LineList) (number : ℕ) → IsFirstBadBip text found → EndsServing text before left taken (BadLine number) → number ≡ length found + 1
 bad_stops_there text before left taken found number bad ends =
     ends.cause.counted ∙ ap (λ l. length l + 1) (one_stop Only IsLine only_first only_says says_itself ends.found found ends.cause.next bad.next ends.said bad.said Before ends.place bad.place
     ends.lines_are.read ends.lines_are.in_place ends.cause.is bad.good.say bad.good.in_place bad.is (sym ends.cause.parted ∙ bad.parted))
 
 -- a run that came to the end of its script had a good one
-pub end_was_good : (text : List ℕ) (before left taken : Option (List ℕ)) → EndsServing text before left taken Finished → IsGoodScript text
+pub end_was_good : (text : List ℕ) (before left taken : Option (List ℕ)) → EndsServing text before left taken Finished → IsGoodBip text
 end_was_good text before left taken ends = record {
   said = ends.said;
   good = record {
@@ -155,7 +155,7 @@ end_was_good text before left taken ends = record {
 }
 
 -- and one that stopped at a line stopped at the first bad one
-pub stop_was_bad : (text : List ℕ) (before left taken : Option (List ℕ)) (number : ℕ) → (ends : EndsServing text before left taken (BadLine number)) → IsFirstBad text ends.found
+pub stop_was_bad : (text : List ℕ) (before left taken : Option (List ℕ)) (number : ℕ) → (ends : EndsServing text before left taken (BadLine number)) → IsFirstBadBip text ends.found
 stop_was_bad text before left taken number ends = record {
   said = ends.said;
   place = ends.place;

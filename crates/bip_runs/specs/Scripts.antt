@@ -14,12 +14,12 @@ pub record AreInPlace (found : LineList) (said : List ScriptLine) (place : Place
   pub in_place : moved_by Before said ≡ Some place
 
 -- each line of the text is in a form and in its place, and `start` is one of them
-pub record IsGoodScript (text : List ℕ) : Type 0 where
+pub record IsGoodBip (text : List ℕ) : Type 0 where
   pub said : List ScriptLine
   pub good : AreInPlace (lines text) said Behind
 
 -- The line behind these is the first of the text that is in no form or out of its place, or the text ends there and has no `start`.
-pub record IsFirstBad (text : List ℕ) (found : LineList) : Type 0 where
+pub record IsFirstBadBip (text : List ℕ) (found : LineList) : Type 0 where
   pub said : List ScriptLine
   pub place : Place
   pub next : LineList

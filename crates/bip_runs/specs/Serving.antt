@@ -10,7 +10,7 @@ use Rattle.bip_runs.specs.Traces.{history, lines_of, shown, text_of, trace_of}
 use Rattle.bip_runs.specs.declared.effects.Place.{Place}
 use Rattle.bip_runs.specs.declared.effects.Place.TheVariants.{Before, Behind}
 use Rattle.byte_streams.specs.Lines.{LineList, lines}
-use Rattle.byte_streams.specs.Reading.{IsCutShort, IsReadOut}
+use Rattle.byte_streams.specs.Reading.{IsTextCutShort, IsReadOut}
 use Rattle.byte_streams.specs.Streams.{TakesFront}
 use Rattle.card_sections.specs.Reading.{Finds, Follows, GoesOn}
 use Rattle.card_sections.specs.Script.{AreRead}
@@ -53,7 +53,7 @@ IsBadAt place (Some bytes ∷ more) = (line : ScriptLine) → IsLine bytes line 
 abbrev pub Stops : Place → List ℕ → LineList → Option (List ℕ) → PlayEnd → Type 0
 Stops place text found left Finished = (place ≡ Behind) × IsReadOut text found left
 Stops place text found left (BadLine number) = GoesOn text found left (IsBadAt place) number
-Stops place text found left ReadFailed = IsCutShort text found left
+Stops place text found left ReadFailed = IsTextCutShort text found left
 Stops place text found left SinkFailed = ⊥
 Stops place text found left ResetFailed = ⊥
 
@@ -102,14 +102,14 @@ pub record StopsServing (text : List ℕ) (before taken : Option (List ℕ)) : T
   pub written : Becomes (TakesFront (text_of (lines_of newest (channels_after earlier)))) (append_known before (shown earlier)) taken
   pub in_order : AreInOrder (history said)
 
-abbrev pub ComesTo : List ℕ → Option (List ℕ) → Option (List ℕ) → Option (List ℕ) → PlayEnd → Type 0
-ComesTo text before left taken Finished = EndsServing text before left taken Finished
-ComesTo text before left taken (BadLine number) = EndsServing text before left taken (BadLine number)
-ComesTo text before left taken ReadFailed = EndsServing text before left taken ReadFailed
-ComesTo text before left taken SinkFailed = StopsServing text before taken
-ComesTo text before left taken ResetFailed = ⊥
+abbrev pub BipComesTo : List ℕ → Option (List ℕ) → Option (List ℕ) → Option (List ℕ) → PlayEnd → Type 0
+BipComesTo text before left taken Finished = EndsServing text before left taken Finished
+BipComesTo text before left taken (BadLine number) = EndsServing text before left taken (BadLine number)
+BipComesTo text before left taken ReadFailed = EndsServing text before left taken ReadFailed
+BipComesTo text before left taken SinkFailed = StopsServing text before taken
+BipComesTo text before left taken ResetFailed = ⊥
 
 -- what a line comes to: it was carried out, or the run ends
 abbrev pub GivesServed : List ℕ → Option (List ℕ) → Place → ScriptReader → Option (List ℕ) → Option (List ℕ) → List Held → Result (Unit {0}) PlayEnd → Type 0
 GivesServed text before place script left taken held (Ok done) = IsServing text before place script left taken held
-GivesServed text before place script left taken held (Err end) = ComesTo text before left taken end
+GivesServed text before place script left taken held (Err end) = BipComesTo text before left taken end

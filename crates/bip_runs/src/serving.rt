@@ -2,7 +2,7 @@
 ghost use Rattle.std.specs.Prelude.{◌≡◌, ◌≢◌, ◌<◌, ◌+◌, List, ℕ, Ok, Err, Option, OnOk, OnErr, Some, IfOk, is_some};
 ghost use Rattle.bip_channels.specs.Channels.{none_open};
 ghost use Rattle.bip_channels.specs.Kept.{IsKept};
-ghost use Rattle.bip_runs.specs.Serving.{ComesTo, GivesLine, GivesServed, IsServing, end_for as end_of_fault};
+ghost use Rattle.bip_runs.specs.Serving.{BipComesTo, GivesLine, GivesServed, IsServing, end_for as end_of_fault};
 ghost use Rattle.byte_streams.specs.Lines.{LineList};
 ghost use Rattle.byte_streams.specs.Reading.{IsTaken, IsWithin};
 ghost use Rattle.byte_streams.specs.declared.limits.TheConstants.{MOST_BYTES};
@@ -26,7 +26,7 @@ pub fn serve<R: Source, W: Sink>(
     trace: &mut W,
 ) -> Result<PlayEnd, OutOfMemory>
     ensures comes { (text : List ℕ) → R.left source.old ≡ Some text
-        → IfOk result (ComesTo text (W.taken trace.old) (R.left source.new) (W.taken trace.new)) }
+        → IfOk result (BipComesTo text (W.taken trace.old) (R.left source.new) (W.taken trace.new)) }
     ensures memory_only { OnErr result ((source.new ≡ source.old) × (trace.new ≡ trace.old)) }
     // No more than 16,777,217 bytes of the script are taken.
     ensures taken { (text : List ℕ) → R.left source.old ≡ Some text
@@ -49,7 +49,7 @@ pub fn serve<R: Source, W: Sink>(
 fn serve_script<R: Source, W: Sink>(bip: &mut Bip, source: &mut R, trace: &mut W) -> PlayEnd
     requires new { IsKept none_open bip.old }
     ensures comes { (text : List ℕ) → R.left source.old ≡ Some text
-        → ComesTo text (W.taken trace.old) (R.left source.new) (W.taken trace.new) result }
+        → BipComesTo text (W.taken trace.old) (R.left source.new) (W.taken trace.new) result }
     ensures taken { (text : List ℕ) → R.left source.old ≡ Some text
         → IsTaken (MOST_BYTES + 1) text (R.left source.new) }
     ensures source_cause { CountsFailure (R.faults source.old) (R.faults source.new) (result ≡ PlayEnd.ReadFailed) }
@@ -70,7 +70,7 @@ fn serve_lines<R: Source, W: Sink>(
 ) -> PlayEnd
     ensures comes { (text : List ℕ) (before : Option (List ℕ))
         → IsServing text before Place.Before script.old (R.left source.old) (W.taken trace.old) bip.old
-        → ComesTo text before (R.left source.new) (W.taken trace.new) result }
+        → BipComesTo text before (R.left source.new) (W.taken trace.new) result }
     ensures within { (text : List ℕ) → IsWithin text (reading script.old) (R.left source.old)
         → IsWithin text (reading script.new) (R.left source.new) }
     ensures source_cause { CountsFailure (R.faults source.old) (R.faults source.new) (result ≡ PlayEnd.ReadFailed) }

@@ -10,7 +10,7 @@ use Rattle.byte_streams.specs.declared.next_line.NextLine.TheVariants.{Line, End
 use Rattle.byte_streams.specs.Lines.{LineList, admitted, last_line, lines, lines_of, lines_within, parts}
 use Rattle.byte_streams.specs.declared.limits.TheConstants.{LONGEST_LINE}
 use Rattle.byte_streams.specs.declared.window.TheConstants.{SIZE}
-use Rattle.byte_streams.specs.Reading.{BeginsBad, HasRead, IsCutShort, OnLine, OnTooLong, Reading, lines_left, pending}
+use Rattle.byte_streams.specs.Reading.{BeginsBad, HasRead, IsTextCutShort, OnLine, OnTooLong, Reading, lines_left, pending}
 use Rattle.byte_streams.specs.ReaderSteps.{Continues, PassesLast, PassesLine}
 use Rattle.byte_streams.specs.Search.{IsFirstEnd, NoEndBelow}
 use Rattle.byte_streams.proofs.BadLemmas.{IsBad, known_none}
@@ -189,7 +189,7 @@ outcome old mid new left left_then result step found =
 -- no line is known in what is held, and the source failed
 pub cut_short : (old new : Reading) (left left_then : Option (List ℕ)) → Continues old left new left_then
     → NoEndBelow new.held (length new.held) → length new.held < min SIZE (new.room + 1) → new.ended ≡ false
-    → (text : List ℕ) (given : LineList) → HasRead text given old left → IsCutShort text given left_then
+    → (text : List ℕ) (given : LineList) → HasRead text given old left → IsTextCutShort text given left_then
 cut_short old new left left_then step none fewer goes_on text given read =
     let then = HasRead_same text given old new left left_then step read in
     record {

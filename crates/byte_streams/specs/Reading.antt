@@ -80,7 +80,7 @@ pub record HasRead (text : List ℕ) (given : LineList) (reading : Reading) (lef
 
 -- Of this text some was taken and the source has the rest. These lines are all that are known of what was taken, and
 -- they are the first of the text.
-pub record IsCutShort (text : List ℕ) (given : LineList) (left : Option (List ℕ)) : Type 0 where
+pub record IsTextCutShort (text : List ℕ) (given : LineList) (left : Option (List ℕ)) : Type 0 where
   pub taken : List ℕ
   pub rest : List ℕ
   pub told : left ≡ Some rest

@@ -39,7 +39,7 @@ impl LineReader {
     ghost use Rattle.std.specs.Prelude.{◌≡◌, ◌≢◌, ◌≤◌, ◌<◌, ◌+◌, ◌-◌, ◌⊎◌, ◌++◌, ◌∷◌, ◌&&◌, [], List, ℕ, Some, None, true, false, IsErr, IfOk, IfSome, OnErr, option_map, length, take, drop, min, nat_le, if◌then◌else◌};
     ghost use Rattle.uicc_types.specs.Counts.{CountsFailure};
     ghost use Rattle.byte_streams.specs.Lines.{LineList, lines};
-    ghost use Rattle.byte_streams.specs.Reading.{BeginsBad, HasRead, IsCutShort, IsReadOut, IsTakenFor, IsWithin, OnEnd, OnFailed, OnLine, OnTooLong, Stays, at_start, lines_left};
+    ghost use Rattle.byte_streams.specs.Reading.{BeginsBad, HasRead, IsTextCutShort, IsReadOut, IsTakenFor, IsWithin, OnEnd, OnFailed, OnLine, OnTooLong, Stays, at_start, lines_left};
     ghost use Rattle.byte_streams.specs.ReaderSteps.{Continues};
     ghost use Rattle.byte_streams.specs.Search.{Finds, NoEndBelow};
 
@@ -91,7 +91,7 @@ impl LineReader {
             → (more : LineList) × (lines text ≡ given ++ None ∷ more)) }
         ensures cut_short { OnFailed result ((text : List ℕ) (given : LineList)
             → HasRead text given self.old (R.left source.old)
-            → IsCutShort text given (R.left source.new)) }
+            → IsTextCutShort text given (R.left source.new)) }
 
         // At most one byte more is taken than lines may take up, and none once the next line is known.
         ensures within { (text : List ℕ) → IsWithin text self.old (R.left source.old)

@@ -22,7 +22,7 @@ use Rattle.card_model.specs.Toolkit.{ToolkitOutcome, states_passed, with_rows}
 use Rattle.card_model.specs.declared.instructions.Instruction.{Instruction}
 use Rattle.card_model.specs.declared.instructions.Instruction.TheVariants.{DeleteApplet}
 use Rattle.session_laws.specs.Moving.{HaveFixed, command_by, rows_after}
-use Rattle.session_commands.specs.Carrying.{IsCutShort, state_at}
+use Rattle.session_commands.specs.Carrying.{IsToolkitCutShort, state_at}
 use Rattle.session_commands.specs.Deleting.{HasNoRow, LeavesUnregistered}
 use Rattle.card_core.specs.Cards.{held_by, card_with, card_due, boxes_kept}
 use Rattle.card_core.specs.Parts.{CardParts}
@@ -193,7 +193,7 @@ module _ (entries : RowsAreEntries) (instruction : Instruction) (apdu : Apdu) (o
     (leaves : LeavesBy instruction apdu new.leaving) (long : length new.boxes ≡ length old.boxes) where
   pub short_left : (card : CardState) (outcome : ToolkitOutcome) → IsTold old.table card.persistent → card.boxes ≡ old.boxes → held_by old ≡ Some card.persistent
       → All (HaveFixed (rows_after (command_by instruction card apdu) card.persistent.rows)) (passed_rows outcome.passed.log) → (instruction ≡ DeleteApplet → is_none (row_on card.persistent.rows apdu.p2) ≡ false)
-      → IsCutShort outcome (scene_of old) (scene_of new) → IsSomeAnd (card_due new) (IsLeft card (card.persistent ∷ states_passed card.persistent outcome))
+      → IsToolkitCutShort outcome (scene_of old) (scene_of new) → IsSomeAnd (card_due new) (IsLeft card (card.persistent ∷ states_passed card.persistent outcome))
   short_left card outcome told boxes held fixed had short =
       ⊎_elim {C = IsSomeAnd (card_due new) (IsLeft card (card.persistent ∷ states_passed card.persistent outcome))}
       (λ before.

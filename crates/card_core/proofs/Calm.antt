@@ -22,7 +22,7 @@ use Rattle.card_model.specs.Toolkit.{ToolkitOutcome, states_passed, with_rows}
 use Rattle.card_model.specs.declared.instructions.Instruction.{Instruction}
 use Rattle.card_model.specs.declared.instructions.Instruction.TheVariants.{Select, Status, ReadBinary, UpdateBinary, ReadRecord, UpdateRecord, SearchRecord, Increase, DeactivateFile, ActivateFile, VerifyPin, ChangePin, DisablePin, EnablePin, UnblockPin, ManageChannel, TerminalProfile, Fetch, TerminalResponse, Envelope, InstallApplet, DeleteApplet, CreateFile, DeleteFile, ResizeFile}
 use Rattle.proactive_handler.specs.Steps.{Scene}
-use Rattle.session_commands.specs.Carrying.{HasToolkit, IsCutShort, Carries, Comes}
+use Rattle.session_commands.specs.Carrying.{HasToolkit, IsToolkitCutShort, Carries, Comes}
 use Rattle.card_core.specs.AnyStore.{MayBe, MayStand, AnswersAs, NeedsNoContents, ReachesApplets}
 use Rattle.card_core.specs.Cards.{card_with}
 use Rattle.card_core.specs.Commands.{is_on_pins, toolkit_outcome}
@@ -37,7 +37,7 @@ use Rattle.card_core.proofs.Telling.{card_told, card_stood}
 -- ---- a command of the toolkit
 
 -- none of its commits was there to be stopped
-none_stopped : (outcome : ToolkitOutcome) (persistent : Persistent) (old new : Scene) → IsCutShort outcome old new → states_passed persistent outcome ≡ [] → ⊥
+none_stopped : (outcome : ToolkitOutcome) (persistent : Persistent) (old new : Scene) → IsToolkitCutShort outcome old new → states_passed persistent outcome ≡ [] → ⊥
 none_stopped outcome persistent old new short none =
     let long : length (states_passed persistent outcome) ≡ length (passed_rows outcome.passed.log) = length-map (passed_rows outcome.passed.log) (with_rows persistent outcome.next_sequence) in
     let empty : length (states_passed persistent outcome) ≡ 0 = ap length none in

@@ -17,7 +17,7 @@ use Rattle.card_memory.specs.Model.{HasRowOn}
 use Rattle.card_model.specs.Answers.{Answered, settled, carried_out, toolkit_tried, seen_by}
 use Rattle.card_model.specs.Instructions.{is_of_toolkit}
 use Rattle.card_model.specs.States.{CardState, row_on}
-use Rattle.card_model.specs.Toolkit.{ToolkitOutcome, kind_on}
+use Rattle.card_model.specs.Toolkit.{ToolkitOutcome, kind_in}
 use Rattle.card_model.specs.declared.instructions.Instruction.{Instruction}
 use Rattle.card_model.specs.declared.instructions.Instruction.TheVariants as Instructions
 use Rattle.file_model.specs.Chains.{and_given}
@@ -102,7 +102,7 @@ none_after Instructions.Fetch card apdu k is apart none = still card.persistent.
 none_after Instructions.TerminalResponse card apdu k is apart none = still card.persistent.rows k none _ (responding card.persistent.rows apdu.body (unanswered card.session))
 none_after Instructions.Envelope card apdu k is apart none = still card.persistent.rows k none _ (reported card.persistent.rows (envelope_of apdu.body))
 none_after Instructions.InstallApplet card apdu k is apart none =
-    by_install card.persistent.rows k none (installed_row card.persistent (kind_on card apdu.p2) apdu.p2 apdu.p1 apdu.body) apdu.p2 (installed_there card.persistent (kind_on card apdu.p2) apdu.p2 apdu.p1 apdu.body) (apart refl)
+    by_install card.persistent.rows k none (installed_row card.persistent (kind_in card apdu.p2) apdu.p2 apdu.p1 apdu.body) apdu.p2 (installed_there card.persistent (kind_in card apdu.p2) apdu.p2 apdu.p1 apdu.body) (apart refl)
 none_after Instructions.DeleteApplet card apdu k is apart none = by_delete card.persistent.rows k none apdu.p2
 none_after Instructions.Select card apdu k is apart none = absurd (false≢true is)
 none_after Instructions.Status card apdu k is apart none = absurd (false≢true is)

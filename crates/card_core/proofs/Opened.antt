@@ -17,7 +17,7 @@ use Rattle.card_memory.specs.Laws.{TablesTellStates}
 use Rattle.card_opening.specs.Boxes.{minds_of}
 use Rattle.card_opening.specs.Starts.{HoldsCard}
 use Rattle.card_core.specs.Parts.{CardParts}
-use Rattle.card_core.specs.Cards.{memory_of, held_by, card_of, IsReady}
+use Rattle.card_core.specs.Cards.{memory_of, held_by, card_of, IsCardReady}
 use Rattle.file_making.specs.Lawful.{AreSelected}
 use Rattle.toolkit_model.specs.Model.{fresh_session}
 use Rattle.trigger_index.specs.Indexes.{StandsFor}
@@ -59,7 +59,7 @@ holds_migrated mark now told told' holds same is = ap is_some is ∙ is_some-map
 
 pub opened_ready : TablesTellStates → TheMfIsThere → TablesHaveRows → (new : CardParts) (boxes : List (Option AppletState)) → IsMounted (memory_of new) → new.is_due ≡ false
     → new.channels ≡ basic_channel_alone → new.verified ≡ nothing_verified → new.session ≡ fresh_session → new.leaving ≡ None → StandsFor new.index (rows_of new.table) → new.boxes ≡ woken_boxes (rows_of new.table) boxes → length boxes ≡ 32 → All (HasBox boxes) (rows_of new.table) → AreOfSevenKinds boxes
-    → HoldsCard new.store_mark new.told → IfSome (held_by new) IsSoundCard → new.meter.powered ≡ true → IsReady new
+    → HoldsCard new.store_mark new.told → IfSome (held_by new) IsSoundCard → new.meter.powered ≡ true → IsCardReady new
 opened_ready tell mf law new boxes mounted rests channels verified session stays indexed woke long have kinds holds sound powered = record {
   set = record {
     size = mounted.size_is;

@@ -27,7 +27,7 @@ use Rattle.session_laws.specs.Moving.{HaveFixed, HasOrder}
 use Rattle.session_commands.specs.Cards.{AnswersSo, answers_so, holds_so, counts_so, at_most_so}
 use Rattle.card_memory.specs.Performing.{CommitsAtMost}
 use Rattle.proactive_handler.specs.Steps.{Scene}
-use Rattle.session_commands.specs.Carrying.{HasToolkit, HasCome, IsCutShort, IsAnswered, Carries, Comes}
+use Rattle.session_commands.specs.Carrying.{HasToolkit, HasCome, IsToolkitCutShort, IsAnswered, Carries, Comes}
 use Rattle.session_commands.specs.Deleting.{LeavesUnregistered}
 use Rattle.card_core.specs.AnyStore.{MayBe}
 use Rattle.card_core.specs.Cards.{held_by, card_with, card_of, card_due, IsSet, IsRunning, memory_of}
@@ -100,7 +100,7 @@ module _ (old new : CardParts) (channels : new.channels ≡ old.channels) (verif
 
 pub polled_stopped : RowsAreEntries → TablesTellStates → TellingLeavesRows → (old new : CardParts) → kinds_of new.boxes ≡ kinds_of old.boxes → LeavesUnregistered old.table new.table old.boxes new.boxes → new.leaving ≡ None
     → length new.boxes ≡ length old.boxes → Agrees old.store_mark old.told old.table → old.is_due ≡ false → ((state : Persistent) → IsTold old.table state → HasOrder (card_with false old state))
-    → ((card : CardState) → HasToolkit (scene_of old) card → IsCutShort (polling card) (scene_of old) (scene_of new))
+    → ((card : CardState) → HasToolkit (scene_of old) card → IsToolkitCutShort (polling card) (scene_of old) (scene_of new))
     → IfSome (card_of old) (λ card. IsSomeAnd (card_due new) (IsLeft card (card.persistent ∷ (polled_on card).commits)))
 polled_stopped entries tell telling old new kinds others stays long agrees rests ready short =
     if_card old (λ card. IsSomeAnd (card_due new) (IsLeft card (card.persistent ∷ (polled_on card).commits))) rests
@@ -123,7 +123,7 @@ module _ (tell : TablesTellStates) (old new : CardParts) (agrees : Agrees old.st
       counts_so card (said (polling card)) (scene_of old) (scene_of new) (Ok (polling card)) (polling card)
       (record { body = refl; status_is = refl; comes = comes card (has_toolkit_of old persistent told) })
 
-  stopped_at : StoreFault → ((card : CardState) → HasToolkit (scene_of old) card → IsCutShort (polling card) (scene_of old) (scene_of new))
+  stopped_at : StoreFault → ((card : CardState) → HasToolkit (scene_of old) card → IsToolkitCutShort (polling card) (scene_of old) (scene_of new))
       → (persistent : Persistent) → IsTold old.table persistent → CommitsAtMost (length (polled_on (card_with false old persistent)).commits) old.commits new.commits
   unfolding said and_given
   stopped_at fault short persistent told =

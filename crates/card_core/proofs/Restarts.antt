@@ -26,7 +26,7 @@ use Rattle.toolkit_laws.specs.Orderly.{IsInOrder}
 use Rattle.toolkit_model.specs.Orderly.{IsOrderly}
 use Rattle.toolkit_model.specs.Running.{mind_on}
 use Rattle.trigger_index.specs.Indexes.{StandsFor}
-use Rattle.card_core.specs.Cards.{memory_of, held_by, boxes_kept, card_with, card_of, card_due, RunsToolkit, IsSet, IsRunning, IsReady}
+use Rattle.card_core.specs.Cards.{memory_of, held_by, boxes_kept, card_with, card_of, card_due, RunsToolkit, IsSet, IsRunning, IsCardReady}
 use Rattle.card_core.specs.Laws.{TablesHaveRows}
 use Rattle.card_model.specs.Woken.{fresh_is_orderly}
 use Rattle.card_core.proofs.Boxes.{at, box_kept, kept_at, kept_there}
@@ -216,7 +216,7 @@ toolkit_begun law new boxes agrees indexed session woke have =
       };
     }
 
-pub ready_with : (parts : CardParts) (on : Bool) → IsSet parts → (on ≡ true → parts.meter.powered ≡ true) → (parts.is_due ≡ false → IsRunning parts) → IfSome (card_of parts) IsGood → IsReady (record parts { is_on = on })
+pub ready_with : (parts : CardParts) (on : Bool) → IsSet parts → (on ≡ true → parts.meter.powered ≡ true) → (parts.is_due ≡ false → IsRunning parts) → IfSome (card_of parts) IsGood → IsCardReady (record parts { is_on = on })
 ready_with parts on set power running good = record {
   set = record { size = set.size; shelves = set.shelves; card = set.card; kept = set.kept; boxes = set.boxes };
   power = power;
@@ -244,7 +244,7 @@ set_restarted old new set size mark told agrees kept long woke have = record {
 
 -- ---- after a fault
 
-pub failed_ready : (mid : CardParts) (on : Bool) → IsSet mid → (on ≡ true → mid.meter.powered ≡ true) → IfSome (card_due mid) IsGood → IsReady (record mid { is_due = true; is_on = on })
+pub failed_ready : (mid : CardParts) (on : Bool) → IsSet mid → (on ≡ true → mid.meter.powered ≡ true) → IfSome (card_due mid) IsGood → IsCardReady (record mid { is_due = true; is_on = on })
 failed_ready mid on set power good = record {
   set = record { size = set.size; shelves = set.shelves; card = set.card; kept = set.kept; boxes = set.boxes };
   power = power;
@@ -289,7 +289,7 @@ powered_when false old plan = refl
 metered_mounted : (parts : CardParts) (meter : Meter) → IsMounted (memory_of parts) → IsMounted (memory_of (record parts { meter = meter }))
 metered_mounted parts meter mounted = record { ready = mounted.ready; size_is = mounted.size_is; agrees = mounted.agrees }
 
-pub armed_ready : (parts : CardParts) (meter : Meter) (plan : Plan) → meter ≡ armed parts.meter plan → IsReady parts → IsReady (record parts { meter = meter })
+pub armed_ready : (parts : CardParts) (meter : Meter) (plan : Plan) → meter ≡ armed parts.meter plan → IsCardReady parts → IsCardReady (record parts { meter = meter })
 armed_ready parts meter plan is ready = record {
   set = record { size = ready.set.size; shelves = ready.set.shelves; card = ready.set.card; kept = ready.set.kept; boxes = ready.set.boxes };
   power = λ on. ap (λ (now : Meter). now.powered) is ∙ powered_when (names_fault plan) parts.meter plan ∙ ready.power on;

@@ -29,7 +29,7 @@ use Rattle.card_model.specs.declared.instructions.Instruction.{Instruction}
 use Rattle.session_laws.specs.Moving.{HasOrder}
 use Rattle.proactive_handler.specs.Steps.{Scene}
 use Rattle.session_commands.specs.Deleting.{HasNoRow}
-use Rattle.session_commands.specs.Carrying.{Carries, HasCome, IsCutShort}
+use Rattle.session_commands.specs.Carrying.{Carries, HasCome, IsToolkitCutShort}
 use Rattle.card_core.specs.Cards.{held_by, card_with, card_of, card_due, IsSet, IsRunning}
 use Rattle.card_core.specs.Commands.{KindsKept}
 use Rattle.card_core.specs.Laws.{TablesHaveRows}
@@ -104,7 +104,7 @@ module _ (instruction : Instruction) (apdu : Apdu) (old new : CardParts) (kinds 
       come_boxed : HasCome outcome (scene_of old) (scene_of new) → All (HasBox old.boxes) (rows_of new.table)
       come_boxed comes = subst (All (HasBox old.boxes)) (comes.tells state told).rows (last_all (Boxed old) state (states_passed state outcome) boxed leaves)
 
-      short_boxed : IsCutShort outcome (scene_of old) (scene_of new) → All (HasBox old.boxes) (rows_of new.table)
+      short_boxed : IsToolkitCutShort outcome (scene_of old) (scene_of new) → All (HasBox old.boxes) (rows_of new.table)
       short_boxed short =
           let each : All (All (HasBox old.boxes)) (passed_rows outcome.passed.log) = all_unmapped (Boxed old) (with_rows state outcome.next_sequence) (passed_rows outcome.passed.log) leaves in
           let all : All (All (HasBox old.boxes)) (rows_of old.table ∷ passed_rows outcome.passed.log) =

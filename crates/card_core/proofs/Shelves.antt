@@ -23,7 +23,7 @@ use Rattle.applet_registry.specs.Rows.{allowed}
 use Rattle.toolkit_model.specs.Registry.{given, faulty_if, without_row, installed_row, deleted_row}
 use Rattle.card_model.specs.States.{CardState, row_on}
 use Rattle.card_model.specs.Chained.{Any, past}
-use Rattle.card_model.specs.Toolkit.{ToolkitOutcome, applet_deleted, row_or_status, kind_on}
+use Rattle.card_model.specs.Toolkit.{ToolkitOutcome, applet_deleted, row_or_status, kind_in}
 use Rattle.card_model.specs.declared.instructions.Instruction.{Instruction}
 use Rattle.card_model.specs.declared.instructions.Instruction.TheVariants as Instructions
 use Rattle.session_laws.specs.Moving.{fixed, HaveFixed, if_row, command_by, rows_after}
@@ -165,7 +165,7 @@ lost card Instructions.Fetch apdu shelf none some = kept card.persistent.rows _ 
 lost card Instructions.TerminalResponse apdu shelf none some = kept card.persistent.rows _ _ shelf (responding card.persistent.rows apdu.body (unanswered card.session)) none some
 lost card Instructions.Envelope apdu shelf none some = kept card.persistent.rows _ _ shelf (reported card.persistent.rows (envelope_of apdu.body)) none some
 lost card Instructions.InstallApplet apdu shelf none some =
-    absurd (true≢false (sym none ∙ installing card.persistent.rows (installed_row card.persistent (kind_on card apdu.p2) apdu.p2 apdu.p1 apdu.body) shelf some))
+    absurd (true≢false (sym none ∙ installing card.persistent.rows (installed_row card.persistent (kind_in card apdu.p2) apdu.p2 apdu.p1 apdu.body) shelf some))
 lost card Instructions.DeleteApplet apdu shelf none some =
     ⊎_elim {C = Loses Instructions.DeleteApplet apdu shelf} (λ same. (refl, same)) (λ apart. absurd (true≢false (sym none ∙ deleted_stays card.persistent.rows apdu.p2 shelf apart some))) (cases_eq shelf apdu.p2)
 lost card Instructions.CreateFile apdu shelf none some = kept card.persistent.rows _ _ shelf refl none some

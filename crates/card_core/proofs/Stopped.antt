@@ -20,7 +20,7 @@ use Rattle.card_model.specs.States.{CardState}
 use Rattle.card_model.specs.Toolkit.{ToolkitOutcome, states_passed, with_rows}
 use Rattle.card_model.specs.declared.instructions.Instruction.{Instruction}
 use Rattle.proactive_handler.specs.Steps.{Scene}
-use Rattle.session_commands.specs.Carrying.{HasToolkit, IsCutShort, Carries}
+use Rattle.session_commands.specs.Carrying.{HasToolkit, IsToolkitCutShort, Carries}
 use Rattle.card_core.specs.Cards.{card_with}
 use Rattle.card_core.specs.Commands.{toolkit_outcome}
 use Rattle.card_core.specs.Moves.{polled_on}
@@ -35,7 +35,7 @@ rows_back : (persistent : Persistent) (next : ℕ) (log : List (List Registratio
 rows_back persistent next [] = refl
 rows_back persistent next (rows ∷ log) = ap (λ (rest : List (List Registration)). rows ∷ rest) (rows_back persistent next log)
 
-stopped_rows : (outcome : ToolkitOutcome) (persistent : Persistent) (old after : Scene) → rows_of old.memory.table ≡ persistent.rows → IsCutShort outcome old after → AreOf (persistent ∷ states_passed persistent outcome) after
+stopped_rows : (outcome : ToolkitOutcome) (persistent : Persistent) (old after : Scene) → rows_of old.memory.table ≡ persistent.rows → IsToolkitCutShort outcome old after → AreOf (persistent ∷ states_passed persistent outcome) after
 stopped_rows outcome persistent old after same short =
     let log : List (List Registration) = passed_rows outcome.passed.log in
     let low : short.count < length (rows_of old.memory.table ∷ log) = omega (arith, short.one_more) in
@@ -63,7 +63,7 @@ toolkit_rows X instruction is apdu old after seen seen_is out fault carries stat
 
 -- ---- STATUS
 
-pub polled_rows : (old : CardParts) (after : Scene) → ((card : CardState) → HasToolkit (scene_of old) card → IsCutShort (polling card) (scene_of old) after)
+pub polled_rows : (old : CardParts) (after : Scene) → ((card : CardState) → HasToolkit (scene_of old) card → IsToolkitCutShort (polling card) (scene_of old) after)
     → (state : Persistent) → IsTold old.table state → AreOf (state ∷ (polled_on (card_with false old state)).commits) after
 polled_rows old after short state told =
     let card : CardState = card_with false old state in

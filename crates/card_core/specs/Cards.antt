@@ -114,7 +114,7 @@ pub record IsRunning (parts : CardParts) : Type 0 where
   pub stays : parts.leaving ≡ None
 
 -- What holds of every card after its opening: where it is on its device has power, and the card that it stands for is a good one.
-pub record IsReady (parts : CardParts) : Type 0 where
+pub record IsCardReady (parts : CardParts) : Type 0 where
   pub set : IsSet parts
   pub power : parts.is_on ≡ true → parts.meter.powered ≡ true
   pub running : parts.is_due ≡ false → IsRunning parts

@@ -84,7 +84,7 @@ pub record TellsPower {X : Type 0} (result : Result X CardFault) (old new : Card
   pub on : OnOk result (new.is_on ≡ true)
 
 -- The store stays the one that it was, and each fault was counted, and no other.
-pub record KeepsStore {X : Type 0} (result : Result X CardFault) (old new : CardParts) (out : Answer) : Type 0 where
+pub record KeepsCardStore {X : Type 0} (result : Result X CardFault) (old new : CardParts) (out : Answer) : Type 0 where
   -- whether it tells its bytes
   pub told : is_some new.told ≡ is_some old.told
   pub mark : new.store_mark ≡ old.store_mark

@@ -7,7 +7,7 @@ use Rattle.card_layout.specs.Migration.{migrated}
 use Rattle.card_layout.specs.Persistent.{Persistent}
 use Rattle.card_model.specs.States.{CardState, woken}
 use Rattle.card_opening.specs.Starts.{Opens}
-use Rattle.card_core.specs.Cards.{card_of, memory_of, IsReady}
+use Rattle.card_core.specs.Cards.{card_of, memory_of, IsCardReady}
 use Rattle.card_core.specs.Parts.{CardParts}
 
 -- the shelves behind the last box are empty
@@ -23,7 +23,7 @@ pub record IsOpened (old : Memory) (boxes : List (Option AppletState)) (card : C
   -- it is the woken card over what the store held, migrated where it may be
   pub opened : card_of card ≡ opened (held old) boxes
   -- each registered applet has its box, and the card can take a command
-  pub ready : IsReady card
+  pub ready : IsCardReady card
   pub on : card.is_on ≡ true
   pub rests : card.is_due ≡ false
   -- what was read is a card, and how often was committed

@@ -39,7 +39,7 @@ pub struct CardOver<S: Store, B> {
 pub type Card<S> = CardOver<S, Box<dyn Applet>>;
 
 impl<S: Store, B: Applet> CardOver<S, B> {
-    ghost use Rattle.card_core.specs.Cards.{parts_of, card_of, IsReady};
+    ghost use Rattle.card_core.specs.Cards.{parts_of, card_of, IsCardReady};
     ghost use Rattle.card_opening.specs.Boxes.{minds_of};
 
     /// The store and the boxes, as they are: place s of the list has the box of shelf s.
@@ -57,8 +57,8 @@ impl<S: Store, B: Applet> CardOver<S, B> {
 
     /// Sets the plan of faults of the store's device, and nothing else.
     pub fn arm(&mut self, plan: Plan)
-        requires ready { IsReady (parts_of S.Store B.Applet self.old) }
-        ensures ready { IsReady (parts_of S.Store B.Applet self.new) }
+        requires ready { IsCardReady (parts_of S.Store B.Applet self.old) }
+        ensures ready { IsCardReady (parts_of S.Store B.Applet self.new) }
         ensures same { card_of (parts_of S.Store B.Applet self.new) ≡ card_of (parts_of S.Store B.Applet self.old) }
         ensures plan { (parts_of S.Store B.Applet self.new).meter
             ≡ armed (parts_of S.Store B.Applet self.old).meter plan }

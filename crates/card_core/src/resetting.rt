@@ -4,7 +4,7 @@ ghost use Rattle.card_layout.specs.declared.sizes.TheConstants.{ROW_COUNT};
 ghost use Rattle.card_layout.specs.States.{rows_of};
 ghost use Rattle.card_model.specs.States.{HasBox, restarted, woken_boxes};
 ghost use Rattle.card_opening.specs.Boxes.{minds_of};
-ghost use Rattle.card_opening.specs.Starts.{MayRestart, Restarts};
+ghost use Rattle.card_opening.specs.Starts.{MayRestart, RestartsMemory};
 ghost use Rattle.card_core.specs.Cards.{boxes_kept};
 ghost use Rattle.card_layout.specs.Memory.{Reads, memory};
 
@@ -37,7 +37,7 @@ fn wake_again<S: Store, B: Applet>(
 ) -> Result<(), StoreFault>
     requires shelves { length boxes.old ≡ ROW_COUNT }
     requires kept { MayRestart (memory S.Store store.old loaded.old) (minds_of B.mind boxes.old) }
-    ensures restarts { OnOk result (Restarts (memory S.Store store.old loaded.old) (memory S.Store store.new loaded.new)
+    ensures restarts { OnOk result (RestartsMemory (memory S.Store store.old loaded.old) (memory S.Store store.new loaded.new)
         (minds_of B.mind boxes.old)) }
     ensures woke { OnOk result (minds_of B.mind boxes.new ≡ woken_boxes (rows_of loaded.new)
         (boxes_kept leaving (rows_of loaded.new) (minds_of B.mind boxes.old))) }
@@ -55,7 +55,7 @@ fn wake_again<S: Store, B: Applet>(
 }
 
 impl<S: Store, B: Applet> CardOver<S, B> {
-    ghost use Rattle.card_core.specs.Cards.{parts_of, card_of, card_due, held_by, IsSet, IsReady};
+    ghost use Rattle.card_core.specs.Cards.{parts_of, card_of, card_due, held_by, IsSet, IsCardReady};
     ghost use Rattle.card_core.specs.AnyStore.{BeginsAnew};
     ghost use Rattle.card_core.specs.Resetting.{KeepsBytes, Rests, Resets, ResetsStore};
 
@@ -102,10 +102,10 @@ impl<S: Store, B: Applet> CardOver<S, B> {
     /// anew. After `Failed` what is left of that comes first in the next command, if there was power before; after `PowerLost`
     /// there is no power.
     pub fn reset(&mut self) -> Result<(), ResetFault>
-        requires ready { IsReady (parts_of S.Store B.Applet self.old) }
+        requires ready { IsCardReady (parts_of S.Store B.Applet self.old) }
         ensures restarted { card_of (parts_of S.Store B.Applet self.new)
             ≡ option_map restarted (card_of (parts_of S.Store B.Applet self.old)) }
-        ensures ready { IsReady (parts_of S.Store B.Applet self.new) }
+        ensures ready { IsCardReady (parts_of S.Store B.Applet self.new) }
         ensures resets { Resets result (parts_of S.Store B.Applet self.old) (parts_of S.Store B.Applet self.new) }
         ensures store { ResetsStore result (parts_of S.Store B.Applet self.old) (parts_of S.Store B.Applet self.new) }
     {

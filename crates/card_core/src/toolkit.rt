@@ -7,7 +7,7 @@ ghost use Rattle.proactive_handler.specs.Boxes.{minds_of};
 ghost use Rattle.proactive_handler.specs.Steps.{scene};
 ghost use Rattle.card_model.specs.Instructions.{is_of_toolkit};
 ghost use Rattle.card_model.specs.States.{row_on};
-ghost use Rattle.session_commands.specs.Bounds.{IsBetweenCommands, EndsWell};
+ghost use Rattle.session_commands.specs.Bounds.{IsBetweenCommands, EndsToolkitWell};
 ghost use Rattle.session_commands.specs.Carrying.{CarriesOut};
 ghost use Rattle.card_core.specs.Cards.{boxes_kept};
 ghost use Rattle.card_core.specs.Commands.{toolkit_outcome, leaving_by};
@@ -51,7 +51,7 @@ pub(crate) fn by_toolkit<S: Store, B: Applet>(
     ensures keeps { KeepsToolkit instruction command.now
         (scene (memory S.Store store.old loaded.old) index.old session.old (minds_of B.mind cast.old))
         (scene (memory S.Store store.new loaded.new) index.new session.new (minds_of B.mind cast.new)) result }
-    ensures ends { EndsWell out.new
+    ensures ends { EndsToolkitWell out.new
         (scene (memory S.Store store.new loaded.new) index.new session.new (minds_of B.mind cast.new)) result }
 {
     // This call is a law, and does nothing.

@@ -16,15 +16,15 @@ fn are_bytes(slice: &[u8])
 }
 
 impl<S: Store, B: Applet> CardOver<S, B> {
-    ghost use Rattle.card_core.specs.Cards.{parts_of, card_of, IsReady, IsLeftGood};
+    ghost use Rattle.card_core.specs.Cards.{parts_of, card_of, IsCardReady, IsLeftGood};
     ghost use Rattle.card_core.specs.AnyStore.{BeginsAnew, command_named, ActsAnew};
     ghost use Rattle.card_core.specs.Acting.{in_whole, ActsAs, ActsAtOnce, ActsAfterRestart, LeavesCard};
-    ghost use Rattle.card_core.specs.Moves.{IsAnswered, Transmits, CountsCommits, TellsFaults, TellsPower, KeepsStore};
+    ghost use Rattle.card_core.specs.Moves.{IsAnswered, Transmits, CountsCommits, TellsFaults, TellsPower, KeepsCardStore};
     ghost use Rattle.card_core.specs.Resetting.{KeepsBytes, Rests};
 
     // Does what is due after an earlier fault.
     fn catch_up(&mut self) -> Result<(), StoreFault>
-        requires ready { IsReady (parts_of S.Store B.Applet self.old) }
+        requires ready { IsCardReady (parts_of S.Store B.Applet self.old) }
         ensures same { card_of (parts_of S.Store B.Applet self.new) ≡ card_of (parts_of S.Store B.Applet self.old) }
         ensures stays { self.old.is_due ≡ false → IsOk result × (self.new ≡ self.old) }
         ensures begins { self.old.is_due ≡ true → OnOk result (BeginsAnew (parts_of S.Store B.Applet self.old)
@@ -38,7 +38,7 @@ impl<S: Store, B: Applet> CardOver<S, B> {
 
     // Does what is due, and then the command.
     fn perform(&mut self, apdu: &[u8], out: &mut Answer) -> Result<(), StoreFault>
-        requires ready { IsReady (parts_of S.Store B.Applet self.old) }
+        requires ready { IsCardReady (parts_of S.Store B.Applet self.old) }
         requires empty { out.old.body ≡ [] }
         ensures answered { IsAnswered result (parts_of S.Store B.Applet self.old) (parts_of S.Store B.Applet self.new)
             apdu.now out.new }
@@ -115,10 +115,10 @@ impl<S: Store, B: Applet> CardOver<S, B> {
     /// they were, also where the memory fails. Over any store how often it commits is told as its answer is, but for a command on
     /// PINs.
     pub fn transmit(&mut self, apdu: &[u8], out: &mut Answer) -> Result<(), CardFault>
-        requires ready { IsReady (parts_of S.Store B.Applet self.old) }
+        requires ready { IsCardReady (parts_of S.Store B.Applet self.old) }
         ensures moves { Transmits result (card_of (parts_of S.Store B.Applet self.old))
             (card_of (parts_of S.Store B.Applet self.new)) apdu.now out.new }
-        ensures ready { IsReady (parts_of S.Store B.Applet self.new) }
+        ensures ready { IsCardReady (parts_of S.Store B.Applet self.new) }
         ensures acts { (parts_of S.Store B.Applet self.old).is_on ≡ true
             → (parts_of S.Store B.Applet self.old).is_due ≡ false
             → ActsAtOnce result (parts_of S.Store B.Applet self.old) (parts_of S.Store B.Applet self.new)
@@ -131,7 +131,7 @@ impl<S: Store, B: Applet> CardOver<S, B> {
         ensures faults { TellsFaults result (parts_of S.Store B.Applet self.new) out.old out.new }
         ensures power { TellsPower result (parts_of S.Store B.Applet self.old) (parts_of S.Store B.Applet self.new) }
         ensures untouched { LeavesCard (parts_of S.Store B.Applet self.old) apdu.now → self.new ≡ self.old }
-        ensures keeps { KeepsStore result (parts_of S.Store B.Applet self.old) (parts_of S.Store B.Applet self.new)
+        ensures keeps { KeepsCardStore result (parts_of S.Store B.Applet self.old) (parts_of S.Store B.Applet self.new)
             out.new }
     {
         out.body.clear();

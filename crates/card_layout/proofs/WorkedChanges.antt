@@ -4,7 +4,7 @@ use Rattle.uicc_types.specs.Patches.{patched}
 use Rattle.card_layout.specs.Persistent.{Contents, Bytes, Records, File, Registration, Persistent}
 use Rattle.card_layout.specs.Soundness.{mf}
 use Rattle.card_layout.specs.Standing.{standing}
-use Rattle.card_layout.specs.Changing.{with_file_changed, with_bytes, with_record, with_newest_record, with_life, with_row_changed, with_code, without_code, with_kept}
+use Rattle.card_layout.specs.Changing.{with_file_changed, with_bytes, with_record, with_newest_record, with_life, with_row_changed, with_code_committed, without_code_committed, with_kept_committed}
 use Rattle.card_layout.specs.Migration.{ends_low, migrated}
 
 abbrev ef : ℕ → ℕ → ℕ → Contents → File
@@ -67,18 +67,18 @@ row shelf codes kept = record { shelf = shelf; kind = 1; priority = 5; sequence 
 abbrev with_rows : List Registration → Persistent
 with_rows rows = record (card six three) { rows = rows }
 
-an_event_more : with_code 2 0x04 (with_rows (row 1 [] [] ∷ row 2 (0x02 ∷ 0x40 ∷ []) [] ∷ [])) ≡ with_rows (row 1 [] [] ∷ row 2 (0x02 ∷ 0x04 ∷ 0x40 ∷ []) [] ∷ [])
+an_event_more : with_code_committed 2 0x04 (with_rows (row 1 [] [] ∷ row 2 (0x02 ∷ 0x40 ∷ []) [] ∷ [])) ≡ with_rows (row 1 [] [] ∷ row 2 (0x02 ∷ 0x04 ∷ 0x40 ∷ []) [] ∷ [])
 unfolding with_row_changed
 an_event_more = refl
 
-the_same_once : with_code 2 0x40 (with_rows (row 2 (0x02 ∷ 0x40 ∷ []) [] ∷ [])) ≡ with_rows (row 2 (0x02 ∷ 0x40 ∷ []) [] ∷ [])
+the_same_once : with_code_committed 2 0x40 (with_rows (row 2 (0x02 ∷ 0x40 ∷ []) [] ∷ [])) ≡ with_rows (row 2 (0x02 ∷ 0x40 ∷ []) [] ∷ [])
 unfolding with_row_changed
 the_same_once = refl
 
-an_event_less : without_code 2 0x02 (with_rows (row 2 (0x02 ∷ 0x40 ∷ []) [] ∷ [])) ≡ with_rows (row 2 (0x40 ∷ []) [] ∷ [])
+an_event_less : without_code_committed 2 0x02 (with_rows (row 2 (0x02 ∷ 0x40 ∷ []) [] ∷ [])) ≡ with_rows (row 2 (0x40 ∷ []) [] ∷ [])
 unfolding with_row_changed
 an_event_less = refl
 
-two_bytes_are_kept : with_kept 1 (0xA1 ∷ 0xA2 ∷ []) (with_rows (row 1 [] (0x01 ∷ []) ∷ row 2 [] [] ∷ [])) ≡ with_rows (row 1 [] (0xA1 ∷ 0xA2 ∷ []) ∷ row 2 [] [] ∷ [])
+two_bytes_are_kept : with_kept_committed 1 (0xA1 ∷ 0xA2 ∷ []) (with_rows (row 1 [] (0x01 ∷ []) ∷ row 2 [] [] ∷ [])) ≡ with_rows (row 1 [] (0xA1 ∷ 0xA2 ∷ []) ∷ row 2 [] [] ∷ [])
 unfolding with_row_changed
 two_bytes_are_kept = refl

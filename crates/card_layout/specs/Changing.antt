@@ -81,13 +81,13 @@ abbrev pub with_codes : ℕ → List ℕ → Persistent → Persistent
 with_codes shelf codes state = with_row_changed (λ row. record row { codes = codes }) shelf state
 
 -- registered for one event more
-abbrev pub with_code : ℕ → ℕ → Persistent → Persistent
-with_code shelf code state = with_row_changed (λ row. record row { codes = sorted_codes (code ∷ row.codes) }) shelf state
+abbrev pub with_code_committed : ℕ → ℕ → Persistent → Persistent
+with_code_committed shelf code state = with_row_changed (λ row. record row { codes = sorted_codes (code ∷ row.codes) }) shelf state
 
 -- and for one less
-abbrev pub without_code : ℕ → ℕ → Persistent → Persistent
-without_code shelf code state = with_row_changed (λ row. record row { codes = filter (λ other. not (other == code)) row.codes }) shelf state
+abbrev pub without_code_committed : ℕ → ℕ → Persistent → Persistent
+without_code_committed shelf code state = with_row_changed (λ row. record row { codes = filter (λ other. not (other == code)) row.codes }) shelf state
 
 -- with these bytes kept for the next session
-abbrev pub with_kept : ℕ → List ℕ → Persistent → Persistent
-with_kept shelf kept state = with_row_changed (λ row. record row { kept = kept }) shelf state
+abbrev pub with_kept_committed : ℕ → List ℕ → Persistent → Persistent
+with_kept_committed shelf kept state = with_row_changed (λ row. record row { kept = kept }) shelf state

@@ -16,7 +16,7 @@ use Rattle.card_layout.specs.Sections.{sorted_codes}
 use Rattle.card_layout.specs.Persistent.{Registration, Persistent}
 use Rattle.card_layout.specs.Ranges.{HasRowRanges}
 use Rattle.card_layout.specs.Soundness.{IsSound, IsSoundRow}
-use Rattle.card_layout.specs.Changing.{placed, with_row_on, with_row_changed, with_codes, with_kept}
+use Rattle.card_layout.specs.Changing.{placed, with_row_on, with_row_changed, with_codes, with_kept_committed}
 use Rattle.card_layout.specs.Adding.{HasRoom}
 use Rattle.card_layout.specs.Places.{memory_size, row_place, row_count}
 use Rattle.card_layout.specs.ReadingBack.{length-row_spelled}
@@ -90,15 +90,15 @@ module _ (of_table : StandingIsOfTable) (from_rows : RowsComeFromEntries) (mark 
   -- ---- what a row keeps, and that there is none
 
   pub kept_commit : KeptBytesStand → (kept : List ℕ) (to : ℕ) (pieces : List Piece) → length kept ≤ 32 → to ≡ 19 + length kept → pieces ≡ row_part shelf (record row { kept = kept }) 18 to ∷ []
-      → Commits mark told table pieces (with_row_at table shelf (record row { kept = kept })) (with_kept shelf kept)
+      → Commits mark told table pieces (with_row_at table shelf (record row { kept = kept })) (with_kept_committed shelf kept)
   kept_commit stands kept to pieces few end is agrees =
       let stood = stands mark agrees.content table agrees.state shelf to kept row agrees.stands has few (omega (arith, end)) (omega (arith, end, few)) in
-      let here = subst (λ (t : Loaded). Stands mark (applied (row_part shelf (record row { kept = kept }) 18 to ∷ []) agrees.content) t (with_kept shelf kept agrees.state)) (shown table shelf (record row { kept = kept }) has.used) stood in
+      let here = subst (λ (t : Loaded). Stands mark (applied (row_part shelf (record row { kept = kept }) 18 to ∷ []) agrees.content) t (with_kept_committed shelf kept agrees.state)) (shown table shelf (record row { kept = kept }) has.used) stood in
       rw is here
 
   -- and so of a copy of the row
   pub kept_copied : KeptBytesStand → (copy : Row) (kept kept' : List ℕ) (to : ℕ) (pieces : List Piece) → copy ≡ row → kept' ≡ kept → length kept ≤ 32 → to ≡ 19 + length kept
-      → pieces ≡ row_part shelf (record copy { kept = kept' }) 18 to ∷ [] → Commits mark told table pieces (with_row_at table shelf (record copy { kept = kept' })) (with_kept shelf kept)
+      → pieces ≡ row_part shelf (record copy { kept = kept' }) 18 to ∷ [] → Commits mark told table pieces (with_row_at table shelf (record copy { kept = kept' })) (with_kept_committed shelf kept)
   kept_copied stands copy kept kept' to pieces same same_kept few end is =
       let one : pieces ≡ row_part shelf (record row { kept = kept }) 18 to ∷ [] =
       is ∙ ap (λ (r : Row). row_part shelf (record r { kept = kept' }) 18 to ∷ []) same ∙ ap (λ (k : List ℕ). row_part shelf (record row { kept = k }) 18 to ∷ []) same_kept in

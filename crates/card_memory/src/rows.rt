@@ -7,7 +7,7 @@ ghost use Rattle.card_layout.specs.Persistent.{Persistent};
 ghost use Rattle.card_layout.specs.Used.{HasRow};
 ghost use Rattle.card_memory.specs.Commits.{Commits};
 ghost use Rattle.card_layout.specs.States.{registration_of, rows_of};
-ghost use Rattle.card_layout.specs.Changing.{with_code, without_code, with_kept};
+ghost use Rattle.card_layout.specs.Changing.{with_code_committed, without_code_committed, with_kept_committed};
 ghost use Rattle.card_layout.specs.Blank.{unused_row};
 ghost use Rattle.card_layout.specs.Spelling.{row_part, sequence_part};
 ghost use Rattle.card_layout.specs.Adding.{HasRoom};
@@ -200,10 +200,10 @@ pub fn register<S: Store>(
     requires row { HasRowOn loaded.old shelf.0 }
     requires event { MayRegister loaded.old shelf.0 code }
     ensures committed { Committed (memory S.Store store.old loaded.old) (memory S.Store store.new loaded.new) result
-        (with_code shelf.0 code) }
+        (with_code_committed shelf.0 code) }
     ensures table { OnOk result (ChangesEvents loaded.old shelf.0 loaded.new) }
     ensures kept { OnErr result (loaded.new ≡ loaded.old) }
-    ensures rows { OnOk result (rows_of loaded.new ≡ (with_code shelf.0 code (rows_alone loaded.old)).rows) }
+    ensures rows { OnOk result (rows_of loaded.new ≡ (with_code_committed shelf.0 code (rows_alone loaded.old)).rows) }
 {
     cards_are_known();
     rows_stand();
@@ -223,10 +223,10 @@ pub fn deregister<S: Store>(
     requires mounted { IsMounted (memory S.Store store.old loaded.old) }
     requires row { HasRowOn loaded.old shelf.0 }
     ensures committed { Committed (memory S.Store store.old loaded.old) (memory S.Store store.new loaded.new) result
-        (without_code shelf.0 code) }
+        (without_code_committed shelf.0 code) }
     ensures table { OnOk result (ChangesEvents loaded.old shelf.0 loaded.new) }
     ensures kept { OnErr result (loaded.new ≡ loaded.old) }
-    ensures rows { OnOk result (rows_of loaded.new ≡ (without_code shelf.0 code (rows_alone loaded.old)).rows) }
+    ensures rows { OnOk result (rows_of loaded.new ≡ (without_code_committed shelf.0 code (rows_alone loaded.old)).rows) }
 {
     cards_are_known();
     rows_stand();
@@ -246,11 +246,11 @@ pub fn keep_bytes<S: Store>(
     requires row { HasRowOn loaded.old shelf.0 }
     requires few { length kept.now ≤ 32 }
     ensures committed { Committed (memory S.Store store.old loaded.old) (memory S.Store store.new loaded.new) result
-        (with_kept shelf.0 kept.now) }
+        (with_kept_committed shelf.0 kept.now) }
     ensures table { OnOk result
         (loaded.new ≡ with_row_at loaded.old shelf.0 (record (row_at loaded.old shelf.0) { kept = kept.now })) }
     ensures kept { OnErr result (loaded.new ≡ loaded.old) }
-    ensures rows { OnOk result (rows_of loaded.new ≡ (with_kept shelf.0 kept.now (rows_alone loaded.old)).rows) }
+    ensures rows { OnOk result (rows_of loaded.new ≡ (with_kept_committed shelf.0 kept.now (rows_alone loaded.old)).rows) }
 {
     cards_are_known();
     rows_stand();

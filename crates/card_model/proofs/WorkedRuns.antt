@@ -19,7 +19,7 @@ use Rattle.file_model.specs.Holdings.{held_by}
 use Rattle.file_model.specs.Outcomes.{addressed}
 use Rattle.card_model.specs.Answers.{carried_out, tried, answer_of, answer, passed}
 use Rattle.card_model.specs.Instructions.{instruction_tried}
-use Rattle.card_model.specs.Runs.{IsRun, IsLeft, boxes_left, armed}
+use Rattle.card_model.specs.Runs.{IsRun, IsLeft, boxes_left, plan_given}
 use Rattle.card_model.specs.States.{CardState, Machine, powered, unpowered, woken, woken_boxes, restarted}
 use Rattle.card_model.proofs.Worked.{first_card, held, number_file, telecom_df, message_file}
 
@@ -141,6 +141,6 @@ abbrev pub fail_at : ℕ → Plan
 fail_at call = record NONE { fail = Some (record { call = call; rest = 0x00 }) }
 
 -- a later cut takes the place of an earlier one, a failure joins it, and what is set waits no more
-plans_are_set : armed (step.Plan (cut_at 1) ∷ step.Plan (fail_at 2) ∷ step.Plan (cut_at 3) ∷ step.Apdu update ∷ step.Reset ∷ step.Plan (fail_at 4) ∷ step.Reset ∷ step.Plan (cut_at 5) ∷ [])
+plans_are_set : plan_given (step.Plan (cut_at 1) ∷ step.Plan (fail_at 2) ∷ step.Plan (cut_at 3) ∷ step.Apdu update ∷ step.Reset ∷ step.Plan (fail_at 4) ∷ step.Reset ∷ step.Plan (cut_at 5) ∷ [])
     ≡ record (cut_at 3) { fail = Some (record { call = 2; rest = 0x00 }) } ∷ fail_at 4 ∷ []
 plans_are_set = refl

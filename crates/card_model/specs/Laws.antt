@@ -141,8 +141,8 @@ pub record IsLawfulAnswer (card : CardState) (of_tree : Bool) (key : ℕ) (answe
 abbrev pub WithoutToolkit : (Instruction → Bool) → Type 0 → Type 0
 WithoutToolkit knows P = MatchBool (has_toolkit knows) ⊤ P
 
-abbrev pub AnswersAreLawful : Type 0
-AnswersAreLawful =
+abbrev pub PlainAnswersAreLawful : Type 0
+PlainAnswersAreLawful =
     (knows : Instruction → Bool) (card : CardState) (bytes : List ℕ) → IsGood card → AreBytes bytes → WithoutToolkit knows (IsLawfulAnswer card (is_of_tree_named bytes) (key_named bytes) (answer_of knows card bytes))
 
 -- a command that is none of the toolkit's is lawful on every card, before the applets are told of it
@@ -154,8 +154,8 @@ CommandsAreLawful =
 -- ---- refusals and faults
 
 -- a command that is refused changes nothing, or the tries and the mark of the key that it names
-abbrev pub RefusalsChangeTriesAndMarkAlone : Type 0
-RefusalsChangeTriesAndMarkAlone =
+abbrev pub PlainRefusalsChangeTriesAndMarkAlone : Type 0
+PlainRefusalsChangeTriesAndMarkAlone =
     (knows : Instruction → Bool) (card : CardState) (bytes : List ℕ) (status : StatusWord)
     → IsGood card → AreBytes bytes → refusal knows card bytes ≡ Some status → WithoutToolkit knows (ChangesAtMostTries (key_named bytes) status card (answer_of knows card bytes).state)
 
@@ -165,6 +165,6 @@ AnswersNeverFail =
     (knows : Instruction → Bool) (card : CardState) (bytes : List ℕ) → IsGood card → AreBytes bytes → (answer_of knows card bytes).status ≢ MEMORY_PROBLEM
 
 -- what a fault in a command leaves of a good card is a good card
-abbrev pub FaultsLeaveGoodCards : Type 0
-FaultsLeaveGoodCards =
+abbrev pub PlainFaultsLeaveGoodCards : Type 0
+PlainFaultsLeaveGoodCards =
     (knows : Instruction → Bool) (card left : CardState) (bytes : List ℕ) → IsGood card → AreBytes bytes → IsLeft card (passed_of knows card bytes) left → WithoutToolkit knows (IsGood left)

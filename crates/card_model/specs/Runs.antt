@@ -138,5 +138,5 @@ waiting_after waiting (step.Apdu apdu ∷ more) = waiting_after NONE more
 waiting_after waiting (step.Reset ∷ more) = waiting_after NONE more
 
 -- the plans that the steps of a run set, in order
-abbrev pub armed : List Step → List Plan
-armed steps = armed_after NONE steps
+abbrev pub plan_given : List Step → List Plan
+plan_given steps = armed_after NONE steps

@@ -112,8 +112,8 @@ row_or_status (Err fault) = Err (row_status fault)
 abbrev pub has_shelf : Apdu → Bool
 has_shelf apdu = nat_le apdu.p2 31
 
-abbrev pub kind_on : CardState → ℕ → Option ℕ
-kind_on card shelf = option_map (λ mind. mind.kind) (mind_on card.boxes shelf)
+abbrev pub kind_in : CardState → ℕ → Option ℕ
+kind_in card shelf = option_map (λ mind. mind.kind) (mind_on card.boxes shelf)
 
 -- P1 is the priority of the applet on the shelf P2. The new row takes the next sequence number, which rises in the same commit.
 unfoldable pub applet_installed : CardState → Verified → Apdu → Result ToolkitOutcome StatusWord
@@ -121,7 +121,7 @@ applet_installed card seen apdu =
     needs (nat_le 1 apdu.p1 && has_shelf apdu) WRONG_PARAMETERS (
     needs (has_data apdu) WRONG_LENGTH (
     needs seen.adm1 SECURITY_NOT_SATISFIED (
-    and_given (row_or_status (installed_row card.persistent (kind_on card apdu.p2) apdu.p2 apdu.p1 apdu.body)) (λ row.
+    and_given (row_or_status (installed_row card.persistent (kind_in card apdu.p2) apdu.p2 apdu.p1 apdu.body)) (λ row.
     Ok (record { body = []; passed = installed row (toolkit_of card); next_sequence = card.persistent.next_sequence + 1 })))))
 
 -- the applet on the shelf P2

@@ -1,5 +1,5 @@
 //! What holds of every card, command and run. The functions do nothing: each one's contract is the law.
-ghost use Rattle.card_model.specs.Laws.{RestartsAreGood, CountsJoin, CallsAreCounted, PlansAreCounted, PlansAreSetInOrder, AnswersAreLawful, CommandsAreLawful, RefusalsChangeTriesAndMarkAlone, AnswersNeverFail, FaultsLeaveGoodCards};
+ghost use Rattle.card_model.specs.Laws.{RestartsAreGood, CountsJoin, CallsAreCounted, PlansAreCounted, PlansAreSetInOrder, PlainAnswersAreLawful, CommandsAreLawful, PlainRefusalsChangeTriesAndMarkAlone, AnswersNeverFail, PlainFaultsLeaveGoodCards};
 
 use file_making::commands_on_trees_are_lawful;
 use file_model::{commands_on_files_are_lawful, pin_commands_are_lawful};
@@ -28,11 +28,11 @@ pub fn plans_are_set_in_order()
 /// card. No status tells of a failing memory, also where applets run. There a command that is none of the toolkit's is lawful, too,
 /// before the applets are told of it.
 pub fn answers_are_lawful()
-    ensures lawful { AnswersAreLawful }
+    ensures lawful { PlainAnswersAreLawful }
     ensures commands { CommandsAreLawful }
-    ensures refused { RefusalsChangeTriesAndMarkAlone }
+    ensures refused { PlainRefusalsChangeTriesAndMarkAlone }
     ensures never_failed { AnswersNeverFail }
-    ensures faults { FaultsLeaveGoodCards }
+    ensures faults { PlainFaultsLeaveGoodCards }
 {
     commands_on_files_are_lawful();
     pin_commands_are_lawful();

@@ -12,7 +12,7 @@ use Rattle.card_layout.specs.Persistent.{Registration, Persistent}
 use Rattle.card_layout.specs.Standing.{standing, state_in, Stands, Agrees}
 use Rattle.card_layout.specs.States.{rows_of, state_of}
 use Rattle.card_model.specs.States.{HasBox}
-use Rattle.layout_mount.specs.Mounted.{HasRead, IsTable, IsNoCard}
+use Rattle.layout_mount.specs.Mounted.{HasRead, IsTable, HoldsNoCard}
 use Rattle.layout_mount.specs.declared.mounting.MountFault.{MountFault}
 use Rattle.layout_mount.specs.declared.mounting.MountFault.TheVariants as mount
 use Rattle.layout_standing.specs.Known.{StandingIsOfTable}
@@ -21,7 +21,7 @@ use Rattle.store_form.specs.declared.store.StoreFault.TheVariants as store
 use Rattle.card_opening.specs.Boxes.{IsFirstWithoutBox}
 use Rattle.card_opening.specs.Faults.{of_mount, of_store}
 use Rattle.card_opening.specs.Migrations.{awaits_migration, migrated_table}
-use Rattle.card_opening.specs.Starts.{IsOpenedFrom, Opens, LacksBox, Finds, Leaves, IsMigratedAtMost, Refuses, MayRestart, IsWithBoxes, IsReadAgain, Restarts}
+use Rattle.card_opening.specs.Starts.{IsOpenedFrom, Opens, HasNoBoxFor, Finds, FaultLeaves, IsLeftMigrated, Refuses, MayRestart, IsWithBoxes, IsReadAgain, RestartsMemory}
 use Rattle.card_opening.specs.declared.faults.OpenFault.{OpenFault}
 use Rattle.card_opening.proofs.Counted.{counts_moved}
 use Rattle.card_opening.proofs.Started.{either_state, card_moved, finds_no_card}
@@ -75,7 +75,7 @@ module _ (of_table : StandingIsOfTable) (mark : ℕ) (told : Option (List ℕ)) 
     holds = record { anew = λ so. absurd (first.lacks (All-contains (HasBox boxes) (rows_of found) first.row (rows_have_boxes so) first.there)); stays = λ lacks. refl };
   }
 
-  pub finds_no_box : (shelf : ℕ) → IsFirstWithoutBox (rows_of found) boxes shelf → HasRead told (LacksBox mark boxes shelf)
+  pub finds_no_box : (shelf : ℕ) → IsFirstWithoutBox (rows_of found) boxes shelf → HasRead told (HasNoBoxFor mark boxes shelf)
   finds_no_box shelf first = record {
     content = is.content;
     long = is.long;
@@ -87,7 +87,7 @@ module _ (of_table : StandingIsOfTable) (mark : ℕ) (told : Option (List ℕ)) 
   }
 
 -- bytes of no card
-pub read_no_card : (mark : ℕ) (told : Option (List ℕ)) (boxes : List (Option AppletState)) (old : Loaded) (at : ℕ) → IsNoCard mark told at → HasRead told (IsReadAgain mark boxes old old)
+pub read_no_card : (mark : ℕ) (told : Option (List ℕ)) (boxes : List (Option AppletState)) (old : Loaded) (at : ℕ) → HoldsNoCard mark told at → HasRead told (IsReadAgain mark boxes old old)
 read_no_card mark told boxes old at is = record {
   content = is.content;
   long = is.long;
@@ -140,22 +140,22 @@ finds_fault : (fault : StoreFault) (mark : ℕ) (told : Option (List ℕ)) (boxe
 finds_fault store.Failed mark told boxes = tt
 finds_fault store.PowerLost mark told boxes = tt
 
-not_migrated : (mark : ℕ) (before after : Option (List ℕ)) → after ≡ before → IsMigratedAtMost mark before after
+not_migrated : (mark : ℕ) (before after : Option (List ℕ)) → after ≡ before → IsLeftMigrated mark before after
 not_migrated mark before after same =
     record { card = either_state mark (standing mark before) (standing mark after) (inl (ap (standing mark) same)); no_card = λ none. same }
 
-leaves_read : (fault : MountFault) (mark : ℕ) (before after : Option (List ℕ)) → after ≡ before → Leaves (of_mount fault) mark before after
+leaves_read : (fault : MountFault) (mark : ℕ) (before after : Option (List ℕ)) → after ≡ before → FaultLeaves (of_mount fault) mark before after
 leaves_read (mount.NotACard at) mark before after same = same
 leaves_read mount.Failed mark before after same = not_migrated mark before after same
 leaves_read mount.PowerLost mark before after same = not_migrated mark before after same
 
-leaves_recovered : (fault : StoreFault) (mark : ℕ) (before after : Option (List ℕ)) → after ≡ before → Leaves (of_store fault) mark before after
+leaves_recovered : (fault : StoreFault) (mark : ℕ) (before after : Option (List ℕ)) → after ≡ before → FaultLeaves (of_store fault) mark before after
 leaves_recovered store.Failed mark before after same = not_migrated mark before after same
 leaves_recovered store.PowerLost mark before after same = not_migrated mark before after same
 
 module _ (opening : OpenFault) (old now : Memory) (boxes : List (Option AppletState)) where
   -- nothing was written before a mount answered
-  pub mount_refused : (fault : MountFault) → opening ≡ of_mount fault → now.told ≡ old.told → now.commits ≡ old.commits → ((at : ℕ) → fault ≡ mount.NotACard at → IsNoCard old.mark old.told at) → Refuses old now boxes opening
+  pub mount_refused : (fault : MountFault) → opening ≡ of_mount fault → now.told ≡ old.told → now.commits ≡ old.commits → ((at : ℕ) → fault ≡ mount.NotACard at → HoldsNoCard old.mark old.told at) → Refuses old now boxes opening
   mount_refused fault is told commits none =
       subst (Refuses old now boxes) (sym is)
       (record { found = finds_no_card fault old.mark old.told boxes none; left = leaves_read fault old.mark old.told now.told told; commits = commits })
@@ -165,7 +165,7 @@ module _ (opening : OpenFault) (old now : Memory) (boxes : List (Option AppletSt
       subst (Refuses old now boxes) (sym is)
       (record { found = finds_fault fault old.mark old.told boxes; left = leaves_recovered fault old.mark old.told now.told told; commits = commits })
 
-  pub migration_refused : (fault : StoreFault) → opening ≡ of_store fault → Leaves opening old.mark old.told now.told → now.commits ≡ old.commits → Refuses old now boxes opening
+  pub migration_refused : (fault : StoreFault) → opening ≡ of_store fault → FaultLeaves opening old.mark old.told now.told → now.commits ≡ old.commits → Refuses old now boxes opening
   migration_refused fault is left commits = record {
     found = subst (λ (refused : OpenFault). Finds refused old.mark old.told boxes) (sym is) (finds_fault fault old.mark old.told boxes);
     left = left;
@@ -209,12 +209,12 @@ module _ (old mid now : Memory) (boxes : List (Option AppletState)) (mark : mid.
         subst (λ (tells : Option (List ℕ)). Finds fault old.mark tells boxes) told
         (subst (λ (store_mark : ℕ). Finds fault store_mark mid.told boxes) mark refuses.found);
     left =
-        subst (λ (tells : Option (List ℕ)). Leaves fault old.mark tells now.told) told
-        (subst (λ (store_mark : ℕ). Leaves fault store_mark mid.told now.told) mark refuses.left);
+        subst (λ (tells : Option (List ℕ)). FaultLeaves fault old.mark tells now.told) told
+        (subst (λ (store_mark : ℕ). FaultLeaves fault store_mark mid.told now.told) mark refuses.left);
     commits = refuses.commits ∙ commits;
   }
 
-  pub restarts_moved : mid.table ≡ old.table → Restarts mid now boxes → Restarts old now boxes
+  pub restarts_moved : mid.table ≡ old.table → RestartsMemory mid now boxes → RestartsMemory old now boxes
   restarts_moved table restarts = record {
     boxes_are = restarts.boxes_are;
     read =

@@ -18,14 +18,14 @@ use Rattle.file_model.specs.Files.{record_width}
 use Rattle.file_model.specs.Laws.{IsSoundCard}
 use Rattle.store_form.specs.declared.store.StoreFault.{StoreFault}
 use Rattle.store_form.specs.declared.store.StoreFault.TheVariants as store
-use Rattle.layout_mount.specs.Mounted.{IsTable, IsNoCard, read_told}
+use Rattle.layout_mount.specs.Mounted.{IsTable, HoldsNoCard, read_told}
 use Rattle.layout_mount.specs.declared.mounting.MountFault.{MountFault}
 use Rattle.layout_mount.specs.declared.mounting.MountFault.TheVariants as mount
 use Rattle.layout_soundness.specs.Laws.{StandingIsSound, RecordsAreShort, HasShortRecords}
 use Rattle.layout_standing.specs.Known.{StandingIsOfTable}
 use Rattle.card_opening.specs.Boxes.{IsFirstWithoutBox}
 use Rattle.card_opening.specs.Faults.{of_mount, of_store}
-use Rattle.card_opening.specs.Starts.{HoldsCard, Finds, Leaves, IsMigratedAtMost}
+use Rattle.card_opening.specs.Starts.{HoldsCard, Finds, FaultLeaves, IsLeftMigrated}
 use Rattle.card_opening.specs.declared.faults.OpenFault.{OpenFault}
 
 -- ---- what stands
@@ -56,7 +56,7 @@ silent_without_box of_table mark (Some held) found boxes shelf agrees have first
     absurd (first.lacks (All-contains (HasBox boxes) (rows_of found) first.row (subst (λ (list : List Registration). All (HasBox boxes) list) rows all) first.there))
 
 -- and so where its bytes are no card
-pub silent_without_card : (mark : ℕ) (told : Option (List ℕ)) (at : ℕ) → HoldsCard mark told → IsNoCard mark told at → told ≡ None
+pub silent_without_card : (mark : ℕ) (told : Option (List ℕ)) (at : ℕ) → HoldsCard mark told → HoldsNoCard mark told at → told ≡ None
 unfolding standing
 silent_without_card mark None at holds none = refl
 silent_without_card mark (Some held) at holds none =
@@ -68,7 +68,7 @@ kept_agrees mark now told told' table mark_is same silent kept =
 
 -- ---- refusals
 
-pub finds_no_card : (fault : MountFault) (mark : ℕ) (told : Option (List ℕ)) (boxes : List (Option AppletState)) → ((at : ℕ) → fault ≡ mount.NotACard at → IsNoCard mark told at) → Finds (of_mount fault) mark told boxes
+pub finds_no_card : (fault : MountFault) (mark : ℕ) (told : Option (List ℕ)) (boxes : List (Option AppletState)) → ((at : ℕ) → fault ≡ mount.NotACard at → HoldsNoCard mark told at) → Finds (of_mount fault) mark told boxes
 finds_no_card (mount.NotACard at) mark told boxes none = none at refl
 finds_no_card mount.Failed mark told boxes none = tt
 finds_no_card mount.PowerLost mark told boxes none = tt
@@ -88,7 +88,7 @@ none_told None is = refl
 none_told (Some held) is = absurd (false≢true (sym is))
 
 pub migrated_at_most : (mark : ℕ) (before after : Option (List ℕ)) → HoldsCard mark before → is_some after ≡ is_some before
-    → (standing mark after ≡ standing mark before) ⊎ (standing mark after ≡ option_map migrated (standing mark before)) → IsMigratedAtMost mark before after
+    → (standing mark after ≡ standing mark before) ⊎ (standing mark after ≡ option_map migrated (standing mark before)) → IsLeftMigrated mark before after
 migrated_at_most mark before after holds told whole = record {
   card = either_state mark (standing mark before) (standing mark after) whole;
   no_card = λ none.
@@ -135,14 +135,14 @@ sound_after_marked is_sound short mark now before after table table' same agrees
     (sound_after is_sound short mark before after table table' agrees bytes (subst (λ (store_mark : ℕ). Agrees store_mark after table') same agrees')
     (subst (λ (store_mark : ℕ). standing store_mark after ≡ option_map migrated (standing mark before)) same is))
 
-fault_leaves : (fault : StoreFault) (mark : ℕ) (before after : Option (List ℕ)) → IsMigratedAtMost mark before after → Leaves (of_store fault) mark before after
+fault_leaves : (fault : StoreFault) (mark : ℕ) (before after : Option (List ℕ)) → IsLeftMigrated mark before after → FaultLeaves (of_store fault) mark before after
 fault_leaves store.Failed mark before after at_most = at_most
 fault_leaves store.PowerLost mark before after at_most = at_most
 
 pub leaves_store_fault : (fault : StoreFault) (opening : OpenFault) (mark now : ℕ) (before after : Option (List ℕ)) → opening ≡ of_store fault → now ≡ mark → HoldsCard mark before → is_some after ≡ is_some before
-    → (standing now after ≡ standing mark before) ⊎ (standing now after ≡ option_map migrated (standing mark before)) → Leaves opening mark before after
+    → (standing now after ≡ standing mark before) ⊎ (standing now after ≡ option_map migrated (standing mark before)) → FaultLeaves opening mark before after
 leaves_store_fault fault opening mark now before after is same holds told whole =
-    subst (λ (refused : OpenFault). Leaves refused mark before after) (sym is)
+    subst (λ (refused : OpenFault). FaultLeaves refused mark before after) (sym is)
     (fault_leaves fault mark before after
     (migrated_at_most mark before after holds told
     (subst (λ (store_mark : ℕ). (standing store_mark after ≡ standing mark before) ⊎ (standing store_mark after ≡ option_map migrated (standing mark before))) same whole)))

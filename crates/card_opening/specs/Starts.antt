@@ -11,7 +11,7 @@ use Rattle.card_layout.specs.Standing.{stands_for, standing, state_in, Stands, A
 use Rattle.card_layout.specs.States.{rows_of}
 use Rattle.card_model.specs.States.{HasBox, AreOfSevenKinds}
 use Rattle.file_model.specs.Laws.{IsSoundCard}
-use Rattle.layout_mount.specs.Mounted.{HasRead, IsNoCard}
+use Rattle.layout_mount.specs.Mounted.{HasRead, HoldsNoCard}
 use Rattle.card_opening.specs.Boxes.{IsFirstWithoutBox}
 use Rattle.card_opening.specs.Migrations.{awaits_migration, migrated_table, CountsMigration}
 use Rattle.card_opening.specs.declared.faults.OpenFault.{OpenFault}
@@ -54,36 +54,36 @@ pub record Opens (old new : Memory) (boxes : List (Option AppletState)) : Type 0
 -- ---- a card that isn't
 
 -- the bytes of a card with an applet that has no box; this is the first shelf with one
-abbrev pub LacksBox : ℕ → List (Option AppletState) → ℕ → List ℕ → Type 0
-LacksBox store_mark boxes shelf content = IsOkAnd (stands_for store_mark content) (λ state. IsFirstWithoutBox state.rows boxes shelf)
+abbrev pub HasNoBoxFor : ℕ → List (Option AppletState) → ℕ → List ℕ → Type 0
+HasNoBoxFor store_mark boxes shelf content = IsOkAnd (stands_for store_mark content) (λ state. IsFirstWithoutBox state.rows boxes shelf)
 
 -- What was read: bytes of no card, with the place of the first check that fails; or a card with an applet that has no box.
 -- The causes of the other faults are read off the device's counts, and the allocator's answer is its own.
 abbrev pub Finds : OpenFault → ℕ → Option (List ℕ) → List (Option AppletState) → Type 0
-Finds (NotACard at) store_mark told boxes = IsNoCard store_mark told at
-Finds (NoBox shelf) store_mark told boxes = HasRead told (LacksBox store_mark boxes shelf)
+Finds (NotACard at) store_mark told boxes = HoldsNoCard store_mark told at
+Finds (NoBox shelf) store_mark told boxes = HasRead told (HasNoBoxFor store_mark boxes shelf)
 Finds Failed store_mark told boxes = Unit {0}
 Finds PowerLost store_mark told boxes = Unit {0}
 Finds NoMemory store_mark told boxes = Unit {0}
 
 -- A card stands for the state as it was, or for the migrated one; bytes of no card are as they were.
-pub record IsMigratedAtMost (store_mark : ℕ) (before after : Option (List ℕ)) : Type 0 where
+pub record IsLeftMigrated (store_mark : ℕ) (before after : Option (List ℕ)) : Type 0 where
   pub card : IfSome (standing store_mark before)
       (λ state. (standing store_mark after ≡ Some state) ⊎ (standing store_mark after ≡ Some (migrated state)))
   pub no_card : standing store_mark before ≡ None → after ≡ before
 
 -- What was found is left as it was; only a fault of the memory can come when the migration has begun.
-abbrev pub Leaves : OpenFault → ℕ → Option (List ℕ) → Option (List ℕ) → Type 0
-Leaves Failed store_mark before after = IsMigratedAtMost store_mark before after
-Leaves PowerLost store_mark before after = IsMigratedAtMost store_mark before after
-Leaves (NotACard at) store_mark before after = after ≡ before
-Leaves (NoBox shelf) store_mark before after = after ≡ before
-Leaves NoMemory store_mark before after = after ≡ before
+abbrev pub FaultLeaves : OpenFault → ℕ → Option (List ℕ) → Option (List ℕ) → Type 0
+FaultLeaves Failed store_mark before after = IsLeftMigrated store_mark before after
+FaultLeaves PowerLost store_mark before after = IsLeftMigrated store_mark before after
+FaultLeaves (NotACard at) store_mark before after = after ≡ before
+FaultLeaves (NoBox shelf) store_mark before after = after ≡ before
+FaultLeaves NoMemory store_mark before after = after ≡ before
 
 -- What an opening that is refused for this cause found, and what it left. It counted no commit.
 pub record Refuses (old new : Memory) (boxes : List (Option AppletState)) (fault : OpenFault) : Type 0 where
   pub found : Finds fault old.mark old.told boxes
-  pub left : Leaves fault old.mark old.told new.told
+  pub left : FaultLeaves fault old.mark old.told new.told
   pub commits : new.commits ≡ old.commits
 
 -- ---- a card that is started again
@@ -107,6 +107,6 @@ pub record IsReadAgain (store_mark : ℕ) (boxes : List (Option AppletState)) (o
   pub stays : (IsWithBoxes store_mark boxes content → ⊥) → new ≡ old
 
 -- Each registered applet has its box, and the table is that of what was read, or as it was.
-pub record Restarts (old new : Memory) (boxes : List (Option AppletState)) : Type 0 where
+pub record RestartsMemory (old new : Memory) (boxes : List (Option AppletState)) : Type 0 where
   pub boxes_are : All (HasBox boxes) (rows_of new.table)
   pub read : HasRead old.told (IsReadAgain old.mark boxes old.table new.table)

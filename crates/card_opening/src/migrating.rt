@@ -7,7 +7,7 @@ ghost use Rattle.card_layout.specs.Migration.{entry_ends_low, entries_end_low, m
 ghost use Rattle.card_layout.specs.Places.{memory_size, data_end};
 ghost use Rattle.card_layout.specs.Spelling.{version_part};
 ghost use Rattle.card_layout.specs.Memory.{Committed, IsMounted, Keeps, held_by, memory};
-ghost use Rattle.card_opening.specs.Migrations.{migrated_table, with_migration, KeepsStore};
+ghost use Rattle.card_opening.specs.Migrations.{migrated_table, with_migration, KeepsMigrating};
 ghost use Rattle.layout_mount.specs.Mounted.{unread};
 ghost use Rattle.store_form.specs.Faults.{with_commit};
 
@@ -42,7 +42,7 @@ fn commit_wide<S: Store>(store: &mut S) -> Result<(), StoreFault>
     ensures whole { OnErr result ((S.stable store.new ≡ S.stable store.old)
         ⊎ (S.stable store.new ≡ option_map (after (version_part true)) (S.stable store.old))) }
     ensures commits { S.commits store.new ≡ with_commit result (S.commits store.old) }
-    ensures keeps { KeepsStore (unread S.Store store.old) (unread S.Store store.new) result }
+    ensures keeps { KeepsMigrating (unread S.Store store.old) (unread S.Store store.new) result }
 {
     let mut writes = Writes::new();
     match version_write(true, &mut writes) {
@@ -60,7 +60,7 @@ fn prepare_upper_rows<S: Store>(store: &mut S) -> Result<(), StoreFault>
         ≡ option_map (patched (data_end true) no_upper_rows) (S.stable store.old)) }
     ensures torn { OnErr result (Becomes (Torn (data_end true) 1024) (S.stable store.old) (S.stable store.new)) }
     ensures commits { S.commits store.new ≡ S.commits store.old }
-    ensures keeps { KeepsStore (unread S.Store store.old) (unread S.Store store.new) result }
+    ensures keeps { KeepsMigrating (unread S.Store store.old) (unread S.Store store.new) result }
 {
     store.prepare(UPPER_ROWS as usize, &[0; 1024])
 }

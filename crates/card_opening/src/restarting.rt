@@ -5,7 +5,7 @@ ghost use Rattle.card_layout.specs.Memory.{Reads, memory};
 ghost use Rattle.card_layout.specs.States.{rows_of};
 ghost use Rattle.card_model.specs.States.{woken_boxes};
 ghost use Rattle.card_opening.specs.Boxes.{minds_of};
-ghost use Rattle.card_opening.specs.Starts.{MayRestart, Restarts};
+ghost use Rattle.card_opening.specs.Starts.{MayRestart, RestartsMemory};
 
 use crate::boxes::{first_without_box, wake_boxes};
 use applet_trait::Applet;
@@ -24,7 +24,7 @@ fn mount_again<S: Store, B: Applet>(
     requires recovered { S.recovered store.old ≡ true }
     requires shelves { length boxes.now ≡ ROW_COUNT }
     requires kept { MayRestart (memory S.Store store.old loaded.old) (minds_of B.mind boxes.now) }
-    ensures restarts { OnOk result (Restarts (memory S.Store store.old loaded.old) (memory S.Store store.new loaded.new)
+    ensures restarts { OnOk result (RestartsMemory (memory S.Store store.old loaded.old) (memory S.Store store.new loaded.new)
         (minds_of B.mind boxes.now)) }
     ensures table { OnErr result (loaded.new ≡ loaded.old) }
     ensures reads { Reads (memory S.Store store.old loaded.old) (memory S.Store store.new loaded.new) result }
@@ -58,7 +58,7 @@ pub fn restart<S: Store, B: Applet>(
 ) -> Result<(), StoreFault>
     requires shelves { length boxes.old ≡ ROW_COUNT }
     requires kept { MayRestart (memory S.Store store.old loaded.old) (minds_of B.mind boxes.old) }
-    ensures restarts { OnOk result (Restarts (memory S.Store store.old loaded.old) (memory S.Store store.new loaded.new)
+    ensures restarts { OnOk result (RestartsMemory (memory S.Store store.old loaded.old) (memory S.Store store.new loaded.new)
         (minds_of B.mind boxes.old)) }
     ensures woke { OnOk result
         (minds_of B.mind boxes.new ≡ woken_boxes (rows_of loaded.new) (minds_of B.mind boxes.old)) }

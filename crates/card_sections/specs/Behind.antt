@@ -2,7 +2,7 @@
 use Rattle.std.specs.List.{AllPass}
 use Rattle.std.specs.Prelude.{◌≡◌, ℕ, Bool, false, List, [], ◌∷◌, ◌++◌, Option, Some, None, Result, Ok, Err}
 use Rattle.byte_streams.specs.Lines.{LineList}
-use Rattle.byte_streams.specs.Reading.{IsCutShort, IsReadOut}
+use Rattle.byte_streams.specs.Reading.{IsTextCutShort, IsReadOut}
 use Rattle.card_sections.specs.Reading.{Finds, Follows, GoesOn}
 use Rattle.card_sections.specs.Script.{AreRead}
 use Rattle.card_sections.specs.declared.behind.PlayEnd.{PlayEnd}
@@ -21,7 +21,7 @@ IsBadBehind may (Some bytes ∷ more) = (line : ScriptLine) → IsLine bytes lin
 abbrev pub StopsReading : (ScriptLine → Bool) → List ℕ → LineList → Option (List ℕ) → PlayEnd → Type 0
 StopsReading may text found left Finished = IsReadOut text found left
 StopsReading may text found left (BadLine number) = GoesOn text found left (IsBadBehind may) number
-StopsReading may text found left ReadFailed = IsCutShort text found left
+StopsReading may text found left ReadFailed = IsTextCutShort text found left
 StopsReading may text found left SinkFailed = ⊥
 StopsReading may text found left ResetFailed = ⊥
 
@@ -47,14 +47,14 @@ pub record EndsReading (may : ScriptLine → Bool) (opening : List ScriptLine) (
   pub cause : StopsReading may text found left end
 
 -- What the reading comes to. Where the sink failed, or the memory in a reset, nothing is said of it.
-abbrev pub ReadsTo : (ScriptLine → Bool) → List ScriptLine → List ℕ → Option (List ℕ) → PlayEnd → Type 0
-ReadsTo may opening text left Finished = EndsReading may opening text left Finished
-ReadsTo may opening text left (BadLine number) = EndsReading may opening text left (BadLine number)
-ReadsTo may opening text left ReadFailed = EndsReading may opening text left ReadFailed
-ReadsTo may opening text left SinkFailed = Unit {0}
-ReadsTo may opening text left ResetFailed = Unit {0}
+abbrev pub LinesReadTo : (ScriptLine → Bool) → List ScriptLine → List ℕ → Option (List ℕ) → PlayEnd → Type 0
+LinesReadTo may opening text left Finished = EndsReading may opening text left Finished
+LinesReadTo may opening text left (BadLine number) = EndsReading may opening text left (BadLine number)
+LinesReadTo may opening text left ReadFailed = EndsReading may opening text left ReadFailed
+LinesReadTo may opening text left SinkFailed = Unit {0}
+LinesReadTo may opening text left ResetFailed = Unit {0}
 
 -- what a line comes to: it was read, or the reading ends
 abbrev pub GivesRead : (ScriptLine → Bool) → List ScriptLine → List ℕ → ScriptReader → Option (List ℕ) → Result (Unit {0}) PlayEnd → Type 0
 GivesRead may opening text script left (Ok done) = IsReading may opening text script left
-GivesRead may opening text script left (Err end) = ReadsTo may opening text left end
+GivesRead may opening text script left (Err end) = LinesReadTo may opening text left end

@@ -3,7 +3,7 @@ use Rattle.std.proofs.Common.{◌≡◌, ℕ, Bool, true, false, List, [], ◌�
 use Rattle.std.proofs.lemmas.List.{append-nil, append_assoc}
 use Rattle.std.proofs.lemmas.List.Elements.{All-nil, All-push}
 use Rattle.byte_streams.specs.Lines.{LineList}
-use Rattle.card_sections.specs.Behind.{EndsReading, IsBadBehind, IsReading, ReadsTo, StopsReading}
+use Rattle.card_sections.specs.Behind.{EndsReading, IsBadBehind, IsReading, LinesReadTo, StopsReading}
 use Rattle.card_sections.specs.LineLaws.{AreRead-more}
 use Rattle.card_sections.specs.Reading.{Finds, Follows, GivesNext, IsUnread}
 use Rattle.card_sections.specs.Script.{AreRead}
@@ -43,7 +43,7 @@ ends_reading may opening text script left left_then end cause reading =
     record { found = reading.found; played = reading.played; read = reading.read; in_place = reading.in_place; cause = cause reading.found reading.follows }
 
 -- whatever the end is
-pub reads_to_end : (may : ScriptLine → Bool) (opening : List ScriptLine) (text : List ℕ) (left : Option (List ℕ)) (end : PlayEnd) → EndsReading may opening text left end → ReadsTo may opening text left end
+pub reads_to_end : (may : ScriptLine → Bool) (opening : List ScriptLine) (text : List ℕ) (left : Option (List ℕ)) (end : PlayEnd) → EndsReading may opening text left end → LinesReadTo may opening text left end
 reads_to_end may opening text left Finished ends = ends
 reads_to_end may opening text left (BadLine number) ends = ends
 reads_to_end may opening text left ReadFailed ends = ends

@@ -7,5 +7,5 @@ abbrev pub minds_of : {B : Type 0} → (B → AppletState) → List (Option B) �
 minds_of mind boxes = map (option_map mind) boxes
 
 -- the kind of the applet in the box on this shelf, if there is one; there is none behind the last shelf
-abbrev pub kind_on : List (Option AppletState) → ℕ → Option ℕ
-kind_on cast shelf = option_map (λ mind. mind.kind) (slice_index_or cast shelf None)
+abbrev pub kind_of_box : List (Option AppletState) → ℕ → Option ℕ
+kind_of_box cast shelf = option_map (λ mind. mind.kind) (slice_index_or cast shelf None)

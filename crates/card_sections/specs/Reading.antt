@@ -2,7 +2,7 @@
 use Rattle.std.specs.Prelude.{◌≡◌, ℕ, ◌+◌, List, [], ◌∷◌, ◌++◌, Bool, true, false, length, Option, Some, None, Result, Ok, Err}
 use Rattle.applet_trait.specs.Minds.{AppletState}
 use Rattle.byte_streams.specs.Lines.{LineList, lines}
-use Rattle.byte_streams.specs.Reading.{Reading, HasRead, IsCutShort, IsReadOut, IsTakenFor}
+use Rattle.byte_streams.specs.Reading.{Reading, HasRead, IsTextCutShort, IsReadOut, IsTakenFor}
 use Rattle.card_layout.specs.Persistent.{Persistent}
 use Rattle.card_layout.specs.declared.faults.SectionFault.{SectionFault}
 use Rattle.card_layout.specs.declared.faults.SectionFault.TheVariants.{Bad, NoRoom as has_no_room}
@@ -60,7 +60,7 @@ GivesNext text given script left line (Ok true) = Finds text given script left l
 GivesNext text given script left line (Ok false) = IsReadOut text given left × (script.number ≡ length given)
 GivesNext text given script left line (Err (BadLine number)) = GoesOn text given left IsUnread number
 GivesNext text given script left line (Err (NoRoom number)) = ⊥
-GivesNext text given script left line (Err ReadFailed) = IsCutShort text given left
+GivesNext text given script left line (Err ReadFailed) = IsTextCutShort text given left
 
 -- ---- before `start`
 
@@ -107,7 +107,7 @@ IsTooMuchHere cast card (Some bytes ∷ more) = (line : ScriptLine) × IsOnly (I
 abbrev pub StopsAt : List (Option AppletState) → List ℕ → LineList → Option Persistent → Option (List ℕ) → ScriptFault → Type 0
 StopsAt cast text given card left (BadLine number) = GoesOn text given left (IsBadHere cast card) number
 StopsAt cast text given card left (NoRoom number) = GoesOn text given left (IsTooMuchHere cast card) number
-StopsAt cast text given card left ReadFailed = IsCutShort text given left
+StopsAt cast text given card left ReadFailed = IsTextCutShort text given left
 
 pub record EndsInSection (cast : List (Option AppletState)) (first : Option Persistent) (text : List ℕ) (left : Option (List ℕ)) (fault : ScriptFault) : Type 0 where
   pub section : List ScriptLine

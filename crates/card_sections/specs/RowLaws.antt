@@ -10,7 +10,7 @@ use Rattle.card_layout.specs.Sections.{Installation, bytes_filled, df_added, df_
 use Rattle.card_layout.specs.declared.faults.SectionFault.{SectionFault}
 use Rattle.card_layout.specs.declared.shapes.Shape.{Shape}
 use Rattle.card_layout.specs.declared.shapes.Shape.TheVariants as shape
-use Rattle.card_sections.specs.Cast.{kind_on}
+use Rattle.card_sections.specs.Cast.{kind_of_box}
 use Rattle.card_sections.specs.Script.{described, then_on, with_lines}
 use Rattle.card_sections.specs.SectionLaws.{splits}
 use Rattle.script_form.specs.declared.lines.ScriptLine.{ScriptLine}
@@ -19,7 +19,7 @@ use Rattle.uicc_types.specs.declared.identifiers.FileId.{FileId}
 
 -- there is a box on the row's shelf, and the row is of its kind
 abbrev pub IsOfItsBox : List (Option AppletState) → Registration → Type 0
-IsOfItsBox cast row = kind_on cast row.shelf ≡ Some row.kind
+IsOfItsBox cast row = kind_of_box cast row.shelf ≡ Some row.kind
 
 abbrev pub AreOfTheirBoxes : List (Option AppletState) → Persistent → Type 0
 AreOfTheirBoxes cast state = All (IsOfItsBox cast) state.rows
@@ -80,9 +80,9 @@ in_installed cast None found known each = tt
 in_installed cast (Some kind) None known each = tt
 in_installed cast (Some kind) (Some installed) known each = each kind installed refl
 
-row_kept : (cast : List (Option AppletState)) (state : Persistent) (shelf priority : ℕ) (content : List ℕ) → AreOfTheirBoxes cast state → AreKept cast (row_added state shelf priority content (kind_on cast shelf))
+row_kept : (cast : List (Option AppletState)) (state : Persistent) (shelf priority : ℕ) (content : List ℕ) → AreOfTheirBoxes cast state → AreKept cast (row_added state shelf priority content (kind_of_box cast shelf))
 row_kept cast state shelf priority content all =
-    in_installed cast (kind_on cast shelf) _ _ (λ kind installed is. good_kept cast _ _ _ (with_row_kept cast state.rows _ all is))
+    in_installed cast (kind_of_box cast shelf) _ _ (λ kind installed is. good_kept cast _ _ _ (with_row_kept cast state.rows _ all is))
 
 described_kept : (cast : List (Option AppletState)) (state : Persistent) (line : ScriptLine) → AreOfTheirBoxes cast state → AreKept cast (described cast state line)
 described_kept cast state Passed all = all

@@ -8,7 +8,7 @@ use Rattle.card_layout.specs.Sections.{line_added, DfLine, EfLine, FillLine, Rec
 use Rattle.card_layout.specs.declared.faults.SectionFault.{SectionFault}
 use Rattle.card_layout.specs.declared.faults.SectionFault.TheVariants.{Bad}
 use Rattle.card_layout.specs.declared.shapes.Shape.TheVariants as shape
-use Rattle.card_sections.specs.Cast.{kind_on}
+use Rattle.card_sections.specs.Cast.{kind_of_box}
 use Rattle.script_form.specs.Forms.{IsLine}
 use Rattle.script_form.specs.Reads.{IsOnly}
 use Rattle.script_form.specs.declared.lines.ScriptLine.{ScriptLine}
@@ -48,7 +48,7 @@ file_described state line = ef_described state line
 abbrev pub described : List (Option AppletState) → Persistent → ScriptLine → Result Persistent SectionFault
 described cast state Passed = Ok state
 described cast state (Pin key value enabled unblock) = line_added state (PinLine key value.0 enabled unblock.0)
-described cast state (Row shelf priority content) = line_added state (RowLine shelf priority content (kind_on cast shelf))
+described cast state (Row shelf priority content) = line_added state (RowLine shelf priority content (kind_of_box cast shelf))
 described cast state line = file_described state line
 
 -- what goes on with what an earlier step came to, or stops at its fault

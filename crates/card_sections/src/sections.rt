@@ -1,7 +1,7 @@
 //! The first part of a script: what the card holds.
 ghost use Rattle.std.specs.Prelude.{◌≡◌, ◌<◌, List, ℕ, Option, IfSome, Ok, Err, true, false};
 ghost use Rattle.byte_streams.specs.Reading.{IsWithin};
-ghost use Rattle.card_sections.specs.Cast.{minds_of, kind_on as kind_of_box};
+ghost use Rattle.card_sections.specs.Cast.{minds_of, kind_of_box};
 ghost use Rattle.card_sections.specs.Reading.{GivesSection, GivesSectionLine, InSection, IsAdded, reading, room_of};
 ghost use Rattle.card_sections.specs.Script.{described, ef_described, file_described};
 ghost use Rattle.card_layout.specs.Persistent.{Persistent};

@@ -3,7 +3,7 @@ use Rattle.std.proofs.Common.{◌≡◌, ℕ, true, false, List, [], ◌∷◌, 
 use Rattle.std.specs.Prelude.{IfSome, IsTrue, ⊤}
 use Rattle.general_laws.specs.Optional.{if_some_at}
 use Rattle.apdu_form.specs.Model.{Apdu, command_in}
-use Rattle.card_core.specs.Cards.{IsReady, card_of}
+use Rattle.card_core.specs.Cards.{IsCardReady, card_of}
 use Rattle.card_model.specs.Counts.{IsCounted}
 use Rattle.card_model.specs.States.{IsGood, Machine}
 use Rattle.card_steps.proofs.CardLemmas.{sends_off}
@@ -107,7 +107,7 @@ module _ (counts : CountsSeeNoBytes) (old new : End) (bytes : List ℕ) where
   by_course (Passes apdu make) (Err PowerLost) left own exchanged = passed_so apdu make item.Cut item.Cut own exchanged.transmitted.0 refl
   by_course (Passes apdu make) (Err NoPower) left own exchanged = off_so old new bytes exchanged.transmitted.0 exchanged.transmitted.1
 
-  pub came_over : LinkChangesNoStep → IsReady old.parts → AreBytes bytes → IsTrue (carried bytes) → (kept : Option Answer) (result : Result ⊤ LinkFault) (left : Linked)
+  pub came_over : LinkChangesNoStep → IsCardReady old.parts → AreBytes bytes → IsTrue (carried bytes) → (kept : Option Answer) (result : Result ⊤ LinkFault) (left : Linked)
       → IfSome (command_in bytes) (λ command. Exchanges end_words old new (command_answer kept command) result left) → Comes old bytes (seen (reply_for result) left.answer) new
   came_over steps ready are_bytes carries kept result left exchanged =
       let found = carried_command bytes carries in

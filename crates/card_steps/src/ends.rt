@@ -1,6 +1,6 @@
 //! A card at its end of a link.
 ghost use Rattle.std.specs.Prelude.{◌≡◌, ◌↔◌, false, [], Err, IsErrOf, OnErr};
-ghost use Rattle.card_core.specs.Cards.{parts_of, IsReady};
+ghost use Rattle.card_core.specs.Cards.{parts_of, IsCardReady};
 ghost use Rattle.card_model.specs.Runs.{joined as plans_joined};
 ghost use Rattle.card_steps.specs.Ends.{TakesCommand, TakesReset, reply_for, with_plan_set, without_plan};
 ghost use Rattle.card_steps.specs.Stepping.{seen};
@@ -23,20 +23,20 @@ pub struct CardEnd<S: Store, B: Applet> {
 }
 
 impl<S: Store, B: Applet> Model for CardEnd<S, B> {
-    ghost use Rattle.card_core.specs.Cards.{parts_of, IsReady};
+    ghost use Rattle.card_core.specs.Cards.{parts_of, IsCardReady};
     ghost use Rattle.card_steps.specs.Ends.{End};
 
     ghost Value = { End };
 
     ghost view = { λ end. record { parts = parts_of S.Store B.Applet end.card; waiting = end.waiting } };
 
-    ghost invariant = { λ end. IsReady (parts_of S.Store B.Applet end.card) };
+    ghost invariant = { λ end. IsCardReady (parts_of S.Store B.Applet end.card) };
 }
 
 impl<S: Store, B: Applet> CardEnd<S, B> {
     /// The end of a card for which this plan waits.
     pub fn new(card: CardOver<S, B>, waiting: Plan) -> CardEnd<S, B>
-        requires { IsReady (parts_of S.Store B.Applet card) }
+        requires { IsCardReady (parts_of S.Store B.Applet card) }
         ensures parts { result.parts ≡ parts_of S.Store B.Applet card }
         ensures waiting { result.waiting ≡ waiting }
     {
@@ -47,14 +47,14 @@ impl<S: Store, B: Applet> CardEnd<S, B> {
     pub fn into_parts(self) -> (CardOver<S, B>, Plan)
         ensures parts { parts_of S.Store B.Applet result.0 ≡ self.parts }
         ensures waiting { result.1 ≡ self.waiting }
-        ensures ready { IsReady self.parts }
+        ensures ready { IsCardReady self.parts }
     {
         (self.card, self.waiting)
     }
 
     // Does nothing. The card of an end is always ready.
     pub(crate) fn is_ready(&self)
-        ensures { IsReady self.now.parts }
+        ensures { IsCardReady self.now.parts }
     {
         let _card = &self.card;
     }
@@ -118,9 +118,9 @@ fn joined(waiting: &Plan, plan: &Plan) -> Plan
 
 // Has the card reset.
 fn reset<S: Store, B: Applet>(card: &mut CardOver<S, B>) -> ResetOutcome
-    requires ready { IsReady (parts_of S.Store B.Applet card.old) }
+    requires ready { IsCardReady (parts_of S.Store B.Applet card.old) }
     ensures takes { TakesReset (parts_of S.Store B.Applet card.old) result (parts_of S.Store B.Applet card.new) }
-    ensures ready { IsReady (parts_of S.Store B.Applet card.new) }
+    ensures ready { IsCardReady (parts_of S.Store B.Applet card.new) }
 {
     runs_are_counted();
     match card.reset() {
@@ -136,10 +136,10 @@ fn send<S: Store, B: Applet>(
     apdu: &[u8],
     out: &mut Answer,
 ) -> Result<(), LinkFault>
-    requires ready { IsReady (parts_of S.Store B.Applet card.old) }
+    requires ready { IsCardReady (parts_of S.Store B.Applet card.old) }
     ensures takes { TakesCommand (parts_of S.Store B.Applet card.old) apdu.now (seen (reply_for result) out.new)
         (parts_of S.Store B.Applet card.new) }
-    ensures ready { IsReady (parts_of S.Store B.Applet card.new) }
+    ensures ready { IsCardReady (parts_of S.Store B.Applet card.new) }
     ensures off { (result ≡ Err LinkFault.NoPower) ↔ ((parts_of S.Store B.Applet card.old).is_on ≡ false) }
     ensures untouched { result ≡ Err LinkFault.NoPower → card.new ≡ card.old }
     ensures goes { result ≡ Err LinkFault.PowerLost → (parts_of S.Store B.Applet card.new).is_on ≡ false }

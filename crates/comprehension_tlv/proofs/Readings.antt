@@ -7,7 +7,7 @@ use Rattle.comprehension_tlv.specs.declared.faults.TlvFault.{TlvFault}
 use Rattle.comprehension_tlv.specs.declared.faults.TlvFault.TheVariants.{Trailing}
 use Rattle.comprehension_tlv.specs.Model.{Object, flagged, IsTag, IsLength, IsObject, IsObjects, IsTemplate}
 use Rattle.comprehension_tlv.specs.Reading.{◌>>=◌, value_at, object_at, Outline, outline, flaw, unless_fault, objects_of, IsEnding, filled, template_of}
-use Rattle.comprehension_tlv.specs.Writing.{shortest_length, tagged, spelling, spellings, IsWritable}
+use Rattle.comprehension_tlv.specs.Writing.{shortest_length, tagged, spelling, spellings, IsWritableObject}
 use Rattle.comprehension_tlv.proofs.Steps.{IsBytes, bind_ok, ok_is}
 use Rattle.comprehension_tlv.proofs.Forms.{value_takes, value_again, object_again}
 use Rattle.comprehension_tlv.proofs.Outlines.{outline_again, outline_at_is}
@@ -109,7 +109,7 @@ shortest_is len lt =
 tag_is : (flag : Bool) (tag : ℕ) → 1 ≤ tag → tag ≤ 126 → IsTag ((flagged flag 128 + tag) ∷ []) flag tag
 tag_is flag tag low high = (omega arith, omega arith, refl)
 
-spelling_is : (object : Object) → IsWritable object → IsObject (spelling object) object
+spelling_is : (object : Object) → IsWritableObject object → IsObject (spelling object) object
 unfolding tagged
 spelling_is object h =
     record {
@@ -120,7 +120,7 @@ spelling_is object h =
       whole = refl;
     }
 
-pub spellings_are : (objects : List Object) → AllByRecursion IsWritable objects → IsObjects (spellings objects) objects
+pub spellings_are : (objects : List Object) → AllByRecursion IsWritableObject objects → IsObjects (spellings objects) objects
 spellings_are [] h = refl
 spellings_are (object ∷ others) h = (spelling object, spellings others, refl, spelling_is object h.0, spellings_are others h.1)
 

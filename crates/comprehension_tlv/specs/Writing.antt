@@ -18,7 +18,7 @@ abbrev pub spellings : List Object → List ℕ
 spellings objects = flat_map spelling objects
 
 -- what has such a spelling
-pub record IsWritable (object : Object) : Type 0 where
+pub record IsWritableObject (object : Object) : Type 0 where
   pub low : 1 ≤ object.tag
   pub high : object.tag ≤ 126
   pub small : length object.value < 2 ^ 16

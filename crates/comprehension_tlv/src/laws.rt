@@ -3,7 +3,7 @@ ghost use Rattle.std.specs.Prelude.{◌≡◌, ◌<◌, ◌^◌, ◌++◌, ℕ, 
 ghost use Rattle.std.specs.List.{AllByRecursion};
 ghost use Rattle.comprehension_tlv.specs.Model.{Object, IsObject, IsObjects, IsTemplate};
 ghost use Rattle.comprehension_tlv.specs.Reading.{IsEnding, objects_of, template_of};
-ghost use Rattle.comprehension_tlv.specs.Writing.{tagged, spellings, IsWritable};
+ghost use Rattle.comprehension_tlv.specs.Writing.{tagged, spellings, IsWritableObject};
 ghost use Rattle.comprehension_tlv.specs.declared.faults.TlvFault.{TlvFault};
 
 /// No bytes have two readings, neither as a list of objects nor as a template.
@@ -29,6 +29,6 @@ pub fn exact_reading()
 
 /// What is written is in the grammar, with the objects and the content that were put in.
 pub fn exact_writing()
-    ensures objects { (objects : List Object) → AllByRecursion IsWritable objects → IsObjects (spellings objects) objects }
+    ensures objects { (objects : List Object) → AllByRecursion IsWritableObject objects → IsObjects (spellings objects) objects }
     ensures template { (tag : ℕ) (content : List ℕ) → length content < 2 ^ 16 → IsTemplate (tagged tag content) tag content }
 {}

@@ -19,7 +19,7 @@ use Rattle.file_model.specs.Outcomes.{last_of}
 use Rattle.layout_standing.specs.Known.{StandingIsOfTable}
 use Rattle.layout_standing.specs.Stores.{AgreeingStands}
 use Rattle.file_making.specs.Outcomes.{TreeOutcome}
-use Rattle.file_admin.specs.Outcomes.{passed_by, IsTreeAnswer, AnswersTree, CommitsTree, ComesTo, PassesNothing, IfNothingPasses, IsDone}
+use Rattle.file_admin.specs.Outcomes.{passed_by, IsTreeAnswer, AnswersTree, CommitsTree, TreeComesTo, PassesNothing, IfNothingPasses, IsDone}
 use Rattle.file_admin.proofs.Known.{stands_here}
 
 -- ---- causes of calls that answer with different values
@@ -87,10 +87,10 @@ module _ (of_table : StandingIsOfTable) (known : AgreeingStands) (before : Memor
       commits : CommitsTree (Ok status) before before old meaning
       commits mark content state stands = subst (λ (passed : List Persistent). before.commits ≡ raised_by (length passed) before.commits) (sym (nothing mark content state stands)) refl
 
-    pub refuses_nothing : (status : StatusWord) → ComesTo before.table meaning (λ _. Err status) → PassesNothing before.table old meaning
+    pub refuses_nothing : (status : StatusWord) → TreeComesTo before.table meaning (λ _. Err status) → PassesNothing before.table old meaning
     refuses_nothing status comes mark content state stands = ap (passed_by old) (comes mark content state stands)
 
-    pub refused : (status : StatusWord) → ComesTo before.table meaning (λ _. Err status) → IsDone (Ok status) before before old old meaning
+    pub refused : (status : StatusWord) → TreeComesTo before.table meaning (λ _. Err status) → IsDone (Ok status) before before old old meaning
     refused status comes =
         unchanged status (λ mark content state stands. refused_answer mark state (meaning state) old content before.table status stands (comes mark content state stands)) (refuses_nothing status comes)
 
@@ -131,7 +131,7 @@ module _ (of_table : StandingIsOfTable) (known : AgreeingStands) (before : Memor
 
     -- ---- commands that come to the same
 
-    module _ (other : Persistent → Result TreeOutcome StatusWord) (comes : ComesTo before.table meaning other) where
+    module _ (other : Persistent → Result TreeOutcome StatusWord) (comes : TreeComesTo before.table meaning other) where
       pub still_alike : {Holds : Type 0} → IfNothingPasses before.table old other Holds → IfNothingPasses before.table old meaning Holds
       still_alike still mark content state stands none = still mark content state stands (ap (passed_by old) (sym (comes mark content state stands)) ∙ none)
 

@@ -33,7 +33,7 @@ use Rattle.file_making.specs.Outcomes.{TreeOutcome, df_on}
 use Rattle.file_making.specs.Standing.{MadeBytesAreFree, MadeFilesStand}
 use Rattle.file_making.specs.Templates.{may_be_made}
 use Rattle.file_making.proofs.Lawful.{number_made}
-use Rattle.file_admin.specs.Outcomes.{passed_by, AnswersTree, ComesTo}
+use Rattle.file_admin.specs.Outcomes.{passed_by, AnswersTree, TreeComesTo}
 use Rattle.file_admin.specs.Written.{IsWrittenOver}
 use Rattle.file_admin.proofs.Answering.{done}
 use Rattle.file_admin.proofs.Beside.{beside_nodes}
@@ -57,7 +57,7 @@ module _ (card : StandingIsCard) (of_table : StandingIsOfTable) (tells : TablesT
         ap (λ (n : ℕ). given (made_in state n asked) NO_ROOM (λ file. Ok (creating state channels channel file))) (sym same_df)
         ∙ ap (λ (o : Option File). given o NO_ROOM (λ file. Ok (creating state channels channel file))) (made_here mark content state stands)
 
-    pub full : entry ≡ None → ComesTo table meaning (λ _. Err NO_ROOM)
+    pub full : entry ≡ None → TreeComesTo table meaning (λ _. Err NO_ROOM)
     unfolding given
     full none mark content state stands =
         found mark content state stands

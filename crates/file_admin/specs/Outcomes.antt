@@ -24,9 +24,9 @@ use Rattle.file_making.specs.Outcomes.{TreeOutcome, settled_tree, child_named}
 use Rattle.file_making.specs.Resizing.{resized}
 
 -- 9000, or the status that refuses the command
-abbrev pub status_of : {X : Type 0} → Result X StatusWord → StatusWord
-status_of (Ok outcome) = DONE
-status_of (Err status) = status
+abbrev pub tree_status_of : {X : Type 0} → Result X StatusWord → StatusWord
+tree_status_of (Ok outcome) = DONE
+tree_status_of (Err status) = status
 
 -- the states that it passes; a refused command passes none
 abbrev pub passed_by : List (Option Selection) → Result TreeOutcome StatusWord → List Persistent
@@ -59,7 +59,7 @@ resizing_by apdu seen channels = λ state. resized state seen channels (channel_
 -- it passes
 pub record IsTreeOutcome (state : Persistent) (meaning : Result TreeOutcome StatusWord) (old : List (Option Selection)) (answer : Answer) (new : List (Option Selection)) (before after : Memory) : Type 0 where
   pub body : answer.body ≡ []
-  pub status : answer.status ≡ status_of meaning
+  pub status : answer.status ≡ tree_status_of meaning
   pub channels : new ≡ (settled_tree old meaning).channels
   pub state_is : held after ≡ Some (last_of state (passed_by old meaning))
   pub commits : after.commits ≡ raised_by (length (passed_by old meaning)) before.commits
@@ -73,7 +73,7 @@ PerformsTree (Err fault) before after answer old new meaning = PassesOne (held b
 
 -- The status and what is selected are those of the outcome, and the table is that of a memory that stands for its state.
 pub record IsTreeAnswer (store_mark : ℕ) (state : Persistent) (meaning : Result TreeOutcome StatusWord) (old : List (Option Selection)) (status : StatusWord) (new : List (Option Selection)) (table : Loaded) : Type 0 where
-  pub status_is : status ≡ status_of meaning
+  pub status_is : status ≡ tree_status_of meaning
   pub channels : new ≡ (settled_tree old meaning).channels
   pub content : List ℕ
   pub stands : Stands store_mark content table (last_of state (passed_by old meaning))
@@ -89,8 +89,8 @@ CommitsTree (Ok value) before after old meaning =
 CommitsTree (Err fault) before after old meaning = after.commits ≡ before.commits
 
 -- the command comes to the same as this
-abbrev pub ComesTo : Loaded → (Persistent → Result TreeOutcome StatusWord) → (Persistent → Result TreeOutcome StatusWord) → Type 0
-ComesTo table meaning other = (store_mark : ℕ) (content : List ℕ) (state : Persistent) → Stands store_mark content table state → meaning state ≡ other state
+abbrev pub TreeComesTo : Loaded → (Persistent → Result TreeOutcome StatusWord) → (Persistent → Result TreeOutcome StatusWord) → Type 0
+TreeComesTo table meaning other = (store_mark : ℕ) (content : List ℕ) (state : Persistent) → Stands store_mark content table state → meaning state ≡ other state
 
 -- it passes no state
 abbrev pub PassesNothing : Loaded → List (Option Selection) → (Persistent → Result TreeOutcome StatusWord) → Type 0

@@ -11,7 +11,7 @@ use Rattle.uicc_types.specs.declared.runs.TraceItem.{TraceItem}
 use Rattle.uicc_types.specs.declared.runs.TraceItem.TheVariants as item
 use Rattle.script_form.specs.declared.handset.HandsetLine.{HandsetLine}
 use Rattle.handset_model.specs.History.{Happened, Said, Sent, Answered, Noted, Restarted, PowerCut, FoundOff}
-use Rattle.handset_model.specs.Legal.{TraceEntry, Seen, Shown, IsOrderly, IsOf, IsStopped, entries_of, seen}
+use Rattle.handset_model.specs.Legal.{TraceEntry, Seen, Shown, IsOrderly, IsOf, IsHandsetStopped, entries_of, seen}
 use Rattle.handset_model.specs.Rules.{asked}
 use Rattle.handset_model.specs.Sending.{apdu_of}
 use Rattle.handset_model.specs.declared.commands.Command.{Command}
@@ -321,7 +321,7 @@ module _ (goes : EventsGoOn) (others : OthersLeaveUnanswered) (reads : DetailsAr
     onto-append (PowerCut ∷ h) rest others = onto-append h (item.Cut ∷ rest) others
     onto-append (FoundOff ∷ h) rest others = onto-append h (item.Off ∷ rest) others
 
-    stopped_served : (new : Machine) (steps : List Step) (lines : List HandsetLine) (trace : List TraceEntry) → IsStopped lines trace → IsRun first steps (seen trace) new → AreServed (seen trace)
+    stopped_served : (new : Machine) (steps : List Step) (lines : List HandsetLine) (trace : List TraceEntry) → IsHandsetStopped lines trace → IsRun first steps (seen trace) new → AreServed (seen trace)
     stopped_served new steps lines trace stopped run =
         let h : List Happened = stopped.history in
         let same : seen trace ≡ onto h (item.EepromFailed ∷ []) =

@@ -101,7 +101,7 @@ pub record IsUnderway (lines : List HandsetLine) (trace : List TraceEntry) : Typ
   pub is_of : IsOf lines trace history
 
 -- the same, where at the end the memory failed in a reset that was asked for
-pub record IsStopped (lines : List HandsetLine) (trace : List TraceEntry) : Type 0 where
+pub record IsHandsetStopped (lines : List HandsetLine) (trace : List TraceEntry) : Type 0 where
   pub history : List Happened
   pub before : List TraceEntry
   pub is_of : IsOf lines before history
@@ -110,4 +110,4 @@ pub record IsStopped (lines : List HandsetLine) (trace : List TraceEntry) : Type
 
 -- the trace of a handset that was stopped at any place
 abbrev pub IsBegun : List HandsetLine → List TraceEntry → Type 0
-IsBegun lines trace = IsUnderway lines trace ⊎ IsStopped lines trace
+IsBegun lines trace = IsUnderway lines trace ⊎ IsHandsetStopped lines trace

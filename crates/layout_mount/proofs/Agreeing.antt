@@ -19,7 +19,7 @@ use Rattle.card_layout.specs.Checks.{Check, checks, first_failed, header_checks,
 use Rattle.card_layout.specs.States.{state_of}
 use Rattle.card_layout.specs.Standing.{state_in, stands_for, unless_failed, Stands}
 use Rattle.layout_mount.specs.Images.{SameEntries, IsImage}
-use Rattle.layout_mount.specs.Mounted.{IsTable, IsNoCard}
+use Rattle.layout_mount.specs.Mounted.{IsTable, HoldsNoCard}
 
 -- a part of bytes from a place on
 part_again : (bytes : List ℕ) (from count k n : ℕ) → k + n ≤ count → take n (drop k (bytes_at bytes from count)) ≡ bytes_at bytes (from + k) n
@@ -172,7 +172,7 @@ module _ (size : ℕ) (is_size : size ≡ memory_size) (image : List ℕ) (bytes
     holds = stands_over mark held table (told_long ∙ is_size) (is ∙ same_table_of held image read.same) (ap first_failed (sym (same_checks held image read.same mark)) ∙ passed);
   }
 
-  pub is_no_card : (told : Option (List ℕ)) (mark at : ℕ) → IfSome told (λ held. length held ≡ size) → IfSome told AreBytes → IsImage told image → first_failed (checks mark image) ≡ Some at → IsNoCard mark told at
+  pub is_no_card : (told : Option (List ℕ)) (mark at : ℕ) → IfSome told (λ held. length held ≡ size) → IfSome told AreBytes → IsImage told image → first_failed (checks mark image) ≡ Some at → HoldsNoCard mark told at
   is_no_card None mark at told_long told_bytes read failed =
       record { content = image; long = read.long; bytes = bytes; told_is = tt; holds = failed_over mark image at failed }
   is_no_card (Some held) mark at told_long told_bytes read failed = record {

@@ -34,8 +34,8 @@ abbrev pub IsTable : ℕ → Option (List ℕ) → Loaded → Type 0
 IsTable store_mark told table = HasRead told (λ content. Stands store_mark content table (state_of table content))
 
 -- What was read is no card's: the check at this place is the first that fails.
-abbrev pub IsNoCard : ℕ → Option (List ℕ) → ℕ → Type 0
-IsNoCard store_mark told at = HasRead told (λ content. stands_for store_mark content ≡ Err at)
+abbrev pub HoldsNoCard : ℕ → Option (List ℕ) → ℕ → Type 0
+HoldsNoCard store_mark told at = HasRead told (λ content. stands_for store_mark content ≡ Err at)
 
 -- ---- what a mount does
 
@@ -47,7 +47,7 @@ pub record Mounts (old new : Memory) : Type 0 where
 -- no recovery is due, and what was read is no card's
 pub record FindsNoCard (old new : Memory) (at : ℕ) : Type 0 where
   pub ready : new.recovered ≡ true
-  pub no_card : IsNoCard old.mark old.told at
+  pub no_card : HoldsNoCard old.mark old.told at
 
 -- Its bytes, its commits, its size and its mark stay, and each fault has its cause.
 pub record OnlyReads (old new : Memory) (IsFailed IsLost : Type 0) : Type 0 where

@@ -60,7 +60,7 @@ KeepsFirstOr store_mark state old new = KeepsFirst old new ⊎ (stands_for store
 -- ---- a store in which it is written
 
 -- After Ok no recovery is due. Whether it tells its bytes, its size and its mark stay, and each fault has its cause.
-pub record KeepsStore {S T : Type 0} (words : StoreWords S) (old new : S) (result : Result T StoreFault) : Type 0 where
+pub record KeepsLaying {S T : Type 0} (words : StoreWords S) (old new : S) (result : Result T StoreFault) : Type 0 where
   pub ready : OnOk result (words.recovered new ≡ true)
   pub told : is_some (words.stable new) ≡ is_some (words.stable old)
   pub size : words.byte_count new ≡ words.byte_count old

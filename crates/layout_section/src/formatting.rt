@@ -5,7 +5,7 @@ ghost use Rattle.uicc_types.specs.Told.{Becomes};
 ghost use Rattle.store_form.specs.Faults.{with_commit};
 ghost use Rattle.card_layout.specs.Places.{memory_size};
 ghost use Rattle.card_layout.specs.Standing.{stands_for};
-ghost use Rattle.layout_section.specs.Laying.{IsPrepared, IsWritten, FitsBefore, KeepsFirst, KeepsFirstOr, KeepsStore};
+ghost use Rattle.layout_section.specs.Laying.{IsPrepared, IsWritten, FitsBefore, KeepsFirst, KeepsFirstOr, KeepsLaying};
 
 use crate::Section;
 use crate::rows::SpelledRows;
@@ -23,7 +23,7 @@ fn write_part<S: Store>(store: &mut S, at: usize, part: &[u8]) -> Result<(), Sto
     ensures written { OnOk result (S.stable store.new ≡ option_map (patched at part.now) (S.stable store.old)) }
     ensures first { Becomes KeepsFirst (S.stable store.old) (S.stable store.new) }
     ensures commits { S.commits store.new ≡ S.commits store.old }
-    ensures keeps { KeepsStore S.Store store.old store.new result }
+    ensures keeps { KeepsLaying S.Store store.old store.new result }
 {
     store.prepare(at, part)
 }
@@ -37,7 +37,7 @@ fn write_tables<S: Store>(store: &mut S, card: &SpelledCard<'_>) -> Result<(), S
         (option_map (patched PINS card.now.pins) (S.stable store.old)))) }
     ensures first { Becomes KeepsFirst (S.stable store.old) (S.stable store.new) }
     ensures commits { S.commits store.new ≡ S.commits store.old }
-    ensures keeps { KeepsStore S.Store store.old store.new result }
+    ensures keeps { KeepsLaying S.Store store.old store.new result }
 {
     write_part(store, PINS as usize, &card.pins)?;
     write_part(store, ROWS as usize, &card.rows.lower)?;
@@ -52,7 +52,7 @@ fn write_upper<S: Store>(store: &mut S, rows: &SpelledRows) -> Result<(), StoreF
         (option_map (patched UPPER_ROWS rows.now.upper) (S.stable store.old))) }
     ensures first { Becomes KeepsFirst (S.stable store.old) (S.stable store.new) }
     ensures commits { S.commits store.new ≡ S.commits store.old }
-    ensures keeps { KeepsStore S.Store store.old store.new result }
+    ensures keeps { KeepsLaying S.Store store.old store.new result }
 {
     write_part(store, UPPER_ROWS as usize, &rows.upper)?;
     write_part(store, KEPT_APART as usize, &rows.kept)
@@ -66,7 +66,7 @@ fn prepare_card<S: Store>(store: &mut S, card: &SpelledCard<'_>) -> Result<(), S
     ensures prepared { OnOk result (IfSome (S.stable store.new) (IsPrepared card.now)) }
     ensures first { Becomes KeepsFirst (S.stable store.old) (S.stable store.new) }
     ensures commits { S.commits store.new ≡ S.commits store.old }
-    ensures keeps { KeepsStore S.Store store.old store.new result }
+    ensures keeps { KeepsLaying S.Store store.old store.new result }
 {
     write_tables(store, card)?;
     write_part(store, DATA, card.files.bytes)?;
@@ -87,7 +87,7 @@ fn commit_first<S: Store>(store: &mut S, card: &SpelledCard<'_>) -> Result<(), S
     ensures whole { OnErr result ((S.stable store.new ≡ S.stable store.old)
         ⊎ IfSome (S.stable store.new) (IsWritten card.now)) }
     ensures commits { S.commits store.new ≡ with_commit result (S.commits store.old) }
-    ensures keeps { KeepsStore S.Store store.old store.new result }
+    ensures keeps { KeepsLaying S.Store store.old store.new result }
 {
     let mut writes = Writes::new();
     match writes.add(0, &card.first) {
@@ -106,7 +106,7 @@ pub fn format<S: Store>(store: &mut S, section: &Section) -> Result<(), StoreFau
     ensures first_last { OnErr result (Becomes (KeepsFirstOr (S.store_mark store.old) section.now)
         (S.stable store.old) (S.stable store.new)) }
     ensures commits { S.commits store.new ≡ with_commit result (S.commits store.old) }
-    ensures keeps { KeepsStore S.Store store.old store.new result }
+    ensures keeps { KeepsLaying S.Store store.old store.new result }
     ensures off { (S.meter store.old).powered ≡ false →
         (result ≡ Err StoreFault.PowerLost) × (S.meter store.new ≡ S.meter store.old)
         × (S.stable store.new ≡ S.stable store.old) }

@@ -29,7 +29,7 @@ use Rattle.card_layout.specs.Events.{SetsBit, ClearsBit, SettingAddsCode, Cleari
 use Rattle.card_layout.specs.Laws.{after, KeepsBytesBeside, ChangesBytesAround, ChangesOneNode, RowsAreReadBack}
 use Rattle.layout_soundness.specs.Laws.{StandingIsSound, SoundStands}
 use Rattle.layout_changes.specs.Cards.{HasNode, HasPin, HasRow, file_if, registration_if}
-use Rattle.card_layout.specs.Changing.{with_file_at, with_row_on, with_file_changed, with_life, with_row_changed, with_codes, with_code, without_code, with_kept}
+use Rattle.card_layout.specs.Changing.{with_file_at, with_row_on, with_file_changed, with_life, with_row_changed, with_codes, with_code_committed, without_code_committed, with_kept_committed}
 use Rattle.card_layout.specs.SortedCodes.{of_sorted}
 use Rattle.layout_changes.specs.Bare.{bare_node, bare_node_ranges, bare_node_flag, bare_node_life, bare_row, bare_row_ranges, bare_row_flag, bare_row_events}
 use Rattle.layout_changes.specs.Changes.{with_node, with_row}
@@ -221,7 +221,7 @@ module _ (is_sound : StandingIsSound) (sound_stands : SoundStands) (store_mark :
     events_changed events low call_control = codes_put events (λ codes. codes_of events) low refl call_control
 
     pub registered : (set : SettingAddsCode) (code bit events : ℕ) → events < 2 ^ 12 → Contains event_codes (code, bit) → SetsBit bit row.events events → (code ≢ call_control_code) ⊎ NoOtherHasCallControl table shelf
-        → Stands store_mark (after (row_part shelf (record row { events = events }) 5 7) content) (with_row table shelf (record row { events = events })) (with_code shelf code state)
+        → Stands store_mark (after (row_part shelf (record row { events = events }) 5 7) content) (with_row table shelf (record row { events = events })) (with_code_committed shelf code state)
     registered set code bit events low known sets call_control =
         let old : List ℕ = codes_of row.events in
         let is : codes_of events ≡ sorted_codes (code ∷ old) = set code bit row.events events known sets in
@@ -231,7 +231,7 @@ module _ (is_sound : StandingIsSound) (sound_stands : SoundStands) (store_mark :
         (λ free. inr free) call_control)
 
     pub deregistered : (clear : ClearingRemovesCode) (code bit events : ℕ) → events < 2 ^ 12 → Contains event_codes (code, bit) → ClearsBit bit row.events events
-        → Stands store_mark (after (row_part shelf (record row { events = events }) 5 7) content) (with_row table shelf (record row { events = events })) (without_code shelf code state)
+        → Stands store_mark (after (row_part shelf (record row { events = events }) 5 7) content) (with_row table shelf (record row { events = events })) (without_code_committed shelf code state)
     deregistered clear code bit events low known clears =
         let old : List ℕ = codes_of row.events in
         let is : codes_of events ≡ filter (λ other. not (other == code)) old = clear code bit row.events events known clears in
@@ -251,13 +251,13 @@ module _ (is_sound : StandingIsSound) (sound_stands : SoundStands) (store_mark :
         (with_row_anew state this_sound (registration_of shelf row) (registration_of shelf row).codes kept (row_in shelf row has) (row_sound shelf row has).codes few (inl (λ had. had)))
 
     -- the state with the row that keeps these bytes
-    kept_in_place : (kept : List ℕ) → with_row_on state shelf (registration_if shelf (keeping kept)) ≡ with_kept shelf kept state
+    kept_in_place : (kept : List ℕ) → with_row_on state shelf (registration_if shelf (keeping kept)) ≡ with_kept_committed shelf kept state
     unfolding keeping
     kept_in_place kept =
         ap (λ (r : Option Registration). with_row_on state shelf r) (shown_new shelf (keeping kept) has.used) ∙ in_place shelf row (λ r. record r { kept = kept }) has
 
     pub kept_stands : (back : RowsAreReadBack) (commit : ChangesKeptBytes) (to : ℕ) (kept : List ℕ) → length kept ≤ 32 → 19 + length kept ≤ to → to ≤ 51
-        → Stands store_mark (after (row_part shelf (record row { kept = kept }) 18 to) content) (with_row table shelf (record row { kept = kept })) (with_kept shelf kept state)
+        → Stands store_mark (after (row_part shelf (record row { kept = kept }) 18 to) content) (with_row table shelf (record row { kept = kept })) (with_kept_committed shelf kept state)
     unfolding keeping
     kept_stands back commit to kept few enough inside =
         let new : Row = record row { kept = kept } in
@@ -279,7 +279,7 @@ module _ (is_sound : StandingIsSound) (sound_stands : SoundStands) (store_mark :
         )
 
     pub apart_stands : (commit : ChangesBytesApart) (new : Row) → table.wide ≡ true → length new.kept ≤ 64
-        → Stands store_mark (after (kept_part shelf new) content) (with_row table shelf (record row { kept = kept_anew row.kept new.kept })) (with_kept shelf (kept_anew row.kept new.kept) state)
+        → Stands store_mark (after (kept_part shelf new) content) (with_row table shelf (record row { kept = kept_anew row.kept new.kept })) (with_kept_committed shelf (kept_anew row.kept new.kept) state)
     unfolding keeping
     apart_stands commit new is few =
         let kept : List ℕ = kept_anew row.kept new.kept in

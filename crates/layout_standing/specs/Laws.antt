@@ -19,7 +19,7 @@ use Rattle.card_layout.specs.Fields.{kept_anew, reread_node, reread_pin, reread_
 use Rattle.card_layout.specs.Events.{SetsBit, ClearsBit}
 use Rattle.card_layout.specs.Laws.{after}
 use Rattle.layout_changes.specs.Cards.{HasNode, HasPin, HasRow, file_if, pin_if, registration_if, LiesAmongFiles, IsFreeRange}
-use Rattle.card_layout.specs.Changing.{with_file_at, with_row_on, with_pin_in, with_pin_for, with_bytes, with_record, with_newest_record, with_life, with_codes, with_code, without_code, with_kept}
+use Rattle.card_layout.specs.Changing.{with_file_at, with_row_on, with_pin_in, with_pin_for, with_bytes, with_record, with_newest_record, with_life, with_codes, with_code_committed, without_code_committed, with_kept_committed}
 use Rattle.layout_changes.specs.Changes.{with_node, with_slot, with_row}
 use Rattle.layout_changes.specs.Laws.{kept_pieces, oldest, place_in_ring}
 use Rattle.layout_standing.specs.Fitting.{FitsAmong, IsFileAnew, FitsOnShelf, IsRowAnew}
@@ -119,21 +119,21 @@ RegisteredStands =
     (store_mark : ℕ) (content : List ℕ) (table : Loaded) (state : Persistent) (shelf code bit events : ℕ) (row : Row)
     → Stands store_mark content table state → HasRow table shelf row → events < 2 ^ 12 → Contains event_codes (code, bit) → SetsBit bit row.events events
     → (code ≢ call_control_code) ⊎ NoOtherHasCallControl table shelf
-    → Stands store_mark (after (row_part shelf (record row { events = events }) 5 7) content) (with_row table shelf (record row { events = events })) (with_code shelf code state)
+    → Stands store_mark (after (row_part shelf (record row { events = events }) 5 7) content) (with_row table shelf (record row { events = events })) (with_code_committed shelf code state)
 
 -- One event less: the bit of its code is cleared.
 abbrev pub DeregisteredStands : Type 0
 DeregisteredStands =
     (store_mark : ℕ) (content : List ℕ) (table : Loaded) (state : Persistent) (shelf code bit events : ℕ) (row : Row)
     → Stands store_mark content table state → HasRow table shelf row → events < 2 ^ 12 → Contains event_codes (code, bit) → ClearsBit bit row.events events
-    → Stands store_mark (after (row_part shelf (record row { events = events }) 5 7) content) (with_row table shelf (record row { events = events })) (without_code shelf code state)
+    → Stands store_mark (after (row_part shelf (record row { events = events }) 5 7) content) (with_row table shelf (record row { events = events })) (without_code_committed shelf code state)
 
 -- at most 32 bytes that a used row keeps, with their length, and any number of the bytes behind them
 abbrev pub KeptBytesStand : Type 0
 KeptBytesStand =
     (store_mark : ℕ) (content : List ℕ) (table : Loaded) (state : Persistent) (shelf to : ℕ) (kept : List ℕ) (row : Row)
     → Stands store_mark content table state → HasRow table shelf row → length kept ≤ 32 → 19 + length kept ≤ to → to ≤ 51
-    → Stands store_mark (after (row_part shelf (record row { kept = kept }) 18 to) content) (with_row table shelf (record row { kept = kept })) (with_kept shelf kept state)
+    → Stands store_mark (after (row_part shelf (record row { kept = kept }) 18 to) content) (with_row table shelf (record row { kept = kept })) (with_kept_committed shelf kept state)
 
 -- of the bytes that a used row keeps those that stand apart, from the 33rd on: it keeps as many as before
 abbrev pub BytesApartStand : Type 0
@@ -141,7 +141,7 @@ BytesApartStand =
     (store_mark : ℕ) (content : List ℕ) (table : Loaded) (state : Persistent) (shelf : ℕ) (old new : Row)
     → Stands store_mark content table state → HasRow table shelf old → table.wide ≡ true → length new.kept ≤ 64
     → (let kept = kept_anew old.kept new.kept in
-    Stands store_mark (after (kept_part shelf new) content) (with_row table shelf (record old { kept = kept })) (with_kept shelf kept state))
+    Stands store_mark (after (kept_part shelf new) content) (with_row table shelf (record old { kept = kept })) (with_kept_committed shelf kept state))
 
 -- any bytes of a row, also some that cut a field
 abbrev pub RereadRowStands : Type 0

@@ -14,12 +14,12 @@ use Rattle.t0_link.specs.declared.instructions.TheConstants.{GET_RESPONSE, STATU
 use Rattle.t0_link.specs.declared.tpdus.Transfer.TheVariants.{GetResponse, Outgoing, Incoming}
 use Rattle.t0_link.specs.Tpdus.{is_outgoing}
 use Rattle.t0_link.specs.Linking.{Course, Answers, Passes, status_alone}
-use Rattle.t0_link.specs.Carrying.{is_carried_by, command_answer, front_of, cut_to as cut_answer_to}
+use Rattle.t0_link.specs.Carrying.{is_carried_by, command_answer, front_of, cut_answer_to}
 use Rattle.t0_link.specs.Passing.{IsPlain, GivesAnswer, passed_by, passed_apdu}
 use Rattle.t0_link.proofs.Passed.{carried_gives, no_data}
 use Rattle.card_model.specs.Answers.{Answered, answer_of}
 use Rattle.card_model.specs.Instructions.{has_toolkit}
-use Rattle.card_model.specs.Laws.{IsKnownStatus, IsStatusOf, statuses, tree_statuses, AnswersAreLawful, IsLawfulAnswer, is_of_tree_named, key_named}
+use Rattle.card_model.specs.Laws.{IsKnownStatus, IsStatusOf, statuses, tree_statuses, PlainAnswersAreLawful, IsLawfulAnswer, is_of_tree_named, key_named}
 use Rattle.card_model.specs.States.{CardState, IsGood}
 use Rattle.card_model.specs.declared.instructions.Instruction.{Instruction}
 use Rattle.session_laws.specs.Lawful.{IsStatus, toolkit_statuses, IsLawfulWithApplets, AnswersAreLawful as AnswersWithAppletsAreLawful}
@@ -59,7 +59,7 @@ status_plain of_tree status (inl known) = answered_plain of_tree status known
 status_plain of_tree status (inr there) = listed_plain toolkit_statuses (refl, (refl, (refl, tt))) status there
 
 -- a good card's answers fit, whether it runs applets or not
-module _ (without : AnswersAreLawful) (with_applets : AnswersWithAppletsAreLawful) (knows : Instruction → Bool) (card : CardState) (good : IsGood card) where
+module _ (without : PlainAnswersAreLawful) (with_applets : AnswersWithAppletsAreLawful) (knows : Instruction → Bool) (card : CardState) (good : IsGood card) where
   pub answers_fit : (bytes : List ℕ) → AreBytes bytes → Fits (answer_of knows card bytes)
   answers_fit bytes are = by_applets (has_toolkit knows) refl where
     by_applets : (runs : Bool) → has_toolkit knows ≡ runs → Fits (answer_of knows card bytes)
@@ -163,7 +163,7 @@ module _ (knows : Instruction → Bool) (card : CardState) (good : IsGood card) 
           failed = gives.1 (status_alone MEMORY_PROBLEM) (omega arith) (eqb-false (0x6581 / 256) 0x61 refl) ∙ ap (λ (data' : List ℕ). record { answer = record { body = data'; status = MEMORY_PROBLEM }; kept = None }) (none_in expected);
         })
 
-pub changes_none : AnswersAreLawful → AnswersWithAppletsAreLawful → LinkChangesNoAnswer
+pub changes_none : PlainAnswersAreLawful → AnswersWithAppletsAreLawful → LinkChangesNoAnswer
 changes_none without with_applets knows card kept bytes command good are read known =
     let fit : (each : List ℕ) → AreBytes each → Fits (answer_of knows card each) = answers_fit without with_applets knows card good in
     given_own knows card good fit bytes are command.class command.ins command.p1 command.p2 command.body command.expected (passed_apdu command) (command_answer kept command) (carried_gives kept command known)

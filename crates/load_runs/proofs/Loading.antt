@@ -4,7 +4,7 @@ use Rattle.std.proofs.lemmas.List.{append-nil, append_assoc, reverse-append, rev
 use Rattle.std.specs.List.{flat_map}
 use Rattle.card_core.specs.Parts.{CardParts}
 use Rattle.card_model.specs.Counts.{IsCounted}
-use Rattle.card_model.specs.Runs.{armed, armed_after}
+use Rattle.card_model.specs.Runs.{plan_given, armed_after}
 use Rattle.card_steps.specs.Standing.{machine_minds, machine_stands}
 use Rattle.card_steps.specs.Stepping.{Moment, moment}
 use Rattle.card_steps.specs.declared.steps.StepEnd.TheVariants.{ResetFailed}
@@ -120,7 +120,7 @@ none_armed (step.Plan plan ∷ taken) plan_nothing = absurd plan_nothing.0
 reverse_twice : (back : List PhoneLine) (told : List PhoneLine) → reverse back ≡ told → back ≡ reverse told
 reverse_twice back told same = sym (reverse-reverse back) ∙ ap reverse same
 
-plans_nothing : (made : List HandsetLine) (log : List Event) → lines log ≡ all_heard made → armed (steps log) ≡ []
+plans_nothing : (made : List HandsetLine) (log : List Event) → lines log ≡ all_heard made → plan_given (steps log) ≡ []
 plans_nothing made log told =
     none_armed (steps log)
     (every-reverse PlansNothing (steps_back log)

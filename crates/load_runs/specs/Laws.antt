@@ -13,7 +13,7 @@ pub record IsCalmLoad (made : List HandsetLine) (given : Beginning) (counts : Co
   pub calm : CountsNoFault given.meter now.meter
 
 -- Lines and a card with power determine what is counted there, and what the memory holds at the end.
-abbrev pub LoadsAreOne : Type 0
-LoadsAreOne =
+abbrev pub LoadRunsAreOne : Type 0
+LoadRunsAreOne =
     (made : List HandsetLine) (given : Beginning) (counts others : Counts) (now left : Moment) → given.first.on ≡ true
     → IsCalmLoad made given counts now → IsCalmLoad made given others left → (counts ≡ others) × (now.held ≡ left.held)

@@ -1,5 +1,5 @@
 //! What holds of long runs. The function does nothing: its contract is the law.
-ghost use Rattle.load_runs.specs.Laws.{LoadsAreOne};
+ghost use Rattle.load_runs.specs.Laws.{LoadRunsAreOne};
 
 use phone_runs::phone_runs_are_one;
 use run_laws::undisturbed_runs_show_no_fault;
@@ -7,7 +7,7 @@ use run_laws::undisturbed_runs_show_no_fault;
 /// What is counted in the trace of a long run is determined by its lines and its card, where the device of the memory counts no fault
 /// and the card has power at first. The lines are those that the number and the count make.
 pub fn loads_are_one()
-    ensures { LoadsAreOne }
+    ensures { LoadRunsAreOne }
 {
     phone_runs_are_one();
     undisturbed_runs_show_no_fault();

@@ -25,7 +25,7 @@ use Rattle.terminal_side.specs.Kept.{Kept, clock_kept, kept, then_done, with_nex
 use Rattle.toolkit_commands.specs.declared.commands.Proactive.{Proactive}
 use Rattle.toolkit_commands.specs.declared.commands.Proactive.TheVariants.{DisplayText, SelectItem}
 use Rattle.uicc_types.specs.declared.answers.Answer.{Answer}
-use Rattle.phone_runs.specs.Serving.{IsServed, IsServedMore, replied, reset_by, work_at}
+use Rattle.phone_runs.specs.Serving.{IsPhoneServed, IsServedMore, replied, reset_by, work_at}
 
 -- ---- what is kept
 
@@ -222,7 +222,7 @@ heard_calm false line known = said_calm line known
 no_await : (duty : Duty) → awaits duty ≡ false → duty ≡ Await → ⊥
 no_await duty calm is = let same = ap awaits is in cc
 
-pub said_served : (new : Kept) (h : List Happened) (line : HandsetLine) → IsOrderly h → asked h ≡ Rest → new ≡ kept (Said line ∷ h) → IsServed new
+pub said_served : (new : Kept) (h : List Happened) (line : HandsetLine) → IsOrderly h → asked h ≡ Rest → new ≡ kept (Said line ∷ h) → IsPhoneServed new
 said_served new h line orderly rest is = record {
   history = Said line ∷ h;
   keeps = is;

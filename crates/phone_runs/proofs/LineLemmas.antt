@@ -5,7 +5,7 @@ use Rattle.std.proofs.lemmas.List.Elements.{All-nil, All-push}
 use Rattle.std.proofs.lemmas.Grind.{flat_map-append}
 use Rattle.byte_streams.specs.Lines.{LineList}
 use Rattle.card_core.specs.Parts.{CardParts}
-use Rattle.card_sections.specs.Behind.{ReadsTo, StopsReading}
+use Rattle.card_sections.specs.Behind.{LinesReadTo, StopsReading}
 use Rattle.card_sections.specs.LineLaws.{AreRead-more}
 use Rattle.card_sections.specs.Reading.{Finds, Follows}
 use Rattle.card_sections.specs.Script.{AreRead}
@@ -16,13 +16,13 @@ use Rattle.card_steps.specs.Standing.{machine_minds, machine_stands}
 use Rattle.card_steps.specs.Stepping.{Moment, moment}
 use Rattle.card_steps.specs.declared.steps.StepEnd.{StepEnd}
 use Rattle.card_steps.specs.declared.steps.StepEnd.TheVariants as step_end
-use Rattle.phone_runs.specs.Effects.{may_follow, phone_lines, phone_lines_of}
+use Rattle.phone_runs.specs.Effects.{may_be_heard, phone_lines, phone_lines_of}
 use Rattle.phone_runs.specs.Logs.{PhoneLine, lines_back}
 use Rattle.phone_runs.specs.Runs.{Beginning, Rests, RunEnds}
 use Rattle.script_form.specs.Forms.{IsLine}
 use Rattle.script_form.specs.Reads.{IsOnly}
 use Rattle.script_form.specs.declared.lines.ScriptLine.{ScriptLine}
-use Rattle.phone_runs.specs.Lines.{AreServed, ComesTo, EndsAmid, EndsSo, IsServing, StandsAtStart, StopsAmid, told_back}
+use Rattle.phone_runs.specs.Lines.{AreServed, PhoneComesTo, EndsAmid, PhoneEnds, IsServing, StandsAtStart, StopsAmid, told_back}
 use Rattle.terminal_side.specs.Kept.{Kept}
 use Rattle.uicc_types.specs.declared.plans.Plan.{Plan}
 
@@ -39,13 +39,13 @@ told_one played line one is =
 -- ---- the lines that were read
 
 served_none : (opening : List ScriptLine) (found : LineList) → AreRead found opening → AreServed opening found []
-served_none opening found read = record { read = subst (AreRead found) (sym (append-nil opening)) read; in_place = All-nil (λ line. may_follow line ≡ true) }
+served_none opening found read = record { read = subst (AreRead found) (sym (append-nil opening)) read; in_place = All-nil (λ line. may_be_heard line ≡ true) }
 
-served_more : (opening : List ScriptLine) (found : LineList) (played : List ScriptLine) (bytes : List ℕ) (line : ScriptLine) → AreServed opening found played → IsOnly (IsLine bytes) line → may_follow line ≡ true
+served_more : (opening : List ScriptLine) (found : LineList) (played : List ScriptLine) (bytes : List ℕ) (line : ScriptLine) → AreServed opening found played → IsOnly (IsLine bytes) line → may_be_heard line ≡ true
     → AreServed opening (found ++ Some bytes ∷ []) (played ++ line ∷ [])
 served_more opening found played bytes line so_far only may = record {
   read = subst (AreRead (found ++ Some bytes ∷ [])) (append_assoc opening played (line ∷ [])) (AreRead-more found (opening ++ played) bytes line so_far.read only);
-  in_place = All-push (λ l. may_follow l ≡ true) played line so_far.in_place may;
+  in_place = All-push (λ l. may_be_heard l ≡ true) played line so_far.in_place may;
 }
 
 -- ---- where it goes on
@@ -66,7 +66,7 @@ starts_serving text opening given script left phone from now stands started = re
 
 -- a line that does nothing
 pub serves_on : (text : List ℕ) (opening : List ScriptLine) (given : Beginning) (script next : ScriptReader) (left left_then : Option (List ℕ)) (phone : Kept) (now : Moment) (line : ScriptLine)
-    → ((found : LineList) → Follows text found script left → Finds text found next left_then line) → may_follow line ≡ true → phone_lines_of line ≡ []
+    → ((found : LineList) → Follows text found script left → Finds text found next left_then line) → may_be_heard line ≡ true → phone_lines_of line ≡ []
     → IsServing text opening given script left phone now → IsServing text opening given next left_then phone now
 serves_on text opening given script next left left_then phone now line search_so may none serving =
     let finds = search_so serving.found serving.follows in
@@ -83,7 +83,7 @@ serves_on text opening given script next left left_then phone now line search_so
 
 -- a line that the handset is told
 pub serves_further : (text : List ℕ) (opening : List ScriptLine) (given : Beginning) (script next : ScriptReader) (left left_then : Option (List ℕ)) (phone phone_then : Kept) (from to : Moment) (line : ScriptLine) (one : PhoneLine)
-    → ((found : LineList) → Follows text found script left → Finds text found next left_then line) → may_follow line ≡ true → phone_lines_of line ≡ one ∷ []
+    → ((found : LineList) → Follows text found script left → Finds text found next left_then line) → may_be_heard line ≡ true → phone_lines_of line ≡ one ∷ []
     → (serving : IsServing text opening given script left phone from) → Rests given (one ∷ lines_back serving.log) phone_then to
     → IsServing text opening given next left_then phone_then to
 serves_further text opening given script next left left_then phone phone_then from to line one search_so may is serving further =
@@ -115,7 +115,7 @@ stops_at_start text opening given script left from now end stands ended = record
 
 -- in what a line asks for
 pub stops_in_line : (text : List ℕ) (opening : List ScriptLine) (given : Beginning) (script next : ScriptReader) (left left_then : Option (List ℕ)) (phone : Kept) (from to : Moment) (line : ScriptLine) (one : PhoneLine) (end : StepEnd)
-    → ((found : LineList) → Follows text found script left → Finds text found next left_then line) → may_follow line ≡ true → phone_lines_of line ≡ one ∷ []
+    → ((found : LineList) → Follows text found script left → Finds text found next left_then line) → may_be_heard line ≡ true → phone_lines_of line ≡ one ∷ []
     → (serving : IsServing text opening given script left phone from) → RunEnds given (one ∷ lines_back serving.log) to end
     → StopsAmid text opening given end to
 stops_in_line text opening given script next left left_then phone from to line one end search_so may is serving ended =
@@ -130,21 +130,21 @@ stops_in_line text opening given script next left left_then phone from to line o
     }
 
 -- a step that was the last
-pub ends_amid : (text : List ℕ) (opening : List ScriptLine) (given : Beginning) (left : Option (List ℕ)) (end : StepEnd) (why : PlayEnd) (now : Moment) → EndsAmid end why → StopsAmid text opening given end now → ComesTo text opening given left why now
-ends_amid text opening given left step_end.SinkFailed why now is stops = subst (λ (w : PlayEnd). ComesTo text opening given left w now) (sym is) stops
-ends_amid text opening given left step_end.ResetFailed why now is stops = subst (λ (w : PlayEnd). ComesTo text opening given left w now) (sym is) stops
+pub ends_amid : (text : List ℕ) (opening : List ScriptLine) (given : Beginning) (left : Option (List ℕ)) (end : StepEnd) (why : PlayEnd) (now : Moment) → EndsAmid end why → StopsAmid text opening given end now → PhoneComesTo text opening given left why now
+ends_amid text opening given left step_end.SinkFailed why now is stops = subst (λ (w : PlayEnd). PhoneComesTo text opening given left w now) (sym is) stops
+ends_amid text opening given left step_end.ResetFailed why now is stops = subst (λ (w : PlayEnd). PhoneComesTo text opening given left w now) (sym is) stops
 
 -- of the lines that were read nothing is said there
-pub unread_amid : (opening : List ScriptLine) (text : List ℕ) (left : Option (List ℕ)) (end : StepEnd) (why : PlayEnd) → EndsAmid end why → ReadsTo may_follow opening text left why
-unread_amid opening text left step_end.SinkFailed why is = subst (λ (w : PlayEnd). ReadsTo may_follow opening text left w) (sym is) tt
-unread_amid opening text left step_end.ResetFailed why is = subst (λ (w : PlayEnd). ReadsTo may_follow opening text left w) (sym is) tt
+pub unread_amid : (opening : List ScriptLine) (text : List ℕ) (left : Option (List ℕ)) (end : StepEnd) (why : PlayEnd) → EndsAmid end why → LinesReadTo may_be_heard opening text left why
+unread_amid opening text left step_end.SinkFailed why is = subst (λ (w : PlayEnd). LinesReadTo may_be_heard opening text left w) (sym is) tt
+unread_amid opening text left step_end.ResetFailed why is = subst (λ (w : PlayEnd). LinesReadTo may_be_heard opening text left w) (sym is) tt
 
 -- ---- where no more are read
 
 -- the lines end behind those that were read
 pub ends_serving : (text : List ℕ) (opening : List ScriptLine) (given : Beginning) (script : ScriptReader) (left left_then : Option (List ℕ)) (end : PlayEnd) (phone : Kept) (parts : CardParts) (taken : Option (List ℕ)) (waiting : Plan)
-    → ((found : LineList) → Follows text found script left → StopsReading may_follow text found left_then end)
-    → IsServing text opening given script left phone (moment parts taken waiting) → EndsSo text opening given left_then end (moment parts taken waiting)
+    → ((found : LineList) → Follows text found script left → StopsReading may_be_heard text found left_then end)
+    → IsServing text opening given script left phone (moment parts taken waiting) → PhoneEnds text opening given left_then end (moment parts taken waiting)
 ends_serving text opening given script left left_then end phone parts taken waiting cause serving = record {
   found = serving.found;
   played = serving.played;
@@ -162,7 +162,7 @@ ends_serving text opening given script left left_then end phone parts taken wait
 }
 
 -- whatever the end is
-pub lines_end : (text : List ℕ) (opening : List ScriptLine) (given : Beginning) (left : Option (List ℕ)) (end : PlayEnd) (now : Moment) → EndsSo text opening given left end now → ComesTo text opening given left end now
+pub lines_end : (text : List ℕ) (opening : List ScriptLine) (given : Beginning) (left : Option (List ℕ)) (end : PlayEnd) (now : Moment) → PhoneEnds text opening given left end now → PhoneComesTo text opening given left end now
 lines_end text opening given left Finished now ends = ends
 lines_end text opening given left (BadLine number) now ends = ends
 lines_end text opening given left ReadFailed now ends = ends

@@ -4,7 +4,7 @@ use Rattle.std.proofs.lemmas.List.{append-nil, reverse-append}
 use Rattle.std.proofs.lemmas.List.Concat.{flat_map-append}
 use Rattle.card_model.specs.Counts.{IsCounted}
 use Rattle.card_model.specs.Laws.{CountsJoin, PlansAreSetInOrder}
-use Rattle.card_model.specs.Runs.{armed, armed_after, joined, waiting_after}
+use Rattle.card_model.specs.Runs.{plan_given, armed_after, joined, waiting_after}
 use Rattle.card_model.specs.States.{Machine}
 use Rattle.card_steps.specs.Ends.{End, moment_at}
 use Rattle.card_steps.specs.RunLaws.{calm_before, calm_behind, run_one, run_then}
@@ -60,8 +60,8 @@ pub record GoesOnBy (log later : List Event) (step : Step) (items : List TraceIt
   pub in_turn : AreInTurn log → AreInTurn later
 
 plans_behind : PlansAreSetInOrder → (steps_so : List Step) (step : Step) (waiting : Plan) → waiting ≡ waiting_after NONE steps_so
-    → armed steps_so ++ armed_after waiting (step ∷ []) ≡ armed (steps_so ++ step ∷ [])
-plans_behind order steps_so step waiting waits = ap (λ w. armed steps_so ++ armed_after w (step ∷ [])) waits ∙ sym (order NONE steps_so (step ∷ [])).0
+    → plan_given steps_so ++ armed_after waiting (step ∷ []) ≡ plan_given (steps_so ++ step ∷ [])
+plans_behind order steps_so step waiting waits = ap (λ w. plan_given steps_so ++ armed_after w (step ∷ [])) waits ∙ sym (order NONE steps_so (step ∷ [])).0
 
 waiting_behind : PlansAreSetInOrder → (steps_so : List Step) (step : Step) (waiting : Plan) → waiting ≡ waiting_after NONE steps_so
     → waiting_after waiting (step ∷ []) ≡ waiting_after NONE (steps_so ++ step ∷ [])
@@ -90,10 +90,10 @@ reaches_by join order given log later step items phone mid from to goes keeps ta
       told = taken.told;
       written = taken.written ∙ ap Some (append_assoc given.before (entries_text (trace log)) (text_of taken.shown)
           ∙ ap (λ i. given.before ++ (entries_text (trace log) ++ text_of i)) showing.shows ∙ ap (λ rest. given.before ++ rest) (sym goes.text_is));
-      counted = subst (λ s. IsCounted given.meter to.meter (armed s) (shown later)) (sym goes.steps_are)
-          (subst (λ i. IsCounted given.meter to.meter (armed (steps log ++ step ∷ [])) i) (ap (λ i. shown log ++ i) showing.shows ∙ sym goes.shown_is)
+      counted = subst (λ s. IsCounted given.meter to.meter (plan_given s) (shown later)) (sym goes.steps_are)
+          (subst (λ i. IsCounted given.meter to.meter (plan_given (steps log ++ step ∷ [])) i) (ap (λ i. shown log ++ i) showing.shows ∙ sym goes.shown_is)
           (subst (λ l. IsCounted given.meter to.meter l (shown log ++ taken.shown)) (plans_behind order (steps log) step from.waiting at.waits)
-          (join given.meter from.meter to.meter (armed (steps log)) (armed_after from.waiting (step ∷ [])) (shown log) taken.shown at.counted taken.counted)));
+          (join given.meter from.meter to.meter (plan_given (steps log)) (armed_after from.waiting (step ∷ [])) (shown log) taken.shown at.counted taken.counted)));
       waits = taken.waits ∙ waiting_behind order (steps log) step from.waiting at.waits ∙ ap (λ s. waiting_after NONE s) (sym goes.steps_are);
       rests = λ calm. rests_then at showing calm;
     }
@@ -120,7 +120,7 @@ fails_by join order given log phone from to resets ends at =
       stands = last.stands;
       written = last.written;
       counted = subst (λ l. IsCounted given.meter to.meter l (shown log ++ last.shown)) (plans_behind order (steps log) step.Reset from.waiting at.waits)
-          (join given.meter from.meter to.meter (armed (steps log)) (armed_after from.waiting (step.Reset ∷ [])) (shown log) last.shown at.counted last.counted);
+          (join given.meter from.meter to.meter (plan_given (steps log)) (armed_after from.waiting (step.Reset ∷ [])) (shown log) last.shown at.counted last.counted);
     }
 
 -- the sink failed in a step
@@ -137,7 +137,7 @@ breaks_by join given log phone step from to breaks at =
       cut_off = broken.cut_off;
       stands = broken.stands;
       written = broken.written;
-      counted = join given.meter from.meter to.meter (armed (steps log)) broken.set (shown log) broken.pending at.counted broken.counted;
+      counted = join given.meter from.meter to.meter (plan_given (steps log)) broken.set (shown log) broken.pending at.counted broken.counted;
     }
 
 broken_at : (given : Beginning) (log : List Event) (old : Machine) (now : Moment) (duty : Duty) → asked (history log) ≡ duty → IsPhoneRun given.first log old → BreaksIn given log old now duty → BreaksSo given (lines_back log) now
@@ -284,7 +284,7 @@ reaches_noted given log note old new from taken is more keeps at = record {
     keeps = keeps;
     told = at.told;
     written = more (given.before ++ entries_text (trace log)) at.written ∙ ap Some (append_assoc given.before (entries_text (trace log)) (note_line note) ∙ ap (λ rest. given.before ++ rest) (sym (text_noted note log)));
-    counted = subst (λ i. IsCounted given.meter from.meter (armed (steps log)) i) (sym (shown_noted note log)) at.counted;
+    counted = subst (λ i. IsCounted given.meter from.meter (plan_given (steps log)) i) (sym (shown_noted note log)) at.counted;
     waits = at.waits;
     rests = λ calm. at.rests (subst (λ i. ends_calm i ≡ true) (shown_noted note log) calm);
   };
@@ -340,7 +340,7 @@ plans_so order given log plan phone now rest at = record {
   keeps = at.keeps;
   told = at.told;
   written = at.written;
-  counted = subst (λ l. IsCounted given.meter now.meter l (shown log)) (sym (append-nil (armed (steps log))) ∙ sym (order NONE (steps log) (step.Plan plan ∷ [])).0 ∙ ap (λ s. armed s) (sym (steps_planned plan log))) at.counted;
+  counted = subst (λ l. IsCounted given.meter now.meter l (shown log)) (sym (append-nil (plan_given (steps log))) ∙ sym (order NONE (steps log) (step.Plan plan ∷ [])).0 ∙ ap (λ s. plan_given s) (sym (steps_planned plan log))) at.counted;
   waits = ap (λ w. joined w plan) at.waits ∙ sym (order NONE (steps log) (step.Plan plan ∷ [])).1 ∙ ap (λ s. waiting_after NONE s) (sym (steps_planned plan log));
   rests = at.rests;
 }

@@ -26,7 +26,7 @@ use Rattle.uicc_types.specs.declared.runs.Step.{Step}
 use Rattle.uicc_types.specs.declared.runs.Step.TheVariants as step
 use Rattle.uicc_types.specs.declared.runs.TraceItem.{TraceItem}
 use Rattle.uicc_types.specs.declared.runs.TraceItem.TheVariants as item
-use Rattle.phone_runs.specs.Laws.{IsUndisturbed, TracesAreOne}
+use Rattle.phone_runs.specs.Laws.{IsPhoneUndisturbed, PhoneRunsAreOne}
 use Rattle.phone_runs.specs.Logs.{Event, Happens, Plans, AreInTurn, PhoneLine, Hears, Arms, cut_steps, history, lines_back, shown, steps, steps_back, trace}
 
 -- ---- what happens from somewhere on, oldest first
@@ -457,7 +457,7 @@ module _ (runs : RunsAreOne) where
 
   -- ---- whole runs
 
-  onward : (first : Machine) (told : List PhoneLine) (log : List Event) (now : Machine) → IsUndisturbed first told log now → Onward [] first (reverse log) now
+  onward : (first : Machine) (told : List PhoneLine) (log : List Event) (now : Machine) → IsPhoneUndisturbed first told log now → Onward [] first (reverse log) now
   onward first told log now run =
       let items : items_on (reverse log) ≡ shown log = ap seen (entries_onto log []) in
       record {
@@ -467,7 +467,7 @@ module _ (runs : RunsAreOne) where
         rests = subst (λ l. asked (history l) ≡ Rest) (sym (reverse-reverse log)) run.rests;
       }
 
-  pub traces_are_one : TracesAreOne
+  pub traces_are_one : PhoneRunsAreOne
   traces_are_one first now left told log other a b =
       let told_same : lines_on (reverse log) ≡ lines_on (reverse other) = lines_onto log [] ∙ a.lines_are ∙ sym b.lines_are ∙ sym (lines_onto other []) in
       let one = one_onward [] first now left (reverse log) (reverse other) (onward first told log now a) (onward first told other left b) told_same in

@@ -29,7 +29,7 @@ use Rattle.phone_runs.proofs.Hearing.{LinesEnd, asked_kept, is_none_asked, is_no
 use Rattle.phone_runs.proofs.Logging.{IsFrontTaken, ends_noted, ends_reset, ends_sent, keeps_same, reaches_noted, reaches_reset, reaches_sent}
 use Rattle.phone_runs.specs.Logs.{Event, PhoneLine, history, lines_back}
 use Rattle.phone_runs.specs.Runs.{Beginning, BreaksSo, RunEnds, IsAt, Reaches, Rests}
-use Rattle.phone_runs.specs.Serving.{IsServed, IsServedMore, replied, reset_by}
+use Rattle.phone_runs.specs.Serving.{IsPhoneServed, IsServedMore, replied, reset_by}
 use Rattle.phone_runs.specs.Traces.{note_line}
 
 -- the handset was asked what it wants
@@ -56,22 +56,22 @@ asks_note asked_for apdu note is = asks asked_for next.Show apdu note is
 stays : (old mid : Kept) (h : List Happened) → IsAskedOf old mid None → asked h ≡ Rest → old ≡ kept h → mid ≡ kept h
 stays old mid h asking rest keeps = asking.after h keeps ∙ ap kept (next_is h Rest rest)
 
-at_rest : (old mid : Kept) (h : List Happened) → IsAskedOf old mid None → IsServed old → old ≡ kept h → asked h ≡ Rest
+at_rest : (old mid : Kept) (h : List Happened) → IsAskedOf old mid None → IsPhoneServed old → old ≡ kept h → asked h ≡ Rest
 at_rest old mid h asking served keeps =
     let same : asked h ≡ asked served.history = sym (asked_kept h) ∙ ap (λ (k : Kept). k.asked) (sym keeps ∙ served.keeps) ∙ asked_kept served.history in
     is_none_asked h (sym (asking.item h keeps)) (λ awaits. served.no_answer (sym same ∙ awaits))
 
-pub none_further : (old mid : Kept) (given : Beginning) (log : List Event) (now : Moment) → IsAskedOf old mid None → IsServed old → IsAt given log old now → Rests given (lines_back log) mid now
+pub none_further : (old mid : Kept) (given : Beginning) (log : List Event) (now : Moment) → IsAskedOf old mid None → IsPhoneServed old → IsAt given log old now → Rests given (lines_back log) mid now
 none_further old mid given log now asking served at =
     let rest = at_rest old mid (history log) asking served at.keeps in
     record { log = log; lines_are = refl; at = keeps_same given log old mid now (stays old mid (history log) asking rest at.keeps) at; done = rest }
 
-pub none_rests : (old mid : Kept) → IsAskedOf old mid None → IsServed old → mid.asked ≡ Rest
+pub none_rests : (old mid : Kept) → IsAskedOf old mid None → IsPhoneServed old → mid.asked ≡ Rest
 none_rests old mid asking served =
     let rest = at_rest old mid served.history asking served served.keeps in
     ap (λ (k : Kept). k.asked) (stays old mid served.history asking rest served.keeps) ∙ asked_kept served.history ∙ rest
 
-pub none_same : (old mid : Kept) → IsAskedOf old mid None → IsServed old → mid ≡ old
+pub none_same : (old mid : Kept) → IsAskedOf old mid None → IsPhoneServed old → mid ≡ old
 none_same old mid asking served = stays old mid served.history asking (at_rest old mid served.history asking served served.keeps) served.keeps ∙ sym served.keeps
 
 -- ---- a command
@@ -108,7 +108,7 @@ sent_ends join old mid found apdu end given log from to asking is gives at =
     ends_sent join given log sent.command end old from to sent.asked_is (subst Gives (sym sent.bytes) gives) at
 
 pub sent_more : LinesEnd → (old mid new : Kept) (found : Option PhoneStep) (apdu : List ℕ) (outcome : Reply) (answer : Answer) → IsAskedOf old mid found → found ≡ Some (step.Send apdu)
-    → ((h : List Happened) → mid ≡ kept h → new ≡ kept (replied outcome answer ∷ h)) → IsServed old → IsServedMore old new
+    → ((h : List Happened) → mid ≡ kept h → new ≡ kept (replied outcome answer ∷ h)) → IsPhoneServed old → IsServedMore old new
 sent_more ending old mid new found apdu outcome answer asking is hears served =
     let sent = sent_so old mid found apdu served.history asking is served.keeps in
     served_more old new served.history (replied outcome answer ∷ Sent sent.command ∷ served.history) served.keeps (hears (Sent sent.command ∷ served.history) sent.keeps)
@@ -133,7 +133,7 @@ pub reset_ends : CountsJoin → PlansAreSetInOrder → (old mid : Kept) (found :
     → ((old : Machine) (before : List ℕ) → from.machine ≡ Some old → from.taken ≡ Some before → GivesStep (Err end) old before run.Reset from to) → IsAt given log old from → RunEnds given (lines_back log) to end
 reset_ends join order old mid found end given log from to asking is gives at = ends_reset join order given log end old from to (reset_so old mid found (history log) asking is at.keeps) gives at
 
-pub reset_more : LinesEnd → (old mid new : Kept) (found : Option PhoneStep) (outcome : AReset) → IsAskedOf old mid found → found ≡ Some step.Reset → ((h : List Happened) → mid ≡ kept h → new ≡ kept (reset_by outcome ∷ h)) → IsServed old → IsServedMore old new
+pub reset_more : LinesEnd → (old mid new : Kept) (found : Option PhoneStep) (outcome : AReset) → IsAskedOf old mid found → found ≡ Some step.Reset → ((h : List Happened) → mid ≡ kept h → new ≡ kept (reset_by outcome ∷ h)) → IsPhoneServed old → IsServedMore old new
 reset_more ending old mid new found outcome asking is hears served =
     let resets = reset_so old mid found served.history asking is served.keeps in
     served_more old new served.history (reset_by outcome ∷ served.history) served.keeps (hears served.history (reset_keeps old mid found served.history asking resets served.keeps))
@@ -165,7 +165,7 @@ pub note_ends : (old mid : Kept) (found : Option PhoneStep) (note : Note) (given
 note_ends old mid found note given log from taken stands asking is err at =
     ends_noted given log note old from taken stands (note_so old mid found note (history log) asking is at.keeps) (λ before told. front_taken from.taken taken (note_line note) before err told) at
 
-pub note_more : LinesEnd → (old mid : Kept) (found : Option PhoneStep) (note : Note) → IsAskedOf old mid found → found ≡ Some (step.Note note) → IsServed old → IsServedMore old mid
+pub note_more : LinesEnd → (old mid : Kept) (found : Option PhoneStep) (note : Note) → IsAskedOf old mid found → found ≡ Some (step.Note note) → IsPhoneServed old → IsServedMore old mid
 note_more ending old mid found note asking is served =
     let shows = note_so old mid found note served.history asking is served.keeps in
     served_more old mid served.history (Noted note ∷ served.history) served.keeps (note_keeps old mid found note served.history asking shows served.keeps) (noted_next ending served.history note served.orderly shows)

@@ -11,27 +11,27 @@ use Rattle.script_form.specs.declared.lines.ScriptLine.TheVariants.{Passed, Star
 use Rattle.uicc_types.specs.declared.plans.TheConstants.Plan.{NONE}
 
 -- whether a line may stand after `start`
-abbrev pub may_follow : ScriptLine → Bool
-may_follow Passed = true
-may_follow (Handset line) = true
-may_follow Reset = true
-may_follow (Cut cut) = true
-may_follow (Fail fail) = true
-may_follow (ReadFail call) = true
-may_follow (Apdu bytes) = false
-may_follow (Tpdu bytes) = false
-may_follow Start = false
-may_follow (Df path) = false
-may_follow (Transparent path size short rule) = false
-may_follow (Linear path length count short rule) = false
-may_follow (Cyclic path length count short rule) = false
-may_follow (Fill path offset bytes) = false
-may_follow (Rec path number bytes) = false
-may_follow (Pin key value enabled unblock) = false
-may_follow (Row shelf priority content) = false
-may_follow (Cmd bytes) = false
-may_follow (Echo channel count) = false
-may_follow (Lose channel) = false
+abbrev pub may_be_heard : ScriptLine → Bool
+may_be_heard Passed = true
+may_be_heard (Handset line) = true
+may_be_heard Reset = true
+may_be_heard (Cut cut) = true
+may_be_heard (Fail fail) = true
+may_be_heard (ReadFail call) = true
+may_be_heard (Apdu bytes) = false
+may_be_heard (Tpdu bytes) = false
+may_be_heard Start = false
+may_be_heard (Df path) = false
+may_be_heard (Transparent path size short rule) = false
+may_be_heard (Linear path length count short rule) = false
+may_be_heard (Cyclic path length count short rule) = false
+may_be_heard (Fill path offset bytes) = false
+may_be_heard (Rec path number bytes) = false
+may_be_heard (Pin key value enabled unblock) = false
+may_be_heard (Row shelf priority content) = false
+may_be_heard (Cmd bytes) = false
+may_be_heard (Echo channel count) = false
+may_be_heard (Lose channel) = false
 
 -- what it is for the handset
 abbrev pub phone_lines_of : ScriptLine → List PhoneLine
@@ -61,9 +61,9 @@ abbrev pub phone_lines : List ScriptLine → List PhoneLine
 phone_lines played = flat_map phone_lines_of played
 
 abbrev pub IsEffect : ScriptLine → PhoneEffect → Type 0
-IsEffect line Nothing = (may_follow line ≡ true) × (phone_lines_of line ≡ [])
-IsEffect line (Takes move) = (may_follow line ≡ true) × (phone_lines_of line ≡ line_of move ∷ [])
-IsEffect line OutOfPlace = may_follow line ≡ false
+IsEffect line Nothing = (may_be_heard line ≡ true) × (phone_lines_of line ≡ [])
+IsEffect line (Takes move) = (may_be_heard line ≡ true) × (phone_lines_of line ≡ line_of move ∷ [])
+IsEffect line OutOfPlace = may_be_heard line ≡ false
 
 -- it may be carried out at this time
 abbrev pub FitsIn : ℕ → PhoneEffect → Type 0

@@ -90,7 +90,7 @@ EndsAreOfTheCard = (given : Beginning) (told : List PhoneLine) (now : Moment) (e
 
 -- A run over these lines, on a card that stood so at first: nothing more is asked for at its end, nothing failed in it, and no power was
 -- lost.
-pub record IsUndisturbed (first : Machine) (told : List PhoneLine) (log : List Event) (now : Machine) : Type 0 where
+pub record IsPhoneUndisturbed (first : Machine) (told : List PhoneLine) (log : List Event) (now : Machine) : Type 0 where
   pub run : IsPhoneRun first log now
   pub lines_are : lines log ≡ told
   pub rests : asked (history log) ≡ Rest
@@ -104,7 +104,7 @@ pub record AreOne (log other : List Event) (now left : Machine) : Type 0 where
   pub card : now ≡ left
 
 -- Lines and a card determine what happens, where nothing fails and no power is lost.
-abbrev pub TracesAreOne : Type 0
-TracesAreOne =
+abbrev pub PhoneRunsAreOne : Type 0
+PhoneRunsAreOne =
     (first now left : Machine) (told : List PhoneLine) (log other : List Event)
-    → IsUndisturbed first told log now → IsUndisturbed first told other left → AreOne log other now left
+    → IsPhoneUndisturbed first told log now → IsPhoneUndisturbed first told other left → AreOne log other now left

@@ -3,7 +3,7 @@ use Rattle.std.specs.List.{AllPass}
 use Rattle.std.specs.Prelude.{◌≡◌, ◌≤◌, ◌<◌, ◌*◌, ℕ, true, List, ◌++◌, reverse, Option, Some, Result, Ok, Err}
 use Rattle.byte_streams.specs.Lines.{LineList, lines}
 use Rattle.card_model.specs.Counts.{IsCounted}
-use Rattle.card_model.specs.Runs.{armed}
+use Rattle.card_model.specs.Runs.{plan_given}
 use Rattle.card_model.specs.States.{Machine}
 use Rattle.card_sections.specs.Behind.{StopsReading}
 use Rattle.card_sections.specs.Reading.{Follows, line_count, room_of}
@@ -17,7 +17,7 @@ use Rattle.card_steps.specs.declared.steps.StepEnd.{StepEnd}
 use Rattle.card_steps.specs.declared.steps.StepEnd.TheVariants as step_end
 use Rattle.handset_model.specs.Rules.{asked}
 use Rattle.handset_model.specs.declared.known.Duty.TheVariants.{Rest}
-use Rattle.phone_runs.specs.Effects.{may_follow, phone_lines}
+use Rattle.phone_runs.specs.Effects.{may_be_heard, phone_lines}
 use Rattle.phone_runs.specs.Logs.{Event, PhoneLine, history, lines_back, shown, steps, trace}
 use Rattle.phone_runs.specs.Playing.{Begins}
 use Rattle.phone_runs.specs.Runs.{Beginning, IsAt, IsPhoneRun, RunEnds}
@@ -30,7 +30,7 @@ use Rattle.terminal_side.specs.Kept.{Kept}
 -- lines of a text say what stands up to `start`, and behind it what may be there where a handset is used
 pub record AreServed (opening : List ScriptLine) (found : LineList) (played : List ScriptLine) : Type 0 where
   pub read : AreRead found (opening ++ played)
-  pub in_place : AllPass may_follow played
+  pub in_place : AllPass may_be_heard played
 
 -- what the handset is told by these lines, the last line first
 abbrev pub told_back : List ScriptLine → List PhoneLine
@@ -68,7 +68,7 @@ pub record IsLineFurther (old new : ScriptReader) (phone : Kept) : Type 0 where
 
 -- The lines ended so: all of them were carried out, the sink has taken what happened, and the boxes have the minds that the card
 -- has where nothing failed in the last command or reset.
-pub record EndsSo (text : List ℕ) (opening : List ScriptLine) (given : Beginning) (left : Option (List ℕ)) (end : PlayEnd) (now : Moment) : Type 0 where
+pub record PhoneEnds (text : List ℕ) (opening : List ScriptLine) (given : Beginning) (left : Option (List ℕ)) (end : PlayEnd) (now : Moment) : Type 0 where
   pub found : LineList
   pub played : List ScriptLine
   pub log : List Event
@@ -77,10 +77,10 @@ pub record EndsSo (text : List ℕ) (opening : List ScriptLine) (given : Beginni
   pub told : lines_back log ≡ told_back played
   pub run : IsPhoneRun given.first log machine
   pub rests : asked (history log) ≡ Rest
-  pub cause : StopsReading may_follow text found left end
+  pub cause : StopsReading may_be_heard text found left end
   pub stands : now.held ≡ Some machine.card.persistent
   pub written : now.taken ≡ Some (given.before ++ entries_text (trace log))
-  pub counted : IsCounted given.meter now.meter (armed (steps log)) (shown log)
+  pub counted : IsCounted given.meter now.meter (plan_given (steps log)) (shown log)
   pub minds : ends_calm (shown log) ≡ true → now.boxes ≡ machine.card.boxes
 
 -- The run ended while this was carried out which the lines told the handset, of which the last is the one that ended it; or in
@@ -93,17 +93,17 @@ pub record StopsAmid (text : List ℕ) (opening : List ScriptLine) (given : Begi
   pub are_served : AreServed opening found played
   pub ended : RunEnds given (told_back played) now end
 
-abbrev pub ComesTo : List ℕ → List ScriptLine → Beginning → Option (List ℕ) → PlayEnd → Moment → Type 0
-ComesTo text opening given left Finished now = EndsSo text opening given left Finished now
-ComesTo text opening given left (BadLine number) now = EndsSo text opening given left (BadLine number) now
-ComesTo text opening given left ReadFailed now = EndsSo text opening given left ReadFailed now
-ComesTo text opening given left SinkFailed now = StopsAmid text opening given step_end.SinkFailed now
-ComesTo text opening given left ResetFailed now = StopsAmid text opening given step_end.ResetFailed now
+abbrev pub PhoneComesTo : List ℕ → List ScriptLine → Beginning → Option (List ℕ) → PlayEnd → Moment → Type 0
+PhoneComesTo text opening given left Finished now = PhoneEnds text opening given left Finished now
+PhoneComesTo text opening given left (BadLine number) now = PhoneEnds text opening given left (BadLine number) now
+PhoneComesTo text opening given left ReadFailed now = PhoneEnds text opening given left ReadFailed now
+PhoneComesTo text opening given left SinkFailed now = StopsAmid text opening given step_end.SinkFailed now
+PhoneComesTo text opening given left ResetFailed now = StopsAmid text opening given step_end.ResetFailed now
 
 -- what a line comes to: it was carried out, or the run ends
 abbrev pub GivesServed : List ℕ → List ScriptLine → Beginning → ScriptReader → Option (List ℕ) → Kept → Moment → Result (Unit {0}) PlayEnd → Type 0
 GivesServed text opening given script left phone now (Ok done) = IsServing text opening given script left phone now
-GivesServed text opening given script left phone now (Err end) = ComesTo text opening given left end now
+GivesServed text opening given script left phone now (Err end) = PhoneComesTo text opening given left end now
 
 -- a step that was the last ends the lines so
 abbrev pub EndsAmid : StepEnd → PlayEnd → Type 0

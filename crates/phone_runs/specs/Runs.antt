@@ -2,7 +2,7 @@
 -- seen of the card is how the card moves.
 use Rattle.std.specs.Prelude.{◌≡◌, ℕ, List, [], ◌∷◌, ◌++◌, Some, true, false, Result, Ok, Err, Bool}
 use Rattle.card_model.specs.Counts.{IsCounted}
-use Rattle.card_model.specs.Runs.{StepEnds, armed, armed_after, waiting_after}
+use Rattle.card_model.specs.Runs.{StepEnds, plan_given, armed_after, waiting_after}
 use Rattle.card_model.specs.States.{Machine}
 use Rattle.card_steps.specs.Runs.{GoesOn, ends_calm, text_of}
 use Rattle.card_steps.specs.Stepping.{BreaksOff, IsCutOff, Moment}
@@ -45,7 +45,7 @@ pub record IsAt (given : Beginning) (log : List Event) (phone : Kept) (now : Mom
   pub keeps : phone ≡ kept (history log)
   pub told : now.machine ≡ Some machine
   pub written : now.taken ≡ Some (given.before ++ entries_text (trace log))
-  pub counted : IsCounted given.meter now.meter (armed (steps log)) (shown log)
+  pub counted : IsCounted given.meter now.meter (plan_given (steps log)) (shown log)
   pub waits : now.waiting ≡ waiting_after NONE (steps log)
   pub rests : ends_calm (shown log) ≡ true → now.is_due ≡ false
 
@@ -61,7 +61,7 @@ pub record BreaksInStep (given : Beginning) (log : List Event) (old : Machine) (
   pub cut_off : IsCutOff pending front
   pub stands : now.held ≡ Some machine.card.persistent
   pub written : now.taken ≡ Some (given.before ++ entries_text (trace log) ++ front)
-  pub counted : IsCounted given.meter now.meter (armed (steps log) ++ set) (shown log ++ pending)
+  pub counted : IsCounted given.meter now.meter (plan_given (steps log) ++ set) (shown log ++ pending)
 
 -- the sink failed in a note, of which it has taken the beginning, be it none or all
 pub record BreaksInNote (given : Beginning) (log : List Event) (old : Machine) (note : Note) (now : Moment) : Type 0 where
@@ -69,7 +69,7 @@ pub record BreaksInNote (given : Beginning) (log : List Event) (old : Machine) (
   pub begun : IsFront front (note_line note)
   pub stands : now.held ≡ Some old.card.persistent
   pub written : now.taken ≡ Some (given.before ++ entries_text (trace log) ++ front)
-  pub counted : IsCounted given.meter now.meter (armed (steps log)) (shown log)
+  pub counted : IsCounted given.meter now.meter (plan_given (steps log)) (shown log)
 
 -- the sink failed in what is asked for
 abbrev pub BreaksIn : Beginning → List Event → Machine → Moment → Duty → Type 0
@@ -99,7 +99,7 @@ pub record FailsSo (given : Beginning) (heard : List PhoneLine) (now : Moment) :
   pub ends : StepEnds old step.Reset last machine
   pub stands : now.held ≡ Some machine.card.persistent
   pub written : now.taken ≡ Some (given.before ++ entries_text (trace log) ++ text_of last)
-  pub counted : IsCounted given.meter now.meter (armed (steps log ++ step.Reset ∷ [])) (shown log ++ last)
+  pub counted : IsCounted given.meter now.meter (plan_given (steps log ++ step.Reset ∷ [])) (shown log ++ last)
 
 -- why it ended
 abbrev pub RunEnds : Beginning → List PhoneLine → Moment → StepEnd → Type 0

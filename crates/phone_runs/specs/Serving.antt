@@ -13,7 +13,7 @@ use Rattle.terminal_side.specs.Kept.{Kept, kept}
 use Rattle.uicc_types.specs.declared.answers.Answer.{Answer}
 
 -- it keeps what comes of some history in which all is as it was asked for, and waits for no answer
-pub record IsServed (phone : Kept) : Type 0 where
+pub record IsPhoneServed (phone : Kept) : Type 0 where
   pub history : List Happened
   pub keeps : phone ≡ kept history
   pub orderly : IsOrderly history
@@ -21,7 +21,7 @@ pub record IsServed (phone : Kept) : Type 0 where
 
 -- it asks for nothing more
 pub record IsAtRest (phone : Kept) : Type 0 where
-  pub served : IsServed phone
+  pub served : IsPhoneServed phone
   pub rests : phone.asked ≡ Rest
 
 -- what can still be done for a line
@@ -30,7 +30,7 @@ work_at phone = work phone.known.commands phone.asked
 
 -- one thing was done that it asked for: less is left to do for the line, and the clock stands where it stood
 pub record IsServedMore (old new : Kept) : Type 0 where
-  pub served : IsServed new
+  pub served : IsPhoneServed new
   pub less : work_at new < work_at old
   pub clock : new.known.clock ≡ old.known.clock
 

@@ -1,5 +1,5 @@
 //! What holds of every run of a handset. The function does nothing: its contract is the law.
-ghost use Rattle.phone_runs.specs.Laws.{EndsAreBegun, EndsAreOfTheCard, RunsAreBegun, RunsAreLegal, RunsAreOfTheCard, TracesAreOne};
+ghost use Rattle.phone_runs.specs.Laws.{EndsAreBegun, EndsAreOfTheCard, RunsAreBegun, RunsAreLegal, RunsAreOfTheCard, PhoneRunsAreOne};
 
 use run_laws::runs_are_one;
 
@@ -18,7 +18,7 @@ pub fn phone_runs_are_lawful()
 /// Where nothing fails and no power is lost, lines and a card determine all that happens: two runs of a handset over the same lines, on the
 /// same card, show one trace, and end with the same card.
 pub fn phone_runs_are_one()
-    ensures { TracesAreOne }
+    ensures { PhoneRunsAreOne }
 {
     runs_are_one();
 }

@@ -1,12 +1,12 @@
 //! The lines of a script behind `start`, read one by one, and carried out by a handset that serves the card.
 ghost use Rattle.std.specs.Prelude.{◌≡◌, List, ℕ, Err, OnOk};
 ghost use Rattle.byte_streams.specs.Reading.{IsWithin};
-ghost use Rattle.card_sections.specs.Behind.{GivesRead, IsReading, ReadsTo};
+ghost use Rattle.card_sections.specs.Behind.{GivesRead, IsReading, LinesReadTo};
 ghost use Rattle.card_sections.specs.Reading.{reading};
 ghost use Rattle.card_steps.specs.Ends.{moment_at};
 ghost use Rattle.card_steps.specs.Tallies.{Tallies, tally};
-ghost use Rattle.phone_runs.specs.Lines.{ComesTo, EndsAmid, GivesServed, IsBetweenLines, IsLineFurther, IsServing, StandsAtStart};
-ghost use Rattle.phone_runs.specs.Effects.{may_follow};
+ghost use Rattle.phone_runs.specs.Lines.{PhoneComesTo, EndsAmid, GivesServed, IsBetweenLines, IsLineFurther, IsServing, StandsAtStart};
+ghost use Rattle.phone_runs.specs.Effects.{may_be_heard};
 ghost use Rattle.phone_runs.specs.Runs.{Beginning};
 ghost use Rattle.script_form.specs.declared.lines.ScriptLine.{ScriptLine as AnyLine};
 ghost use Rattle.uicc_types.specs.Counts.{CountsFailure, Rose};
@@ -34,11 +34,11 @@ pub fn serve_lines<S: Store, B: Applet, R: Source, W: Sink>(
 ) -> PlayEnd
     ensures served { (text : List ℕ) (opening : List AnyLine) (given : Beginning)
         → StandsAtStart text opening given script.old (R.left source.old) (moment_at card.old (W.taken trace.old))
-        → ComesTo text opening given (R.left source.new) result (moment_at card.new (W.taken trace.new)) }
+        → PhoneComesTo text opening given (R.left source.new) result (moment_at card.new (W.taken trace.new)) }
     // Over any memory: which lines were read, and why no more of them.
     ensures reads { (text : List ℕ) (opening : List AnyLine)
-        → IsReading may_follow opening text script.old (R.left source.old)
-        → ReadsTo may_follow opening text (R.left source.new) result }
+        → IsReading may_be_heard opening text script.old (R.left source.old)
+        → LinesReadTo may_be_heard opening text (R.left source.new) result }
     ensures within { (text : List ℕ) → IsWithin text (reading script.old) (R.left source.old)
         → IsWithin text (reading script.new) (R.left source.new) }
     ensures failed { result ≡ PlayEnd.ResetFailed
@@ -78,10 +78,10 @@ fn serve_on<S: Store, B: Applet, R: Source, W: Sink>(
     ensures served { (text : List ℕ) (opening : List AnyLine) (given : Beginning)
         → IsServing text opening given script.old (R.left source.old) phone.old
         (moment_at card.old (W.taken trace.old))
-        → ComesTo text opening given (R.left source.new) result (moment_at card.new (W.taken trace.new)) }
+        → PhoneComesTo text opening given (R.left source.new) result (moment_at card.new (W.taken trace.new)) }
     ensures reads { (text : List ℕ) (opening : List AnyLine)
-        → IsReading may_follow opening text script.old (R.left source.old)
-        → ReadsTo may_follow opening text (R.left source.new) result }
+        → IsReading may_be_heard opening text script.old (R.left source.old)
+        → LinesReadTo may_be_heard opening text (R.left source.new) result }
     ensures within { (text : List ℕ) → IsWithin text (reading script.old) (R.left source.old)
         → IsWithin text (reading script.new) (R.left source.new) }
     ensures failed { result ≡ PlayEnd.ResetFailed
@@ -119,8 +119,8 @@ fn serve_line<S: Store, B: Applet, R: Source, W: Sink>(
         → GivesServed text opening given script.new (R.left source.new) phone.new
         (moment_at card.new (W.taken trace.new)) result }
     ensures reads { (text : List ℕ) (opening : List AnyLine)
-        → IsReading may_follow opening text script.old (R.left source.old)
-        → GivesRead may_follow opening text script.new (R.left source.new) result }
+        → IsReading may_be_heard opening text script.old (R.left source.old)
+        → GivesRead may_be_heard opening text script.new (R.left source.new) result }
     ensures further { OnOk result (IsLineFurther script.old script.new phone.new) }
     ensures within { (text : List ℕ) → IsWithin text (reading script.old) (R.left source.old)
         → IsWithin text (reading script.new) (R.left source.new) }

@@ -6,7 +6,7 @@ ghost use Rattle.handset_model.specs.History.{Happened};
 ghost use Rattle.handset_model.specs.declared.known.Duty.TheVariants as duty;
 ghost use Rattle.phone_runs.specs.Logs.{Event, lines_back};
 ghost use Rattle.phone_runs.specs.Runs.{Beginning, GoesFurther, IsAt, Settles};
-ghost use Rattle.phone_runs.specs.Serving.{IsAtRest, IsServed, IsServedMore, replied, reset_by};
+ghost use Rattle.phone_runs.specs.Serving.{IsAtRest, IsPhoneServed, IsServedMore, replied, reset_by};
 ghost use Rattle.terminal_side.specs.Kept.{kept};
 ghost use Rattle.uicc_types.specs.Counts.{Rose, raised};
 
@@ -28,7 +28,7 @@ pub fn settle<S: Store, B: Applet, W: Sink>(
     answer: &mut Answer,
     trace: &mut W,
 ) -> Result<(), StepEnd>
-    requires served { IsServed phone.old }
+    requires served { IsPhoneServed phone.old }
     ensures settles { (given : Beginning) (log : List Event)
         → IsAt given log phone.old (moment_at card.old (W.taken trace.old))
         → Settles given (lines_back log) phone.new (moment_at card.new (W.taken trace.new)) result }
@@ -61,7 +61,7 @@ fn serve<S: Store, B: Applet, W: Sink>(
     answer: &mut Answer,
     trace: &mut W,
 ) -> Result<bool, StepEnd>
-    requires served { IsServed phone.old }
+    requires served { IsPhoneServed phone.old }
     ensures further { (given : Beginning) (log : List Event)
         → IsAt given log phone.old (moment_at card.old (W.taken trace.old))
         → GoesFurther given (lines_back log) phone.new (moment_at card.new (W.taken trace.new)) result }

@@ -20,7 +20,7 @@ use Rattle.file_model.specs.Guards.{OfPin, OfUnblock, tries_by, TakesATry, Begin
 use Rattle.card_memory.specs.Performing.{PassesOne, CommitsAtMost, with_each, IsPinOutcome, IsPinStopped, PerformsPin}
 use Rattle.pin_rules.specs.declared.trials.Trial.{Trial}
 use Rattle.pin_rules.specs.declared.trials.Trial.TheVariants.{Tell, Present, Unblock}
-use Rattle.pin_rules.specs.Outcomes.{IsCarriedOut, StandsLast, state_after, IsCutShort, guard_of, LeavesOneLess}
+use Rattle.pin_rules.specs.Outcomes.{IsCarriedOut, StandsLast, state_after, IsPinCutShort, guard_of, LeavesOneLess}
 use Rattle.pin_rules.specs.Trials.{outcome_of, meaning_of, IsTrial, OnlyTells}
 use Rattle.pin_rules.proofs.Trying.{IsOneOf}
 
@@ -59,7 +59,7 @@ module _ (pins : List Pin) (verified : Verified) (apdu : Apdu) where
       subst (λ (o : PinOutcome). IsSomeAnd after (Contains (state ∷ with_each state o.passed))) (sym (ap (λ (p : List Pin). pin_outcome p verified apdu) (same state refl) ∙ is)) passes
 
   pub stopped_same : (outcome : PinOutcome) (old new : Memory) (before after : Verified) → pin_outcome pins verified apdu ≡ outcome → ((state : Persistent) → held old ≡ Some state → state.pins ≡ pins)
-      → IsCutShort outcome old new before after → IsPinStopped old new (λ state. pin_outcome state.pins verified apdu)
+      → IsPinCutShort outcome old new before after → IsPinStopped old new (λ state. pin_outcome state.pins verified apdu)
   stopped_same outcome old new before after is same stops = record {
     passes = passes_same outcome (held old) (held new) is same (one_passes outcome.passed stops.place stops.one_more (held old) (held new) stops.stands);
     commits = if_some (held old) _ (λ state there.

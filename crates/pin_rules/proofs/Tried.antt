@@ -16,11 +16,11 @@ use Rattle.file_model.specs.Pins.{with_pin, marked, tries_left, presented}
 use Rattle.card_memory.specs.declared.pins.PinChange.{PinChange}
 use Rattle.card_memory.specs.Laws.{TablesTellStates}
 use Rattle.card_memory.specs.Pins.{changed_pin, with_pin_changed}
-use Rattle.pin_rules.specs.Outcomes.{IsCutShort, IsTried}
+use Rattle.pin_rules.specs.Outcomes.{IsPinCutShort, IsTried}
 use Rattle.pin_rules.proofs.Trying.{Becomes, moved_first, moved_next, wrong_comes, right_comes, wrong_stands, right_stands, cut_first, cut_second, first_fault, second_fault}
 
 -- a fault stopped it
-stopped_so : (outcome : PinOutcome) (old new : Memory) (before after : Verified) (result : Result StatusWord StoreFault) → IsErr result → IsCutShort outcome old new before after
+stopped_so : (outcome : PinOutcome) (old new : Memory) (before after : Verified) (result : Result StatusWord StoreFault) → IsErr result → IsPinCutShort outcome old new before after
     → IsTried outcome old new before after result
 stopped_so outcome old new before after (Ok status) err stops = absurd (false≢true err)
 stopped_so outcome old new before after (Err fault) err stops = record { comes = tt; stands = tt; usual = tt; stops = stops }

@@ -26,7 +26,7 @@ use Rattle.card_memory.specs.declared.pins.PinChange.{PinChange}
 use Rattle.card_memory.specs.declared.pins.PinChange.TheVariants.{Tries, UnblockTries, Value, Enabled, Unblocked}
 use Rattle.card_memory.specs.Entries.{HasPinIn, pin_at, with_pin_at}
 use Rattle.card_memory.specs.Pins.{changed_pin, with_pin_changed}
-use Rattle.pin_rules.specs.Outcomes.{IsCarriedOut, StandsLast, state_after, IsCutShort}
+use Rattle.pin_rules.specs.Outcomes.{IsCarriedOut, StandsLast, state_after, IsPinCutShort}
 use Rattle.pin_rules.specs.Trials.{GivesTries}
 
 -- ---- the slot
@@ -167,7 +167,7 @@ module _ (pins : List Pin) (verified right : Verified) (taken restored : Pin) (l
 
   -- what a fault leaves in the first commit, and in the second
   pub cut_first : (b : Bool) (old new : Memory) → IsMounted old → new.table ≡ old.table → new.mark ≡ old.mark → new.commits ≡ old.commits → IsOneOf (outcome b).passed 0 (held old) (held new)
-      → IsCutShort (outcome b) old new verified verified
+      → IsPinCutShort (outcome b) old new verified verified
   cut_first b old new mounted table mark commits stands = record {
     place = 0;
     one_more = some_passed b;
@@ -179,7 +179,7 @@ module _ (pins : List Pin) (verified right : Verified) (taken restored : Pin) (l
   }
 
   pub cut_second : (b : Bool) → b ≡ true → (old mid new : Memory) → IsMounted mid → pins_of mid.table ≡ after_first → new.table ≡ mid.table → new.mark ≡ mid.mark → mid.commits ≡ raised old.commits → new.commits ≡ mid.commits
-      → IsOneOf (outcome b).passed 1 (held old) (held new) → IsCutShort (outcome b) old new verified verified
+      → IsOneOf (outcome b).passed 1 (held old) (held new) → IsPinCutShort (outcome b) old new verified verified
   cut_second b is old mid new mounted taken_are table mark first second stands = record {
     place = 1;
     one_more = two_passed b is;

@@ -40,7 +40,7 @@ state_after passed count state = slice_index_or (state ∷ with_each state passe
 -- A fault stopped one of the commits. Those before it are counted, and no other; the table has the PINs after them, and is still
 -- that of a card. Where the store tells its state, that is the one after them, or the one after the commit that was stopped.
 -- The same keys are verified as before.
-pub record IsCutShort (outcome : PinOutcome) (old new : Memory) (before after : Verified) : Type 0 where
+pub record IsPinCutShort (outcome : PinOutcome) (old new : Memory) (before after : Verified) : Type 0 where
   pub place : ℕ
   pub one_more : place < length outcome.passed
   pub table : pins_of new.table ≡ slice_index_or (pins_of old.table ∷ outcome.passed) place []
@@ -55,7 +55,7 @@ pub record IsTried (outcome : PinOutcome) (old new : Memory) (before after : Ver
   pub comes : IfOk result (λ status. IsCarriedOut outcome (pins_of old.table) status after (pins_of new.table))
   pub stands : OnOk result (StandsLast old new outcome.passed)
   pub usual : IfOk result (λ status. status.0 ≢ MEMORY_PROBLEM.0)
-  pub stops : OnErr result (IsCutShort outcome old new before after)
+  pub stops : OnErr result (IsPinCutShort outcome old new before after)
 
 -- However a command ends, nothing but PINs has changed in the table. After Ok the memory is mounted, and a fault has its cause.
 pub record ChangesPins {T : Type 0} (old new : Memory) (result : Result T StoreFault) : Type 0 where

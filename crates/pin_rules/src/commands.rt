@@ -5,7 +5,7 @@ ghost use Rattle.card_layout.specs.Memory.{IsMounted, memory};
 ghost use Rattle.card_layout.specs.States.{pins_of};
 ghost use Rattle.file_model.specs.Pins.{pin_tried, pin_outcome};
 ghost use Rattle.card_memory.specs.Model.{PerformsPin};
-ghost use Rattle.pin_rules.specs.Outcomes.{IsCarriedOut, LeavesOneLess, IsPinRefused, IsCutShort, IsTried, ChangesPins, AnswersPins};
+ghost use Rattle.pin_rules.specs.Outcomes.{IsCarriedOut, LeavesOneLess, IsPinRefused, IsPinCutShort, IsTried, ChangesPins, AnswersPins};
 ghost use Rattle.pin_rules.specs.Trials.{IsTrial, OnlyTells, outcome_of};
 
 use crate::marks::{marked, tries_left};
@@ -77,7 +77,7 @@ pub fn pin_command<S: Store>(
         → IsOk result × IsPinRefused status out.new verified.old verified.new × (loaded.new ≡ loaded.old) }
     ensures still { (pin_outcome (pins_of loaded.old) verified.old command.now).passed ≡ []
         → IsOk result × (store.new ≡ store.old) × (loaded.new ≡ loaded.old) }
-    ensures stops { OnErr result (IsCutShort (pin_outcome (pins_of loaded.old) verified.old command.now)
+    ensures stops { OnErr result (IsPinCutShort (pin_outcome (pins_of loaded.old) verified.old command.now)
         (memory S.Store store.old loaded.old) (memory S.Store store.new loaded.new) verified.old verified.new) }
     ensures ends { AnswersPins (memory S.Store store.old loaded.old) (memory S.Store store.new loaded.new)
         out.new result }

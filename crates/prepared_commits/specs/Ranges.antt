@@ -8,7 +8,7 @@ use Rattle.store_form.specs.Faults.{HasCause, with_commit}
 use Rattle.card_layout.specs.Places.{memory_size, data_place}
 
 -- a store as large as the memory of a card, with no recovery due
-pub record IsReady {S : Type 0} (words : StoreWords S) (store : S) : Type 0 where
+pub record IsStoreReady {S : Type 0} (words : StoreWords S) (store : S) : Type 0 where
   pub recovered : words.recovered store ≡ true
   pub size : words.byte_count store ≡ memory_size
 

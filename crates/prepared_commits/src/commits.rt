@@ -7,7 +7,7 @@ ghost use Rattle.card_layout.specs.Persistent.{Persistent};
 ghost use Rattle.card_layout.specs.Spelling.{node_part};
 ghost use Rattle.layout_changes.specs.Changes.{with_node};
 ghost use Rattle.prepared_commits.specs.Commits.{CommitsOver};
-ghost use Rattle.prepared_commits.specs.Ranges.{IsReady, CommitsChange};
+ghost use Rattle.prepared_commits.specs.Ranges.{IsStoreReady, CommitsChange};
 
 use card_layout::sizes::{NODE_COUNT, NODE_WIDTH};
 use card_layout::{Loaded, Node, node_write};
@@ -23,7 +23,7 @@ fn commit_part<S: Store>(
     from: u8,
     to: u8,
 ) -> Result<(), StoreFault>
-    requires ready { IsReady S.Store store.old }
+    requires ready { IsStoreReady S.Store store.old }
     requires entry { number < NODE_COUNT }
     requires some { from < to }
     requires inside { to ≤ NODE_WIDTH }

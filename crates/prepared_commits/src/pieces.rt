@@ -2,7 +2,7 @@
 ghost use Rattle.std.specs.Prelude.{◌+◌, ◌≤◌, ◌<◌, ◌%◌};
 ghost use Rattle.uicc_types.specs.Patches.{IsApart};
 ghost use Rattle.prepared_commits.specs.Prepared.{filled, copied};
-ghost use Rattle.prepared_commits.specs.Ranges.{IsReady, IsAmongFiles, PreparesRange};
+ghost use Rattle.prepared_commits.specs.Ranges.{IsStoreReady, IsAmongFiles, PreparesRange};
 
 use store_form::{Store, StoreFault};
 
@@ -21,7 +21,7 @@ fn next_count(at: usize, left: usize) -> usize
 
 // Prepares bytes FF of one page.
 fn fill_part<S: Store>(store: &mut S, at: usize, count: usize) -> Result<(), StoreFault>
-    requires ready { IsReady S.Store store.old }
+    requires ready { IsStoreReady S.Store store.old }
     requires range { IsAmongFiles at count }
     requires one_page { at % PAGE + count ≤ PAGE }
     ensures { PreparesRange S.Store store.old store.new result at count (filled at count) }
@@ -32,7 +32,7 @@ fn fill_part<S: Store>(store: &mut S, at: usize, count: usize) -> Result<(), Sto
 
 /// Prepares so many bytes FF.
 pub fn fill<S: Store>(store: &mut S, at: usize, count: usize) -> Result<(), StoreFault>
-    requires ready { IsReady S.Store store.old }
+    requires ready { IsStoreReady S.Store store.old }
     requires range { IsAmongFiles at count }
     ensures { PreparesRange S.Store store.old store.new result at count (filled at count) }
 {
@@ -52,7 +52,7 @@ fn copy_part<S: Store>(
     at: usize,
     count: usize,
 ) -> Result<(), StoreFault>
-    requires ready { IsReady S.Store store.old }
+    requires ready { IsStoreReady S.Store store.old }
     requires source { IsAmongFiles from count }
     requires range { IsAmongFiles at count }
     requires one_page { at % PAGE + count ≤ PAGE }
@@ -66,7 +66,7 @@ fn copy_part<S: Store>(
 
 /// Prepares so many bytes that stand elsewhere, in no byte of that range.
 pub fn copy<S: Store>(store: &mut S, from: usize, at: usize, count: usize) -> Result<(), StoreFault>
-    requires ready { IsReady S.Store store.old }
+    requires ready { IsStoreReady S.Store store.old }
     requires source { IsAmongFiles from count }
     requires range { IsAmongFiles at count }
     requires apart { IsApart from count at count }

@@ -17,7 +17,7 @@ use Rattle.toolkit_model.specs.Driving.{is_idle, with_session, running, first_id
 use Rattle.toolkit_laws.proofs.Late.{late_asks}
 use Rattle.proactive_handler.specs.Runs.{StopsAt}
 use Rattle.proactive_handler.specs.Boxes.{IsSameBox, AreForOthers}
-use Rattle.proactive_handler.specs.Serving.{IsServed}
+use Rattle.proactive_handler.specs.Serving.{IsSessionServed}
 use Rattle.proactive_handler.specs.Steps.{toolkit, Scene, IsDone, MovesTo}
 use Rattle.proactive_handler.specs.Joining.{first_stops, both_done, then_moves}
 use Rattle.proactive_handler.specs.Reached.{HasNoTurn, StopsBehind, TurnsTo, both_leave, then_turns, first_turns, since_turns}
@@ -26,7 +26,7 @@ use Rattle.proactive_handler.proofs.Serving.{IsFound, found_first, taken_served}
 
 -- ---- the first whose applet is idle was taken out
 
-module _ (table : Loaded) (session left : SessionState) (trigger : LateTrigger) (served : IsServed table session) (first : first_idle (asks session) session.late ≡ Some (trigger, left.late)) (is : left ≡ record session { late = left.late }) where
+module _ (table : Loaded) (session left : SessionState) (trigger : LateTrigger) (served : IsSessionServed table session) (first : first_idle (asks session) session.late ≡ Some (trigger, left.late)) (is : left ≡ record session { late = left.late }) where
   found : IsFound (asks session) (λ t. HasRowOn table t.shelf) (trigger, left.late)
   found = found_first (asks session) (λ t. HasRowOn table t.shelf) session.late (trigger, left.late) served.late first
 
@@ -36,8 +36,8 @@ module _ (table : Loaded) (session left : SessionState) (trigger : LateTrigger) 
   pub caught_idle : is_idle (asks left) trigger.shelf ≡ true
   caught_idle = ap (λ (s : SessionState). is_idle (asks s) trigger.shelf) is ∙ ap (λ (asked : List Sent). is_idle asked trigger.shelf) (late_asks session left.late) ∙ found.idle
 
-  pub caught_served : IsServed table left
-  caught_served = subst (IsServed table) (sym is) (taken_served table session left.late found.others served)
+  pub caught_served : IsSessionServed table left
+  caught_served = subst (IsSessionServed table) (sym is) (taken_served table session left.late found.others served)
 
 -- it is not for this applet, nor are those that are left
 pub caught_apart : (other : ℕ) (session left : SessionState) (trigger : LateTrigger) → first_idle (asks session) session.late ≡ Some (trigger, left.late) → AreForOthers other session.late

@@ -22,7 +22,7 @@ use Rattle.toolkit_model.specs.Passing.{passed_rows}
 use Rattle.toolkit_model.specs.Running.{Setting, Works, Carried, committed, ends, answers, commits, changing, taking, carried, admitted, is_admitted, is_held_by}
 use Rattle.proactive_handler.specs.declared.endings.Next.{Next}
 use Rattle.proactive_handler.specs.declared.endings.Next.TheVariants.{Told, Idle, Sent}
-use Rattle.proactive_handler.specs.Acts.{timer_told, next_of, TellsTimer, Stage, stage, works_at, with_rows, IsCarriedOut, Carries}
+use Rattle.proactive_handler.specs.Acts.{timer_told, next_of, TellsTimer, Stage, stage, works_at, with_these_rows, IsCarriedOut, Carries}
 use Rattle.proactive_handler.specs.Counting.{Counts, counts_none}
 use Rattle.proactive_handler.specs.Moved.{has_rows, stands_still}
 
@@ -73,7 +73,7 @@ module _ (tell : TablesTellStates) (memory : Memory) (agrees : Agrees memory.mar
   abbrev before : Stage
   before = stage memory timers mind
 
-  still : held memory ≡ option_map (with_rows (rows_of memory.table)) (held memory)
+  still : held memory ≡ option_map (with_these_rows (rows_of memory.table)) (held memory)
   still = stands_still (held memory) (rows_of memory.table) (has_rows tell memory.mark memory.told memory.table agrees)
 
   pub done_so : IsCarriedOut at Done before before Idle

@@ -34,7 +34,7 @@ use Rattle.toolkit_model.specs.Commands.{answer_in, last_answer}
 use Rattle.proactive_handler.specs.declared.endings.Next.{Next}
 use Rattle.proactive_handler.specs.declared.endings.Next.TheVariants.{Told, Sent}
 use Rattle.proactive_handler.specs.declared.endings.Ending.{Ending}
-use Rattle.proactive_handler.specs.Acts.{next_of, Stage, works_at, with_rows, IsCarriedOut, IsStopped}
+use Rattle.proactive_handler.specs.Acts.{next_of, Stage, works_at, with_these_rows, IsCarriedOut, IsActStopped}
 use Rattle.proactive_handler.specs.Runs.{answer_of, with_each_rows, StopsAt, IsRun, IsCut, RunsTo}
 use Rattle.proactive_handler.specs.Counting.{Counts, counts_none, counts_then}
 use Rattle.proactive_handler.specs.Joining.{stands_then, stops_later}
@@ -183,33 +183,33 @@ with_state (Some s) P Q then_so there = then_so s there
 
 -- the states that the rest passes are among those that the whole passes
 later_passes : (moved : Bool) (old mid new : Option Persistent) (rows after : List Registration) (rest : List (List Registration)) → HasRowsOf old rows → (moved ≡ false → after ≡ rows)
-    → mid ≡ option_map (with_rows after) old → PassesOne mid new (with_each_rows rest) → PassesOne old new (with_each_rows (first_rows moved after ++ rest))
+    → mid ≡ option_map (with_these_rows after) old → PassesOne mid new (with_each_rows rest) → PassesOne old new (with_each_rows (first_rows moved after ++ rest))
 later_passes moved None mid new rows after rest has same is passes = cc
 later_passes moved (Some state) mid new rows after rest has same is passes =
-    let there : IsSomeAnd new (Contains (with_rows after state ∷ with_each_rows rest state)) = subst (λ (o : Option Persistent). PassesOne o new (with_each_rows rest)) is passes in
+    let there : IsSomeAnd new (Contains (with_these_rows after state ∷ with_each_rows rest state)) = subst (λ (o : Option Persistent). PassesOne o new (with_each_rows rest)) is passes in
     by_commit moved same there
   where
-    by_commit : (b : Bool) → (b ≡ false → after ≡ rows) → IsSomeAnd new (Contains (with_rows after state ∷ with_each_rows rest state)) → IsSomeAnd new (Contains (state ∷ with_each_rows (first_rows b after ++ rest) state))
+    by_commit : (b : Bool) → (b ≡ false → after ≡ rows) → IsSomeAnd new (Contains (with_these_rows after state ∷ with_each_rows rest state)) → IsSomeAnd new (Contains (state ∷ with_each_rows (first_rows b after ++ rest) state))
     by_commit true same there =
-        with_state new (Contains (with_rows after state ∷ with_each_rows rest state)) (Contains (state ∷ with_rows after state ∷ with_each_rows rest state))
-        (λ s held. Contains-append_right (state ∷ []) (with_rows after state ∷ with_each_rows rest state) s held) there
+        with_state new (Contains (with_these_rows after state ∷ with_each_rows rest state)) (Contains (state ∷ with_these_rows after state ∷ with_each_rows rest state))
+        (λ s held. Contains-append_right (state ∷ []) (with_these_rows after state ∷ with_each_rows rest state) s held) there
     by_commit false same there =
-        let unchanged : with_rows after state ≡ state = ap (λ (r : List Registration). with_rows r state) (same refl ∙ sym (has state refl)) in
+        let unchanged : with_these_rows after state ≡ state = ap (λ (r : List Registration). with_these_rows r state) (same refl ∙ sym (has state refl)) in
         subst (λ (s : Persistent). IsSomeAnd new (Contains (s ∷ with_each_rows rest state))) unchanged there
 
 -- the commit at which the rest stops is one of the whole
-later_stops : (moved : Bool) (rows after : List Registration) (rest : List (List Registration)) (old mid new : Memory) → (moved ≡ false → after ≡ rows) → held mid ≡ option_map (with_rows after) (held old)
+later_stops : (moved : Bool) (rows after : List Registration) (rest : List (List Registration)) (old mid new : Memory) → (moved ≡ false → after ≡ rows) → held mid ≡ option_map (with_these_rows after) (held old)
     → mid.commits ≡ raised_by (length (first_rows moved after)) old.commits → StopsAt (after ∷ rest) mid new → StopsAt (rows ∷ first_rows moved after ++ rest) old new
 later_stops true rows after rest old mid new same is counted stop = stops_later (after ∷ []) rows after rest old mid new refl is counted stop
 later_stops false rows after rest old mid new same is counted stop = stops_later [] rows after rest old mid new (ap (λ (r : List Registration). Some r) (sym (same refl))) is counted stop
 
 -- the first commit stopped
-first_passes : (old new : Option Persistent) (after : List Registration) (rest : List (List Registration)) → (new ≡ old) ⊎ (new ≡ option_map (with_rows after) old) → PassesOne old new (with_each_rows (after ∷ rest))
+first_passes : (old new : Option Persistent) (after : List Registration) (rest : List (List Registration)) → (new ≡ old) ⊎ (new ≡ option_map (with_these_rows after) old) → PassesOne old new (with_each_rows (after ∷ rest))
 first_passes None new after rest either = cc
 first_passes (Some state) new after rest either =
-    ⊎_elim {C = IsSomeAnd new (Contains (state ∷ with_rows after state ∷ with_each_rows rest state))}
-    (λ before. subst (λ (o : Option Persistent). IsSomeAnd o (Contains (state ∷ with_rows after state ∷ with_each_rows rest state))) (sym before) (0, omega arith, refl))
-    (λ behind. subst (λ (o : Option Persistent). IsSomeAnd o (Contains (state ∷ with_rows after state ∷ with_each_rows rest state))) (sym behind) (1, omega arith, refl))
+    ⊎_elim {C = IsSomeAnd new (Contains (state ∷ with_these_rows after state ∷ with_each_rows rest state))}
+    (λ before. subst (λ (o : Option Persistent). IsSomeAnd o (Contains (state ∷ with_these_rows after state ∷ with_each_rows rest state))) (sym before) (0, omega arith, refl))
+    (λ behind. subst (λ (o : Option Persistent). IsSomeAnd o (Contains (state ∷ with_these_rows after state ∷ with_each_rows rest state))) (sym behind) (1, omega arith, refl))
     either
 
 -- ---- runs
@@ -265,7 +265,7 @@ module _ (at : Setting) (stimulus : Stimulus) (acts fuel : ℕ) (is_acts : acts 
         }
 
   -- a fault stopped the act
-  pub stopped_at : (new : Stage) → HasRowsOf (held old.memory) (rows_of old.memory.table) → IsStopped at does stepped new → IsCut (run_on acts at stimulus (works_at old)) old new
+  pub stopped_at : (new : Stage) → HasRowsOf (held old.memory) (rows_of old.memory.table) → IsActStopped at does stepped new → IsCut (run_on acts at stimulus (works_at old)) old new
   stopped_at new has stop =
       let passed : passed_rows (run_on acts at stimulus (works_at old)).log ≡ done.works.rows ∷ passed_rows (rest_after done.tells).log =
       ap (λ (r : Ran). passed_rows r.log) run_is ∙ rows_noted at stimulus does old.timers done (rest_after done.tells).log
@@ -276,7 +276,7 @@ module _ (at : Setting) (stimulus : Stimulus) (acts fuel : ℕ) (is_acts : acts 
           place = 0;
           one_more = omega arith;
           table_is = sym (ap (λ (w : Works). w.rows) stop.works_are);
-          stands = ⊎_elim {C = ((held new.memory) ≡ option_map (with_rows (rows_of old.memory.table)) (held old.memory)) ⊎ ((held new.memory) ≡ option_map (with_rows done.works.rows) (held old.memory))}
+          stands = ⊎_elim {C = ((held new.memory) ≡ option_map (with_these_rows (rows_of old.memory.table)) (held old.memory)) ⊎ ((held new.memory) ≡ option_map (with_these_rows done.works.rows) (held old.memory))}
               (λ before. inl (before ∙ stands_still (held old.memory) (rows_of old.memory.table) has)) inr stop.stands;
           commits = stop.commits;
         });
@@ -332,7 +332,7 @@ woke at stimulus acts old new ending none has same works sent answer =
       works_are = works ∙ sym (ap (λ (r : Ran). r.works) is);
       sent_is = sent ∙ sym (ap (λ (r : Ran). r.sent) is);
       answer_is = answer ∙ sym (ap (λ (r : Ran). last_answer r.log) is);
-      stands = ap (λ (m : Memory). held m) same ∙ stands_still (held old.memory) (rows_of old.memory.table) has ∙ ap (λ (w : Works). option_map (with_rows w.rows) (held old.memory)) (sym works);
+      stands = ap (λ (m : Memory). held m) same ∙ stands_still (held old.memory) (rows_of old.memory.table) has ∙ ap (λ (w : Works). option_map (with_these_rows w.rows) (held old.memory)) (sym works);
       counts = subst (λ (rows : List (List Registration)). Counts rows old.memory new.memory) (sym (ap (λ (r : Ran). passed_rows r.log) is)) (counts_none old.memory new.memory same);
     }
 

@@ -17,7 +17,7 @@ use Rattle.toolkit_model.specs.Driving.{is_idle}
 use Rattle.toolkit_laws.proofs.Asks.{sending_idle}
 use Rattle.toolkit_laws.proofs.Late.{late_asks}
 use Rattle.proactive_handler.specs.Late.{sending_late}
-use Rattle.proactive_handler.specs.Serving.{IsServed, HasPlaces}
+use Rattle.proactive_handler.specs.Serving.{IsSessionServed, HasPlaces}
 use Rattle.proactive_handler.proofs.Serving.{ran_served, rows_keep}
 
 -- ---- the session after a run, by what it sent and which timers there are then
@@ -36,10 +36,10 @@ unfolding run_of_row
 run_session shelf stimulus is_resumed state = mind_session shelf stimulus is_resumed state (mind_on state.minds shelf)
 
 pub run_served : (old new : Loaded) (session : SessionState) (shelf : ℕ) (stimulus : Stimulus) (is_resumed : Bool) (state : ToolkitState) → ((other : ℕ) → HasRowOn old other → HasRowOn new other)
-    → session ≡ (run_of_row shelf stimulus is_resumed state).state.session → IsServed old state.session → is_idle (asks state.session) shelf ≡ true → HasRowOn old shelf → (is_resumed ≡ true → state.session.out ≡ None) → IsServed new session
+    → session ≡ (run_of_row shelf stimulus is_resumed state).state.session → IsSessionServed old state.session → is_idle (asks state.session) shelf ≡ true → HasRowOn old shelf → (is_resumed ≡ true → state.session.out ≡ None) → IsSessionServed new session
 run_served old new session shelf stimulus is_resumed state stay is served idle has out =
     let run = run_session shelf stimulus is_resumed state in
-    subst (IsServed new) (sym (is ∙ run.session_is))
+    subst (IsSessionServed new) (sym (is ∙ run.session_is))
     (rows_keep old new stay (sending shelf is_resumed run.sent (record state.session { timers = run.timers })) (ran_served old state.session run.timers shelf is_resumed run.sent served idle has out))
 
 -- ---- which applets are idle then

@@ -17,7 +17,7 @@ use Rattle.toolkit_model.specs.Commands.{last_answer}
 use Rattle.toolkit_model.specs.Running.{Setting, Works, Ran, carried, admitted, committed, going_on, run_on, most_acts, setting_of, works_of, sending, begins_call, with_mind, mind_on, ended_in, run_of_mind, run_of_row}
 use Rattle.proactive_handler.specs.declared.settings.Setting.{Setting as GivenSetting}
 use Rattle.proactive_handler.specs.declared.endings.Ending.{Ending}
-use Rattle.proactive_handler.specs.Acts.{stage, works_at, with_rows}
+use Rattle.proactive_handler.specs.Acts.{stage, works_at, with_these_rows}
 use Rattle.proactive_handler.specs.Counting.{Counts}
 use Rattle.proactive_handler.specs.Runs.{run_of, StopsAt, IsRun, IsCut}
 use Rattle.proactive_handler.specs.Steps.{toolkit, Scene, scene, IsDone}
@@ -81,7 +81,7 @@ module _ (shelf : ℕ) (stimulus : Stimulus) (is_resumed : Bool) (old : Scene) (
         ∙ ap (λ (t : Owners). sending shelf is_resumed ran.sent (record old.session { timers = t })) timers_now in
         subst (λ (p : Passed). IsDone p old new_scene) (sym run_is) (record {
           state_is = rw (rows_are, session_now, mind_now) refl;
-          stands = run.stands ∙ ap (λ (r : List Registration). option_map (with_rows r) (held old.memory)) rows_are;
+          stands = run.stands ∙ ap (λ (r : List Registration). option_map (with_these_rows r) (held old.memory)) rows_are;
           last_is = run_last most_acts (setting_of shelf stimulus (toolkit old)) stimulus (works_of mind (toolkit old));
           counts = subst (λ (r : Ran). Counts (passed_rows r.log) old.memory memory') same run.counts;
         })

@@ -24,7 +24,7 @@ use Rattle.toolkit_model.specs.Driving.{is_idle, behind, first_idle, front_out, 
 use Rattle.toolkit_laws.proofs.Ready.{idle_all, asks_same, asks_more}
 use Rattle.toolkit_laws.proofs.Late.{late_asks}
 use Rattle.toolkit_laws.proofs.Others.{asks_out, behind_all}
-use Rattle.proactive_handler.specs.Serving.{IsServed}
+use Rattle.proactive_handler.specs.Serving.{IsSessionServed}
 
 -- ---- numbers that are apart and below a bound are no more than it
 
@@ -109,7 +109,7 @@ row_within table shelf (Some row) is used = slice_get_within table.rows shelf ro
 pub on_shelf : (table : Loaded) (shelf : ℕ) → HasRowOn table shelf → shelf < length table.rows
 on_shelf table shelf has = row_within table shelf (slice_get table.rows shelf) refl has
 
-pub has_room : (table : Loaded) (session : SessionState) (shelf count : ℕ) → length table.rows ≡ count → IsServed table session → is_idle (asks session) shelf ≡ true → HasRowOn table shelf → length session.waiting < count
+pub has_room : (table : Loaded) (session : SessionState) (shelf count : ℕ) → length table.rows ≡ count → IsSessionServed table session → is_idle (asks session) shelf ≡ true → HasRowOn table shelf → length session.waiting < count
 has_room table session shelf count many served idle has =
     let shelves : List ℕ = map (λ sent. sent.shelf) (asks session) in
     let apart : Apart (shelf ∷ shelves) =
@@ -123,7 +123,7 @@ has_room table session shelf count many served idle has =
 -- ---- after a run
 
 module _ (old new : Loaded) (stay : (other : ℕ) → HasRowOn old other → HasRowOn new other) where
-  pub rows_keep : (session : SessionState) → IsServed old session → IsServed new session
+  pub rows_keep : (session : SessionState) → IsSessionServed old session → IsSessionServed new session
   rows_keep session served = record {
     apart = served.apart;
     askers = All-weaker (λ sent. HasRowOn old sent.shelf) (λ sent. HasRowOn new sent.shelf) (λ sent. stay sent.shelf) (asks session) served.askers;
@@ -131,15 +131,15 @@ module _ (old new : Loaded) (stay : (other : ℕ) → HasRowOn old other → Has
   }
 
 -- who asks is told by a list
-by_asks : (table : Loaded) (session new : SessionState) (asked : List Sent) → asks new ≡ asked → new.late ≡ session.late → IsServed table session → AllPairs AreApart asked → All (λ sent. HasRowOn table sent.shelf) asked → IsServed table new
+by_asks : (table : Loaded) (session new : SessionState) (asked : List Sent) → asks new ≡ asked → new.late ≡ session.late → IsSessionServed table session → AllPairs AreApart asked → All (λ sent. HasRowOn table sent.shelf) asked → IsSessionServed table new
 by_asks table session new asked is late served apart askers = record {
   apart = subst (AllPairs AreApart) (sym is) apart;
   askers = subst (All (λ (sent : Sent). HasRowOn table sent.shelf)) (sym is) askers;
   late = subst (All (λ (trigger : LateTrigger). HasRowOn table trigger.shelf)) (sym late) served.late;
 }
 
-pub ran_served : (table : Loaded) (session : SessionState) (timers : Owners) (shelf : ℕ) (is_resumed : Bool) (sent : Option Proactive) → IsServed table session → is_idle (asks session) shelf ≡ true → HasRowOn table shelf
-    → (is_resumed ≡ true → session.out ≡ None) → IsServed table (sending shelf is_resumed sent (record session { timers = timers }))
+pub ran_served : (table : Loaded) (session : SessionState) (timers : Owners) (shelf : ℕ) (is_resumed : Bool) (sent : Option Proactive) → IsSessionServed table session → is_idle (asks session) shelf ≡ true → HasRowOn table shelf
+    → (is_resumed ≡ true → session.out ≡ None) → IsSessionServed table (sending shelf is_resumed sent (record session { timers = timers }))
 ran_served table session timers shelf is_resumed None served idle has out = by_asks table session (record session { timers = timers }) (asks session) (asks_same session timers) refl served served.apart served.askers
 ran_served table session timers shelf true (Some command) served idle has out =
     let sent : Sent = record { shelf = shelf; command = command } in
@@ -155,7 +155,7 @@ ran_served table session timers shelf false (Some command) served idle has out =
 -- ---- late triggers
 
 -- one is kept
-pub late_served : (table : Loaded) (session : SessionState) (trigger : LateTrigger) → HasRowOn table trigger.shelf → IsServed table session → IsServed table (record session { late = session.late ++ trigger ∷ [] })
+pub late_served : (table : Loaded) (session : SessionState) (trigger : LateTrigger) → HasRowOn table trigger.shelf → IsSessionServed table session → IsSessionServed table (record session { late = session.late ++ trigger ∷ [] })
 late_served table session trigger has served = record {
   apart = subst (AllPairs AreApart) (sym (late_asks session (session.late ++ trigger ∷ []))) served.apart;
   askers = subst (All (λ (sent : Sent). HasRowOn table sent.shelf)) (sym (late_asks session (session.late ++ trigger ∷ []))) served.askers;
@@ -187,7 +187,7 @@ found_first asked P (trigger ∷ others) found all is =
     (chosen (is_idle asked trigger.shelf) (Some (trigger, others)) (option_map (behind trigger) (first_idle asked others)) (Some found) is)
 
 -- it was taken out
-pub taken_served : (table : Loaded) (session : SessionState) (late : List LateTrigger) → All (λ trigger. HasRowOn table trigger.shelf) late → IsServed table session → IsServed table (record session { late = late })
+pub taken_served : (table : Loaded) (session : SessionState) (late : List LateTrigger) → All (λ trigger. HasRowOn table trigger.shelf) late → IsSessionServed table session → IsSessionServed table (record session { late = late })
 taken_served table session late has served = record {
   apart = subst (AllPairs AreApart) (sym (late_asks session late)) served.apart;
   askers = subst (All (λ (sent : Sent). HasRowOn table sent.shelf)) (sym (late_asks session late)) served.askers;
@@ -222,7 +222,7 @@ filled_late : (out : Option Outstanding) (rows : List Registration) (session : S
 filled_late (Some out) rows session = refl
 filled_late None rows session = next_late (wanted session.profile rows session.announced) session
 
-pub settled_served : (table : Loaded) (rows : List Registration) (session : SessionState) → IsServed table session → IsServed table (filled session.out rows session)
+pub settled_served : (table : Loaded) (rows : List Registration) (session : SessionState) → IsSessionServed table session → IsSessionServed table (filled session.out rows session)
 settled_served table rows session served =
     by_asks table session (filled session.out rows session) (asks session) (filled_asks session.out rows session refl) (filled_late session.out rows session) served served.apart served.askers
 
@@ -264,14 +264,14 @@ idle_from (sent ∷ others) shelf apart =
     no_same : (a b : ℕ) → b ≢ a → (a == b) ≡ false
     no_same a b apart = grind (arith, nat_tests)
 
-module _ (table : Loaded) (session : SessionState) (served : IsServed table session) (out : Outstanding) (is : session.out ≡ Some out) where
+module _ (table : Loaded) (session : SessionState) (served : IsSessionServed table session) (out : Outstanding) (is : session.out ≡ Some out) where
   all_apart : AllPairs AreApart (sent_by out.owner out.command ++ session.waiting)
   all_apart = subst (AllPairs AreApart) (asks_out session out is) served.apart
 
   all_rows : All (λ (sent : Sent). HasRowOn table sent.shelf) (sent_by out.owner out.command ++ session.waiting)
   all_rows = subst (All (λ (sent : Sent). HasRowOn table sent.shelf)) (asks_out session out is) served.askers
 
-  pub gone_served : IsServed table (gone session)
+  pub gone_served : IsSessionServed table (gone session)
   gone_served =
       by_asks table session (gone session) session.waiting (gone_asks session) refl served (rest_apart out.owner out.command session.waiting all_apart)
       (behind_all (λ (sent : Sent). HasRowOn table sent.shelf) out.owner out.command session.waiting all_rows)

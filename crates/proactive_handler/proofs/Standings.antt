@@ -6,7 +6,7 @@ use Rattle.uicc_types.specs.Counts.{raised}
 use Rattle.store_form.specs.declared.store.StoreFault.{StoreFault}
 use Rattle.card_layout.specs.declared.entries.Loaded.{Loaded}
 use Rattle.card_layout.specs.Memory.{Memory, held}
-use Rattle.card_layout.specs.Changing.{with_row_changed, with_code as with_code_committed, without_code as without_code_committed, with_kept as with_kept_committed}
+use Rattle.card_layout.specs.Changing.{with_row_changed, with_code_committed, without_code_committed, with_kept_committed}
 use Rattle.card_layout.specs.Persistent.{Registration, Persistent}
 use Rattle.card_layout.specs.Standing.{Agrees}
 use Rattle.card_layout.specs.States.{rows_of}
@@ -21,7 +21,7 @@ use Rattle.toolkit_model.specs.Passing.{passed_rows}
 use Rattle.toolkit_model.specs.Running.{Setting, Works, Carried, carried, commits, committed, answers, admitted}
 use Rattle.proactive_handler.specs.declared.endings.Next.{Next}
 use Rattle.proactive_handler.specs.declared.endings.Next.TheVariants.{Told}
-use Rattle.proactive_handler.specs.Acts.{next_of, Stage, stage, works_at, with_rows, IsCarriedOut, IsStopped, Carries}
+use Rattle.proactive_handler.specs.Acts.{next_of, Stage, stage, works_at, with_these_rows, IsCarriedOut, IsActStopped, Carries}
 use Rattle.proactive_handler.specs.Moved.{HasRowsOf, has_rows, stands_still}
 use Rattle.proactive_handler.specs.Counting.{Counts, counts_none, counts_one}
 
@@ -29,12 +29,12 @@ use Rattle.proactive_handler.specs.Counting.{Counts, counts_none, counts_one}
 
 -- It changes nothing but the rows, and those so.
 abbrev pub ChangesRows : (Persistent → Persistent) → (List Registration → List Registration) → Type 0
-ChangesRows change rows_after = (state : Persistent) → change state ≡ with_rows (rows_after state.rows) state
+ChangesRows change rows_after = (state : Persistent) → change state ≡ with_these_rows (rows_after state.rows) state
 
 pub changed_so : (change : Persistent → Persistent) (rows_after : List Registration → List Registration) → ChangesRows change rows_after → (stood : Option Persistent) (rows : List Registration) → HasRowsOf stood rows
-    → option_map change stood ≡ option_map (with_rows (rows_after rows)) stood
+    → option_map change stood ≡ option_map (with_these_rows (rows_after rows)) stood
 changed_so change rows_after so None rows has = refl
-changed_so change rows_after so (Some state) rows has = ap (λ (s : Persistent). Some s) (so state ∙ ap (λ (r : List Registration). with_rows (rows_after r) state) (has state refl))
+changed_so change rows_after so (Some state) rows has = ap (λ (s : Persistent). Some s) (so state ∙ ap (λ (r : List Registration). with_these_rows (rows_after r) state) (has state refl))
 
 pub keeps : (shelf : ℕ) (bytes : List ℕ) → ChangesRows (with_kept_committed shelf bytes) (λ rows. with_kept rows shelf bytes)
 unfolding with_row_changed
@@ -56,31 +56,31 @@ module _ (at : Setting) (does : Act) (old new : Stage) where
   told_so stimulus is works same has = record {
     works_are = works ∙ sym (ap (λ (c : Carried). c.works) is);
     next_is = sym (ap (λ (c : Carried). next_of c.tells (admitted at old.timers does)) is);
-    stands = ap (λ (m : Memory). held m) same ∙ stands_still (held old.memory) (rows_of old.memory.table) has ∙ ap (λ (w : Works). option_map (with_rows w.rows) (held old.memory)) (sym works);
+    stands = ap (λ (m : Memory). held m) same ∙ stands_still (held old.memory) (rows_of old.memory.table) has ∙ ap (λ (w : Works). option_map (with_these_rows w.rows) (held old.memory)) (sym works);
     counts = subst (λ (done : Carried). Counts (passed_rows (committed done)) old.memory new.memory) (sym is) (counts_none old.memory new.memory same);
   }
 
   module _ (rows : List Registration) (is : carried at does (works_at old) ≡ commits (works_at old) rows) where
     -- its commit stands
-    pub committed_so : works_at new ≡ record (works_at old) { rows = rows } → held new.memory ≡ option_map (with_rows rows) (held old.memory) → new.memory.commits ≡ raised old.memory.commits → IsCarriedOut at does old new (Told Went)
+    pub committed_so : works_at new ≡ record (works_at old) { rows = rows } → held new.memory ≡ option_map (with_these_rows rows) (held old.memory) → new.memory.commits ≡ raised old.memory.commits → IsCarriedOut at does old new (Told Went)
     committed_so works stands once = record {
       works_are = works ∙ sym (ap (λ (c : Carried). c.works) is);
       next_is = sym (ap (λ (c : Carried). next_of c.tells (admitted at old.timers does)) is);
-      stands = stands ∙ ap (λ (w : Works). option_map (with_rows w.rows) (held old.memory)) (sym works);
+      stands = stands ∙ ap (λ (w : Works). option_map (with_these_rows w.rows) (held old.memory)) (sym works);
       counts = subst (λ (done : Carried). Counts (passed_rows (committed done)) old.memory new.memory) (sym is) (counts_one rows old.memory new.memory once);
     }
 
     -- a fault stopped it
-    pub stopped_so : works_at new ≡ works_at old → (held new.memory ≡ held old.memory) ⊎ (held new.memory ≡ option_map (with_rows rows) (held old.memory)) → new.memory.commits ≡ old.memory.commits → IsStopped at does old new
+    pub stopped_so : works_at new ≡ works_at old → (held new.memory ≡ held old.memory) ⊎ (held new.memory ≡ option_map (with_these_rows rows) (held old.memory)) → new.memory.commits ≡ old.memory.commits → IsActStopped at does old new
     stopped_so works stands none = record {
       is_commit = ap (λ (c : Carried). c.is_committed) is;
       works_are = works;
-      stands = ⊎_elim {C = (held new.memory ≡ held old.memory) ⊎ (held new.memory ≡ option_map (with_rows (carried at does (works_at old)).works.rows) (held old.memory))}
-          inl (λ after. inr (after ∙ ap (λ (c : Carried). option_map (with_rows c.works.rows) (held old.memory)) (sym is))) stands;
+      stands = ⊎_elim {C = (held new.memory ≡ held old.memory) ⊎ (held new.memory ≡ option_map (with_these_rows (carried at does (works_at old)).works.rows) (held old.memory))}
+          inl (λ after. inr (after ∙ ap (λ (c : Carried). option_map (with_these_rows c.works.rows) (held old.memory)) (sym is))) stands;
       commits = none;
     }
 
-  pub on_fault : (r : Result Next StoreFault) → IsErr r → IsStopped at does old new → Carries at does old new r
+  pub on_fault : (r : Result Next StoreFault) → IsErr r → IsActStopped at does old new → Carries at does old new r
   on_fault (Ok next) err stopped = cc err
   on_fault (Err fault) err stopped = stopped
 
@@ -105,5 +105,5 @@ module _ (tell : TablesTellStates) (memory : Memory) (agrees : Agrees memory.mar
     commit_stops r err same either none =
         on_fault at does before (stage memory' timers mind) r err
         (stopped_so at does before (stage memory' timers mind) (rows_after (rows_of memory.table)) is (ap (λ (t : Loaded). record (works_at before) { rows = rows_of t }) same)
-        (⊎_elim {C = (held memory' ≡ held memory) ⊎ (held memory' ≡ option_map (with_rows (rows_after (rows_of memory.table))) (held memory))}
+        (⊎_elim {C = (held memory' ≡ held memory) ⊎ (held memory' ≡ option_map (with_these_rows (rows_after (rows_of memory.table))) (held memory))}
         inl (λ after. inr (after ∙ changed_so change rows_after so (held memory) (rows_of memory.table) (has_rows tell memory.mark memory.told memory.table agrees))) either) none)

@@ -48,29 +48,29 @@ abbrev pub works_at : Stage → Works
 works_at now = record { rows = rows_of now.memory.table; timers = now.timers; mind = now.mind }
 
 -- a state with these rows
-abbrev pub with_rows : List Registration → Persistent → Persistent
-with_rows rows state = record state { rows = rows }
+abbrev pub with_these_rows : List Registration → Persistent → Persistent
+with_these_rows rows state = record state { rows = rows }
 
 -- The act was carried out as it is defined, and the store stands for the state with the rows after it. It was one commit where
 -- there is one.
 pub record IsCarriedOut (at : Setting) (does : Act) (old new : Stage) (next : Next) : Type 0 where
   pub works_are : works_at new ≡ (carried at does (works_at old)).works
   pub next_is : next ≡ next_of (carried at does (works_at old)).tells (admitted at old.timers does)
-  pub stands : held new.memory ≡ option_map (with_rows (rows_of new.memory.table)) (held old.memory)
+  pub stands : held new.memory ≡ option_map (with_these_rows (rows_of new.memory.table)) (held old.memory)
   pub counts : Counts (passed_rows (committed (carried at does (works_at old)))) old.memory new.memory
 
 -- A fault stopped the one commit of the act, which isn't counted: the store stands for the rows before it or for those after it,
 -- and nothing else changed.
-pub record IsStopped (at : Setting) (does : Act) (old new : Stage) : Type 0 where
+pub record IsActStopped (at : Setting) (does : Act) (old new : Stage) : Type 0 where
   pub is_commit : (carried at does (works_at old)).is_committed ≡ true
   pub works_are : works_at new ≡ works_at old
   pub stands : (held new.memory ≡ held old.memory)
-      ⊎ (held new.memory ≡ option_map (with_rows (carried at does (works_at old)).works.rows) (held old.memory))
+      ⊎ (held new.memory ≡ option_map (with_these_rows (carried at does (works_at old)).works.rows) (held old.memory))
   pub commits : new.memory.commits ≡ old.memory.commits
 
 abbrev pub Carries : Setting → Act → Stage → Stage → Result Next StoreFault → Type 0
 Carries at does old new (Ok next) = IsCarriedOut at does old new next
-Carries at does old new (Err fault) = IsStopped at does old new
+Carries at does old new (Err fault) = IsActStopped at does old new
 
 -- a timer that is told of is one of the eight
 abbrev pub TellsTimer : Next → Type 0

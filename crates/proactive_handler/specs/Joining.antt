@@ -10,7 +10,7 @@ use Rattle.card_layout.specs.Memory.{Memory, held}
 use Rattle.card_layout.specs.Persistent.{Registration, Persistent}
 use Rattle.card_layout.specs.States.{rows_of}
 use Rattle.toolkit_model.specs.Passing.{ToolkitState, Happening, Passed, noting, before, rows_in, passed_rows}
-use Rattle.proactive_handler.specs.Acts.{with_rows}
+use Rattle.proactive_handler.specs.Acts.{with_these_rows}
 use Rattle.proactive_handler.specs.Counting.{Counts, counts_then}
 use Rattle.proactive_handler.specs.Runs.{StopsAt}
 use Rattle.proactive_handler.specs.Steps.{Scene, toolkit, IsDone, MovesTo}
@@ -27,9 +27,9 @@ passed_append first second = filter_map-append rows_in first second
 -- ---- states with some rows
 
 -- one change of the rows after the other
-pub stands_then : (old mid new : Option Persistent) (rows after : List Registration) → mid ≡ option_map (with_rows rows) old → new ≡ option_map (with_rows after) mid → new ≡ option_map (with_rows after) old
-stands_then None mid new rows after first second = second ∙ ap (option_map (with_rows after)) first
-stands_then (Some state) mid new rows after first second = second ∙ ap (option_map (with_rows after)) first
+pub stands_then : (old mid new : Option Persistent) (rows after : List Registration) → mid ≡ option_map (with_these_rows rows) old → new ≡ option_map (with_these_rows after) mid → new ≡ option_map (with_these_rows after) old
+stands_then None mid new rows after first second = second ∙ ap (option_map (with_these_rows after)) first
+stands_then (Some state) mid new rows after first second = second ∙ ap (option_map (with_these_rows after)) first
 
 -- ---- where a fault stopped some commits
 
@@ -41,9 +41,9 @@ stops_before passed old new stop more =
       place = stop.place;
       one_more = omega (arith, stop.one_more, length-append passed more);
       table_is = here ∙ stop.table_is;
-      stands = ⊎_elim {C = (held new ≡ option_map (with_rows (slice_index_or (passed ++ more) stop.place [])) (held old)) ⊎ (held new ≡ option_map (with_rows (slice_index_or (passed ++ more) (stop.place + 1) [])) (held old))}
-          (λ before. inl (before ∙ ap (λ (r : List Registration). option_map (with_rows r) (held old)) (sym here)))
-          (λ behind. inr (behind ∙ ap (λ (r : List Registration). option_map (with_rows r) (held old)) (sym next)))
+      stands = ⊎_elim {C = (held new ≡ option_map (with_these_rows (slice_index_or (passed ++ more) stop.place [])) (held old)) ⊎ (held new ≡ option_map (with_these_rows (slice_index_or (passed ++ more) (stop.place + 1) [])) (held old))}
+          (λ before. inl (before ∙ ap (λ (r : List Registration). option_map (with_these_rows r) (held old)) (sym here)))
+          (λ behind. inr (behind ∙ ap (λ (r : List Registration). option_map (with_these_rows r) (held old)) (sym next)))
           stop.stands;
       commits = stop.commits;
     }
@@ -62,20 +62,20 @@ stops_behind passed rows old new stop =
       place = 1 + stop.place;
       one_more = omega (arith, stop.one_more);
       table_is = here ∙ stop.table_is;
-      stands = ⊎_elim {C = (held new ≡ option_map (with_rows (slice_index_or (rows ∷ passed) (1 + stop.place) [])) (held old)) ⊎ (held new ≡ option_map (with_rows (slice_index_or (rows ∷ passed) (1 + stop.place + 1) [])) (held old))}
-          (λ before. inl (before ∙ ap (λ (r : List Registration). option_map (with_rows r) (held old)) (sym here)))
-          (λ behind. inr (behind ∙ ap (λ (r : List Registration). option_map (with_rows r) (held old)) (sym next)))
+      stands = ⊎_elim {C = (held new ≡ option_map (with_these_rows (slice_index_or (rows ∷ passed) (1 + stop.place) [])) (held old)) ⊎ (held new ≡ option_map (with_these_rows (slice_index_or (rows ∷ passed) (1 + stop.place + 1) [])) (held old))}
+          (λ before. inl (before ∙ ap (λ (r : List Registration). option_map (with_these_rows r) (held old)) (sym here)))
+          (λ behind. inr (behind ∙ ap (λ (r : List Registration). option_map (with_these_rows r) (held old)) (sym next)))
           stop.stands;
       commits = stop.commits ∙ ap (λ (n : ℕ). raised_by n old.commits) one;
     }
 
 -- the store stood for other rows before
-stops_since : (passed : List (List Registration)) (rows : List Registration) (old mid new : Memory) → held mid ≡ option_map (with_rows rows) (held old) → mid.commits ≡ old.commits → StopsAt passed mid new → StopsAt passed old new
+stops_since : (passed : List (List Registration)) (rows : List Registration) (old mid new : Memory) → held mid ≡ option_map (with_these_rows rows) (held old) → mid.commits ≡ old.commits → StopsAt passed mid new → StopsAt passed old new
 stops_since passed rows old mid new is counted stop = record {
   place = stop.place;
   one_more = stop.one_more;
   table_is = stop.table_is;
-  stands = ⊎_elim {C = (held new ≡ option_map (with_rows (slice_index_or passed stop.place [])) (held old)) ⊎ (held new ≡ option_map (with_rows (slice_index_or passed (stop.place + 1) [])) (held old))}
+  stands = ⊎_elim {C = (held new ≡ option_map (with_these_rows (slice_index_or passed stop.place [])) (held old)) ⊎ (held new ≡ option_map (with_these_rows (slice_index_or passed (stop.place + 1) [])) (held old))}
       (λ before. inl (stands_then (held old) (held mid) (held new) rows (slice_index_or passed stop.place []) is before))
       (λ behind. inr (stands_then (held old) (held mid) (held new) rows (slice_index_or passed (stop.place + 1) []) is behind))
       stop.stands;
@@ -84,7 +84,7 @@ stops_since passed rows old mid new is counted stop = record {
 
 -- after all commits of one list, in the next
 pub stops_later : (first : List (List Registration)) (rows after : List Registration) (more : List (List Registration)) (old mid new : Memory) → last_or (Some rows) first ≡ Some after
-    → held mid ≡ option_map (with_rows after) (held old) → mid.commits ≡ raised_by (length first) old.commits → StopsAt (after ∷ more) mid new → StopsAt (rows ∷ first ++ more) old new
+    → held mid ≡ option_map (with_these_rows after) (held old) → mid.commits ≡ raised_by (length first) old.commits → StopsAt (after ∷ more) mid new → StopsAt (rows ∷ first ++ more) old new
 stops_later [] rows after more old mid new last is counted stop =
     let same : rows ≡ after = cc last in
     subst (λ (r : List Registration). StopsAt (r ∷ more) old new) (sym same) (stops_since (after ∷ more) after old mid new is counted stop)

@@ -15,7 +15,7 @@ use Rattle.card_memory.specs.Laws.{TablesTellStates}
 use Rattle.applet_trait.specs.Minds.{AppletState}
 use Rattle.toolkit_model.specs.Passing.{Happening, Passed, noting, ShelfTurn, turn_in, turns, passed_rows}
 use Rattle.toolkit_model.specs.Commands.{answer_in, last_answer}
-use Rattle.proactive_handler.specs.Acts.{with_rows}
+use Rattle.proactive_handler.specs.Acts.{with_these_rows}
 use Rattle.proactive_handler.specs.Counting.{Counts, counts_none}
 use Rattle.proactive_handler.specs.Runs.{StopsAt}
 use Rattle.proactive_handler.specs.Steps.{Scene, toolkit, IsDone, MovesTo}
@@ -43,16 +43,16 @@ HasRowsOf stood rows = (state : Persistent) → stood ≡ Some state → state.r
 pub has_rows : TablesTellStates → (mark : ℕ) (told : Option (List ℕ)) (table : Loaded) → Agrees mark told table → HasRowsOf (standing mark told) (rows_of table)
 has_rows tell mark told table agrees = λ state is. (tell mark told table state agrees is).rows
 
-pub stands_still : (stood : Option Persistent) (rows : List Registration) → HasRowsOf stood rows → stood ≡ option_map (with_rows rows) stood
+pub stands_still : (stood : Option Persistent) (rows : List Registration) → HasRowsOf stood rows → stood ≡ option_map (with_these_rows rows) stood
 stands_still None rows has = refl
-stands_still (Some state) rows has = ap (λ (r : List Registration). Some (with_rows r state)) (has state refl)
+stands_still (Some state) rows has = ap (λ (r : List Registration). Some (with_these_rows r state)) (has state refl)
 
 -- ---- a step that commits nothing
 
 pub still_done : (passed : Passed) (old new : Scene) → HasRowsOf (held old.memory) (rows_of old.memory.table) → passed_rows passed.log ≡ [] → passed.state.rows ≡ rows_of old.memory.table → toolkit new ≡ passed.state → new.memory ≡ old.memory → IsDone passed old new
 still_done passed old new has nothing rows state same = record {
   state_is = state;
-  stands = ap (λ (m : Memory). held m) same ∙ stands_still (held old.memory) (rows_of old.memory.table) has ∙ ap (λ (r : List Registration). option_map (with_rows r) (held old.memory)) (sym rows);
+  stands = ap (λ (m : Memory). held m) same ∙ stands_still (held old.memory) (rows_of old.memory.table) has ∙ ap (λ (r : List Registration). option_map (with_these_rows r) (held old.memory)) (sym rows);
   last_is = ap (last_or (Some (rows_of old.memory.table))) nothing ∙ ap (λ (r : List Registration). Some r) (sym rows);
   counts = subst (λ (p : List (List Registration)). Counts p old.memory new.memory) (sym nothing) (counts_none old.memory new.memory same);
 }
@@ -108,7 +108,7 @@ module _ {B : Type 0} (mind : B → AppletState) (boxes : List (Option B)) (plac
 pub since_moves : {X : Type 0} (passed : Passed) (old early new : Scene) (r : Result X StoreFault) → early.memory ≡ old.memory → MovesTo passed early new r → MovesTo passed old new r
 since_moves passed old early new (Ok result) same done = record {
   state_is = done.state_is;
-  stands = done.stands ∙ ap (λ (m : Memory). option_map (with_rows passed.state.rows) (held m)) same;
+  stands = done.stands ∙ ap (λ (m : Memory). option_map (with_these_rows passed.state.rows) (held m)) same;
   last_is = ap (λ (m : Memory). last_or (Some (rows_of m.table)) (passed_rows passed.log)) (sym same) ∙ done.last_is;
   counts = subst (λ (m : Memory). Counts (passed_rows passed.log) m new.memory) same done.counts;
 }

@@ -16,7 +16,7 @@ use Rattle.toolkit_model.specs.Commands.{last_answer}
 use Rattle.trigger_index.specs.Indexes.{StandsFor}
 use Rattle.proactive_handler.specs.declared.settings.Setting.{Setting as GivenSetting}
 use Rattle.proactive_handler.specs.declared.endings.Ending.{Ending}
-use Rattle.proactive_handler.specs.Acts.{setting_of, Stage, works_at, with_rows}
+use Rattle.proactive_handler.specs.Acts.{setting_of, Stage, works_at, with_these_rows}
 use Rattle.proactive_handler.specs.Counting.{Counts}
 
 -- what an act answers to call control
@@ -30,7 +30,7 @@ run_of at stimulus works = run_on most_acts (setting_of at) stimulus works
 
 -- the states with each of these rows
 abbrev pub with_each_rows : List (List Registration) → Persistent → List Persistent
-with_each_rows passed state = map (λ rows. with_rows rows state) passed
+with_each_rows passed state = map (λ rows. with_these_rows rows state) passed
 
 -- The run came to its end: it changed what the definition changes, the store stands for the state with the rows after it, and
 -- there were as many commits as are noted.
@@ -38,7 +38,7 @@ pub record IsRun (ran : Ran) (old new : Stage) (ending : Ending) : Type 0 where
   pub works_are : works_at new ≡ ran.works
   pub sent_is : ending.sent ≡ ran.sent
   pub answer_is : ending.answer ≡ last_answer ran.log
-  pub stands : held new.memory ≡ option_map (with_rows (rows_of new.memory.table)) (held old.memory)
+  pub stands : held new.memory ≡ option_map (with_these_rows (rows_of new.memory.table)) (held old.memory)
   pub counts : Counts (passed_rows ran.log) old.memory new.memory
 
 -- A fault stopped one of the commits by which the rows went through these: the table has the rows before it, and the store stands
@@ -47,8 +47,8 @@ pub record StopsAt (passed : List (List Registration)) (old new : Memory) : Type
   pub place : ℕ
   pub one_more : place + 1 < length passed
   pub table_is : slice_index_or passed place [] ≡ rows_of new.table
-  pub stands : (held new ≡ option_map (with_rows (slice_index_or passed place [])) (held old))
-      ⊎ (held new ≡ option_map (with_rows (slice_index_or passed (place + 1) [])) (held old))
+  pub stands : (held new ≡ option_map (with_these_rows (slice_index_or passed place [])) (held old))
+      ⊎ (held new ≡ option_map (with_these_rows (slice_index_or passed (place + 1) [])) (held old))
   pub commits : new.commits ≡ raised_by place old.commits
 
 -- A fault stopped it: the store stands for the state before it or after one of its commits.

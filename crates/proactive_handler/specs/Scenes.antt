@@ -13,7 +13,7 @@ use Rattle.applet_trait.specs.Minds.{AppletState}
 use Rattle.trigger_index.specs.Indexes.{StandsFor}
 use Rattle.proactive_handler.specs.Boxes.{kinds_of, LeavesOthers, others_then}
 use Rattle.proactive_handler.specs.Keeping.{keeps_then, keeps_done, fault_keeps}
-use Rattle.proactive_handler.specs.Serving.{IsServed}
+use Rattle.proactive_handler.specs.Serving.{IsSessionServed}
 use Rattle.proactive_handler.specs.Steps.{Scene}
 
 -- The applets in these boxes can run: the memory is mounted, the index is that of its rows, there is a place for the applet of each
@@ -22,7 +22,7 @@ pub record IsInService {B : Type 0} (now : Scene) (cast : List (Option B)) : Typ
   pub mounted : IsMounted now.memory
   pub indexed : StandsFor now.index (rows_of now.memory.table)
   pub shelves : length cast ≡ ROW_COUNT
-  pub served : IsServed now.memory.table now.session
+  pub served : IsSessionServed now.memory.table now.session
 
 -- What each step keeps of a scene, also where a fault stops it.
 pub record KeepsScene {X : Type 0} (old new : Scene) (result : Result X StoreFault) : Type 0 where
@@ -31,7 +31,7 @@ pub record KeepsScene {X : Type 0} (old new : Scene) (result : Result X StoreFau
   -- where no row is, the applet is as it was
   pub others : LeavesOthers new.memory.table old.minds new.minds
   -- after Ok the applets can run again
-  pub served : OnOk result (IsServed new.memory.table new.session)
+  pub served : OnOk result (IsSessionServed new.memory.table new.session)
   -- who was registered still is
   pub rows_stay : (shelf : ℕ) → HasRowOn old.memory.table shelf → HasRowOn new.memory.table shelf
   -- after Ok the index is that of the rows

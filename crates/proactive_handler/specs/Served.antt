@@ -7,14 +7,14 @@ use Rattle.card_layout.specs.declared.entries.Loaded.{Loaded}
 use Rattle.card_memory.specs.Model.{HasRowOn}
 use Rattle.toolkit_model.specs.Sessions.{Outstanding, Sent, LateTrigger, SessionState, fresh_session}
 use Rattle.toolkit_model.specs.Orderly.{owned, asks}
-use Rattle.proactive_handler.specs.Serving.{IsServed}
+use Rattle.proactive_handler.specs.Serving.{IsSessionServed}
 
 same_asks : (old new : SessionState) → new.out ≡ old.out → new.waiting ≡ old.waiting → asks new ≡ asks old
 unfolding asks
 same_asks old new out waiting = ap (λ (o : Option Outstanding). owned o ++ new.waiting) out ∙ ap (λ (w : List Sent). owned old.out ++ w) waiting
 
 -- a change of the profile, of what was announced, or of the timers
-pub served_still : (table : Loaded) (old new : SessionState) → new.out ≡ old.out → new.waiting ≡ old.waiting → new.late ≡ old.late → IsServed table old → IsServed table new
+pub served_still : (table : Loaded) (old new : SessionState) → new.out ≡ old.out → new.waiting ≡ old.waiting → new.late ≡ old.late → IsSessionServed table old → IsSessionServed table new
 served_still table old new out waiting late served = record {
   apart = subst (AllPairs (λ (a b : Sent). a.shelf ≢ b.shelf)) (sym (same_asks old new out waiting)) served.apart;
   askers = subst (All (λ (sent : Sent). HasRowOn table sent.shelf)) (sym (same_asks old new out waiting)) served.askers;
@@ -26,7 +26,7 @@ unfolding asks
 fresh_asks = refl
 
 -- a reset
-pub fresh_served : (table : Loaded) → IsServed table fresh_session
+pub fresh_served : (table : Loaded) → IsSessionServed table fresh_session
 fresh_served table = record {
   apart = subst (AllPairs (λ (a b : Sent). a.shelf ≢ b.shelf)) (sym fresh_asks) (pairs_nil (λ a b. a.shelf ≢ b.shelf));
   askers = subst (All (λ (sent : Sent). HasRowOn table sent.shelf)) (sym fresh_asks) (All-nil (λ sent. HasRowOn table sent.shelf));

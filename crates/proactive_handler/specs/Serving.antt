@@ -10,14 +10,14 @@ use Rattle.toolkit_model.specs.Driving.{is_idle, told_one, given_one}
 use Rattle.toolkit_model.specs.Commands.{late_places}
 
 -- each applet asks at most once, and who asks, and for whom an event came late, is registered
-pub record IsServed (table : Loaded) (session : SessionState) : Type 0 where
+pub record IsSessionServed (table : Loaded) (session : SessionState) : Type 0 where
   pub apart : AllPairs (λ a b. a.shelf ≢ b.shelf) (asks session)
   pub askers : All (λ sent. HasRowOn table sent.shelf) (asks session)
   pub late : All (λ trigger. HasRowOn table trigger.shelf) session.late
 
 -- a session over the registrations of a table is such
 abbrev pub SessionsAreServed : Type 0
-SessionsAreServed = (table : Loaded) (session : SessionState) → IsUnderway (rows_of table) session → IsServed table session
+SessionsAreServed = (table : Loaded) (session : SessionState) → IsUnderway (rows_of table) session → IsSessionServed table session
 
 -- an event for these shelves can be kept for those of them that wait for an answer
 abbrev pub HasPlaces : SessionState → List ℕ → Type 0

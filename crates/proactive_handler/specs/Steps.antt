@@ -7,7 +7,7 @@ use Rattle.card_layout.specs.States.{rows_of}
 use Rattle.applet_trait.specs.Minds.{AppletState}
 use Rattle.toolkit_model.specs.Sessions.{SessionState}
 use Rattle.toolkit_model.specs.Passing.{ToolkitState, Passed, passed_rows}
-use Rattle.proactive_handler.specs.Acts.{with_rows}
+use Rattle.proactive_handler.specs.Acts.{with_these_rows}
 use Rattle.proactive_handler.specs.Counting.{Counts}
 use Rattle.proactive_handler.specs.Runs.{StopsAt}
 
@@ -29,7 +29,7 @@ toolkit now = record { rows = rows_of now.memory.table; session = now.session; m
 -- committed. There were as many commits as are noted.
 pub record IsDone (passed : Passed) (old new : Scene) : Type 0 where
   pub state_is : toolkit new ≡ passed.state
-  pub stands : held new.memory ≡ option_map (with_rows passed.state.rows) (held old.memory)
+  pub stands : held new.memory ≡ option_map (with_these_rows passed.state.rows) (held old.memory)
   pub last_is : last_or (Some (rows_of old.memory.table)) (passed_rows passed.log) ≡ Some passed.state.rows
   pub counts : Counts (passed_rows passed.log) old.memory new.memory
 

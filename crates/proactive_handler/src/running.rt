@@ -10,7 +10,7 @@ ghost use Rattle.toolkit_model.specs.Driving.{is_idle};
 ghost use Rattle.toolkit_model.specs.Orderly.{asks, CanBeSent};
 ghost use Rattle.toolkit_model.specs.Running.{begins_call, sending, mind_on, with_mind, run_of_row};
 ghost use Rattle.proactive_handler.specs.Boxes.{minds_of, IsSameBox};
-ghost use Rattle.proactive_handler.specs.Serving.{IsServed};
+ghost use Rattle.proactive_handler.specs.Serving.{IsSessionServed};
 ghost use Rattle.proactive_handler.specs.Steps.{scene, toolkit, Moves};
 ghost use Rattle.card_layout.specs.Memory.{memory};
 ghost use Rattle.proactive_handler.specs.Reached.{Tells};
@@ -53,7 +53,7 @@ fn send_last(session: &mut Session, shelf: Shelf, is_resumed: bool, sent: Option
 // The place of the box of a row, which is idle: then there is room for a command that it sends.
 fn place_of(loaded: &Loaded, session: &Session, shelf: Shelf) -> usize
     requires row { HasRowOn loaded.now shelf.0 }
-    requires served { IsServed loaded.now session.now }
+    requires served { IsSessionServed loaded.now session.now }
     requires idle { is_idle (asks session.now) shelf.0 ≡ true }
     ensures value { result ≡ shelf.0 }
     ensures low { result < ROW_COUNT }

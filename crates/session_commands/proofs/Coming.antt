@@ -13,11 +13,11 @@ use Rattle.card_layout.specs.Persistent.{Registration, Persistent}
 use Rattle.card_layout.specs.States.{rows_of, pins_of}
 use Rattle.card_memory.specs.Laws.{IsTold}
 use Rattle.toolkit_model.specs.Passing.{ToolkitState, passed_rows}
-use Rattle.proactive_handler.specs.Acts.{with_rows as with_these}
+use Rattle.proactive_handler.specs.Acts.{with_these_rows}
 use Rattle.proactive_handler.specs.Runs.{StopsAt}
 use Rattle.proactive_handler.specs.Steps.{Scene, IsDone, MovesTo}
 use Rattle.card_model.specs.Toolkit.{ToolkitOutcome, with_rows}
-use Rattle.session_commands.specs.Carrying.{state_at, last_state, HasCome, IsCutShort, Comes}
+use Rattle.session_commands.specs.Carrying.{state_at, last_state, HasCome, IsToolkitCutShort, Comes}
 
 -- the table of a scene tells of what its store stands for
 abbrev pub Tells : Scene → Type 0
@@ -39,12 +39,12 @@ module _ (state : Persistent) (next : ℕ) where
     last_is passed final is =
         subst (λ (s : Persistent). last_of s (map (with_rows state next) passed) ≡ with_rows state next final) with_own (last_with rows passed final is)
 
-    pub these_are : (final : List Registration) → with_these final state ≡ with_rows state next final
+    pub these_are : (final : List Registration) → with_these_rows final state ≡ with_rows state next final
     these_are final = ap (λ (n : ℕ). with_rows state n final) next_is
 
     pub at_is : (passed : List (List Registration)) (count : ℕ) → count < length (rows ∷ passed)
-        → slice_index_or (state ∷ map (with_rows state next) passed) count state ≡ with_these (slice_index_or (rows ∷ passed) count []) state
-    at_is passed zero low = ap (λ (r : List Registration). with_these r state) rows_are
+        → slice_index_or (state ∷ map (with_rows state next) passed) count state ≡ with_these_rows (slice_index_or (rows ∷ passed) count []) state
+    at_is passed zero low = ap (λ (r : List Registration). with_these_rows r state) rows_are
     at_is passed (suc count) low =
         get_or-map (with_rows state next) passed count [] state (omega (arith, low)) ∙ sym (these_are (slice_index_or passed count []))
 
@@ -62,7 +62,7 @@ told_again old new all state is told =
 module _ (outcome : ToolkitOutcome) (old new : Scene) (next_is : outcome.next_sequence ≡ old.memory.table.next) (tells : Tells old) where
   stands_last : (stood later : Option Persistent) → ((state : Persistent) → stood ≡ Some state → IsTold old.memory.table state)
       → last_or (Some (rows_of old.memory.table)) (passed_rows outcome.passed.log) ≡ Some outcome.passed.state.rows
-      → later ≡ option_map (with_these outcome.passed.state.rows) stood → later ≡ option_map (last_state outcome) stood
+      → later ≡ option_map (with_these_rows outcome.passed.state.rows) stood → later ≡ option_map (last_state outcome) stood
   stands_last None later told last is = is
   stands_last (Some state) later told last is =
       let here : IsTold old.memory.table state = told state refl in
@@ -88,14 +88,14 @@ module _ (outcome : ToolkitOutcome) (old new : Scene) (next_is : outcome.next_se
 
   stands_at : (stood later : Option Persistent) (count : ℕ) → ((state : Persistent) → stood ≡ Some state → IsTold old.memory.table state)
       → count < length (rows_of old.memory.table ∷ passed_rows outcome.passed.log)
-      → later ≡ option_map (with_these (slice_index_or (rows_of old.memory.table ∷ passed_rows outcome.passed.log) count [])) stood → later ≡ option_map (state_at outcome count) stood
+      → later ≡ option_map (with_these_rows (slice_index_or (rows_of old.memory.table ∷ passed_rows outcome.passed.log) count [])) stood → later ≡ option_map (state_at outcome count) stood
   stands_at None later count told low is = is
   stands_at (Some state) later count told low is =
       let here : IsTold old.memory.table state = told state refl in
       is ∙ ap (λ (s : Persistent). Some s)
       (sym (at_is state outcome.next_sequence (rows_of old.memory.table) here.rows (here.next ∙ sym next_is) (passed_rows outcome.passed.log) count low))
 
-  pub stop_comes : StopsAt (rows_of old.memory.table ∷ passed_rows outcome.passed.log) old.memory new.memory → IsCutShort outcome old new
+  pub stop_comes : StopsAt (rows_of old.memory.table ∷ passed_rows outcome.passed.log) old.memory new.memory → IsToolkitCutShort outcome old new
   stop_comes stop = record {
     count = stop.place;
     one_more = omega (arith, stop.one_more);

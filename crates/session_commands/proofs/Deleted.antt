@@ -14,7 +14,7 @@ use Rattle.store_form.specs.declared.store.StoreFault.{StoreFault}
 use Rattle.uicc_types.specs.Counts.{raised}
 use Rattle.card_layout.specs.Memory.{held}
 use Rattle.applet_registry.specs.Commits.{DeletesRow}
-use Rattle.proactive_handler.specs.Acts.{with_rows}
+use Rattle.proactive_handler.specs.Acts.{with_these_rows}
 use Rattle.proactive_handler.specs.Runs.{StopsAt}
 use Rattle.applet_trait.specs.Minds.{AppletState}
 use Rattle.card_layout.specs.declared.entries.Loaded.{Loaded}
@@ -102,11 +102,11 @@ has_row come tables table idle shelf row may = subst (HasRowOn table) may.on_it 
 
 -- ---- the commit
 
-without_held : DeletesRow → (shelf : ℕ) (rows : List Registration) (stood : Option Persistent) → AllPairs (λ a b. a.shelf < b.shelf) rows → HasRowsOf stood rows → option_map (without_row_on shelf) stood ≡ option_map (with_rows (without_row rows shelf)) stood
+without_held : DeletesRow → (shelf : ℕ) (rows : List Registration) (stood : Option Persistent) → AllPairs (λ a b. a.shelf < b.shelf) rows → HasRowsOf stood rows → option_map (without_row_on shelf) stood ≡ option_map (with_these_rows (without_row rows shelf)) stood
 without_held law shelf rows None ascend has = refl
 without_held law shelf rows (Some state) ascend has =
     let same : state.rows ≡ rows = has state refl in
-    ap (λ (r : List Registration). Some (with_rows r state))
+    ap (λ (r : List Registration). Some (with_these_rows r state))
     (law state shelf (subst (AllPairs (λ (a b : Registration). a.shelf < b.shelf)) (sym same) ascend) ∙ ap (λ (r : List Registration). without_row r shelf) same)
 
 module _ (law : DeletesRow) (shelf : ℕ) (old : Scene) (ascend : AllPairs (λ a b. a.shelf < b.shelf) (rows_of old.memory.table)) (has : HasRowsOf (held old.memory) (rows_of old.memory.table)) where
@@ -118,7 +118,7 @@ module _ (law : DeletesRow) (shelf : ℕ) (old : Scene) (ascend : AllPairs (λ a
     place = 0;
     one_more = omega arith;
     table_is = sym rows;
-    stands = ⊎_elim {C = (held new.memory ≡ option_map (with_rows (rows_of old.memory.table)) (held old.memory)) ⊎ (held new.memory ≡ option_map (with_rows (without_row (rows_of old.memory.table) shelf)) (held old.memory))}
+    stands = ⊎_elim {C = (held new.memory ≡ option_map (with_these_rows (rows_of old.memory.table)) (held old.memory)) ⊎ (held new.memory ≡ option_map (with_these_rows (without_row (rows_of old.memory.table) shelf)) (held old.memory))}
         (λ before. inl (before ∙ stands_still (held old.memory) (rows_of old.memory.table) has)) (λ behind. inr (behind ∙ without_held law shelf (rows_of old.memory.table) (held old.memory) ascend has)) stands;
     commits = none;
   }

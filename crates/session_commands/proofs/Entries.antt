@@ -11,7 +11,7 @@ use Rattle.toolkit_model.specs.Sessions.{Sent, LateTrigger, SessionState}
 use Rattle.toolkit_model.specs.Orderly.{asks, IsSuspended}
 use Rattle.toolkit_model.specs.Driving.{is_idle}
 use Rattle.toolkit_laws.proofs.Ready.{idle_all}
-use Rattle.proactive_handler.specs.Serving.{IsServed}
+use Rattle.proactive_handler.specs.Serving.{IsSessionServed}
 use Rattle.proactive_handler.specs.Served.{served_still}
 
 abbrev pub IsUsed : Option Row → Type 0
@@ -53,7 +53,7 @@ silent_err (Err fault) mark mark' told old new marks same agrees = silent mark m
 
 -- ---- sessions over them
 
-pub served_on : (old new : Loaded) (session : SessionState) → ((other : ℕ) → HasRowOn old other → HasRowOn new other) → IsServed old session → IsServed new session
+pub served_on : (old new : Loaded) (session : SessionState) → ((other : ℕ) → HasRowOn old other → HasRowOn new other) → IsSessionServed old session → IsSessionServed new session
 served_on old new session stay served = record {
   apart = served.apart;
   askers = All-weaker (λ (sent : Sent). HasRowOn old sent.shelf) (λ sent. HasRowOn new sent.shelf) (λ sent. stay sent.shelf) (asks session) served.askers;
@@ -75,7 +75,7 @@ both_all f old new shelf xs stay apart has = λ k d low. stay (f _) (apart k d l
 
 -- the row of an idle applet goes
 pub served_without : (old new : Loaded) (session left : SessionState) (shelf : ℕ) → ((other : ℕ) → other ≢ shelf → HasRowOn old other → HasRowOn new other) → is_idle (asks session) shelf ≡ true
-    → All (λ trigger. IsSuspended session trigger.shelf) session.late → left.out ≡ session.out → left.waiting ≡ session.waiting → left.late ≡ session.late → IsServed old session → IsServed new left
+    → All (λ trigger. IsSuspended session trigger.shelf) session.late → left.out ≡ session.out → left.waiting ≡ session.waiting → left.late ≡ session.late → IsSessionServed old session → IsSessionServed new left
 served_without old new session left shelf stay idle suspended out waiting late served =
     served_still new session left out waiting late (record {
       apart = served.apart;

@@ -29,7 +29,7 @@ use Rattle.proactive_handler.specs.Moved.{kinds_stay}
 use Rattle.proactive_handler.specs.Counting.{Counts, counts_one, counts_then}
 use Rattle.proactive_handler.specs.Steps.{Scene, toolkit, MovesTo}
 use Rattle.card_model.specs.Toolkit.{ToolkitOutcome, with_rows}
-use Rattle.session_commands.specs.Carrying.{state_at, last_state, HasCome, IsCutShort, Comes}
+use Rattle.session_commands.specs.Carrying.{state_at, last_state, HasCome, IsToolkitCutShort, Comes}
 use Rattle.session_commands.specs.Registering.{IsRegistered, IsNotRegistered, Registers}
 use Rattle.session_commands.proofs.Coming.{Tells, moves_come}
 
@@ -115,7 +115,7 @@ module _ (law : InstallsRow) (row : Registration) (old : Scene) (tells : Tells o
   one_held (Some state) told = ap (λ (s : Persistent). Some s) (with_it state (told state refl) ∙ sym (first_at state))
 
   -- a fault stopped the commit
-  pub not_installed : (new : Scene) → IsNotRegistered row old new → IsCutShort outcome old new
+  pub not_installed : (new : Scene) → IsNotRegistered row old new → IsToolkitCutShort outcome old new
   not_installed new stopped = record {
     count = 0;
     one_more = subst (λ (p : List (List Registration)). 0 < length p) (sym passed_is) (omega arith);
@@ -193,7 +193,7 @@ module _ (law : InstallsRow) (row : Registration) (old : Scene) (tells : Tells o
     held_at None middle later count told low first then = then ∙ ap (option_map (state_at ending count)) first
     held_at (Some state) middle later count told low first then = then ∙ ap (option_map (state_at ending count)) first ∙ ap (λ (s : Persistent). Some s) (sym (at_same state count (told state refl) (low state)))
 
-    stop_installed : (new : Scene) → IsCutShort ending mid new → IsCutShort outcome old new
+    stop_installed : (new : Scene) → IsToolkitCutShort ending mid new → IsToolkitCutShort outcome old new
     stop_installed new short =
         let many : length (passed_rows outcome.passed.log) ≡ suc (length (passed_rows ending.passed.log)) = ap length log_is in
         let long : (state : Persistent) → length (map (with_rows (with_row_installed row state) ending.next_sequence) (passed_rows ending.passed.log)) ≡ length (passed_rows ending.passed.log) =

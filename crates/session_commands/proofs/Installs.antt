@@ -25,18 +25,18 @@ use Rattle.toolkit_model.specs.Commands.{installed}
 use Rattle.trigger_index.specs.Changes.{InstallationsAreFollowed}
 use Rattle.trigger_index.specs.Indexes.{StandsFor}
 use Rattle.card_model.specs.States.{CardState}
-use Rattle.card_model.specs.Toolkit.{ToolkitOutcome, applet_installed, kind_on as kind_in}
+use Rattle.card_model.specs.Toolkit.{ToolkitOutcome, applet_installed, kind_in}
 use Rattle.proactive_handler.specs.Keeping.{keeps_done}
 use Rattle.proactive_handler.specs.Scenes.{KeepsScene, scene_then}
 use Rattle.proactive_handler.specs.Steps.{Scene, toolkit}
-use Rattle.session_commands.specs.Carrying.{HasToolkit, IsCutShort, Comes}
+use Rattle.session_commands.specs.Carrying.{HasToolkit, IsToolkitCutShort, Comes}
 use Rattle.session_commands.specs.Registering.{IsInstallable, with_next}
 use Rattle.session_commands.specs.Trying.{install_tried}
 use Rattle.session_commands.proofs.Admitted.{tried_same, is_tried, low_shelf, kind_there, may_install}
 use Rattle.session_commands.proofs.Carried.{toolkit_is}
 use Rattle.session_commands.proofs.Taken.{install_refused, install_goes}
 
-pub cut_err : {X : Type 0} (outcome : ToolkitOutcome) (old new : Scene) (r : Result X StoreFault) → IsErr r → IsCutShort outcome old new → Comes outcome old new r
+pub cut_err : {X : Type 0} (outcome : ToolkitOutcome) (old new : Scene) (r : Result X StoreFault) → IsErr r → IsToolkitCutShort outcome old new → Comes outcome old new r
 cut_err outcome old new (Ok result) err cut = cc err
 cut_err outcome old new (Err fault) err cut = cut
 

@@ -10,7 +10,7 @@ use Rattle.toolkit_laws.specs.Orderly.{IsInOrder}
 use Rattle.proactive_handler.specs.Scenes.{IsInService, KeepsScene}
 use Rattle.proactive_handler.specs.Serving.{SessionsAreServed}
 use Rattle.proactive_handler.specs.Steps.{Scene, toolkit}
-use Rattle.session_commands.specs.Bounds.{IsBetweenCommands, EndsWell}
+use Rattle.session_commands.specs.Bounds.{IsBetweenCommands, EndsToolkitWell}
 
 pub in_service : {B : Type 0} → SessionsAreServed → (now : Scene) (cast : List (Option B)) → IsBetweenCommands now cast → IsInService now cast
 in_service law now cast rests = record {
@@ -62,5 +62,5 @@ usual_done status is = λ same.
     omega (arith, numbers)
 
 -- it was carried out
-pub ends_done : {X : Type 0} (out : Answer) (new : Scene) (value : X) → out.status ≡ DONE → IsInOrder (toolkit new) → EndsWell out new (Ok value)
+pub ends_done : {X : Type 0} (out : Answer) (new : Scene) (value : X) → out.status ≡ DONE → IsInOrder (toolkit new) → EndsToolkitWell out new (Ok value)
 ends_done out new value status order = record { order = order; usual = usual_done out.status status; empty = tt }

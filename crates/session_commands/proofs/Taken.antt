@@ -22,7 +22,7 @@ use Rattle.toolkit_model.specs.Driving.{is_idle}
 use Rattle.toolkit_model.specs.Registry.{installed_row, deleted_row}
 use Rattle.toolkit_model.specs.Commands.{profiled, enveloped, is_busy, call_data, unfetched, unanswered, pending, bytes_of, fetched, responded, installed, deleted}
 use Rattle.card_model.specs.States.{CardState}
-use Rattle.card_model.specs.Toolkit.{ToolkitOutcome, toolkit_of, coming_to, has_zero_parameters, has_shelf, row_or_status, kind_on, profile_taken, command_fetched, response_taken, envelope_taken, applet_installed, applet_deleted}
+use Rattle.card_model.specs.Toolkit.{ToolkitOutcome, toolkit_of, coming_to, has_zero_parameters, has_shelf, row_or_status, kind_in, profile_taken, command_fetched, response_taken, envelope_taken, applet_installed, applet_deleted}
 use Rattle.session_commands.specs.Trying.{data_tried, fetch_tried, response_given, response_tried, envelope_given, envelope_tried, install_tried, delete_tried}
 
 -- ---- chains
@@ -198,16 +198,16 @@ three_then false false false next f = refl
 abbrev pub installed_by : CardState → Registration → ToolkitOutcome
 installed_by card row = record { body = []; passed = installed row (toolkit_of card); next_sequence = card.persistent.next_sequence + 1 }
 
-install_is : (card : CardState) (seen : Verified) (apdu : Apdu) → applet_installed card seen apdu ≡ and_given (install_tried card.persistent (kind_on card apdu.p2) seen apdu) (λ row. Ok (installed_by card row))
+install_is : (card : CardState) (seen : Verified) (apdu : Apdu) → applet_installed card seen apdu ≡ and_given (install_tried card.persistent (kind_in card apdu.p2) seen apdu) (λ row. Ok (installed_by card row))
 unfolding applet_installed install_tried
 install_is card seen apdu =
-    three_then (not (nat_le 1 apdu.p1 && has_shelf apdu)) (not (has_data apdu)) (not seen.adm1) (row_or_status (installed_row card.persistent (kind_on card apdu.p2) apdu.p2 apdu.p1 apdu.body)) (λ row. Ok (installed_by card row))
+    three_then (not (nat_le 1 apdu.p1 && has_shelf apdu)) (not (has_data apdu)) (not seen.adm1) (row_or_status (installed_row card.persistent (kind_in card apdu.p2) apdu.p2 apdu.p1 apdu.body)) (λ row. Ok (installed_by card row))
 
-pub install_refused : (card : CardState) (seen : Verified) (apdu : Apdu) (status : StatusWord) → install_tried card.persistent (kind_on card apdu.p2) seen apdu ≡ Err status → applet_installed card seen apdu ≡ Err status
-install_refused card seen apdu status is = install_is card seen apdu ∙ refused_then (install_tried card.persistent (kind_on card apdu.p2) seen apdu) (λ row. Ok (installed_by card row)) status is
+pub install_refused : (card : CardState) (seen : Verified) (apdu : Apdu) (status : StatusWord) → install_tried card.persistent (kind_in card apdu.p2) seen apdu ≡ Err status → applet_installed card seen apdu ≡ Err status
+install_refused card seen apdu status is = install_is card seen apdu ∙ refused_then (install_tried card.persistent (kind_in card apdu.p2) seen apdu) (λ row. Ok (installed_by card row)) status is
 
-pub install_goes : (card : CardState) (seen : Verified) (apdu : Apdu) (row : Registration) → install_tried card.persistent (kind_on card apdu.p2) seen apdu ≡ Ok row → applet_installed card seen apdu ≡ Ok (installed_by card row)
-install_goes card seen apdu row is = install_is card seen apdu ∙ goes_then (install_tried card.persistent (kind_on card apdu.p2) seen apdu) (λ r. Ok (installed_by card r)) row is
+pub install_goes : (card : CardState) (seen : Verified) (apdu : Apdu) (row : Registration) → install_tried card.persistent (kind_in card apdu.p2) seen apdu ≡ Ok row → applet_installed card seen apdu ≡ Ok (installed_by card row)
+install_goes card seen apdu row is = install_is card seen apdu ∙ goes_then (install_tried card.persistent (kind_in card apdu.p2) seen apdu) (λ r. Ok (installed_by card r)) row is
 
 delete_is : (card : CardState) (seen : Verified) (apdu : Apdu) → applet_deleted card seen apdu ≡ and_given (delete_tried card.persistent.rows (is_idle (asks card.session) apdu.p2) seen apdu) (λ row. Ok (coming_to card [] (deleted row.shelf (toolkit_of card))))
 unfolding applet_deleted delete_tried

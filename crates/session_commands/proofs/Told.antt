@@ -19,7 +19,7 @@ use Rattle.toolkit_model.specs.Passing.{ToolkitState, Passed, in_turn, before}
 use Rattle.toolkit_model.specs.Driving.{is_idle, with_session, driven}
 use Rattle.toolkit_model.specs.Commands.{with_profile, profiled, polled, triggered_by, late_places, is_call, suspended_by, is_busy, is_reported_once, forgetting, reported, triggered, enveloped, last_answer}
 use Rattle.proactive_handler.specs.Served.{served_still}
-use Rattle.proactive_handler.specs.Serving.{IsServed, HasPlaces, triggered_one}
+use Rattle.proactive_handler.specs.Serving.{IsSessionServed, HasPlaces, triggered_one}
 use Rattle.proactive_handler.specs.Steps.{Scene, toolkit, MovesTo}
 use Rattle.proactive_handler.specs.Moved.{since_moves}
 use Rattle.session_commands.specs.Trying.{reported_in}
@@ -45,7 +45,7 @@ told_so {X} kept code code' body body' shelves shelves' old early new state r co
 
 -- ---- TERMINAL PROFILE and STATUS
 
-pub profile_served : (table : Loaded) (old new : SessionState) (bytes : List ℕ) → new ≡ record old { profile = Some (consulted bytes) } → IsServed table old → IsServed table new
+pub profile_served : (table : Loaded) (old new : SessionState) (bytes : List ℕ) → new ≡ record old { profile = Some (consulted bytes) } → IsSessionServed table old → IsSessionServed table new
 profile_served table old new bytes is served =
     served_still table old new (ap (λ (s : SessionState). s.out) is) (ap (λ (s : SessionState). s.waiting) is) (ap (λ (s : SessionState). s.late) is) served
 
@@ -96,7 +96,7 @@ module _ (table : Loaded) (envelope : Envelope) (old new : SessionState) (is : n
   keeps : KeepsAsked old new
   keeps = subst (KeepsAsked old) (sym is) (keeps_asked envelope old)
 
-  pub report_served : IsServed table old → IsServed table new
+  pub report_served : IsSessionServed table old → IsSessionServed table new
   report_served served = served_still table old new keeps.out keeps.waiting keeps.late served
 
   pub report_late : new.late ≡ old.late

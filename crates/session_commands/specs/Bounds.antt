@@ -19,7 +19,7 @@ pub record IsBetweenCommands {B : Type 0} (now : Scene) (cast : List (Option B))
   pub order : IsInOrder (toolkit now)
 
 -- After Ok the toolkit is in order, and the answer isn't the one of a failing memory; after a fault there is no data.
-pub record EndsWell {X : Type 0} (out : Answer) (new : Scene) (result : Result X StoreFault) : Type 0 where
+pub record EndsToolkitWell {X : Type 0} (out : Answer) (new : Scene) (result : Result X StoreFault) : Type 0 where
   pub order : OnOk result (IsInOrder (toolkit new))
   pub usual : OnOk result (out.status.0 ≢ MEMORY_PROBLEM.0)
   pub empty : OnErr result (out.body ≡ [])

@@ -19,7 +19,7 @@ use Rattle.toolkit_model.specs.Passing.{ToolkitState, passed_rows}
 use Rattle.card_model.specs.States.{CardState}
 use Rattle.card_model.specs.Answers.{Answered, on_toolkit, toolkit_tried, settled}
 use Rattle.card_model.specs.Toolkit.{ToolkitOutcome, states_passed, with_rows}
-use Rattle.session_commands.specs.Carrying.{HasToolkit, state_at, HasCome, IsCutShort, IsRefused, IsAnswered, Carries}
+use Rattle.session_commands.specs.Carrying.{HasToolkit, state_at, HasCome, IsToolkitCutShort, IsRefused, IsAnswered, Carries}
 
 -- The card answered so. Its session and the minds of its boxes are those of the answered card, of which the table tells; its channels
 -- and the verified keys are as before.
@@ -86,7 +86,7 @@ module _ (card : CardState) (old new : Scene) (stood : held old.memory ≡ Some 
       subst (λ (o : Option Persistent). IsSomeAnd o (Contains (card.persistent ∷ states_passed card.persistent outcome))) (sym (is ∙ ap (option_map (state_at outcome count)) stood))
       (state_passed card outcome count low)
 
-  short_holds : (outcome : ToolkitOutcome) → IsCutShort outcome old new → IsSomeAnd (held new.memory) (Contains (card.persistent ∷ (settled card (toolkit_tried card (Ok outcome))).commits))
+  short_holds : (outcome : ToolkitOutcome) → IsToolkitCutShort outcome old new → IsSomeAnd (held new.memory) (Contains (card.persistent ∷ (settled card (toolkit_tried card (Ok outcome))).commits))
   unfolding and_given
   short_holds outcome short =
       let long : length (states_passed card.persistent outcome) ≡ length (passed_rows outcome.passed.log) = length-map (passed_rows outcome.passed.log) (with_rows card.persistent outcome.next_sequence) in
@@ -124,7 +124,7 @@ module _ (card : CardState) (out : Answer) (old new : Scene) where
   counts_so (Err status) result carries = refused_counts status carries.stays
   counts_so (Ok outcome) result carries = answered_counts outcome carries.comes
 
-  short_counts : (outcome : ToolkitOutcome) → IsCutShort outcome old new → CommitsAtMost (length (settled card (toolkit_tried card (Ok outcome))).commits) old.memory.commits new.memory.commits
+  short_counts : (outcome : ToolkitOutcome) → IsToolkitCutShort outcome old new → CommitsAtMost (length (settled card (toolkit_tried card (Ok outcome))).commits) old.memory.commits new.memory.commits
   unfolding and_given
   short_counts outcome short =
       let long : length (states_passed card.persistent outcome) ≡ length (passed_rows outcome.passed.log) = length-map (passed_rows outcome.passed.log) (with_rows card.persistent outcome.next_sequence) in

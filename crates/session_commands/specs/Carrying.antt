@@ -48,7 +48,7 @@ pub record HasCome (outcome : ToolkitOutcome) (old new : Scene) : Type 0 where
 
 -- A fault stopped one of the commits: the table has the rows before it, and the store stands for the state before it or
 -- for the one after it. Those before it are counted, and no other.
-pub record IsCutShort (outcome : ToolkitOutcome) (old new : Scene) : Type 0 where
+pub record IsToolkitCutShort (outcome : ToolkitOutcome) (old new : Scene) : Type 0 where
   pub count : ℕ
   pub one_more : count < length (passed_rows outcome.passed.log)
   pub rows_are : rows_of new.memory.table
@@ -59,12 +59,12 @@ pub record IsCutShort (outcome : ToolkitOutcome) (old new : Scene) : Type 0 wher
 
 abbrev pub Comes : {X : Type 0} → ToolkitOutcome → Scene → Scene → Result X StoreFault → Type 0
 Comes outcome old new (Ok result) = HasCome outcome old new
-Comes outcome old new (Err fault) = IsCutShort outcome old new
+Comes outcome old new (Err fault) = IsToolkitCutShort outcome old new
 
 -- the same, to each card that the old scene may be
-abbrev pub ComesTo : {X : Type 0} → (CardState → ToolkitOutcome) → Scene → Scene
+abbrev pub ToolkitComesTo : {X : Type 0} → (CardState → ToolkitOutcome) → Scene → Scene
     → Result X StoreFault → Type 0
-ComesTo outcome old new result = (card : CardState) → HasToolkit old card → Comes (outcome card) old new result
+ToolkitComesTo outcome old new result = (card : CardState) → HasToolkit old card → Comes (outcome card) old new result
 
 -- ---- how it is answered
 
@@ -86,7 +86,7 @@ abbrev pub Carries : {X : Type 0} → Result ToolkitOutcome StatusWord → Answe
 Carries (Err status) out old new (Ok result) = IsRefused status out old new
 Carries (Err status) out old new (Err fault) = ⊥
 Carries (Ok outcome) out old new (Ok result) = IsAnswered outcome out old new
-Carries (Ok outcome) out old new (Err fault) = IsCutShort outcome old new
+Carries (Ok outcome) out old new (Err fault) = IsToolkitCutShort outcome old new
 
 -- the same, to each card that the old scene may be
 abbrev pub CarriesOut : {X : Type 0} → (CardState → Result ToolkitOutcome StatusWord) → Answer → Scene → Scene

@@ -14,7 +14,7 @@ use Rattle.toolkit_model.specs.Orderly.{asks}
 use Rattle.toolkit_model.specs.Running.{mind_on, with_mind}
 use Rattle.trigger_index.specs.Indexes.{StandsFor}
 use Rattle.proactive_handler.specs.Boxes.{minds_of, kinds_of, IsSameBox}
-use Rattle.proactive_handler.specs.Serving.{IsServed}
+use Rattle.proactive_handler.specs.Serving.{IsSessionServed}
 use Rattle.proactive_handler.specs.Steps.{Scene}
 
 -- the applet on this shelf is registered, and waits for no answer
@@ -51,7 +51,7 @@ pub record KeepsBesides {X : Type 0} (shelf : ℕ) (old new : Scene) (result : R
   -- where no row was and none is, the applet is as it was
   pub others : LeavesUnregistered old.memory.table new.memory.table old.minds new.minds
   -- after Ok the applets can run again
-  pub served : OnOk result (IsServed new.memory.table new.session)
+  pub served : OnOk result (IsSessionServed new.memory.table new.session)
   -- who was registered still is, but for this one
   pub rows_stay : (other : ℕ) → other ≢ shelf → HasRowOn old.memory.table other
       → HasRowOn new.memory.table other

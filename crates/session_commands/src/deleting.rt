@@ -9,7 +9,7 @@ ghost use Rattle.proactive_handler.specs.Steps.{scene, Moves};
 ghost use Rattle.card_model.specs.Toolkit.{has_shelf, applet_deleted};
 ghost use Rattle.session_commands.specs.Trying.{delete_tried, allowed};
 ghost use Rattle.card_layout.specs.Memory.{memory};
-ghost use Rattle.session_commands.specs.Bounds.{IsBetweenCommands, EndsWell};
+ghost use Rattle.session_commands.specs.Bounds.{IsBetweenCommands, EndsToolkitWell};
 ghost use Rattle.session_commands.specs.Deleting.{KeepsBesides, MayGo, TakesBox, HasLost};
 ghost use Rattle.session_commands.specs.Carrying.{CarriesOut};
 
@@ -166,7 +166,7 @@ pub fn delete<S: Store, B: Applet>(
     ensures keeps { KeepsBesides command.now.p2
         (scene (memory S.Store store.old loaded.old) index.old session.old (minds_of B.mind cast.old))
         (scene (memory S.Store store.new loaded.new) index.new session.new (minds_of B.mind cast.new)) result }
-    ensures ends { EndsWell out.new
+    ensures ends { EndsToolkitWell out.new
         (scene (memory S.Store store.new loaded.new) index.new session.new (minds_of B.mind cast.new)) result }
 {
     // These calls are laws, and do nothing.

@@ -10,7 +10,7 @@ ghost use Rattle.card_model.specs.Toolkit.{envelope_taken};
 ghost use Rattle.session_commands.specs.Trying.{envelope_tried, reported_in, data_for};
 ghost use Rattle.card_layout.specs.Memory.{memory};
 ghost use Rattle.proactive_handler.specs.Scenes.{KeepsScene};
-ghost use Rattle.session_commands.specs.Bounds.{IsBetweenCommands, EndsWell};
+ghost use Rattle.session_commands.specs.Bounds.{IsBetweenCommands, EndsToolkitWell};
 ghost use Rattle.session_commands.specs.Carrying.{CarriesOut};
 ghost use Rattle.session_commands.specs.Triggers.{IsTriggerOf};
 
@@ -143,7 +143,7 @@ pub fn take_envelope<S: Store, B: Applet>(
     ensures keeps { KeepsScene
         (scene (memory S.Store store.old loaded.old) index.old session.old (minds_of B.mind cast.old))
         (scene (memory S.Store store.new loaded.new) index.new session.new (minds_of B.mind cast.new)) result }
-    ensures ends { EndsWell out.new
+    ensures ends { EndsToolkitWell out.new
         (scene (memory S.Store store.new loaded.new) index.new session.new (minds_of B.mind cast.new)) result }
 {
     // These calls are laws, and do nothing.

@@ -14,7 +14,7 @@ ghost use Rattle.session_commands.specs.Registering.{Registers, IsInstallable, w
 ghost use Rattle.session_commands.specs.Trying.{install_tried, registration_for};
 ghost use Rattle.card_layout.specs.Memory.{memory};
 ghost use Rattle.proactive_handler.specs.Scenes.{IsInService, KeepsScene};
-ghost use Rattle.session_commands.specs.Bounds.{IsBetweenCommands, EndsWell};
+ghost use Rattle.session_commands.specs.Bounds.{IsBetweenCommands, EndsToolkitWell};
 
 use crate::forms::status_of;
 use crate::shelves::{kind_on, wake};
@@ -182,7 +182,7 @@ pub fn install<S: Store, B: Applet>(
         (with_next loaded.new.next
         (scene (memory S.Store store.old loaded.old) index.old session.old (minds_of B.mind cast.old)))
         (scene (memory S.Store store.new loaded.new) index.new session.new (minds_of B.mind cast.new)) result }
-    ensures ends { EndsWell out.new
+    ensures ends { EndsToolkitWell out.new
         (scene (memory S.Store store.new loaded.new) index.new session.new (minds_of B.mind cast.new)) result }
 {
     // These calls are laws, and do nothing.

@@ -10,8 +10,8 @@ ghost use Rattle.proactive_handler.specs.Steps.{toolkit, scene, Moves};
 ghost use Rattle.card_model.specs.Toolkit.{profile_taken, coming_to, toolkit_of};
 ghost use Rattle.card_layout.specs.Memory.{memory};
 ghost use Rattle.proactive_handler.specs.Scenes.{KeepsScene};
-ghost use Rattle.session_commands.specs.Bounds.{IsBetweenCommands, EndsWell};
-ghost use Rattle.session_commands.specs.Carrying.{CarriesOut, ComesTo};
+ghost use Rattle.session_commands.specs.Bounds.{IsBetweenCommands, EndsToolkitWell};
+ghost use Rattle.session_commands.specs.Carrying.{CarriesOut, ToolkitComesTo};
 
 use crate::forms::try_data;
 use crate::telling::tell;
@@ -97,7 +97,7 @@ pub fn take_profile<S: Store, B: Applet>(
     ensures keeps { KeepsScene
         (scene (memory S.Store store.old loaded.old) index.old session.old (minds_of B.mind cast.old))
         (scene (memory S.Store store.new loaded.new) index.new session.new (minds_of B.mind cast.new)) result }
-    ensures ends { EndsWell out.new
+    ensures ends { EndsToolkitWell out.new
         (scene (memory S.Store store.new loaded.new) index.new session.new (minds_of B.mind cast.new)) result }
 {
     // These calls are laws, and do nothing.
@@ -172,7 +172,7 @@ pub fn poll<S: Store, B: Applet>(
 ) -> Result<(), StoreFault>
     requires rests { IsBetweenCommands
         (scene (memory S.Store store.old loaded.old) index.old session.old (minds_of B.mind cast.old)) cast.old }
-    ensures comes { ComesTo (λ card. coming_to card [] (polled (toolkit_of card)))
+    ensures comes { ToolkitComesTo (λ card. coming_to card [] (polled (toolkit_of card)))
         (scene (memory S.Store store.old loaded.old) index.old session.old (minds_of B.mind cast.old))
         (scene (memory S.Store store.new loaded.new) index.new session.new (minds_of B.mind cast.new)) result }
     ensures order { OnOk result (IsInOrder

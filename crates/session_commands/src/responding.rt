@@ -6,7 +6,7 @@ ghost use Rattle.card_model.specs.Toolkit.{response_taken};
 ghost use Rattle.card_layout.specs.Memory.{memory};
 ghost use Rattle.proactive_handler.specs.Steps.{scene};
 ghost use Rattle.proactive_handler.specs.Scenes.{KeepsScene};
-ghost use Rattle.session_commands.specs.Bounds.{IsBetweenCommands, EndsWell};
+ghost use Rattle.session_commands.specs.Bounds.{IsBetweenCommands, EndsToolkitWell};
 ghost use Rattle.session_commands.specs.Carrying.{CarriesOut};
 
 use crate::forms::try_response;
@@ -50,7 +50,7 @@ pub fn take_response<S: Store, B: Applet>(
     ensures keeps { KeepsScene
         (scene (memory S.Store store.old loaded.old) index.old session.old (minds_of B.mind cast.old))
         (scene (memory S.Store store.new loaded.new) index.new session.new (minds_of B.mind cast.new)) result }
-    ensures ends { EndsWell out.new
+    ensures ends { EndsToolkitWell out.new
         (scene (memory S.Store store.new loaded.new) index.new session.new (minds_of B.mind cast.new)) result }
 {
     // These calls are laws, and do nothing.

@@ -18,7 +18,7 @@ use Rattle.card_model.specs.Answers.{Answered, refused, settled, told_pending, w
 use Rattle.card_model.specs.Chained.{Any}
 use Rattle.card_model.specs.Channels.{family, channel_of}
 use Rattle.card_model.specs.Instructions.{instruction_tried, has_toolkit, is_of_tree, is_row_of_tree}
-use Rattle.card_model.specs.Laws.{ChangesOneThing, ChangesAtMostTries, is_of_tree_named, key_named, IsStatusOf, IsLawfulAnswer, CommandsAreLawful, RefusalsChangeTriesAndMarkAlone as PlainRefusals}
+use Rattle.card_model.specs.Laws.{ChangesOneThing, ChangesAtMostTries, is_of_tree_named, key_named, IsStatusOf, IsLawfulAnswer, CommandsAreLawful, PlainRefusalsChangeTriesAndMarkAlone}
 use Rattle.card_model.specs.Pending.{pending_few, told_so, told_same}
 use Rattle.card_model.specs.States.{CardState, IsGood}
 use Rattle.card_model.specs.Toolkit.{ToolkitOutcome, toolkit_of, coming_to, with_rows, states_passed, profile_taken, command_fetched, response_taken, envelope_taken, applet_installed, applet_deleted}
@@ -258,7 +258,7 @@ refusal_keeps knows card bytes status lawful is =
     subst (λ (each : StatusWord). ChangesAtMostTries (key_named bytes) each card (answer_of knows card bytes).state) refused.1 (lawful.refused refused.0)
 
 -- whether applets run or not
-pub refusals_keep : PlainRefusals → AnswersAreLawful → (knows : Instruction → Bool) (card : CardState) (bytes : List ℕ) (status : StatusWord) → IsGood card → AreBytes bytes → refusal knows card bytes ≡ Some status
+pub refusals_keep : PlainRefusalsChangeTriesAndMarkAlone → AnswersAreLawful → (knows : Instruction → Bool) (card : CardState) (bytes : List ℕ) (status : StatusWord) → IsGood card → AreBytes bytes → refusal knows card bytes ≡ Some status
     → ChangesAtMostTries (key_named bytes) status card (answer_of knows card bytes).state
 refusals_keep plain answers knows card bytes status good are is = by_toolkit (has_toolkit knows) refl (plain knows card bytes status good are is) where
   by_toolkit : (runs : Bool) → has_toolkit knows ≡ runs → MatchBool runs ⊤ (ChangesAtMostTries (key_named bytes) status card (answer_of knows card bytes).state) → ChangesAtMostTries (key_named bytes) status card (answer_of knows card bytes).state

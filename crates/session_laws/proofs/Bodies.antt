@@ -20,7 +20,7 @@ use Rattle.card_model.specs.Answers.{Answered, settled, told_pending, with_pendi
 use Rattle.card_model.specs.Chained.{Any, past}
 use Rattle.card_model.specs.Instructions.{instruction_tried, has_toolkit}
 use Rattle.card_model.specs.States.{CardState, IsGood}
-use Rattle.card_model.specs.Toolkit.{ToolkitOutcome, toolkit_of, coming_to, kind_on, command_fetched}
+use Rattle.card_model.specs.Toolkit.{ToolkitOutcome, toolkit_of, coming_to, kind_in, command_fetched}
 use Rattle.card_model.specs.declared.instructions.Instruction.{Instruction}
 use Rattle.card_model.specs.declared.instructions.Instruction.TheVariants as Instructions
 use Rattle.session_laws.specs.Fetching.{GivesCommand, FetchesCommand}
@@ -105,7 +105,7 @@ module _ (card : CardState) (apdu : Apdu) where
   carried_suits Instructions.Fetch = fetch_carried
   carried_suits Instructions.TerminalResponse = always _ (responses_suit apdu.body (unanswered card.session)) _
   carried_suits Instructions.Envelope = always _ (reports_suit (envelope_of apdu.body)) _
-  carried_suits Instructions.InstallApplet = always _ (rows_suit (installed_row card.persistent (kind_on card apdu.p2) apdu.p2 apdu.p1 apdu.body)) _
+  carried_suits Instructions.InstallApplet = always _ (rows_suit (installed_row card.persistent (kind_in card apdu.p2) apdu.p2 apdu.p1 apdu.body)) _
   carried_suits Instructions.DeleteApplet = always (Some (Delete apdu.p2)) (λ answered. tt) _
 
   by_carried : (command : Option Command) (result : Result Answered StatusWord) → S command result → Suits (if_carried result command) (settled card result)

@@ -23,7 +23,7 @@ use Rattle.card_model.specs.Answers.{Answered, settled, with_pending, file_tried
 use Rattle.card_model.specs.Channels.{channel_of}
 use Rattle.card_model.specs.Instructions.{instruction_tried, has_toolkit}
 use Rattle.card_model.specs.States.{CardState, IsGood}
-use Rattle.card_model.specs.Toolkit.{ToolkitOutcome, toolkit_of, kind_on, row_status, row_or_status, profile_taken, command_fetched, response_taken, envelope_taken, applet_installed, applet_deleted}
+use Rattle.card_model.specs.Toolkit.{ToolkitOutcome, toolkit_of, kind_in, row_status, row_or_status, profile_taken, command_fetched, response_taken, envelope_taken, applet_installed, applet_deleted}
 use Rattle.card_model.specs.declared.instructions.Instruction.{Instruction}
 use Rattle.card_model.specs.declared.instructions.Instruction.TheVariants as Instructions
 use Rattle.session_laws.specs.Moving.{if_row, command_by, if_carried, taken_by, taken}
@@ -97,13 +97,13 @@ module _ (card : CardState) (apdu : Apdu) where
       given_so P IsRefusal (envelope_of apdu.body) _ _ refl (λ envelope is.
       unless_so P IsRefusal (is_busy envelope (toolkit_of card)) _ _ refl (λ _. ap (λ found. is_some (option_map (λ each. Report each) found)) is))))
 
-  pub install_is : (seen : Verified) → IsOne (if_row (installed_row card.persistent (kind_on card apdu.p2) apdu.p2 apdu.p1 apdu.body)) (applet_installed card seen apdu)
+  pub install_is : (seen : Verified) → IsOne (if_row (installed_row card.persistent (kind_in card apdu.p2) apdu.p2 apdu.p1 apdu.body)) (applet_installed card seen apdu)
   unfolding applet_installed
   install_is seen =
-      let P : ToolkitOutcome → Type 0 = λ done. is_some (if_row (installed_row card.persistent (kind_on card apdu.p2) apdu.p2 apdu.p1 apdu.body)) ≡ true in
+      let P : ToolkitOutcome → Type 0 = λ done. is_some (if_row (installed_row card.persistent (kind_in card apdu.p2) apdu.p2 apdu.p1 apdu.body)) ≡ true in
       unless_so P IsRefusal _ _ _ refl (λ _.
       unless_so P IsRefusal _ _ _ refl (λ _.
-      unless_so P IsRefusal _ _ _ refl (λ _. row_taken (installed_row card.persistent (kind_on card apdu.p2) apdu.p2 apdu.p1 apdu.body) _)))
+      unless_so P IsRefusal _ _ _ refl (λ _. row_taken (installed_row card.persistent (kind_in card apdu.p2) apdu.p2 apdu.p1 apdu.body) _)))
 
   pub delete_is : (seen : Verified) → MatchResult (applet_deleted card seen apdu) (λ done. ⊤) IsRefusal
   unfolding applet_deleted

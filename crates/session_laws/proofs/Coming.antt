@@ -30,7 +30,7 @@ use Rattle.toolkit_laws.proofs.Inserted.{with_all}
 use Rattle.toolkit_laws.proofs.Others.{rows_without}
 use Rattle.card_model.specs.Chained.{Any, past}
 use Rattle.card_model.specs.States.{CardState, IsOfSevenKinds, AreOfSevenKinds}
-use Rattle.card_model.specs.Toolkit.{has_shelf, ToolkitOutcome, toolkit_of, coming_to, with_rows, states_passed, row_or_status, kind_on, profile_taken, command_fetched, response_taken, envelope_taken, applet_installed, applet_deleted}
+use Rattle.card_model.specs.Toolkit.{has_shelf, ToolkitOutcome, toolkit_of, coming_to, with_rows, states_passed, row_or_status, kind_in, profile_taken, command_fetched, response_taken, envelope_taken, applet_installed, applet_deleted}
 use Rattle.session_laws.specs.Moving.{rows_by, HaveFixed, if_row, HasOrder}
 use Rattle.session_laws.proofs.Fixed.{AreBelow, rows_fixed, below_fixed, minds_fixed, applets_fixed}
 use Rattle.session_laws.proofs.SevenKinds.{BringsGood, at_shelf}
@@ -218,12 +218,12 @@ module _ (installs : InstallationsAreAccepted) (sounds : InstalledRowsAreSound) 
       subst (λ found. P (option_map (λ each. Report each) found) (coming_to card (cut_to apdu.expected (call_data envelope at)) (enveloped envelope at))) (sym is) (comes_by card ready (Report envelope) (cut_to apdu.expected (call_data envelope at)) free (enveloped_commits envelope at) refl (tt, tt))))))
 
   -- a row that is registered
-  install_one : (row : Registration) → 1 ≤ apdu.p1 → apdu.p2 < 32 → installed_row card.persistent (kind_on card apdu.p2) apdu.p2 apdu.p1 apdu.body ≡ Ok row
+  install_one : (row : Registration) → 1 ≤ apdu.p1 → apdu.p2 < 32 → installed_row card.persistent (kind_in card apdu.p2) apdu.p2 apdu.p1 apdu.body ≡ Ok row
       → Comes card (Install row) (record { body = []; passed = installed row at; next_sequence = card.persistent.next_sequence + 1 })
   install_one row some low is =
       let commits = installed_commits row at in
       let next : ℕ = card.persistent.next_sequence + 1 in
-      let new : IsNew card.persistent (kind_on card apdu.p2) apdu.p2 row = is_new card.persistent (kind_on card apdu.p2) apdu.p2 apdu.p1 apdu.body row is in
+      let new : IsNew card.persistent (kind_in card apdu.p2) apdu.p2 row = is_new card.persistent (kind_in card apdu.p2) apdu.p2 apdu.p1 apdu.body row is in
       let number : row.sequence ≡ card.persistent.next_sequence = new.0 in
       let accepted : IsAccepted (Install row) at = installs card.persistent at apdu.p2 apdu.p1 apdu.body row refl ready.order.rows ready.sequences is in
       let below : AreBelow next (with_row card.persistent.rows row) =
@@ -243,16 +243,16 @@ module _ (installs : InstallationsAreAccepted) (sounds : InstalledRowsAreSound) 
         fixed = first_fixed (with_row card.persistent.rows row) (installed row at) commits;
         later = omega arith;
         brings = λ kinds.
-            let sound = sounds card.persistent (kind_on card apdu.p2) apdu.p2 apdu.p1 apdu.body row low some (kind_known card.boxes apdu.p2 kinds) is in
+            let sound = sounds card.persistent (kind_in card apdu.p2) apdu.p2 apdu.p1 apdu.body row low some (kind_known card.boxes apdu.p2 kinds) is in
             (sound, sound.kind);
         next = first_next card.persistent next (with_row card.persistent.rows row) (installed row at) commits;
       }
 
-  pub install_comes : (seen : Verified) → ComesTo card (if_row (installed_row card.persistent (kind_on card apdu.p2) apdu.p2 apdu.p1 apdu.body)) (applet_installed card seen apdu)
+  pub install_comes : (seen : Verified) → ComesTo card (if_row (installed_row card.persistent (kind_in card apdu.p2) apdu.p2 apdu.p1 apdu.body)) (applet_installed card seen apdu)
   unfolding applet_installed
   install_comes seen =
-      let Q : ToolkitOutcome → Type 0 = P (if_row (installed_row card.persistent (kind_on card apdu.p2) apdu.p2 apdu.p1 apdu.body)) in
-      unless_so Q Any (not (nat_le 1 apdu.p1 && has_shelf apdu)) _ _ tt (λ fits. past Q _ _ _ (past Q _ _ _ (row_so Q (installed_row card.persistent (kind_on card apdu.p2) apdu.p2 apdu.p1 apdu.body) _ (λ row is.
+      let Q : ToolkitOutcome → Type 0 = P (if_row (installed_row card.persistent (kind_in card apdu.p2) apdu.p2 apdu.p1 apdu.body)) in
+      unless_so Q Any (not (nat_le 1 apdu.p1 && has_shelf apdu)) _ _ tt (λ fits. past Q _ _ _ (past Q _ _ _ (row_so Q (installed_row card.persistent (kind_in card apdu.p2) apdu.p2 apdu.p1 apdu.body) _ (λ row is.
       let both = and_parts (nat_le 1 apdu.p1) (has_shelf apdu) (not-false (nat_le 1 apdu.p1 && has_shelf apdu) fits) in
       let low : apdu.p2 ≤ 31 = leb-true apdu.p2 31 both.1 in
       subst (λ found. P (if_row found) (record { body = []; passed = installed row at; next_sequence = card.persistent.next_sequence + 1 })) (sym is) (install_one row (leb-true 1 apdu.p1 both.0) (omega (arith, low)) is)))))

@@ -23,7 +23,7 @@ use Rattle.card_model.specs.Answers.{Answered, settled, told_pending, with_pendi
 use Rattle.card_model.specs.Instructions.{instruction_tried, has_toolkit}
 use Rattle.card_model.specs.Naming.{byte_of, instruction_byte}
 use Rattle.card_model.specs.States.{CardState, IsGood}
-use Rattle.card_model.specs.Toolkit.{ToolkitOutcome, kind_on, command_fetched, response_taken}
+use Rattle.card_model.specs.Toolkit.{ToolkitOutcome, kind_in, command_fetched, response_taken}
 use Rattle.card_model.specs.declared.instructions.Instruction.{Instruction}
 use Rattle.card_model.specs.declared.instructions.Instruction.TheVariants as Instructions
 use Rattle.session_laws.specs.Moving.{if_row, command_by, if_carried, taken_by, taken}
@@ -178,7 +178,7 @@ module _ (card : CardState) (good : IsGood card) (apdu : Apdu) where
   carried_names Instructions.TerminalResponse is = response_names card apdu apdu.ins is (response_taken card apdu) (response_so card apdu)
   carried_names Instructions.Envelope is = other_names card apdu.ins 0xC2 _ _ is (λ same. omega (arith, same)) (λ same. omega (arith, same)) (report_leaves (envelope_of apdu.body))
   carried_names Instructions.InstallApplet is =
-      other_names card apdu.ins 0xE6 _ _ is (λ same. omega (arith, same)) (λ same. omega (arith, same)) (installs (installed_row card.persistent (kind_on card apdu.p2) apdu.p2 apdu.p1 apdu.body))
+      other_names card apdu.ins 0xE6 _ _ is (λ same. omega (arith, same)) (λ same. omega (arith, same)) (installs (installed_row card.persistent (kind_in card apdu.p2) apdu.p2 apdu.p1 apdu.body))
   carried_names Instructions.DeleteApplet is = other_names card apdu.ins 0xE4 _ (Some (Delete apdu.p2)) is (λ same. omega (arith, same)) (λ same. omega (arith, same)) tt
   carried_names Instructions.CreateFile is = other_names card apdu.ins 0xE0 _ None is (λ same. omega (arith, same)) (λ same. omega (arith, same)) tt
   carried_names Instructions.DeleteFile is = other_names card apdu.ins 0xE4 _ None is (λ same. omega (arith, same)) (λ same. omega (arith, same)) tt

@@ -8,7 +8,7 @@ use Rattle.uicc_types.specs.declared.runs.Step.TheVariants as step
 use Rattle.uicc_types.specs.declared.runs.TraceItem.{TraceItem}
 use Rattle.card_model.specs.Answers.{answer_of, passed_of}
 use Rattle.card_model.specs.Instructions.{is_known, has_toolkit}
-use Rattle.card_model.specs.Laws.{RestartsAreGood, AnswersAreLawful as PlainAnswersAreLawful, FaultsLeaveGoodCards as PlainFaultsLeaveGoodCards, IsLawfulAnswer, is_of_tree_named, key_named}
+use Rattle.card_model.specs.Laws.{RestartsAreGood, PlainAnswersAreLawful, PlainFaultsLeaveGoodCards, IsLawfulAnswer, is_of_tree_named, key_named}
 use Rattle.card_model.specs.Runs.{IsLeft, Commands, MeetsNoPower, StepGives, IsRun}
 use Rattle.card_model.specs.States.{CardState, Machine, IsGood}
 use Rattle.session_laws.specs.Happened.{command_events, step_events, events_in}

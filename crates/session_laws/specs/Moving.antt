@@ -16,7 +16,7 @@ use Rattle.card_model.specs.Answers.{Answered, carried_with, answer_of, passed_o
 use Rattle.card_model.specs.Instructions.{instruction_tried}
 use Rattle.card_model.specs.Runs.{IsLeft, boxes_left}
 use Rattle.card_model.specs.States.{CardState, HasBox, restarted}
-use Rattle.card_model.specs.Toolkit.{toolkit_of, kind_on}
+use Rattle.card_model.specs.Toolkit.{toolkit_of, kind_in}
 use Rattle.card_model.specs.declared.instructions.Instruction.{Instruction}
 use Rattle.card_model.specs.declared.instructions.Instruction.TheVariants as Instructions
 
@@ -54,7 +54,7 @@ command_by Instructions.Envelope card apdu = option_map (λ envelope. Report env
 command_by Instructions.Fetch card apdu = option_map (λ out. Fetch out) (unfetched card.session)
 command_by Instructions.TerminalResponse card apdu =
     option_and_then (λ out. option_map (λ reply. Respond out reply) (reply_to out apdu.body)) (unanswered card.session)
-command_by Instructions.InstallApplet card apdu = if_row (installed_row card.persistent (kind_on card apdu.p2) apdu.p2 apdu.p1 apdu.body)
+command_by Instructions.InstallApplet card apdu = if_row (installed_row card.persistent (kind_in card apdu.p2) apdu.p2 apdu.p1 apdu.body)
 command_by Instructions.DeleteApplet card apdu = Some (Delete apdu.p2)
 command_by _ card apdu = None
 

@@ -13,7 +13,7 @@ use Rattle.t0_link.specs.declared.tpdus.Transfer.{Transfer}
 use Rattle.t0_link.specs.declared.tpdus.Transfer.TheVariants.{GetResponse, Outgoing, Incoming}
 use Rattle.t0_link.specs.Tpdus.{transfer_of, data_count, transfer_in, apdu_of}
 use Rattle.t0_link.specs.Linking.{Linked, Course, status_alone, counting, fetched, given, kept_back, course_of, link_answer}
-use Rattle.t0_link.specs.Carrying.{is_carried, is_carried_by, p3_for, tpdu_of, cut_to, followed, then_received, command_answer}
+use Rattle.t0_link.specs.Carrying.{is_carried, is_carried_by, p3_for, tpdu_of, cut_answer_to, followed, then_received, command_answer}
 use Rattle.t0_link.specs.Passing.{passed_by, passed_apdu, IsPlain, GivesAnswer}
 
 -- ---- the TPDU of a command
@@ -95,11 +95,11 @@ gives_by GetResponse kept command known = cc
 gives_by Outgoing kept command known = (
   ap (λ (body : List ℕ). command.class ∷ command.ins ∷ command.p1 ∷ command.p2 ∷ unwrap_or command.expected 0 % 256 ∷ body)
       (no_data command.body (and_parts (length command.body == 0) (is_some command.expected || command.ins == STATUS) known).0),
-  λ answer most plain. ap (λ (linked : Linked). record { answer = cut_to command.expected linked.answer; kept = linked.kept }) (plain_followed answer plain),
+  λ answer most plain. ap (λ (linked : Linked). record { answer = cut_answer_to command.expected linked.answer; kept = linked.kept }) (plain_followed answer plain),
 )
 gives_by Incoming kept command known = (
   incoming_is command.class command.ins command.p1 command.p2 command.body,
-  λ answer most plain. ap (λ (linked : Linked). record { answer = cut_to command.expected linked.answer; kept = linked.kept }) (kept_followed answer most plain),
+  λ answer most plain. ap (λ (linked : Linked). record { answer = cut_answer_to command.expected linked.answer; kept = linked.kept }) (kept_followed answer most plain),
 )
 
 -- A command that is carried is passed to the card, and has the card's status and its data, cut to Le.

@@ -46,8 +46,8 @@ abbrev pub front_of : Option ℕ → List ℕ → List ℕ
 front_of None bytes = bytes
 front_of (Some expected) bytes = take expected bytes
 
-abbrev pub cut_to : Option ℕ → Answer → Answer
-cut_to expected answer = record answer { body = front_of expected answer.body }
+abbrev pub cut_answer_to : Option ℕ → Answer → Answer
+cut_answer_to expected answer = record answer { body = front_of expected answer.body }
 
 -- it follows 61XX with GET RESPONSE for XX
 abbrev pub followed : Linked → Linked
@@ -55,7 +55,7 @@ followed linked = if linked.answer.status.0 / 256 == MORE_DATA then fetched (lin
 
 -- what it has in the end
 abbrev pub received : Option ℕ → Linked → Linked
-received expected linked = record { answer = cut_to expected (followed linked).answer; kept = (followed linked).kept }
+received expected linked = record { answer = cut_answer_to expected (followed linked).answer; kept = (followed linked).kept }
 
 -- the course of a TPDU whose answer the terminal receives so
 abbrev pub then_received : Option ℕ → Course → Course

@@ -7,7 +7,7 @@ use Rattle.t0_link.specs.declared.tpdus.Transfer.{Transfer}
 use Rattle.t0_link.specs.declared.tpdus.Transfer.TheVariants.{GetResponse, Outgoing, Incoming}
 use Rattle.t0_link.specs.Tpdus.{transfer_of}
 use Rattle.t0_link.specs.Linking.{Course, Answers, Passes}
-use Rattle.t0_link.specs.Carrying.{cut_to}
+use Rattle.t0_link.specs.Carrying.{cut_answer_to}
 
 -- a command that reads is passed with its Le, or with 00; any other one is passed without Le
 abbrev pub passed_by : Transfer → Apdu → List ℕ
@@ -26,4 +26,4 @@ IsPlain answer = answer.status.0 / 256 ≢ MORE_DATA
 abbrev pub GivesAnswer : List ℕ → Option ℕ → Course → Type 0
 GivesAnswer passed expected (Answers own) = ⊥
 GivesAnswer passed expected (Passes apdu linked) =
-    (apdu ≡ passed) × ((answer : Answer) → length answer.body ≤ 256 → IsPlain answer → linked answer ≡ record { answer = cut_to expected answer; kept = None })
+    (apdu ≡ passed) × ((answer : Answer) → length answer.body ≤ 256 → IsPlain answer → linked answer ≡ record { answer = cut_answer_to expected answer; kept = None })

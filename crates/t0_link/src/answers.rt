@@ -1,7 +1,7 @@
 //! The link's own answers, and how much of an answer a terminal takes.
 ghost use Rattle.std.specs.Prelude.{◌≡◌, ◌≤◌, length};
 ghost use Rattle.apdu_form.specs.Model.{ne_of};
-ghost use Rattle.t0_link.specs.Carrying.{cut_to, front_of};
+ghost use Rattle.t0_link.specs.Carrying.{cut_answer_to, front_of};
 ghost use Rattle.t0_link.specs.Linking.{announced, counting, fetched, kept_of, status_alone};
 
 use uicc_types::{Answer, AnswerData, Full, StatusWord};
@@ -47,7 +47,7 @@ pub fn answer_status(status: StatusWord, out: &mut Answer)
 
 // Answers the same, with so many of its data as are expected.
 fn answer_same(answer: &Answer, expected: Option<u16>, out: &mut Answer)
-    ensures { out.new ≡ cut_to expected answer.now }
+    ensures { out.new ≡ cut_answer_to expected answer.now }
 {
     out.body.clear();
     match out.body.append(front(answer.body.as_slice(), expected)) {
@@ -68,7 +68,7 @@ pub fn announce(kept: &Answer, out: &mut Answer)
 
 /// Answers GET RESPONSE out of what is kept, with so many of its data as are expected. The data are copied this once.
 pub fn fetch(p3: u8, expected: Option<u16>, kept: &mut Answer, out: &mut Answer)
-    ensures answer { out.new ≡ cut_to expected (fetched p3 (kept_of kept.old)).answer }
+    ensures answer { out.new ≡ cut_answer_to expected (fetched p3 (kept_of kept.old)).answer }
     ensures kept { kept_of kept.new ≡ (fetched p3 (kept_of kept.old)).kept }
 {
     let count = kept.body.as_slice().len();
@@ -84,7 +84,7 @@ pub fn fetch(p3: u8, expected: Option<u16>, kept: &mut Answer, out: &mut Answer)
 
 /// Cuts an answer to so many data as are expected.
 pub fn cut(expected: Option<u16>, out: &mut Answer)
-    ensures { out.new ≡ cut_to expected out.old }
+    ensures { out.new ≡ cut_answer_to expected out.old }
 {
     let body = out.body.as_slice();
     if let Some(expected) = expected

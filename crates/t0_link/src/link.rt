@@ -2,7 +2,7 @@
 ghost use Rattle.std.specs.Prelude.{◌≡◌, ◌↔◌, false, [], None, IsErrOf, IsTrue, IfSome, OnErr, length, ◌≤◌};
 ghost use Rattle.apdu_form.specs.Model.{command_in};
 ghost use Rattle.uicc_types.specs.Counts.{CountsFailure};
-ghost use Rattle.t0_link.specs.Carrying.{carried, command_answer, cut_to, is_carried, received};
+ghost use Rattle.t0_link.specs.Carrying.{carried, command_answer, cut_answer_to, is_carried, received};
 ghost use Rattle.t0_link.specs.Exchanging.{Exchanges, IsPassed};
 ghost use Rattle.t0_link.specs.Linking.{Passes, fetched, kept_back, link_answer};
 
@@ -105,7 +105,7 @@ impl Link {
 
     // Answers GET RESPONSE, with so many of the data as are expected.
     fn respond(&mut self, p3: u8, expected: Option<u16>, out: &mut Answer)
-        ensures answer { out.new ≡ cut_to expected (fetched p3 self.old).answer }
+        ensures answer { out.new ≡ cut_answer_to expected (fetched p3 self.old).answer }
         ensures kept { self.new ≡ (fetched p3 self.old).kept }
     {
         fetch(p3, expected, &mut self.kept, out);

@@ -16,7 +16,7 @@ use Rattle.toolkit_commands.specs.declared.commands.Proactive.{Proactive}
 use Rattle.toolkit_commands.specs.declared.commands.Proactive.TheVariants.{Refresh, MoreTime, PollInterval, SetUpEventList, PlayTone, DisplayText, GetInkey, GetInput, SelectItem, SetUpMenu, LocalInformation, TimerManagement, IdleText}
 use Rattle.toolkit_commands.specs.Table.{required, text_string, item_object, menu_objects, two_digits, timer_value, row_of, details_of}
 use Rattle.toolkit_commands.specs.Values.{◌>>=◌, one_byte, two_bytes, three_bytes, seconds_of, text_of, short_text_of, item_of, number_of, time_of, timer_of, values, items_of, at_most_16, choice_of, menu_of, no_time, is_pair}
-use Rattle.toolkit_commands.specs.Steps.{or_tlv, or_missing, template_in, needed, items_in, text_in, poll_interval_in, event_list_in, tone_in, input_in, titled_in, choice_in, menu_in, started_timer_in, other_timer_in, command_in, checked}
+use Rattle.toolkit_commands.specs.Steps.{from_tlv, or_missing, template_in, needed, items_in, text_in, poll_interval_in, event_list_in, tone_in, input_in, titled_in, choice_in, menu_in, started_timer_in, other_timer_in, command_in, checked}
 use Rattle.toolkit_commands.specs.Steps.{command_of, proactive_read}
 use Rattle.toolkit_commands.specs.Matching.{HasObjects, IsCommand}
 use Rattle.toolkit_commands.specs.Reading.{proactive_of}
@@ -141,7 +141,7 @@ or_missing_is : (found : Option (List ℕ)) (value : List ℕ) → or_missing fo
 or_missing_is None value e = absurd cc
 or_missing_is (Some v) value e = ap (λ (x : List ℕ). Some x) (ok_is v value e)
 
-whole_of : (tag : ℕ) (found : List Object) (fault : Option TlvFault) (value : List ℕ) → (or_tlv (unless_fault found fault >>=' λ objects. Ok (first_value tag objects)) >>= or_missing) ≡ Ok value → unless_fault found fault ≡ Ok found
+whole_of : (tag : ℕ) (found : List Object) (fault : Option TlvFault) (value : List ℕ) → (from_tlv (unless_fault found fault >>=' λ objects. Ok (first_value tag objects)) >>= or_missing) ≡ Ok value → unless_fault found fault ≡ Ok found
 whole_of tag found None value e = refl
 whole_of tag found (Some fault) value e = absurd cc
 
@@ -356,7 +356,7 @@ is_pair_is (m ∷ n ∷ []) a b e =
     rw (eqb-true m a p.0, eqb-true n b p.1) refl
 is_pair_is (m ∷ n ∷ k ∷ others) a b e = absurd (false≢true e)
 
-from_template : (read : Result (ℕ × List ℕ) TlvFault) (content : List ℕ) → (or_tlv read >>= λ x. cond (eqb x.0 0xD0) (Ok x.1) (Err Tlv)) ≡ Ok content → read ≡ Ok (0xD0, content)
+from_template : (read : Result (ℕ × List ℕ) TlvFault) (content : List ℕ) → (from_tlv read >>= λ x. cond (eqb x.0 0xD0) (Ok x.1) (Err Tlv)) ≡ Ok content → read ≡ Ok (0xD0, content)
 from_template (Err fault) content e = absurd cc
 from_template (Ok x) content e =
     elim (chosen (eqb x.0 0xD0) (Ok x.1) (Err Tlv) (Ok content) e) [

@@ -5,7 +5,7 @@ use Rattle.std.proofs.lemmas.Bool.{cases_eq, ne_eqb}
 use Rattle.std.proofs.lemmas.List.{length-append}
 use Rattle.comprehension_tlv.specs.Model.{Object, flagged}
 use Rattle.comprehension_tlv.specs.Reading.{first_value}
-use Rattle.comprehension_tlv.specs.Writing.{spelling, spellings, IsWritable as IsWritableObject}
+use Rattle.comprehension_tlv.specs.Writing.{spelling, spellings, IsWritableObject}
 use Rattle.comprehension_tlv.proofs.Readings.{objects_again, template_again, spellings_are, spelled_is}
 use Rattle.toolkit_commands.specs.declared.items.Item.{Item}
 use Rattle.toolkit_commands.specs.declared.commands.TimeValue.{TimeValue}

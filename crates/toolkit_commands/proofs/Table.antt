@@ -14,7 +14,7 @@ use Rattle.toolkit_commands.specs.declared.commands.Proactive.{Proactive}
 use Rattle.toolkit_commands.specs.declared.commands.Proactive.TheVariants.{Refresh, MoreTime, SetUpEventList, DisplayText, GetInkey, GetInput, SelectItem, SetUpMenu, LocalInformation, TimerManagement, IdleText}
 use Rattle.toolkit_commands.specs.Table.{row_of, input_qualifier, IsWritable}
 use Rattle.toolkit_commands.specs.Values.{◌>>=◌, one_byte, two_bytes, three_bytes, seconds_of, text_of, short_text_of, time_of, timer_of, values, choice_of, menu_of, no_time, is_pair}
-use Rattle.toolkit_commands.specs.Steps.{or_tlv as from_tlv, or_missing, template_in, needed, items_in, text_in, poll_interval_in, event_list_in, tone_in, input_in, titled_in, choice_in, menu_in, started_timer_in, other_timer_in, command_in, checked, command_of, proactive_read, details_read}
+use Rattle.toolkit_commands.specs.Steps.{from_tlv, or_missing, template_in, needed, items_in, text_in, poll_interval_in, event_list_in, tone_in, input_in, titled_in, choice_in, menu_in, started_timer_in, other_timer_in, command_in, checked, command_of, proactive_read, details_read}
 use Rattle.toolkit_commands.specs.Reading.{value, TypeRow, lacks_one, type_table, three, details_in, needed_by, type_needs, by_details, row_of_type, by_row, command_among, list_of, in_list, in_template, or_tlv, proactive_of, no_details, details_found, text_said}
 use Rattle.toolkit_commands.proofs.Saying.{Says, Anything, IsShort, IsOneOfEight, AreItems, AreFew, then_says, one_byte_says, two_bytes_say, seconds_say, text_says, short_text_says, timer_says, time_says, choice_says, menu_says}
 

@@ -30,9 +30,9 @@ Tells (Ok details) place read = read ≡ Ok (details, place)
 Tells (Err e) place read = read ≡ Err e
 
 -- bytes that are no list of objects
-abbrev pub or_tlv : {A : Type 0} → Result A TlvFault → Result A ProactiveFault
-or_tlv (Ok x) = Ok x
-or_tlv (Err fault) = Err Tlv
+abbrev pub from_tlv : {A : Type 0} → Result A TlvFault → Result A ProactiveFault
+from_tlv (Ok x) = Ok x
+from_tlv (Err fault) = Err Tlv
 
 -- an object that has to be there
 abbrev pub or_missing : Option (List ℕ) → Result (List ℕ) ProactiveFault
@@ -41,11 +41,11 @@ or_missing (Some value) = Ok value
 
 -- the list in the template of a command
 unfoldable pub template_in : List ℕ → Result (List ℕ) ProactiveFault
-template_in bytes = or_tlv (template_of bytes) >>= λ x. if x.0 == PROACTIVE_COMMAND then Ok x.1 else Err Tlv
+template_in bytes = from_tlv (template_of bytes) >>= λ x. if x.0 == PROACTIVE_COMMAND then Ok x.1 else Err Tlv
 
 -- the value of the first object with the tag
 unfoldable pub needed : ℕ → List ℕ → Result (List ℕ) ProactiveFault
-needed tag content = or_tlv (value_of tag content) >>= or_missing
+needed tag content = from_tlv (value_of tag content) >>= or_missing
 
 abbrev pub items_in : List ℕ → List (List ℕ)
 items_in content = values ITEM (outline content).objects

@@ -9,7 +9,7 @@ use Rattle.script_form.specs.declared.handset.Note.TheVariants as note
 use Rattle.script_form.specs.declared.trace.TraceLine.{TraceLine}
 use Rattle.script_form.specs.declared.trace.TraceLine.TheVariants as line
 use Rattle.trace_counts.specs.Counts.{fetch, terminal_response, envelope, has_instruction, is_busy, is_command, is_toolkit_command}
-use Rattle.trace_counts.specs.Walks.{more, with_line}
+use Rattle.trace_counts.specs.Walks.{more, counts_with}
 use Rattle.trace_counts.specs.declared.counts.Counts.{Counts}
 use Rattle.trace_counts.proofs.Digits.{byte_digits, digit}
 
@@ -58,7 +58,7 @@ counted : (commands fetches responses envelopes busy : Bool) (commands_then fetc
     ≡ record { commands = more commands_then counts.commands; fetches = more fetches_then counts.fetches; responses = more responses_then counts.responses; envelopes = more envelopes_then counts.envelopes; busy = more busy_then counts.busy }
 counted a b c d e a_then b_then c_then d_then e_then counts is_a is_b is_c is_d is_e = rw (is_a, is_b, is_c, is_d, is_e) refl
 
-note_head : (noted : ANote) (counts : Counts) → with_line (head_of (line.Note noted)) counts ≡ with (line.Note noted) counts
+note_head : (noted : ANote) (counts : Counts) → counts_with (head_of (line.Note noted)) counts ≡ with (line.Note noted) counts
 note_head (note.Text text) counts = refl
 note_head (note.Ask text) counts = refl
 note_head (note.Choose count) counts = refl
@@ -69,7 +69,7 @@ note_head note.Call counts = refl
 note_head note.Barred counts = refl
 note_head note.Busy counts = refl
 
-pub line_head : (said : TraceLine) (counts : Counts) → with_line (head_of said) counts ≡ with said counts
+pub line_head : (said : TraceLine) (counts : Counts) → counts_with (head_of said) counts ≡ with said counts
 line_head (line.Command apdu) counts =
     counted _ _ _ _ _ true (has_instruction fetch apdu) (has_instruction terminal_response apdu) (has_instruction envelope apdu) false counts
     refl (command_head fetch apdu (lit< tt) (lit< tt) (lit< tt)) (command_head terminal_response apdu (lit< tt) (lit< tt) (lit< tt)) (command_head envelope apdu (lit< tt) (lit< tt) (lit< tt)) refl

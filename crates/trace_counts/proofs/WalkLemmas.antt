@@ -8,7 +8,7 @@ use Rattle.std.specs.List.{flat_map}
 use Rattle.std.specs.Prelude.{fold, ◌==◌, nat_lt}
 use Rattle.script_form.specs.Traces.{message, trace_text}
 use Rattle.script_form.specs.declared.trace.TraceLine.{TraceLine}
-use Rattle.trace_counts.specs.Walks.{grown, step, with_line}
+use Rattle.trace_counts.specs.Walks.{grown, step, counts_with}
 use Rattle.trace_counts.specs.declared.counts.Counts.{Counts}
 use Rattle.trace_counts.specs.declared.walk.Walk.{Walk}
 use Rattle.trace_counts.proofs.Heads.{line_head, with}
@@ -21,7 +21,7 @@ at head counts = record { head = head; counts = counts }
 pub step_inside : (head : List ℕ) (counts : Counts) (byte : ℕ) → byte ≢ 10 → step (at head counts) byte ≡ at (grown head byte) counts
 step_inside head counts byte inside = by_test (byte == 10) (λ e. inside (grind (arith, nat_tests)))
   where
-    by_test : (is_end : Bool) → (is_end ≡ true → ⊥) → cond is_end (at [] (with_line head counts)) (at (grown head byte) counts) ≡ at (grown head byte) counts
+    by_test : (is_end : Bool) → (is_end ≡ true → ⊥) → cond is_end (at [] (counts_with head counts)) (at (grown head byte) counts) ≡ at (grown head byte) counts
     by_test true none = absurd (none refl)
     by_test false none = refl
 

@@ -11,8 +11,8 @@ abbrev pub more : Bool → ℕ → ℕ
 more is_more count = if is_more then min (count + 1) (2 ^ 64 - 1) else count
 
 -- the counts with a line that begins so
-abbrev pub with_line : List ℕ → Counts → Counts
-with_line head counts = record {
+abbrev pub counts_with : List ℕ → Counts → Counts
+counts_with head counts = record {
   commands = more (starts_with nat_eq head (codes "> ")) counts.commands;
   fetches = more (starts_with nat_eq head (codes "> 8012")) counts.fetches;
   responses = more (starts_with nat_eq head (codes "> 8014")) counts.responses;
@@ -27,7 +27,7 @@ grown head byte = if nat_lt (length head) HEAD then head ++ byte ∷ [] else hea
 -- a byte further; the byte 0A ends a line
 abbrev pub step : Walk → ℕ → Walk
 step walk byte =
-    if byte == 10 then record { head = []; counts = with_line walk.head walk.counts }
+    if byte == 10 then record { head = []; counts = counts_with walk.head walk.counts }
     else record { head = grown walk.head byte; counts = walk.counts }
 
 abbrev pub start : Walk

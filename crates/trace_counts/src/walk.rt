@@ -1,6 +1,6 @@
 //! A walk over the bytes of a trace.
 ghost use Rattle.std.specs.Prelude.{◌≡◌, ◌≤◌, ◌<◌, true, fold, length};
-ghost use Rattle.trace_counts.specs.Walks.{grown, more as one_more, start, step, with_line as counts_with};
+ghost use Rattle.trace_counts.specs.Walks.{grown, more as one_more, start, step, counts_with};
 ghost use Rattle.trace_counts.specs.Heads.{HasWholeHead};
 ghost use Rattle.trace_counts.specs.declared.walk.Walk.{Walk as AWalk};
 

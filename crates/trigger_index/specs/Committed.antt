@@ -1,6 +1,6 @@
 -- What the commits of rows make of the rows of a card (ETSI TS 102 241).
 use Rattle.std.specs.Prelude.{◌≡◌, ℕ, List, Some, None}
-use Rattle.card_layout.specs.Changing.{with_row_on, with_code, without_code, with_kept}
+use Rattle.card_layout.specs.Changing.{with_row_on, with_code_committed, without_code_committed, with_kept_committed}
 use Rattle.card_layout.specs.Persistent.{Registration, Persistent}
 use Rattle.toolkit_model.specs.Steps.{AreRows}
 use Rattle.trigger_index.specs.Changes.{Installs, Deletes, Registers, Deregisters, Keeps, changed}
@@ -9,6 +9,6 @@ use Rattle.trigger_index.specs.Changes.{Installs, Deletes, Registers, Deregister
 pub record CommitsAreChanges : Type 0 where
   pub installs : (state : Persistent) (row : Registration) → (with_row_on state row.shelf (Some row)).rows ≡ changed (Installs row) state.rows
   pub deletes : (state : Persistent) (shelf : ℕ) → AreRows state.rows → (with_row_on state shelf None).rows ≡ changed (Deletes shelf) state.rows
-  pub registers : (state : Persistent) (shelf code : ℕ) → (with_code shelf code state).rows ≡ changed (Registers shelf code) state.rows
-  pub deregisters : (state : Persistent) (shelf code : ℕ) → (without_code shelf code state).rows ≡ changed (Deregisters shelf code) state.rows
-  pub keeps : (state : Persistent) (shelf : ℕ) (bytes : List ℕ) → (with_kept shelf bytes state).rows ≡ changed (Keeps shelf bytes) state.rows
+  pub registers : (state : Persistent) (shelf code : ℕ) → (with_code_committed shelf code state).rows ≡ changed (Registers shelf code) state.rows
+  pub deregisters : (state : Persistent) (shelf code : ℕ) → (without_code_committed shelf code state).rows ≡ changed (Deregisters shelf code) state.rows
+  pub keeps : (state : Persistent) (shelf : ℕ) (bytes : List ℕ) → (with_kept_committed shelf bytes state).rows ≡ changed (Keeps shelf bytes) state.rows

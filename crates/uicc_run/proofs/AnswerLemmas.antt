@@ -11,7 +11,7 @@ use Rattle.run_words.specs.declared.requests.Request.{Request}
 use Rattle.script_form.specs.Reads.{IsOnly}
 use Rattle.uicc_run.specs.Answering.{HasEnded, HasLoaded, HasRun, KeepsToScript, NameNoImage}
 use Rattle.uicc_run.specs.Causes.{IsCaused, IsLoadCaused, IsSeenCause}
-use Rattle.uicc_run.specs.Endings.{HasFailed, status_of}
+use Rattle.uicc_run.specs.Endings.{HasFailed, status_for}
 use Rattle.uicc_run.specs.Headline.{Closes, Comes, Traces}
 use Rattle.uicc_run.specs.Loading.{LoadsFrom, TracesLoad}
 use Rattle.uicc_run.specs.Opening.{IsAskedFor}
@@ -41,7 +41,7 @@ module _ {MemoryIsSame BoxesAreSame : Type 0} (given : Given) (status : ℕ) (be
   }
 
   pub load_gone : (start count : ℕ) → before.meter ≡ given.meter → TracesLoad given start count (left_in given.pages after) status (IsLoadCaused given before after MemoryIsSame BoxesAreSame)
-      → TracesLoad given start count (left_in given.pages after) status (λ ending. status_of ending ≡ 6 → HasFailed given.meter after.meter)
+      → TracesLoad given start count (left_in given.pages after) status (λ ending. status_for ending ≡ 6 → HasFailed given.meter after.meter)
   load_gone start count was traces = record {
     ending = traces.ending;
     cause = λ six. subst (λ m. HasFailed m after.meter) was (traces.cause.eeprom_failed six);
@@ -95,16 +95,16 @@ unbegun_run given words seen before ending status wants cause comes closes = rec
 
 -- what a last line gives
 abbrev IsClosed : Ending → Seen → Type 0
-IsClosed ending seen = (seen.status ≡ status_of ending) ⊎ (seen.status ≡ 4)
+IsClosed ending seen = (seen.status ≡ status_for ending) ⊎ (seen.status ≡ 4)
 
 abbrev HasSunk : Ending → Seen → Type 0
-HasSunk ending seen = seen.status ≡ 4 → (status_of ending ≡ 4) ⊎ Rose seen.sink seen.sink_then
+HasSunk ending seen = seen.status ≡ 4 → (status_for ending ≡ 4) ⊎ Rose seen.sink seen.sink_then
 
 wanting_status : (seen : Seen) → IsClosed NoMemory seen → IsUnbegun seen.status
 wanting_status seen (inl five) = inr (inr five)
 wanting_status seen (inr four) = inr (inl four)
 
-not_sunk : (seen : Seen) (ending : Ending) → (status_of ending ≡ 4 → ⊥) → HasSunk ending seen → IsUndisturbed seen → seen.status ≡ 4 → ⊥
+not_sunk : (seen : Seen) (ending : Ending) → (status_for ending ≡ 4 → ⊥) → HasSunk ending seen → IsUndisturbed seen → seen.status ≡ 4 → ⊥
 not_sunk seen ending other sunk sound four =
     elim (sunk four) [
       | inl its ↦ other its

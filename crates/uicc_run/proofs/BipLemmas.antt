@@ -3,7 +3,7 @@ use Rattle.std.proofs.Common.{◌≡◌, ◌⊎◌, ◌≤◌, ℕ, ◌+◌, Lis
 use Rattle.std.proofs.lemmas.List.{append-nil}
 use Rattle.std.specs.Io.KnownBytes.{append_known}
 use Rattle.bip_runs.proofs.ScriptLaws.{bad_ends_not, bad_stops_there, end_was_good, good_stops_not, stop_was_bad}
-use Rattle.bip_runs.specs.Scripts.{IsFirstBad, IsGoodScript}
+use Rattle.bip_runs.specs.Scripts.{IsFirstBadBip, IsGoodBip}
 use Rattle.bip_runs.specs.Serving.{EndsServing}
 use Rattle.bip_runs.specs.Traces.{trace_of}
 use Rattle.byte_streams.specs.Lines.{LineList}
@@ -12,7 +12,7 @@ use Rattle.run_words.specs.Model.{AskForRun}
 use Rattle.run_words.specs.declared.requests.Mode.TheVariants.{Bip}
 use Rattle.script_form.specs.Traces.{trace_text}
 use Rattle.script_form.specs.declared.trace.TraceLine.TheVariants as line
-use Rattle.uicc_run.specs.Endings.{status_of}
+use Rattle.uicc_run.specs.Endings.{status_for}
 use Rattle.uicc_run.specs.Headline.{Closes, last_text}
 use Rattle.uicc_run.specs.Running.{ServesChannels}
 use Rattle.uicc_run.specs.Scenes.{Scene, Seen, seen}
@@ -36,7 +36,7 @@ status_low own status (inl is) low = omega arith
 status_low own status (inr is) low = omega arith
 
 -- a good script is carried out to its end
-good_of : (text : List ℕ) (before left put : Option (List ℕ)) (ending : Ending) (status : ℕ) → ComesToBip text before left put ending → status ≡ status_of ending → IsGoodScript text → (status ≡ 3 → ⊥) → (status ≡ 4 → ⊥) → (status ≡ 0) ⊎ (status ≡ 5)
+good_of : (text : List ℕ) (before left put : Option (List ℕ)) (ending : Ending) (status : ℕ) → ComesToBip text before left put ending → status ≡ status_for ending → IsGoodBip text → (status ≡ 3 → ⊥) → (status ≡ 4 → ⊥) → (status ≡ 0) ⊎ (status ≡ 5)
 good_of text before left put NoMemory status comes is good three four = inr is
 good_of text before left put (Played play.Finished) status comes is good three four = inl is
 good_of text before left put (Played (play.BadLine number)) status comes is good three four = absurd (good_stops_not text before left put number good comes)
@@ -52,7 +52,7 @@ good_of text before left put (NoApplet shelf) status comes is good three four = 
 good_of text before left put (Counted lines counts) status comes is good three four = absurd comes
 good_of text before left put LoadFailed status comes is good three four = absurd comes
 
-pub bip_completes : (text : List ℕ) (before : Option (List ℕ)) (seen : Seen) → TracesBip text before seen → IsGoodScript text → (seen.status ≡ 3 → ⊥) → (seen.status ≡ 4 → ⊥) → (seen.status ≡ 0) ⊎ (seen.status ≡ 5)
+pub bip_completes : (text : List ℕ) (before : Option (List ℕ)) (seen : Seen) → TracesBip text before seen → IsGoodBip text → (seen.status ≡ 3 → ⊥) → (seen.status ≡ 4 → ⊥) → (seen.status ≡ 0) ⊎ (seen.status ≡ 5)
 bip_completes text before seen traces good three four = elim traces.closes [
   | inl whole ↦ good_of text before seen.left traces.put traces.ending seen.status traces.comes whole.0 good three four
   | inr broken ↦ absurd (four broken.0)
@@ -66,7 +66,7 @@ tells_it put taken front found number is told =
 written_front : (text begun : List ℕ) (before left put : Option (List ℕ)) (number : ℕ) → before ≡ Some begun → EndsServing text before left put (play.BadLine number) → (front : List ℕ) × (put ≡ Some front)
 written_front text begun before left put number was ends = (begun ++ trace_of ends.said, ends.written ∙ ap (λ b. append_known b (trace_of ends.said)) was)
 
-bad_of : (text begun : List ℕ) (before left put taken : Option (List ℕ)) (ending : Ending) (status : ℕ) (found : LineList) → before ≡ Some begun → ComesToBip text before left put ending → status ≡ status_of ending → taken ≡ append_known put (last_text ending) → IsFirstBad text found → (status ≡ 3 → ⊥) → (status ≡ 4 → ⊥)
+bad_of : (text begun : List ℕ) (before left put taken : Option (List ℕ)) (ending : Ending) (status : ℕ) (found : LineList) → before ≡ Some begun → ComesToBip text before left put ending → status ≡ status_for ending → taken ≡ append_known put (last_text ending) → IsFirstBadBip text found → (status ≡ 3 → ⊥) → (status ≡ 4 → ⊥)
     → ((status ≡ 2) × TellsNext found taken) ⊎ (status ≡ 5)
 bad_of text begun before left put taken NoMemory status found was comes is told bad three four = inr is
 bad_of text begun before left put taken (Played play.Finished) status found was comes is told bad three four = absurd (bad_ends_not text before left put found bad comes)
@@ -84,7 +84,7 @@ bad_of text begun before left put taken (NoApplet shelf) status found was comes 
 bad_of text begun before left put taken (Counted lines counts) status found was comes is told bad three four = absurd comes
 bad_of text begun before left put taken LoadFailed status found was comes is told bad three four = absurd comes
 
-pub bip_stops_bad : (text begun : List ℕ) (before : Option (List ℕ)) (seen : Seen) (found : LineList) → before ≡ Some begun → TracesBip text before seen → IsFirstBad text found → (seen.status ≡ 3 → ⊥) → (seen.status ≡ 4 → ⊥)
+pub bip_stops_bad : (text begun : List ℕ) (before : Option (List ℕ)) (seen : Seen) (found : LineList) → before ≡ Some begun → TracesBip text before seen → IsFirstBadBip text found → (seen.status ≡ 3 → ⊥) → (seen.status ≡ 4 → ⊥)
     → ((seen.status ≡ 2) × TellsNext found seen.taken) ⊎ (seen.status ≡ 5)
 bip_stops_bad text begun before seen found was traces bad three four = elim traces.closes [
   | inl whole ↦ bad_of text begun before seen.left traces.put seen.taken traces.ending seen.status found was traces.comes whole.0 whole.1 bad three four
@@ -93,7 +93,7 @@ bip_stops_bad text begun before seen found was traces bad three four = elim trac
 
 -- ---- what a status says of the script
 
-zero_of : (text : List ℕ) (before left put : Option (List ℕ)) (ending : Ending) → ComesToBip text before left put ending → 0 ≡ status_of ending → IsGoodScript text × (left ≡ Some [])
+zero_of : (text : List ℕ) (before left put : Option (List ℕ)) (ending : Ending) → ComesToBip text before left put ending → 0 ≡ status_for ending → IsGoodBip text × (left ≡ Some [])
 zero_of text before left put (Played play.Finished) comes is = (end_was_good text before left put comes, comes.cause.1.told)
 zero_of text before left put NoMemory comes is = absurd (cc)
 zero_of text before left put (Played (play.BadLine number)) comes is = absurd (cc)
@@ -109,13 +109,13 @@ zero_of text before left put (NoApplet shelf) comes is = absurd comes
 zero_of text before left put (Counted lines counts) comes is = absurd comes
 zero_of text before left put LoadFailed comes is = absurd comes
 
-pub bip_zero : (text : List ℕ) (before : Option (List ℕ)) (seen : Seen) → TracesBip text before seen → seen.status ≡ 0 → IsGoodScript text × (seen.left ≡ Some [])
+pub bip_zero : (text : List ℕ) (before : Option (List ℕ)) (seen : Seen) → TracesBip text before seen → seen.status ≡ 0 → IsGoodBip text × (seen.left ≡ Some [])
 bip_zero text before seen traces zero = elim traces.closes [
   | inl whole ↦ zero_of text before seen.left traces.put traces.ending traces.comes (sym zero ∙ whole.0)
   | inr broken ↦ let four = broken.0 in absurd (omega arith)
 ]
 
-two_of : (text begun : List ℕ) (before left put taken : Option (List ℕ)) (ending : Ending) → before ≡ Some begun → ComesToBip text before left put ending → 2 ≡ status_of ending → taken ≡ append_known put (last_text ending) → StopsAndTells (IsFirstBad text) text left taken
+two_of : (text begun : List ℕ) (before left put taken : Option (List ℕ)) (ending : Ending) → before ≡ Some begun → ComesToBip text before left put ending → 2 ≡ status_for ending → taken ≡ append_known put (last_text ending) → StopsAndTells (IsFirstBadBip text) text left taken
 two_of text begun before left put taken (Played (play.BadLine number)) was comes is told = record {
   found = comes.found;
   is = stop_was_bad text before left put number comes;
@@ -136,7 +136,7 @@ two_of text begun before left put taken (NoApplet shelf) was comes is told = abs
 two_of text begun before left put taken (Counted lines counts) was comes is told = absurd comes
 two_of text begun before left put taken LoadFailed was comes is told = absurd comes
 
-pub bip_two : (text begun : List ℕ) (before : Option (List ℕ)) (seen : Seen) → before ≡ Some begun → TracesBip text before seen → seen.status ≡ 2 → StopsAndTells (IsFirstBad text) text seen.left seen.taken
+pub bip_two : (text begun : List ℕ) (before : Option (List ℕ)) (seen : Seen) → before ≡ Some begun → TracesBip text before seen → seen.status ≡ 2 → StopsAndTells (IsFirstBadBip text) text seen.left seen.taken
 bip_two text begun before seen was traces two = elim traces.closes [
   | inl whole ↦ two_of text begun before seen.left traces.put seen.taken traces.ending was traces.comes (sym two ∙ whole.0) whole.1
   | inr broken ↦ let four = broken.0 in absurd (omega arith)

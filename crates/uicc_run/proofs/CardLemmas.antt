@@ -11,7 +11,7 @@ use Rattle.card_layout.specs.Migration.{ends_low, migrated}
 use Rattle.card_layout.specs.Persistent.{Persistent, Registration}
 use Rattle.card_model.specs.States.{CardState, HasBox, IsGood, Machine, row_on, woken, woken_boxes, woken_mind}
 use Rattle.card_model.specs.Woken.{woken_at}
-use Rattle.card_sections.specs.Cast.{kind_on}
+use Rattle.card_sections.specs.Cast.{kind_of_box}
 use Rattle.card_steps.specs.Ends.{End, moment_at}
 use Rattle.card_steps.specs.Runs.{machine_of}
 use Rattle.card_steps.specs.Standing.{machine_is}
@@ -30,7 +30,7 @@ kind_in : (row : Option Registration) (box : Option AppletState) → option_map 
 kind_in row None = refl
 kind_in row (Some mind) = ap Some (kind_woken row mind)
 
-woken_kinds : (rows : List Registration) (boxes : List (Option AppletState)) (shelf : ℕ) → kind_on (woken_boxes rows boxes) shelf ≡ kind_on boxes shelf
+woken_kinds : (rows : List Registration) (boxes : List (Option AppletState)) (shelf : ℕ) → kind_of_box (woken_boxes rows boxes) shelf ≡ kind_of_box boxes shelf
 woken_kinds rows boxes shelf = ap (option_map (λ (mind : AppletState). mind.kind)) (woken_at rows boxes shelf) ∙ kind_in (row_on rows shelf) (slice_index_or boxes shelf None)
 
 -- the box that leaves is the only one that may be left out

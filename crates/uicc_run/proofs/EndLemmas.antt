@@ -6,28 +6,28 @@ use Rattle.card_sections.specs.declared.behind.PlayEnd.TheVariants as play
 use Rattle.load_runs.specs.declared.counting.MemoryFailed.{MemoryFailed}
 use Rattle.trace_counts.specs.declared.counts.Counts.{Counts}
 use Rattle.uicc_run.specs.Causes.{EndsFor, EndsLoad}
-use Rattle.uicc_run.specs.Endings.{status_of}
-use Rattle.uicc_run.specs.Loading.{ending_for}
+use Rattle.uicc_run.specs.Endings.{status_for}
+use Rattle.uicc_run.specs.Loading.{ending_for_load}
 use Rattle.uicc_run.specs.Scenes.{Scene}
 use Rattle.uicc_run.specs.declared.endings.Ending.{Ending}
 use Rattle.uicc_run.specs.declared.endings.Ending.TheVariants.{Played, Counted, LoadFailed, Usage}
 use Rattle.uicc_types.specs.Counts.{CountsFailure, Meter, Rose}
 
-for_its_source : (end : PlayEnd) → status_of (Played end) ≡ 3 → end ≡ play.ReadFailed
+for_its_source : (end : PlayEnd) → status_for (Played end) ≡ 3 → end ≡ play.ReadFailed
 for_its_source play.Finished is = absurd (cc)
 for_its_source (play.BadLine number) is = absurd (cc)
 for_its_source play.ReadFailed is = refl
 for_its_source play.SinkFailed is = absurd (cc)
 for_its_source play.ResetFailed is = absurd (cc)
 
-for_its_sink : (end : PlayEnd) → status_of (Played end) ≡ 4 → end ≡ play.SinkFailed
+for_its_sink : (end : PlayEnd) → status_for (Played end) ≡ 4 → end ≡ play.SinkFailed
 for_its_sink play.Finished is = absurd (cc)
 for_its_sink (play.BadLine number) is = absurd (cc)
 for_its_sink play.ReadFailed is = absurd (cc)
 for_its_sink play.SinkFailed is = refl
 for_its_sink play.ResetFailed is = absurd (cc)
 
-for_its_memory : (end : PlayEnd) → status_of (Played end) ≡ 6 → end ≡ play.ResetFailed
+for_its_memory : (end : PlayEnd) → status_for (Played end) ≡ 6 → end ≡ play.ResetFailed
 for_its_memory play.Finished is = absurd (cc)
 for_its_memory (play.BadLine number) is = absurd (cc)
 for_its_memory play.ReadFailed is = absurd (cc)
@@ -51,7 +51,7 @@ ends_played end before after TraceIsSame BoxesAreSame source sink memory tells =
 }
 
 -- a long run ends with its counts, or for its memory
-ends_so : (lines : ℕ) (outcome : Result Counts MemoryFailed) (old new : Meter) (BoxesAreSame : Type 0) → (IsErr outcome → Rose old.faults new.faults) → EndsLoad (ending_for lines outcome) old new ⊥ BoxesAreSame
+ends_so : (lines : ℕ) (outcome : Result Counts MemoryFailed) (old new : Meter) (BoxesAreSame : Type 0) → (IsErr outcome → Rose old.faults new.faults) → EndsLoad (ending_for_load lines outcome) old new ⊥ BoxesAreSame
 ends_so lines (Ok counts) old new BoxesAreSame failed = record {
   used = λ is. cc is;
   played = λ is. cc is;
@@ -71,7 +71,7 @@ ends_so lines (Err fault) old new BoxesAreSame failed = record {
   memory_cause = λ is. inl (failed refl);
 }
 
-pub ends_counted : (lines : ℕ) (outcome : Result Counts MemoryFailed) (ending : Ending) (old new : Meter) (BoxesAreSame : Type 0) → ending ≡ ending_for lines outcome → (IsErr outcome → Rose old.faults new.faults) → EndsLoad ending old new ⊥ BoxesAreSame
+pub ends_counted : (lines : ℕ) (outcome : Result Counts MemoryFailed) (ending : Ending) (old new : Meter) (BoxesAreSame : Type 0) → ending ≡ ending_for_load lines outcome → (IsErr outcome → Rose old.faults new.faults) → EndsLoad ending old new ⊥ BoxesAreSame
 ends_counted lines outcome ending old new BoxesAreSame is failed = subst (λ (e : Ending). EndsLoad e old new ⊥ BoxesAreSame) (sym is) (ends_so lines outcome old new BoxesAreSame failed)
 
 -- what rose between two meters rose between two others that counted the same

@@ -18,7 +18,7 @@ use Rattle.card_model.specs.Laws.{CountsJoin}
 use Rattle.card_model.specs.States.{HasBox, woken}
 use Rattle.card_opening.specs.Boxes.{IsFirstWithoutBox}
 use Rattle.layout_mount.specs.Mounted.{read_told}
-use Rattle.card_opening.specs.Starts.{Finds, IsMigratedAtMost as IsLeftMigrated, Leaves as FaultLeaves}
+use Rattle.card_opening.specs.Starts.{Finds, IsLeftMigrated, FaultLeaves}
 use Rattle.card_opening.specs.declared.faults.OpenFault.{OpenFault}
 use Rattle.card_opening.specs.declared.faults.OpenFault.TheVariants as fault
 use Rattle.card_sections.specs.RowLaws.{IsOfItsBox, rows_have_boxes}
@@ -41,9 +41,9 @@ use Rattle.script_form.specs.declared.lines.ScriptLine.{ScriptLine}
 use Rattle.trace_counts.specs.declared.counts.Counts.{Counts}
 use Rattle.uicc_run.proofs.BoxLemmas.{have_boxes}
 use Rattle.uicc_run.proofs.OpenLemmas.{caused_counted, caused_kept, refusal_keeps, stands_found, still}
-use Rattle.uicc_run.specs.Endings.{KeepsBytes, status_of}
+use Rattle.uicc_run.specs.Endings.{KeepsBytes, status_for}
 use Rattle.uicc_run.specs.Headline.{IsMigratedAtMost}
-use Rattle.uicc_run.specs.Loading.{ComesToLoad, FailsToOpenFixed, IsFixedCard, IsLeft, ending_for, load_beginning}
+use Rattle.uicc_run.specs.Loading.{ComesToLoad, FailsToOpenFixed, IsFixedCard, IsLeft, ending_for_load, load_beginning}
 use Rattle.uicc_run.specs.Opening.{ending_for as ending_for_fault}
 use Rattle.uicc_run.specs.Playing.{Given, Leaves}
 use Rattle.uicc_run.specs.Runs.{first_machine}
@@ -75,7 +75,7 @@ heard_made (line ∷ made) = ap (λ l. line ∷ l) (heard_made made)
 
 -- what the handset came to is what the run comes to
 pub comes_to_load : (given : Given) (start count : ℕ) (card : Persistent) (leaves : Leaves) (at : Moment) (outcome : Result Counts MemoryFailed) → RunsAreLegal → RunsAreOfTheCard → IsFixedCard given.boxes card → IsLeft leaves at
-    → GivesLoad (made_lines start count) (load_beginning given card) at outcome → ComesToLoad given start count (ending_for count outcome) leaves
+    → GivesLoad (made_lines start count) (load_beginning given card) at outcome → ComesToLoad given start count (ending_for_load count outcome) leaves
 comes_to_load given start count card leaves at (Ok counts) legal of_card fixed left gives = record {
   card = card;
   at = at;
@@ -91,7 +91,7 @@ comes_to_load given start count card leaves at (Err failed) legal of_card fixed 
 -- its card was handed back
 pub load_closes : (given : Given) (start count : ℕ) (card : Persistent) (taken : Option (List ℕ)) (parts : CardParts) (mark : ℕ) (told : Option (List ℕ)) (meter : Meter) (boxes : List (Option AppletState)) (put : Option (List ℕ)) (waiting : Plan) (outcome : Result Counts MemoryFailed)
     → RunsAreLegal → RunsAreOfTheCard → IsFixedCard given.boxes card → mark ≡ parts.store_mark → told ≡ parts.told → meter ≡ parts.meter → boxes ≡ parts.boxes → GivesLoad (made_lines start count) (load_beginning given card) (moment parts put waiting) outcome
-    → ComesToLoad given start count (ending_for count outcome) (record { held = standing mark told; taken = taken; meter = meter; boxes = boxes })
+    → ComesToLoad given start count (ending_for_load count outcome) (record { held = standing mark told; taken = taken; meter = meter; boxes = boxes })
 load_closes given start count card taken parts mark told meter boxes put waiting outcome legal of_card fixed same_mark same_told same_meter same_boxes gives =
     comes_to_load given start count card (record { held = standing mark told; taken = taken; meter = meter; boxes = boxes }) (moment parts put waiting) outcome legal of_card fixed
     (record { held = ap (λ k. standing k told) same_mark ∙ ap (λ t. standing parts.store_mark t) same_told; meter = same_meter; boxes = same_boxes }) gives
@@ -161,7 +161,7 @@ pub memory_keeps : (why : OpenFault) (mark : ℕ) (told told_then : Option (List
 memory_keeps why mark told told_then ending is wants leaves =
     refusal_keeps why mark told told_then leaves (subst (λ e. KeepsBytes e (standing mark told)) (sym (sym is ∙ wants)) tt)
 
-pub never_wanting : (lines : ℕ) (outcome : Result Counts MemoryFailed) (ending : Ending) → ending ≡ ending_for lines outcome → ending ≡ NoMemory → ⊥
+pub never_wanting : (lines : ℕ) (outcome : Result Counts MemoryFailed) (ending : Ending) → ending ≡ ending_for_load lines outcome → ending ≡ NoMemory → ⊥
 never_wanting lines (Ok counts) ending is wants = let apart : Counted lines counts ≡ NoMemory = sym is ∙ wants in cc
 never_wanting lines (Err failed) ending is wants = let apart : LoadFailed ≡ NoMemory = sym is ∙ wants in cc
 
@@ -188,7 +188,7 @@ never_refused boxes old new card number all is =
     cc
 
 pub load_completes : (given : Given) (start count : ℕ) (card : Persistent) (ending : Ending) (leaves : Leaves) (status : ℕ) → IsFixedCard given.boxes card → ComesToLoad given start count ending leaves
-    → (status ≡ status_of ending) ⊎ (status ≡ 4) → (status ≡ 4 → ⊥) → (status ≡ 6 → ⊥) → (status ≡ 0) ⊎ (status ≡ 5)
+    → (status ≡ status_for ending) ⊎ (status ≡ 4) → (status ≡ 4 → ⊥) → (status ≡ 6 → ⊥) → (status ≡ 0) ⊎ (status ≡ 5)
 load_completes given start count card ending leaves status fixed comes (inr four) no_4 no_6 = absurd (no_4 four)
 load_completes given start count card NoMemory leaves status fixed comes (inl is) no_4 no_6 = inr is
 load_completes given start count card (Counted lines counts) leaves status fixed comes (inl is) no_4 no_6 = inl is

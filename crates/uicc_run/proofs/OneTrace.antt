@@ -19,7 +19,7 @@ use Rattle.handset_model.specs.Legal.{TraceEntry}
 use Rattle.load_runs.specs.Lines.{made_lines}
 use Rattle.load_runs.specs.Runs.{all_heard, entry_line}
 use Rattle.phone_runs.specs.Effects.{phone_lines}
-use Rattle.phone_runs.specs.Laws.{TracesAreOne as PhoneRunsAreOne}
+use Rattle.phone_runs.specs.Laws.{PhoneRunsAreOne}
 use Rattle.phone_runs.specs.Runs.{IsPhoneRun}
 use Rattle.phone_runs.specs.Traces.{entries_text}
 use Rattle.trace_counts.specs.Counts.{counts_of}

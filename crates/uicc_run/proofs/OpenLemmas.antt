@@ -17,7 +17,7 @@ use Rattle.card_model.specs.Laws.{CountsJoin}
 use Rattle.card_model.specs.States.{IsGood, woken}
 use Rattle.card_opening.specs.Boxes.{IsFirstWithoutBox}
 use Rattle.layout_mount.specs.Mounted.{read_told}
-use Rattle.card_opening.specs.Starts.{Finds, IsMigratedAtMost as IsLeftMigrated, Leaves as FaultLeaves}
+use Rattle.card_opening.specs.Starts.{Finds, IsLeftMigrated, FaultLeaves}
 use Rattle.card_opening.specs.declared.faults.OpenFault.{OpenFault}
 use Rattle.card_opening.specs.declared.faults.OpenFault.TheVariants as fault
 use Rattle.byte_streams.specs.Laws.{HasRead-start}

@@ -5,7 +5,7 @@ use Rattle.byte_streams.specs.Lines.{LineList}
 use Rattle.card_layout.specs.Persistent.{Persistent}
 use Rattle.card_model.specs.Counts.{IsCounted}
 use Rattle.card_model.specs.Laws.{CountsJoin, PlansAreSetInOrder}
-use Rattle.card_model.specs.Runs.{armed, armed_after, waiting_after}
+use Rattle.card_model.specs.Runs.{plan_given, armed_after, waiting_after}
 use Rattle.card_model.specs.States.{Machine}
 use Rattle.card_sections.specs.LineLaws.{AreRead-more}
 use Rattle.card_sections.specs.Reading.{Finds, Follows}
@@ -121,8 +121,8 @@ behind : (before : List ℕ) (shown more : List TraceItem) → (before ++ text_o
 behind before shown more = append_assoc before (text_of shown) (text_of more) ∙ ap (λ rest. before ++ rest) (sym (text_of-append shown more))
 
 -- the plans of steps behind those of others
-plans_then : PlansAreSetInOrder → (steps more : List Step) (waiting : Plan) → waiting ≡ waiting_after NONE steps → armed steps ++ armed_after waiting more ≡ armed (steps ++ more)
-plans_then order steps more waiting waits = ap (λ w. armed steps ++ armed_after w more) waits ∙ sym (order NONE steps more).0
+plans_then : PlansAreSetInOrder → (steps more : List Step) (waiting : Plan) → waiting ≡ waiting_after NONE steps → plan_given steps ++ armed_after waiting more ≡ plan_given (steps ++ more)
+plans_then order steps more waiting waits = ap (λ w. plan_given steps ++ armed_after w more) waits ∙ sym (order NONE steps more).0
 
 waiting_then : PlansAreSetInOrder → (steps more : List Step) (waiting : Plan) → waiting ≡ waiting_after NONE steps → waiting_after waiting more ≡ waiting_after NONE (steps ++ more)
 waiting_then order steps more waiting waits = ap (λ w. waiting_after w more) waits ∙ sym (order NONE steps more).1
@@ -151,7 +151,7 @@ plays_further given script next left left_then kept after from to line deed join
       told = done.told;
       written = done.written ∙ ap Some (behind given.before playing.account.shown done.account.shown);
       counted = subst (λ l. IsCounted given.meter to.meter l (playing.account.own ++ done.account.own)) (plans_then order playing.account.steps done.account.steps from.waiting playing.waits)
-          (join given.meter from.meter to.meter (armed playing.account.steps) (armed_after from.waiting done.account.steps) playing.account.own done.account.own playing.counted done.counted);
+          (join given.meter from.meter to.meter (plan_given playing.account.steps) (armed_after from.waiting done.account.steps) playing.account.own done.account.own playing.counted done.counted);
       waits = done.waits ∙ waiting_then order playing.account.steps done.account.steps from.waiting playing.waits;
       rests = λ calm. done.rests (λ none. playing.rests (calm_before playing.account.own done.account.own none calm)) (calm_behind playing.account.own done.account.own calm);
     }
@@ -209,7 +209,7 @@ ends_in_step given script next left left_then kept from to line step.Reset join 
       stands = ended.stands;
       written = ended.written ∙ ap Some (behind given.before playing.account.shown ended.shown);
       counted = subst (λ l. IsCounted given.meter to.meter l (playing.account.own ++ ended.shown)) (plans_then order playing.account.steps (step.Reset ∷ []) from.waiting playing.waits)
-          (join given.meter from.meter to.meter (armed playing.account.steps) (armed_after from.waiting (step.Reset ∷ [])) playing.account.own ended.shown playing.counted ended.counted);
+          (join given.meter from.meter to.meter (plan_given playing.account.steps) (armed_after from.waiting (step.Reset ∷ [])) playing.account.own ended.shown playing.counted ended.counted);
     }
 
 -- the sink failed in a step
@@ -233,7 +233,7 @@ breaks_in_step given script next left left_then kept after from to line step joi
       cut_off = broken.cut_off;
       stands = broken.stands;
       written = broken.written;
-      counted = join given.meter from.meter to.meter (armed playing.account.steps) broken.set playing.account.own broken.pending playing.counted broken.counted;
+      counted = join given.meter from.meter to.meter (plan_given playing.account.steps) broken.set playing.account.own broken.pending playing.counted broken.counted;
     }
 
 -- the sink failed in a TPDU
@@ -258,7 +258,7 @@ breaks_in_tpdu given script next left left_then kept after from to line tpdu joi
       cut_off = broken.cut_off;
       stands = broken.stands;
       written = broken.written;
-      counted = join given.meter from.meter to.meter (armed playing.account.steps) broken.set playing.account.own broken.own playing.counted broken.counted;
+      counted = join given.meter from.meter to.meter (plan_given playing.account.steps) broken.set playing.account.own broken.own playing.counted broken.counted;
     }
 
 -- ---- why it ends

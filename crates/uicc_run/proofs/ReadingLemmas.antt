@@ -6,7 +6,7 @@ use Rattle.byte_streams.specs.Reading.{pending}
 use Rattle.card_layout.specs.Persistent.{Persistent}
 use Rattle.card_opening.specs.declared.faults.OpenFault.{OpenFault}
 use Rattle.card_opening.specs.declared.faults.OpenFault.TheVariants as fault
-use Rattle.card_sections.specs.Behind.{EndsReading, IsReading, ReadsTo as LinesReadTo}
+use Rattle.card_sections.specs.Behind.{EndsReading, IsReading, LinesReadTo}
 use Rattle.card_sections.specs.BehindLaws.{reads_first}
 use Rattle.card_sections.specs.Reading.{AtStart}
 use Rattle.card_sections.specs.Script.{AreRead, with_lines}

@@ -24,7 +24,7 @@ use Rattle.script_form.specs.Traces.{trace_text}
 use Rattle.script_form.specs.declared.lines.ScriptLine.{ScriptLine}
 use Rattle.script_form.specs.declared.lines.ScriptLine.TheVariants.{Start}
 use Rattle.script_form.specs.declared.trace.TraceLine.TheVariants as line
-use Rattle.uicc_run.specs.Endings.{IsUnshown, status_of}
+use Rattle.uicc_run.specs.Endings.{IsUnshown, status_for}
 use Rattle.uicc_run.specs.Headline.{Closes, Comes, IsNoCard, IsNotOpened, LacksBox, last_text}
 use Rattle.uicc_run.specs.Playing.{EndsSo, Given, IsOpened, IsPlayed, Leaves, StopsPlaying}
 use Rattle.uicc_run.specs.Reading.{AreReadInPlace, EndsBehind, HasStarted, ReadsTo}
@@ -255,8 +255,8 @@ finished given status left ends is =
 abbrev pub LineVerdict : Given → ℕ → Option (List ℕ) → Option (List ℕ) → Type 0
 LineVerdict given status left taken = (status ≡ 5) ⊎ ((Finishes given status × (left ≡ Some [])) ⊎ (Stopped given status left taken ⊎ ((status ≡ 7) × HasStarted given)))
 
-line_verdict_of : (given : Given) (left before taken : Option (List ℕ)) (front : List ℕ) (ending : Ending) (status : ℕ) → status ≡ status_of ending → before ≡ Some front → taken ≡ append_known before (last_text ending) → ReadsTo given left ending
-    → (ending ≡ Usage → ⊥) → (status_of ending ≡ 3 → ⊥) → (status_of ending ≡ 4 → ⊥) → (status_of ending ≡ 6 → ⊥) → LineVerdict given status left taken
+line_verdict_of : (given : Given) (left before taken : Option (List ℕ)) (front : List ℕ) (ending : Ending) (status : ℕ) → status ≡ status_for ending → before ≡ Some front → taken ≡ append_known before (last_text ending) → ReadsTo given left ending
+    → (ending ≡ Usage → ⊥) → (status_for ending ≡ 3 → ⊥) → (status_for ending ≡ 4 → ⊥) → (status_for ending ≡ 6 → ⊥) → LineVerdict given status left taken
 line_verdict_of given left before taken front Usage status is was told reads used three four six = absurd (used refl)
 line_verdict_of given left before taken front NoMemory status is was told reads used three four six = inl is
 line_verdict_of given left before taken front (Section (script.BadLine number)) status is was told reads used three four six = inr (inr (inl (stopped_before given status number before taken left front reads is was told)))
@@ -280,7 +280,7 @@ pub line_verdict : (given : Given) (left before taken : Option (List ℕ)) (endi
 line_verdict given left before taken ending status closes tells reads one three four six =
     let front = some_of before tells in
     elim closes [
-      | inl whole ↦ line_verdict_of given left before taken front.0 ending status whole.0 front.1 whole.1 reads (λ same. one (whole.0 ∙ ap status_of same)) (λ is. three (whole.0 ∙ is)) (λ is. four (whole.0 ∙ is)) (λ is. six (whole.0 ∙ is))
+      | inl whole ↦ line_verdict_of given left before taken front.0 ending status whole.0 front.1 whole.1 reads (λ same. one (whole.0 ∙ ap status_for same)) (λ is. three (whole.0 ∙ is)) (λ is. four (whole.0 ∙ is)) (λ is. six (whole.0 ∙ is))
       | inr broken ↦ absurd (four broken.0)
     ]
 
@@ -502,8 +502,8 @@ stopped_so : (given : Given) (status number : ℕ) (left taken : Option (List �
     → (stopped : Stopped given status left taken) × OpensAt given stopped.to
 stopped_so given status number left taken leaves came is told = (stopped_behind given status number leaves.taken taken left came.front came.ends is came.written told, came.opens)
 
-verdict_of : (given : Given) (left taken : Option (List ℕ)) (ending : Ending) (leaves : Leaves) (status : ℕ) → status ≡ status_of ending → taken ≡ append_known leaves.taken (last_text ending) → Comes given left ending leaves
-    → (status ≡ 7 → (IsBoxed given → ⊥) → ⊥) → (ending ≡ Usage → ⊥) → (status_of ending ≡ 3 → ⊥) → (status_of ending ≡ 4 → ⊥) → (status_of ending ≡ 6 → ⊥) → Verdict given status left taken
+verdict_of : (given : Given) (left taken : Option (List ℕ)) (ending : Ending) (leaves : Leaves) (status : ℕ) → status ≡ status_for ending → taken ≡ append_known leaves.taken (last_text ending) → Comes given left ending leaves
+    → (status ≡ 7 → (IsBoxed given → ⊥) → ⊥) → (ending ≡ Usage → ⊥) → (status_for ending ≡ 3 → ⊥) → (status_for ending ≡ 4 → ⊥) → (status_for ending ≡ 6 → ⊥) → Verdict given status left taken
 verdict_of given left taken Usage leaves status is told comes boxed used sound four six = absurd (used refl)
 verdict_of given left taken NoMemory leaves status is told comes boxed used sound four six = inl is
 verdict_of given left taken (Section (script.BadLine number)) leaves status is told comes boxed used sound four six = inr (inr (inl (stopped_before given status number leaves.taken taken left given.before comes.0 is comes.1 told, tt)))
@@ -525,7 +525,7 @@ pub verdict : (given : Given) (left taken : Option (List ℕ)) (ending : Ending)
     → (status ≡ 7 → (IsBoxed given → ⊥) → ⊥) → (status ≡ 1 → ⊥) → (status ≡ 3 → ⊥) → (status ≡ 4 → ⊥) → (status ≡ 6 → ⊥) → Verdict given status left taken
 verdict given left taken ending leaves status closes comes boxed one three four six =
     elim closes [
-      | inl whole ↦ verdict_of given left taken ending leaves status whole.0 whole.1 comes boxed (λ same. one (whole.0 ∙ ap status_of same)) (λ is. three (whole.0 ∙ is)) (λ is. four (whole.0 ∙ is)) (λ is. six (whole.0 ∙ is))
+      | inl whole ↦ verdict_of given left taken ending leaves status whole.0 whole.1 comes boxed (λ same. one (whole.0 ∙ ap status_for same)) (λ is. three (whole.0 ∙ is)) (λ is. four (whole.0 ∙ is)) (λ is. six (whole.0 ∙ is))
       | inr broken ↦ absurd (four broken.0)
     ]
 
@@ -586,7 +586,7 @@ stops_bad given status left taken found (inr met) verdict seven =
 
 -- ---- want of memory
 
-five_of : (ending : Ending) → status_of ending ≡ 5 → ending ≡ NoMemory
+five_of : (ending : Ending) → status_for ending ≡ 5 → ending ≡ NoMemory
 five_of Usage is = absurd (cc is)
 five_of NoMemory is = refl
 five_of (Section (script.BadLine number)) is = absurd (cc is)
@@ -605,15 +605,15 @@ five_of (Counted lines counts) is = absurd (cc is)
 five_of LoadFailed is = absurd (cc is)
 
 -- a run that ends with 5 ends for that, also where a failing sink would end it with 4
-pub five_is : (ending : Ending) (status : ℕ) → (status ≡ status_of ending) ⊎ (status ≡ 4) → status ≡ 5 → ending ≡ NoMemory
+pub five_is : (ending : Ending) (status : ℕ) → (status ≡ status_for ending) ⊎ (status ≡ 4) → status ≡ 5 → ending ≡ NoMemory
 five_is ending status closed is = ⊎_elim {C = ending ≡ NoMemory} (λ own. five_of ending (sym own ∙ is)) (λ four. absurd (omega (arith, four, is))) closed
 
 -- a run that ends with 7 was asked for
-pub not_usage : (ending : Ending) (status : ℕ) → (status ≡ status_of ending) ⊎ (status ≡ 4) → status ≡ 7 → ending ≡ Usage → ⊥
+pub not_usage : (ending : Ending) (status : ℕ) → (status ≡ status_for ending) ⊎ (status ≡ 4) → status ≡ 7 → ending ≡ Usage → ⊥
 not_usage ending status closed seven usage =
-    ⊎_elim {C = ⊥} (λ own. let one : status ≡ 1 = own ∙ ap status_of usage in omega (arith, seven, one)) (λ four. omega (arith, seven, four)) closed
+    ⊎_elim {C = ⊥} (λ own. let one : status ≡ 1 = own ∙ ap status_for usage in omega (arith, seven, one)) (λ four. omega (arith, seven, four)) closed
 
-one_of : (ending : Ending) → status_of ending ≡ 1 → ending ≡ Usage
+one_of : (ending : Ending) → status_for ending ≡ 1 → ending ≡ Usage
 one_of Usage is = refl
 one_of NoMemory is = absurd (cc is)
 one_of (Section (script.BadLine number)) is = absurd (cc is)
@@ -632,12 +632,12 @@ one_of (Counted lines counts) is = absurd (cc is)
 one_of LoadFailed is = absurd (cc is)
 
 -- a run that ends with 1 ends for its words
-pub one_is : (ending : Ending) (status : ℕ) → (status ≡ status_of ending) ⊎ (status ≡ 4) → status ≡ 1 → ending ≡ Usage
+pub one_is : (ending : Ending) (status : ℕ) → (status ≡ status_for ending) ⊎ (status ≡ 4) → status ≡ 1 → ending ≡ Usage
 one_is ending status closed is = ⊎_elim {C = ending ≡ Usage} (λ own. one_of ending (sym own ∙ is)) (λ four. absurd (omega (arith, four, is))) closed
 
 -- ---- status 6
 
-six_of : (ending : Ending) → status_of ending ≡ 6 → (ending ≡ Played play.ResetFailed) ⊎ (IsUnshown ending × (last_text ending ≡ last_text EepromFailed))
+six_of : (ending : Ending) → status_for ending ≡ 6 → (ending ≡ Played play.ResetFailed) ⊎ (IsUnshown ending × (last_text ending ≡ last_text EepromFailed))
 six_of Usage is = absurd (cc is)
 six_of NoMemory is = absurd (cc is)
 six_of (Section (script.BadLine number)) is = absurd (cc is)

@@ -12,7 +12,7 @@ use Rattle.card_steps.specs.Stepping.{Moment}
 use Rattle.card_steps.specs.declared.steps.StepEnd.{StepEnd}
 use Rattle.card_steps.specs.declared.steps.StepEnd.TheVariants as step_end
 use Rattle.handset_model.specs.Legal.{IsLegal}
-use Rattle.phone_runs.specs.Lines.{AreServed, ComesTo as PhoneComesTo, EndsSo as PhoneEnds, StandsAtStart, StopsAmid}
+use Rattle.phone_runs.specs.Lines.{AreServed, PhoneComesTo, PhoneEnds, StandsAtStart, StopsAmid}
 use Rattle.phone_runs.specs.Effects.{phone_lines}
 use Rattle.phone_runs.specs.Laws.{EndsAreBegun, EndsAreOfTheCard, RunsAreLegal, RunsAreOfTheCard}
 use Rattle.phone_runs.specs.Logs.{PhoneLine, heard, trace}

@@ -8,7 +8,7 @@ use Rattle.card_layout.specs.Persistent.{Persistent}
 use Rattle.run_words.specs.Model.{AskForRun, IsRequest}
 use Rattle.run_words.specs.declared.requests.Request.{Request}
 use Rattle.uicc_run.specs.Causes.{IsSeenCause}
-use Rattle.uicc_run.specs.Endings.{HasFailed, IsUnopened, status_of}
+use Rattle.uicc_run.specs.Endings.{HasFailed, IsUnopened, status_for}
 use Rattle.uicc_run.specs.Headline.{Closes, Traces}
 use Rattle.uicc_run.specs.Loading.{AskToLoad, IsFixedCard, LoadsFrom, TracesLoad}
 use Rattle.uicc_run.specs.Opening.{ReadsFrom, RunsFrom}
@@ -91,7 +91,7 @@ pub record HasLoaded (given : Given) (start count : ℕ) (seen : Seen) : Type 0 
   pub meter : Meter
   pub boxes : List (Option AppletState)
   pub trace : TracesLoad given start count (record { held = held; taken = seen.taken; meter = meter; boxes = boxes }) seen.status
-      (λ ending. status_of ending ≡ 6 → HasFailed given.meter meter)
+      (λ ending. status_for ending ≡ 6 → HasFailed given.meter meter)
   pub complete : (card : Persistent) → IsUndisturbed seen → IsFixedCard given.boxes card → (seen.status ≡ 0) ⊎ (seen.status ≡ 5)
 
 abbrev pub HasLoadedOver : List (List ℕ) → ℕ → Scene → Scene → Type 0

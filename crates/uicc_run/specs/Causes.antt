@@ -9,7 +9,7 @@ use Rattle.card_sections.specs.declared.behind.PlayEnd.TheVariants as play
 use Rattle.layout_section.specs.Laying.{KeepsFirstOr}
 use Rattle.run_words.specs.Model.{AskForRun}
 use Rattle.store_form.specs.declared.store.Store.{Ghosts as StoreWords}
-use Rattle.uicc_run.specs.Endings.{HasFailed, IsEarly, IsUnopened, IsUnshown, KeepsBytes, status_of}
+use Rattle.uicc_run.specs.Endings.{HasFailed, IsEarly, IsUnopened, IsUnshown, KeepsBytes, status_for}
 use Rattle.uicc_run.specs.Loading.{AskToLoad, ComesToLoad, HoldsFixed, LoadsFrom}
 use Rattle.uicc_run.specs.Playing.{Given}
 use Rattle.uicc_run.specs.Reading.{ReadsTo}
@@ -45,9 +45,9 @@ pub record KeepsStoreForm {S : Type 0} (words : StoreWords S) (old new : S) (IsF
 -- was counted. A sink that tells what it has taken goes on telling it. The trace stays where the memory failed before a card was open,
 -- the memory where nothing was done to it, and the boxes where no card was open; what each of these is.
 pub record EndsFor (ending : Ending) (before after : Scene) (TraceIsSame MemoryIsSame BoxesAreSame : Type 0) : Type 0 where
-  pub source_cause : CountsFailure before.source after.source (status_of ending ≡ 3)
-  pub sink_cause : CountsFailure before.sink after.sink (status_of ending ≡ 4)
-  pub memory_cause : status_of ending ≡ 6 → HasFailed before.meter after.meter
+  pub source_cause : CountsFailure before.source after.source (status_for ending ≡ 3)
+  pub sink_cause : CountsFailure before.sink after.sink (status_for ending ≡ 4)
+  pub memory_cause : status_for ending ≡ 6 → HasFailed before.meter after.meter
   pub reset_cause : ending ≡ Played play.ResetFailed → Rose before.meter.faults after.meter.faults
   pub tells : is_some after.taken ≡ is_some before.taken
   pub unshown : IsUnshown ending → TraceIsSame
@@ -73,11 +73,11 @@ pub record RefusesAtFirst (words : List (List ℕ)) (ending : Ending) (ScriptIsS
 pub record EndsLoad (ending : Ending) (memory memory_then : Meter) (MemoryIsSame BoxesAreSame : Type 0) : Type 0 where
   pub used : ending ≢ Usage
   pub played : ending ≢ Played play.ResetFailed
-  pub unread : status_of ending ≢ 3
-  pub unwritten : status_of ending ≢ 4
+  pub unread : status_for ending ≢ 3
+  pub unwritten : status_for ending ≢ 4
   pub untouched : IsEarly ending → MemoryIsSame
   pub boxes : IsUnopened ending → BoxesAreSame
-  pub memory_cause : status_of ending ≡ 6 → HasFailed memory memory_then
+  pub memory_cause : status_for ending ≡ 6 → HasFailed memory memory_then
 
 -- A long run before its last line: it writes nothing and reads nothing. Its memory tells its bytes; where there was none for the rest of
 -- it, it is as it was, or holds just the card of such a run.
@@ -102,7 +102,7 @@ pub record KeepsMemory (given : Given) (ending : Ending) (before after : Scene) 
       → MemoryIsSame ⊎ HoldsDescribed given (content_in given.pages after.contents)
 
 -- the same of a store with this mark, by the card that was described, if one was
-pub record KeepsStore (mark : ℕ) (described : Option Persistent) (ending : Ending) (before after : Scene) : Type 0 where
+pub record KeepsCardThere (mark : ℕ) (described : Option Persistent) (ending : Ending) (before after : Scene) : Type 0 where
   pub bytes : described ≡ None → KeepsBytes ending (standing mark before.contents) → after.contents ≡ before.contents
   pub half_made : (card : Persistent) → described ≡ Some card → ending ≡ FormatFailed
       → Becomes (KeepsFirstOr mark card) before.contents after.contents
@@ -120,15 +120,15 @@ pub record KeepsOpened (mark : ℕ) (ending : Ending) (before after : Scene) : T
 -- be as they were.
 pub record IsCaused (given : Given) (words : List (List ℕ)) (before after : Scene) (MemoryIsSame BoxesAreSame : Type 0) (ending : Ending) : Type 0 where
   pub usage : ending ≡ Usage → AskForRun words → ⊥
-  pub read_failed : status_of ending ≡ 3 → Rose before.source after.source
-  pub eeprom_failed : status_of ending ≡ 6 → HasFailed before.meter after.meter
+  pub read_failed : status_for ending ≡ 3 → Rose before.source after.source
+  pub eeprom_failed : status_for ending ≡ 6 → HasFailed before.meter after.meter
   pub untouched : IsEarly ending → MemoryIsSame
   pub boxes_kept : IsUnopened ending → BoxesAreSame
   pub memory_kept : KeepsMemory given ending before after MemoryIsSame
 
 -- the same of a long run, which reads no script and makes its card anew
 pub record IsLoadCaused (given : Given) (before after : Scene) (MemoryIsSame BoxesAreSame : Type 0) (ending : Ending) : Type 0 where
-  pub eeprom_failed : status_of ending ≡ 6 → HasFailed before.meter after.meter
+  pub eeprom_failed : status_for ending ≡ 6 → HasFailed before.meter after.meter
   pub untouched : IsEarly ending → MemoryIsSame
   pub boxes_kept : IsUnopened ending → BoxesAreSame
   pub no_memory : ending ≡ NoMemory → MemoryIsSame ⊎ HoldsFixed given (content_in given.pages after.contents)
@@ -136,5 +136,5 @@ pub record IsLoadCaused (given : Given) (before after : Scene) (MemoryIsSame Box
 -- and of a run whose memory and boxes are gone, of which that memory had counted so much before and so much at the end
 pub record IsSeenCause (words : List (List ℕ)) (seen : Seen) (memory memory_then : Meter) (ending : Ending) : Type 0 where
   pub usage : ending ≡ Usage → AskForRun words → ⊥
-  pub read_failed : status_of ending ≡ 3 → Rose seen.source seen.source_then
-  pub eeprom_failed : status_of ending ≡ 6 → HasFailed memory memory_then
+  pub read_failed : status_for ending ≡ 3 → Rose seen.source seen.source_then
+  pub eeprom_failed : status_for ending ≡ 6 → HasFailed memory memory_then

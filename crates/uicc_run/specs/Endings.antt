@@ -11,46 +11,46 @@ use Rattle.trace_counts.specs.declared.counts.Counts.{Counts}
 use Rattle.uicc_types.specs.Counts.{Meter, Rose}
 
 -- the status that the program ends with
-abbrev pub status_of : Ending → ℕ
-status_of (Played play.Finished) = 0
-status_of Usage = 1
-status_of (Section (script.BadLine number)) = 2
-status_of (Played (play.BadLine number)) = 2
-status_of (Section script.ReadFailed) = 3
-status_of (Played play.ReadFailed) = 3
-status_of (Played play.SinkFailed) = 4
-status_of NoMemory = 5
-status_of FormatFailed = 6
-status_of EepromFailed = 6
-status_of (Played play.ResetFailed) = 6
-status_of (NotACard at) = 7
-status_of (NoApplet shelf) = 7
-status_of (Section (script.NoRoom number)) = 8
-status_of (Counted lines counts) = 0
-status_of LoadFailed = 6
+abbrev pub status_for : Ending → ℕ
+status_for (Played play.Finished) = 0
+status_for Usage = 1
+status_for (Section (script.BadLine number)) = 2
+status_for (Played (play.BadLine number)) = 2
+status_for (Section script.ReadFailed) = 3
+status_for (Played play.ReadFailed) = 3
+status_for (Played play.SinkFailed) = 4
+status_for NoMemory = 5
+status_for FormatFailed = 6
+status_for EepromFailed = 6
+status_for (Played play.ResetFailed) = 6
+status_for (NotACard at) = 7
+status_for (NoApplet shelf) = 7
+status_for (Section (script.NoRoom number)) = 8
+status_for (Counted lines counts) = 0
+status_for LoadFailed = 6
 
 -- the line of what is counted in a long run of so many lines
 abbrev pub line_of_counts : ℕ → Counts → TraceLine
 line_of_counts lines counts = line.Counts lines counts.commands counts.fetches counts.responses counts.envelopes counts.busy
 
 -- The line that the trace ends with, where there is one. A reset in which the memory fails has shown its line already.
-abbrev pub last_line : Ending → List TraceLine
-last_line (Played play.Finished) = []
-last_line Usage = line.Usage ∷ []
-last_line (Section (script.BadLine number)) = line.Line number ∷ []
-last_line (Played (play.BadLine number)) = line.Line number ∷ []
-last_line (Section script.ReadFailed) = line.ReadFailed ∷ []
-last_line (Played play.ReadFailed) = line.ReadFailed ∷ []
-last_line (Played play.SinkFailed) = []
-last_line NoMemory = line.NoMemory ∷ []
-last_line FormatFailed = line.EepromFailed ∷ []
-last_line EepromFailed = line.EepromFailed ∷ []
-last_line (Played play.ResetFailed) = []
-last_line (NotACard at) = line.NotACard at ∷ []
-last_line (NoApplet shelf) = line.NoApplet shelf ∷ []
-last_line (Section (script.NoRoom number)) = line.Line number ∷ []
-last_line (Counted lines counts) = line_of_counts lines counts ∷ []
-last_line LoadFailed = line.EepromFailed ∷ []
+abbrev pub line_for : Ending → List TraceLine
+line_for (Played play.Finished) = []
+line_for Usage = line.Usage ∷ []
+line_for (Section (script.BadLine number)) = line.Line number ∷ []
+line_for (Played (play.BadLine number)) = line.Line number ∷ []
+line_for (Section script.ReadFailed) = line.ReadFailed ∷ []
+line_for (Played play.ReadFailed) = line.ReadFailed ∷ []
+line_for (Played play.SinkFailed) = []
+line_for NoMemory = line.NoMemory ∷ []
+line_for FormatFailed = line.EepromFailed ∷ []
+line_for EepromFailed = line.EepromFailed ∷ []
+line_for (Played play.ResetFailed) = []
+line_for (NotACard at) = line.NotACard at ∷ []
+line_for (NoApplet shelf) = line.NoApplet shelf ∷ []
+line_for (Section (script.NoRoom number)) = line.Line number ∷ []
+line_for (Counted lines counts) = line_of_counts lines counts ∷ []
+line_for LoadFailed = line.EepromFailed ∷ []
 
 -- an end before anything was done to the card's memory
 abbrev pub IsEarly : Ending → Type 0

@@ -19,7 +19,7 @@ use Rattle.run_words.specs.declared.requests.Mode.TheVariants as mode
 use Rattle.script_form.specs.Traces.{trace_text}
 use Rattle.script_form.specs.declared.lines.ScriptLine.{ScriptLine}
 use Rattle.script_form.specs.declared.lines.ScriptLine.TheVariants.{Start}
-use Rattle.uicc_run.specs.Endings.{last_line, status_of}
+use Rattle.uicc_run.specs.Endings.{line_for, status_for}
 use Rattle.uicc_run.specs.Listeners.{is_handset, listener_of}
 use Rattle.uicc_run.specs.Serving.{ComesTo}
 use Rattle.uicc_run.specs.Playing.{Given, IsOpened, Leaves}
@@ -126,12 +126,12 @@ Comes given left LoadFailed leaves = ⊥
 
 -- the text of the last line of an end, if it has one
 abbrev pub last_text : Ending → List ℕ
-last_text ending = flat_map trace_text (last_line ending)
+last_text ending = flat_map trace_text (line_for ending)
 
 -- The last line was taken, and the status is that of the end; or the sink failed in that very line, and the status is 4.
 abbrev pub Closes : Ending → Option (List ℕ) → Option (List ℕ) → ℕ → Type 0
 Closes ending before taken status =
-    ((status ≡ status_of ending) × (taken ≡ append_known before (last_text ending)))
+    ((status ≡ status_for ending) × (taken ≡ append_known before (last_text ending)))
     ⊎ ((status ≡ 4) × Becomes (TakesFront (last_text ending)) before taken)
 
 -- The run ended so, for this cause: what it comes to, then the last line.

@@ -114,6 +114,6 @@ pub record TracesLoad (given : Given) (start count : ℕ) (leaves : Leaves) (sta
   pub closes : Closes ending (Some given.before) leaves.taken status
 
 -- why it ends where the card was open
-abbrev pub ending_for : ℕ → Result Counts MemoryFailed → Ending
-ending_for lines (Ok counts) = Counted lines counts
-ending_for lines (Err failed) = LoadFailed
+abbrev pub ending_for_load : ℕ → Result Counts MemoryFailed → Ending
+ending_for_load lines (Ok counts) = Counted lines counts
+ending_for_load lines (Err failed) = LoadFailed

@@ -5,7 +5,7 @@ use Rattle.applet_trait.specs.Minds.{AppletState}
 use Rattle.byte_streams.specs.Lines.{LineList, lines}
 use Rattle.card_layout.specs.Persistent.{Persistent}
 use Rattle.card_model.specs.Counts.{IsCounted}
-use Rattle.card_model.specs.Runs.{IsRun, StepEnds, armed, armed_after, waiting_after}
+use Rattle.card_model.specs.Runs.{IsRun, StepEnds, plan_given, armed_after, waiting_after}
 use Rattle.card_model.specs.States.{IsGood, Machine}
 use Rattle.card_sections.specs.Behind.{StopsReading}
 use Rattle.card_sections.specs.Reading.{Follows}
@@ -81,7 +81,7 @@ pub record IsPlaying (given : Given) (script : ScriptReader) (left : Option (Lis
   pub follows : Follows given.text found script left
   pub told : now.machine ≡ Some machine
   pub written : now.taken ≡ Some (given.before ++ text_of account.shown)
-  pub counted : IsCounted given.meter now.meter (armed account.steps) account.own
+  pub counted : IsCounted given.meter now.meter (plan_given account.steps) account.own
   pub waits : now.waiting ≡ waiting_after NONE account.steps
   pub rests : ends_calm account.own ≡ true → now.is_due ≡ false
 
@@ -107,7 +107,7 @@ pub record EndsSo (given : Given) (left : Option (List ℕ)) (end : PlayEnd) (no
   pub cause : StopsPlaying given found left end
   pub stands : now.held ≡ Some machine.card.persistent
   pub written : now.taken ≡ Some (given.before ++ text_of account.shown)
-  pub counted : IsCounted given.meter now.meter (armed account.steps) account.own
+  pub counted : IsCounted given.meter now.meter (plan_given account.steps) account.own
   pub kinds : HasKindsOf machine.card.boxes now.boxes
   pub minds : ends_calm account.own ≡ true → now.boxes ≡ machine.card.boxes
 
@@ -146,7 +146,7 @@ pub record BreaksSo (given : Given) (now : Leaves) : Type 0 where
   pub cut_off : IsCutOff pending front
   pub stands : now.held ≡ Some machine.card.persistent
   pub written : now.taken ≡ Some (given.before ++ text_of at.account.shown ++ front)
-  pub counted : IsCounted given.meter now.meter (armed at.account.steps ++ set) (at.account.own ++ own)
+  pub counted : IsCounted given.meter now.meter (plan_given at.account.steps ++ set) (at.account.own ++ own)
 
 -- The memory failed in the reset that the next line of the script asks for: the trace says so behind all that the lines before show. A
 -- fault was counted for it in that reset itself, from what the memory had counted before it.
@@ -156,12 +156,12 @@ pub record FailsSo (given : Given) (now : Leaves) : Type 0 where
   pub last : List TraceItem
   pub ends : StepEnds at.old step.Reset last machine
   pub before_it : Meter
-  pub counted_before : IsCounted given.meter before_it (armed at.account.steps) at.account.own
+  pub counted_before : IsCounted given.meter before_it (plan_given at.account.steps) at.account.own
   pub counted_in_it : IsCounted before_it now.meter (armed_after (waiting_after NONE at.account.steps) (step.Reset ∷ [])) last
   pub of_card : IsRun (first_machine at.start given.boxes) (at.account.steps ++ step.Reset ∷ []) (at.account.own ++ last) machine
   pub stands : now.held ≡ Some machine.card.persistent
   pub written : now.taken ≡ Some (given.before ++ text_of (at.account.shown ++ last))
-  pub counted : IsCounted given.meter now.meter (armed (at.account.steps ++ step.Reset ∷ [])) (at.account.own ++ last)
+  pub counted : IsCounted given.meter now.meter (plan_given (at.account.steps ++ step.Reset ∷ [])) (at.account.own ++ last)
 
 abbrev pub CardComesTo : Given → Option (List ℕ) → PlayEnd → Leaves → Type 0
 CardComesTo given left Finished now = EndsSo given left Finished now

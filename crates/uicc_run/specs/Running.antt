@@ -1,7 +1,7 @@
 -- What a run owes its caller, by its words, its status and what is seen of it before and behind it. Each field is a fact of its own.
 use Rattle.std.specs.Prelude.{◌≡◌, ◌⊎◌, ◌+◌, ◌≤◌, ℕ, List, [], Option, Some, true, is_some}
 use Rattle.std.specs.Io.KnownBytes.{append_known}
-use Rattle.bip_runs.specs.Scripts.{IsFirstBad as IsFirstBadBip, IsGoodScript as IsGoodBip}
+use Rattle.bip_runs.specs.Scripts.{IsFirstBadBip, IsGoodBip}
 use Rattle.byte_streams.specs.Lines.{LineList}
 use Rattle.byte_streams.specs.Reading.{IsTaken}
 use Rattle.byte_streams.specs.declared.limits.TheConstants.{MOST_BYTES}

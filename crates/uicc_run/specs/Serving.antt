@@ -3,7 +3,7 @@ use Rattle.std.specs.Prelude.{◌≡◌, ◌⊎◌, ℕ, true, false, List, ◌+
 use Rattle.byte_streams.specs.Lines.{LineList, lines}
 use Rattle.card_layout.specs.Persistent.{Persistent}
 use Rattle.card_model.specs.Counts.{IsCounted}
-use Rattle.card_model.specs.Runs.{IsRun, armed}
+use Rattle.card_model.specs.Runs.{IsRun, plan_given}
 use Rattle.card_model.specs.States.{Machine}
 use Rattle.card_sections.specs.declared.behind.PlayEnd.{PlayEnd}
 use Rattle.card_sections.specs.declared.behind.PlayEnd.TheVariants.{Finished, BadLine, ReadFailed, SinkFailed, ResetFailed}
@@ -47,7 +47,7 @@ pub record EndsServing (given : Given) (left : Option (List ℕ)) (end : PlayEnd
   pub cause : StopsPlaying given found left end
   pub stands : now.held ≡ Some machine.card.persistent
   pub written : now.taken ≡ Some (given.before ++ entries_text (trace log))
-  pub counted : IsCounted given.meter now.meter (armed (steps log)) (shown log)
+  pub counted : IsCounted given.meter now.meter (plan_given (steps log)) (shown log)
   pub minds : ends_calm (shown log) ≡ true → now.boxes ≡ machine.card.boxes
 
 -- The run ended amid what these lines ask for, of which the last is the one that ended it, or amid the handset's start: the sink

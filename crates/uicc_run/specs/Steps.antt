@@ -2,7 +2,7 @@
 use Rattle.std.specs.List.{flat_map}
 use Rattle.std.specs.Prelude.{◌≡◌, ◌≤◌, Bool, true, false, List, [], ◌∷◌, length, Some}
 use Rattle.card_steps.specs.Moves.{IsShort, step_of}
-use Rattle.phone_runs.specs.Effects.{may_follow as may_be_heard}
+use Rattle.phone_runs.specs.Effects.{may_be_heard}
 use Rattle.script_form.specs.declared.lines.ScriptLine.{ScriptLine}
 use Rattle.script_form.specs.declared.lines.ScriptLine.TheVariants.{Passed, Start, Reset, Df, Transparent, Linear, Cyclic, Fill, Rec, Pin, Row, Apdu, Tpdu, Cut, Fail, ReadFail, Handset, Cmd, Echo, Lose}
 use Rattle.uicc_run.specs.Accounts.{Deed, Takes, Transfers}

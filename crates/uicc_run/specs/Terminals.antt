@@ -1,10 +1,10 @@
 -- The run of a terminal's channels: what it comes to, and when it comes to its end. No card is made or opened for it.
 use Rattle.std.specs.Prelude.{◌≡◌, ◌≤◌, ℕ, List, Option, Some}
-use Rattle.bip_runs.specs.Serving.{ComesTo}
+use Rattle.bip_runs.specs.Serving.{BipComesTo}
 use Rattle.run_words.specs.Model.{IsRequest}
 use Rattle.run_words.specs.declared.requests.Devices.{Devices}
 use Rattle.run_words.specs.declared.requests.Mode.TheVariants.{Bip}
-use Rattle.uicc_run.specs.Endings.{status_of}
+use Rattle.uicc_run.specs.Endings.{status_for}
 use Rattle.uicc_run.specs.Headline.{Closes}
 use Rattle.uicc_run.specs.Scenes.{Scene, Seen}
 use Rattle.uicc_run.specs.declared.endings.Ending.{Ending}
@@ -18,7 +18,7 @@ AskForBip words = (devices : Devices) × IsRequest words (record { mode = Bip; d
 -- What it comes to before its last line: where there was no memory, none of the script was taken.
 abbrev pub ComesToBip : List ℕ → Option (List ℕ) → Option (List ℕ) → Option (List ℕ) → Ending → Type 0
 ComesToBip text before left taken NoMemory = (left ≡ Some text) × (taken ≡ before)
-ComesToBip text before left taken (Played end) = ComesTo text before left taken end
+ComesToBip text before left taken (Played end) = BipComesTo text before left taken end
 ComesToBip text before left taken Usage = ⊥
 ComesToBip text before left taken (Section fault) = ⊥
 ComesToBip text before left taken FormatFailed = ⊥
@@ -31,14 +31,14 @@ ComesToBip text before left taken LoadFailed = ⊥
 -- what it comes to by its words, and leaves alone: what it is for the memory and the boxes to be as they were
 pub record ServesBip (before after : Scene) (MemoryIsSame BoxesAreSame : Type 0) (ending : Ending) : Type 0 where
   pub comes : (text : List ℕ) → before.left ≡ Some text → ComesToBip text before.taken after.left after.taken ending
-  pub low : status_of ending ≤ 5
+  pub low : status_for ending ≤ 5
   pub memory_kept : MemoryIsSame
   pub boxes_kept : BoxesAreSame
 
 -- why it ended so, be its last line taken or not
 pub record IsBipCaused (seen : Seen) (ending : Ending) : Type 0 where
-  pub read_failed : status_of ending ≡ 3 → Rose seen.source seen.source_then
-  pub sink_failed : status_of ending ≡ 4 → Rose seen.sink seen.sink_then
+  pub read_failed : status_for ending ≡ 3 → Rose seen.source seen.source_then
+  pub sink_failed : status_for ending ≡ 4 → Rose seen.sink seen.sink_then
 
 -- The run ended so, for this cause: what it comes to, then the last line.
 pub record TracesBip (text : List ℕ) (before : Option (List ℕ)) (seen : Seen) : Type 0 where

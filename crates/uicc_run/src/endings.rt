@@ -1,7 +1,7 @@
 //! Why a run ends.
 ghost use Rattle.std.specs.Prelude.{◌≡◌};
 ghost use Rattle.std.specs.Option.{option_to_list};
-ghost use Rattle.uicc_run.specs.Endings.{last_line as line_for, line_of_counts, status_of as status_for};
+ghost use Rattle.uicc_run.specs.Endings.{line_for, line_of_counts, status_for};
 
 use card_sections::{PlayEnd, ScriptFault};
 use script_form::TraceLine;

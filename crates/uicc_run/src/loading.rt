@@ -7,7 +7,7 @@ ghost use Rattle.card_layout.specs.declared.sizes.TheConstants.{ROW_COUNT};
 ghost use Rattle.card_model.specs.Counts.{IsCounted};
 ghost use Rattle.card_opening.specs.Boxes.{minds_of};
 ghost use Rattle.uicc_run.specs.Causes.{EndsLoad, FitsStore};
-ghost use Rattle.uicc_run.specs.Loading.{ComesToLoad, HoldsFixed, IsFixedCard, ending_for as ending_for_load};
+ghost use Rattle.uicc_run.specs.Loading.{ComesToLoad, HoldsFixed, IsFixedCard, ending_for_load};
 ghost use Rattle.uicc_run.specs.Opening.{IsGiven};
 ghost use Rattle.uicc_run.specs.Playing.{Given};
 ghost use Rattle.uicc_run.specs.Stores.{content_in, held_in, mark_of, memory_in, size_of};

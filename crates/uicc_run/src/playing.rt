@@ -1,7 +1,7 @@
 //! The rest of a script: what is done to the card, line by line.
 ghost use Rattle.std.specs.Prelude.{◌≡◌, ◌<◌, List, ℕ, None, Err, OnOk};
 ghost use Rattle.byte_streams.specs.Reading.{IsWithin};
-ghost use Rattle.card_sections.specs.Behind.{GivesRead, IsReading, ReadsTo};
+ghost use Rattle.card_sections.specs.Behind.{GivesRead, IsReading, LinesReadTo};
 ghost use Rattle.card_sections.specs.Reading.{reading, room_of};
 ghost use Rattle.card_steps.specs.Ends.{moment_at};
 ghost use Rattle.card_steps.specs.Moves.{step_of};
@@ -36,7 +36,7 @@ pub fn play_lines<S: Store, B: Applet, R: Source, W: Sink>(
     // Over any memory: which lines were read, and why no more of them.
     ensures reads { (text : List ℕ) (opening : List AnyLine)
         → IsReading may_follow opening text script.old (R.left source.old)
-        → ReadsTo may_follow opening text (R.left source.new) result }
+        → LinesReadTo may_follow opening text (R.left source.new) result }
     ensures within { (text : List ℕ) → IsWithin text (reading script.old) (R.left source.old)
         → IsWithin text (reading script.new) (R.left source.new) }
     ensures failed { result ≡ PlayEnd.ResetFailed → Rose card.old.parts.meter.faults card.new.parts.meter.faults }

@@ -8,13 +8,13 @@ ghost use Rattle.card_layout.specs.declared.sizes.TheConstants.{ROW_COUNT};
 ghost use Rattle.card_layout.specs.Persistent.{Persistent};
 ghost use Rattle.card_opening.specs.Boxes.{minds_of};
 ghost use Rattle.layout_section.specs.Laying.{KeepsFirstOr};
-ghost use Rattle.card_sections.specs.Behind.{IsReading, ReadsTo as LinesReadTo};
+ghost use Rattle.card_sections.specs.Behind.{IsReading, LinesReadTo};
 ghost use Rattle.card_sections.specs.Reading.{AtStart, reading};
 ghost use Rattle.card_steps.specs.Ends.{moment_at};
 ghost use Rattle.card_steps.specs.Tallies.{Tallies, tally};
 ghost use Rattle.script_form.specs.declared.lines.ScriptLine.{ScriptLine as AnyLine};
-ghost use Rattle.uicc_run.specs.Causes.{EndsFor, FitsRun, FitsStore, KeepsMemory, KeepsOpened, KeepsStore, KeepsStoreForm, LoadsUntold, ReadsUntold, RefusesAtFirst};
-ghost use Rattle.uicc_run.specs.Endings.{HasFailed, IsUnopened, status_of as status_for};
+ghost use Rattle.uicc_run.specs.Causes.{EndsFor, FitsRun, FitsStore, KeepsMemory, KeepsOpened, KeepsCardThere, KeepsStoreForm, LoadsUntold, ReadsUntold, RefusesAtFirst};
+ghost use Rattle.uicc_run.specs.Endings.{HasFailed, IsUnopened, status_for};
 ghost use Rattle.uicc_run.specs.Headline.{Closes, Comes};
 ghost use Rattle.uicc_run.specs.Listeners.{is_handset};
 ghost use Rattle.uicc_run.specs.Opening.{IsGiven, IsMade, IsStarted, IsToPlay, IsToRead, RunsFrom, ending_for, makes};
@@ -267,7 +267,7 @@ fn make_and_play<S: Store, R: Source, W: Sink, B: Applet>(
         → ReadsTo given (R.left script.new) result.0 }
     ensures within { (text : List ℕ) → IsWithin text (reading reader.old) (R.left script.old)
         → IsWithin text (reading reader.new) (R.left script.new) }
-    ensures memory { KeepsStore (S.store_mark store) card.now result.0
+    ensures memory { KeepsCardThere (S.store_mark store) card.now result.0
         (stored R.Source W.Sink S.Store B.Applet script.old trace.old store cast.items)
         (stored R.Source W.Sink S.Store B.Applet script.new trace.new result.1 result.2.items) }
     ensures quiet { IsUnopened result.0 → IsQuiet

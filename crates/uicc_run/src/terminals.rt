@@ -2,7 +2,7 @@
 ghost use Rattle.std.specs.Prelude.{◌≡◌, ◌≢◌, ◌≤◌, ◌+◌, ℕ, List, Some, is_some};
 ghost use Rattle.byte_streams.specs.Reading.{IsTaken};
 ghost use Rattle.byte_streams.specs.declared.limits.TheConstants.{MOST_BYTES};
-ghost use Rattle.uicc_run.specs.Endings.{IsUnshown, status_of as status_for};
+ghost use Rattle.uicc_run.specs.Endings.{IsUnshown, status_for};
 ghost use Rattle.uicc_run.specs.Terminals.{ComesToBip};
 ghost use Rattle.uicc_types.specs.Counts.{CountsFailure};
 

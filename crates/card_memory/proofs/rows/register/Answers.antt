@@ -3,7 +3,7 @@ use Rattle.std.proofs.Common.{ap, subst, ◌∙◌, inl, inr, ⊎_elim, arith}
 use Rattle.std.proofs.lemmas.Result.{on_ok_weaker}
 use Rattle.card_layout.specs.declared.entries.Row.{Row}
 use Rattle.card_memory.specs.Entries.{row_at, with_row_at}
-use Rattle.card_layout.specs.Changing.{with_code}
+use Rattle.card_layout.specs.Changing.{with_code_committed}
 use Rattle.card_layout.specs.Sections.{sorted_codes}
 use Rattle.card_layout.specs.States.{registration_of, rows_of}
 use Rattle.card_memory.proofs.RowCommits.{events_commit, rows_after, changed_rows, still_call_control}
@@ -16,8 +16,8 @@ use Rattle.layout_standing.specs.Laws.{NoOtherHasCallControl}
 use Rattle.card_memory.specs.Commits.{Commits}
 
 pub returns-clause-committed : goal.returns-clause-committed
-returns-clause-committed g c = c.replace_events.ensures.committed (with_code c.args.shelf.0 c.args.code)
-    (subst (λ (row : Row). Commits (g.S.Store.store_mark c.args.store.now) (g.S.Store.stable c.args.store.now) c.args.loaded.now (row_part c.args.shelf.0 (record row { events = c.with_event-events.result }) 5 7 ∷ []) (with_row_at c.args.loaded.now c.args.shelf.0 (record row { events = c.with_event-events.result })) (with_code c.args.shelf.0 c.args.code))
+returns-clause-committed g c = c.replace_events.ensures.committed (with_code_committed c.args.shelf.0 c.args.code)
+    (subst (λ (row : Row). Commits (g.S.Store.store_mark c.args.store.now) (g.S.Store.stable c.args.store.now) c.args.loaded.now (row_part c.args.shelf.0 (record row { events = c.with_event-events.result }) 5 7 ∷ []) (with_row_at c.args.loaded.now c.args.shelf.0 (record row { events = c.with_event-events.result })) (with_code_committed c.args.shelf.0 c.args.code))
     c.row_of.ensures.value
     (events_commit c.cards_are_known.ensures.table c.states_are_of_entries.ensures.from_rows _ _ c.args.loaded.now c.args.shelf.0 c.row_of.result.now c.row_of.ensures.there c.rows_stand.ensures.events c.with_event-events.result (λ r. record r { codes = sorted_codes (c.args.code ∷ r.codes) })
     (omega (arith, c.with_event-events.ensures.low (c.cards_are_known.ensures.rows _ _ c.args.loaded.now _ c.args.shelf.0 c.row_of.result.now c.requires.mounted.agrees.stands c.row_of.ensures.there).events))
@@ -30,8 +30,8 @@ returns-clause-rows g c =
     on_ok_weaker c.replace_events.result
     (λ table.
     ap rows_of table
-    ∙ rows_after c.cards_are_known.ensures.table _ _ c.args.loaded.now (row_part c.args.shelf.0 (record (row_at c.args.loaded.now c.args.shelf.0) { events = c.with_event-events.result }) 5 7 ∷ []) (with_row_at c.args.loaded.now c.args.shelf.0 (record (row_at c.args.loaded.now c.args.shelf.0) { events = c.with_event-events.result })) (with_code c.args.shelf.0 c.args.code) c.requires.mounted.agrees
-    (subst (λ (row : Row). Commits (g.S.Store.store_mark c.args.store.now) (g.S.Store.stable c.args.store.now) c.args.loaded.now (row_part c.args.shelf.0 (record row { events = c.with_event-events.result }) 5 7 ∷ []) (with_row_at c.args.loaded.now c.args.shelf.0 (record row { events = c.with_event-events.result })) (with_code c.args.shelf.0 c.args.code))
+    ∙ rows_after c.cards_are_known.ensures.table _ _ c.args.loaded.now (row_part c.args.shelf.0 (record (row_at c.args.loaded.now c.args.shelf.0) { events = c.with_event-events.result }) 5 7 ∷ []) (with_row_at c.args.loaded.now c.args.shelf.0 (record (row_at c.args.loaded.now c.args.shelf.0) { events = c.with_event-events.result })) (with_code_committed c.args.shelf.0 c.args.code) c.requires.mounted.agrees
+    (subst (λ (row : Row). Commits (g.S.Store.store_mark c.args.store.now) (g.S.Store.stable c.args.store.now) c.args.loaded.now (row_part c.args.shelf.0 (record row { events = c.with_event-events.result }) 5 7 ∷ []) (with_row_at c.args.loaded.now c.args.shelf.0 (record row { events = c.with_event-events.result })) (with_code_committed c.args.shelf.0 c.args.code))
     c.row_of.ensures.value
     (events_commit c.cards_are_known.ensures.table c.states_are_of_entries.ensures.from_rows _ _ c.args.loaded.now c.args.shelf.0 c.row_of.result.now c.row_of.ensures.there c.rows_stand.ensures.events c.with_event-events.result (λ r. record r { codes = sorted_codes (c.args.code ∷ r.codes) })
     (omega (arith, c.with_event-events.ensures.low (c.cards_are_known.ensures.rows _ _ c.args.loaded.now _ c.args.shelf.0 c.row_of.result.now c.requires.mounted.agrees.stands c.row_of.ensures.there).events))

@@ -1,5 +1,5 @@
 use Rattle.std.proofs.Common.{◌≡◌, ℕ, ap, subst, ◌∙◌, Some}
-use Rattle.layout_mount.specs.Mounted.{IsTable, IsNoCard}
+use Rattle.layout_mount.specs.Mounted.{IsTable, HoldsNoCard}
 use Rattle.layout_mount.proofs.Agreeing.{is_table, is_no_card}
 use Rattle.layout_mount.proofs.mounting.mount_into.Goals as goal
 
@@ -19,7 +19,7 @@ returns-in-Err-clause-no_card g c =
     record {
       ready = c.in_ok-image.ensures.ready;
       no_card =
-          subst (λ (mark : ℕ). IsNoCard mark (g.S.Store.stable c.args.store.now) at) c.mark-mark.ensures
+          subst (λ (mark : ℕ). HoldsNoCard mark (g.S.Store.stable c.args.store.now) at) c.mark-mark.ensures
           (is_no_card (g.S.Store.byte_count c.args.store.now) c.requires.size c.in_ok-image.image c.holds_bytes.ensures (g.S.Store.stable c.args.store.now) c.mark-mark.result at (g.met.S.Store.told_length c.args.store.now)
           c.tells_bytes.ensures c.in_ok-image.ensures.image (c.in-Err.ensures.checked ∙ ap (λ (n : ℕ). Some n) place));
     }

@@ -1,57 +1,57 @@
 use Rattle.card_sections.specs.BehindLaws.{bad_behind, ends_reading, reads_on, reads_to_end}
-use Rattle.phone_runs.specs.Effects.{may_follow}
+use Rattle.phone_runs.specs.Effects.{may_be_heard}
 use Rattle.phone_runs.specs.Playing.{line_of}
 use Rattle.phone_runs.proofs.LineLemmas.{ends_amid, ends_serving, lines_end, serves_further, serves_on, stops_in_line, unread_amid}
 use Rattle.phone_runs.proofs.lines.serve_line.Goals as goal
 
 pub returns-in-Err-clause-served : goal.returns-in-Err-clause-served
 returns-in-Err-clause-served g c = λ text opening given serving.
-    lines_end text opening given _ _ _ (ends_serving text opening given _ _ _ _ _ c.args.card.now.parts _ _ (λ found follows. c.in-Err.ensures.gives may_follow text found follows) serving)
+    lines_end text opening given _ _ _ (ends_serving text opening given _ _ _ _ _ c.args.card.now.parts _ _ (λ found follows. c.in-Err.ensures.gives may_be_heard text found follows) serving)
 
 pub returns-in-Nothing-clause-served : goal.returns-in-Nothing-clause-served
 returns-in-Nothing-clause-served g c = λ text opening given serving.
     let effect = rw c.in-Nothing.is at c.effect_on_phone.ensures.effect in
-    serves_on text opening given _ _ _ _ _ _ c.read_behind.new.line (λ found follows. c.in-Ok.ensures.gives may_follow text found follows) effect.0 effect.1 serving
+    serves_on text opening given _ _ _ _ _ _ c.read_behind.new.line (λ found follows. c.in-Ok.ensures.gives may_be_heard text found follows) effect.0 effect.1 serving
 
 pub returns-in-OutOfPlace-clause-served : goal.returns-in-OutOfPlace-clause-served
 returns-in-OutOfPlace-clause-served g c = λ text opening given serving.
     let effect = rw c.in-OutOfPlace.is at c.effect_on_phone.ensures.effect in
     ends_serving text opening given _ _ _ _ _ c.args.card.now.parts _ _
-    (λ found follows. bad_behind may_follow text found c.read_behind.new.script _ c.read_behind.new.line _ (c.in-Ok.ensures.gives may_follow text found follows) effect c.number.ensures) serving
+    (λ found follows. bad_behind may_be_heard text found c.read_behind.new.script _ c.read_behind.new.line _ (c.in-Ok.ensures.gives may_be_heard text found follows) effect c.number.ensures) serving
 
 pub returns-in-Ok-play_on_phone-clause-served : goal.returns-in-Ok-play_on_phone-clause-served
 returns-in-Ok-play_on_phone-clause-served g c = λ text opening given serving.
     let effect = rw c.in-Takes.is at c.effect_on_phone.ensures.effect in
-    serves_further text opening given _ _ _ _ _ _ _ _ c.read_behind.new.line (line_of c.in-Takes.act) (λ found follows. c.in-Ok.ensures.gives may_follow text found follows) effect.0 effect.1 serving
+    serves_further text opening given _ _ _ _ _ _ _ _ c.read_behind.new.line (line_of c.in-Takes.act) (λ found follows. c.in-Ok.ensures.gives may_be_heard text found follows) effect.0 effect.1 serving
     (c.in-Ok-play_on_phone.ensures.plays given serving.log serving.at)
 
 pub returns-in-Err-play_on_phone-clause-served : goal.returns-in-Err-play_on_phone-clause-served
 returns-in-Err-play_on_phone-clause-served g c = λ text opening given serving.
     let effect = rw c.in-Takes.is at c.effect_on_phone.ensures.effect in
     ends_amid text opening given _ c.in-Err-play_on_phone.end _ _ c.end_of.ensures
-    (stops_in_line text opening given _ _ _ (g.R.Source.left c.read_behind.new.source) _ _ _ c.read_behind.new.line (line_of c.in-Takes.act) c.in-Err-play_on_phone.end (λ found follows. c.in-Ok.ensures.gives may_follow text found follows) effect.0 effect.1 serving
+    (stops_in_line text opening given _ _ _ (g.R.Source.left c.read_behind.new.source) _ _ _ c.read_behind.new.line (line_of c.in-Takes.act) c.in-Err-play_on_phone.end (λ found follows. c.in-Ok.ensures.gives may_be_heard text found follows) effect.0 effect.1 serving
     (c.in-Err-play_on_phone.ensures.plays given serving.log serving.at))
 
 -- ---- over any memory
 
 pub returns-in-Err-clause-reads : goal.returns-in-Err-clause-reads
 returns-in-Err-clause-reads g c = λ text opening reading.
-    reads_to_end may_follow opening text _ _ (ends_reading may_follow opening text _ _ _ _ (λ found follows. c.in-Err.ensures.gives may_follow text found follows) reading)
+    reads_to_end may_be_heard opening text _ _ (ends_reading may_be_heard opening text _ _ _ _ (λ found follows. c.in-Err.ensures.gives may_be_heard text found follows) reading)
 
 pub returns-in-Nothing-clause-reads : goal.returns-in-Nothing-clause-reads
 returns-in-Nothing-clause-reads g c = λ text opening reading.
     let effect = rw c.in-Nothing.is at c.effect_on_phone.ensures.effect in
-    reads_on may_follow opening text _ _ _ _ c.read_behind.new.line (λ found follows. c.in-Ok.ensures.gives may_follow text found follows) effect.0 reading
+    reads_on may_be_heard opening text _ _ _ _ c.read_behind.new.line (λ found follows. c.in-Ok.ensures.gives may_be_heard text found follows) effect.0 reading
 
 pub returns-in-OutOfPlace-clause-reads : goal.returns-in-OutOfPlace-clause-reads
 returns-in-OutOfPlace-clause-reads g c = λ text opening reading.
     let effect = rw c.in-OutOfPlace.is at c.effect_on_phone.ensures.effect in
-    ends_reading may_follow opening text _ _ _ _ (λ found follows. bad_behind may_follow text found c.read_behind.new.script _ c.read_behind.new.line _ (c.in-Ok.ensures.gives may_follow text found follows) effect c.number.ensures) reading
+    ends_reading may_be_heard opening text _ _ _ _ (λ found follows. bad_behind may_be_heard text found c.read_behind.new.script _ c.read_behind.new.line _ (c.in-Ok.ensures.gives may_be_heard text found follows) effect c.number.ensures) reading
 
 pub returns-in-Ok-play_on_phone-clause-reads : goal.returns-in-Ok-play_on_phone-clause-reads
 returns-in-Ok-play_on_phone-clause-reads g c = λ text opening reading.
     let effect = rw c.in-Takes.is at c.effect_on_phone.ensures.effect in
-    reads_on may_follow opening text _ _ _ _ c.read_behind.new.line (λ found follows. c.in-Ok.ensures.gives may_follow text found follows) effect.0 reading
+    reads_on may_be_heard opening text _ _ _ _ c.read_behind.new.line (λ found follows. c.in-Ok.ensures.gives may_be_heard text found follows) effect.0 reading
 
 pub returns-in-Err-play_on_phone-clause-reads : goal.returns-in-Err-play_on_phone-clause-reads
 returns-in-Err-play_on_phone-clause-reads g c = λ text opening reading. unread_amid opening text _ c.in-Err-play_on_phone.end c.end_of.result c.end_of.ensures

@@ -7,7 +7,7 @@ use Rattle.card_layout.specs.States.{pins_of}
 use Rattle.file_model.specs.Outcomes.{PinOutcome}
 use Rattle.file_model.specs.Pins.{pin_outcome}
 use Rattle.card_memory.specs.Model.{memory}
-use Rattle.pin_rules.specs.Outcomes.{IsCarriedOut, IsCutShort}
+use Rattle.pin_rules.specs.Outcomes.{IsCarriedOut, IsPinCutShort}
 use Rattle.pin_rules.specs.Trials.{outcome_of}
 use Rattle.pin_rules.proofs.Stopping.{settled, refused, stopped_same, performs, stands_still, stopped, not_refused, same_refusal, only_tells, one_less}
 use Rattle.pin_rules.proofs.commands.pin_command.Goals as goal
@@ -19,7 +19,7 @@ returns-in_err-out-in-Ok-clause-performs g c =
 
 pub returns-in_err-out-in-Ok-clause-stops : goal.returns-in_err-out-in-Ok-clause-stops
 returns-in_err-out-in-Ok-clause-stops g c =
-    on_err c.from_residual.result (subst (λ (o : PinOutcome). IsCutShort o (memory g.S.Store c.args.store.now c.args.loaded.now) (memory g.S.Store c.carry_out.new.store c.carry_out.new.loaded) c.args.verified.now c.carry_out.new.verified) (sym (settled (pins_of c.args.loaded.now) c.args.verified.now c.args.command.now c.trial_of.result c.in-Ok.trial (c.trial_of.ensures.means c.args.verified.now) c.in-Ok.is)) c.in_err-out-in-Ok.ensures.tried.stops)
+    on_err c.from_residual.result (subst (λ (o : PinOutcome). IsPinCutShort o (memory g.S.Store c.args.store.now c.args.loaded.now) (memory g.S.Store c.carry_out.new.store c.carry_out.new.loaded) c.args.verified.now c.carry_out.new.verified) (sym (settled (pins_of c.args.loaded.now) c.args.verified.now c.args.command.now c.trial_of.result c.in-Ok.trial (c.trial_of.ensures.means c.args.verified.now) c.in-Ok.is)) c.in_err-out-in-Ok.ensures.tried.stops)
 
 pub returns-in_ok-out-in-Ok-clause-comes : goal.returns-in_ok-out-in-Ok-clause-comes
 returns-in_ok-out-in-Ok-clause-comes g c =

@@ -1,5 +1,5 @@
 use Rattle.std.proofs.Common.{refl, ◌∙◌, List}
-use Rattle.card_layout.specs.Changing.{without_code as without_code_committed}
+use Rattle.card_layout.specs.Changing.{without_code_committed}
 use Rattle.card_layout.specs.Memory.{memory}
 use Rattle.card_layout.specs.Persistent.{Registration}
 use Rattle.card_layout.specs.States.{rows_of}

@@ -1,6 +1,6 @@
 use Rattle.std.proofs.Common.{refl, ◌∙◌, List, arith}
 use Rattle.std.proofs.lemmas.Bool.Decides.{nat_tests}
-use Rattle.card_layout.specs.Changing.{with_kept as with_kept_committed}
+use Rattle.card_layout.specs.Changing.{with_kept_committed}
 use Rattle.card_layout.specs.Memory.{memory}
 use Rattle.card_layout.specs.Persistent.{Registration}
 use Rattle.card_layout.specs.States.{rows_of}

@@ -2,7 +2,7 @@ use Rattle.std.proofs.Common.{refl, sym, ap, subst, arith, rules}
 use Rattle.card_layout.specs.States.{rows_of}
 use Rattle.toolkit_model.specs.Sessions.{SessionState}
 use Rattle.proactive_handler.specs.Boxes.{minds_of}
-use Rattle.proactive_handler.specs.Serving.{IsServed}
+use Rattle.proactive_handler.specs.Serving.{IsSessionServed}
 use Rattle.proactive_handler.specs.Steps.{toolkit, scene}
 use Rattle.proactive_handler.specs.Moved.{has_rows}
 use Rattle.proactive_handler.proofs.Caught.{driven_stops, driven_done, driven_leaves, driven_left}
@@ -28,7 +28,7 @@ pub returns-clause-keeps : goal.returns-clause-keeps
 returns-clause-keeps g c = record {
   kinds = search rules;
   others = search rules;
-  served = subst (IsServed c.catch_up.new.loaded) (sym c.settle.ensures) (settled_served c.catch_up.new.loaded (rows_of c.catch_up.new.loaded) c.catch_up.new.session c.in_ok-catch_up.ensures.keeps.served);
+  served = subst (IsSessionServed c.catch_up.new.loaded) (sym c.settle.ensures) (settled_served c.catch_up.new.loaded (rows_of c.catch_up.new.loaded) c.catch_up.new.session c.in_ok-catch_up.ensures.keeps.served);
   rows_stay = search rules;
   indexed = search rules;
   table = search rules;

@@ -1,6 +1,6 @@
 use Rattle.std.proofs.Common.{sym, ap, ◌∙◌, subst, ℕ, Some, rules}
 use Rattle.proactive_handler.specs.Boxes.{minds_of}
-use Rattle.proactive_handler.specs.Serving.{IsServed}
+use Rattle.proactive_handler.specs.Serving.{IsSessionServed}
 use Rattle.proactive_handler.specs.Steps.{scene}
 use Rattle.proactive_handler.specs.Moved.{has_rows}
 use Rattle.proactive_handler.proofs.Serving.{awaited, gone_served, owner_row, owner_idle}
@@ -19,7 +19,7 @@ run_one-requires-clause-service g c =
       mounted = c.requires.service.mounted;
       indexed = c.requires.service.indexed;
       shelves = c.requires.service.shelves;
-      served = subst (IsServed c.args.loaded.now) (sym c.in-Some.ensures.state) (gone_served c.args.loaded.now c.args.session.now c.requires.service.served waits.out waits.out_is);
+      served = subst (IsSessionServed c.args.loaded.now) (sym c.in-Some.ensures.state) (gone_served c.args.loaded.now c.args.session.now c.requires.service.served waits.out waits.out_is);
     }
 
 pub run_one-requires-clause-idle : goal.run_one-requires-clause-idle
@@ -53,7 +53,7 @@ returns-in-None-clause-keeps g c =
     let waits = awaited c.args.session.now c.requires.fetched in record {
       kinds = search rules;
       others = search rules;
-      served = subst (IsServed c.args.loaded.now) (sym c.in-None.ensures.state) (gone_served c.args.loaded.now c.args.session.now c.requires.service.served waits.out waits.out_is);
+      served = subst (IsSessionServed c.args.loaded.now) (sym c.in-None.ensures.state) (gone_served c.args.loaded.now c.args.session.now c.requires.service.served waits.out waits.out_is);
       rows_stay = search rules;
       indexed = search rules;
       table = search rules;

@@ -7,7 +7,7 @@ use Rattle.toolkit_model.specs.Commands.{last_answer}
 use Rattle.toolkit_model.specs.Running.{run_of_row}
 use Rattle.toolkit_model.specs.Driving.{trigger_for, with_session}
 use Rattle.proactive_handler.specs.Boxes.{minds_of}
-use Rattle.proactive_handler.specs.Serving.{IsServed, HasPlaces}
+use Rattle.proactive_handler.specs.Serving.{IsSessionServed, HasPlaces}
 use Rattle.proactive_handler.specs.Steps.{toolkit, scene, Moves}
 use Rattle.proactive_handler.specs.Reached.{TurnsOnly}
 use Rattle.proactive_handler.specs.Moved.{has_rows, on_done}
@@ -53,7 +53,7 @@ pub returns-then-kept-clause-keeps : goal.returns-then-kept-clause-keeps
 returns-then-kept-clause-keeps g c = record {
   kinds = search rules;
   others = search rules;
-  served = subst (IsServed c.args.loaded.now) (sym c.keep_late.ensures) (late_served c.args.loaded.now c.args.session.now (trigger_for c.args.code c.args.body.now c.args.shelf.0) c.requires.row c.requires.service.served);
+  served = subst (IsSessionServed c.args.loaded.now) (sym c.keep_late.ensures) (late_served c.args.loaded.now c.args.session.now (trigger_for c.args.code c.args.body.now c.args.shelf.0) c.requires.row c.requires.service.served);
   rows_stay = search rules;
   indexed = search rules;
   table = search rules;

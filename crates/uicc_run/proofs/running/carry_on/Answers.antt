@@ -1,5 +1,5 @@
 use Rattle.std.proofs.Common.{inl, inr, ap, sym, ◌∙◌, subst}
-use Rattle.card_sections.specs.Behind.{IsReading, ReadsTo}
+use Rattle.card_sections.specs.Behind.{IsReading, LinesReadTo}
 use Rattle.card_steps.specs.Ends.{moment_at}
 use Rattle.uicc_run.specs.Listeners.{is_handset}
 use Rattle.uicc_run.specs.Serving.{beginning}
@@ -24,10 +24,10 @@ returns-in-Card-clause-comes g c = λ given is started.
 
 pub returns-in-Handset-clause-reads : goal.returns-in-Handset-clause-reads
 returns-in-Handset-clause-reads g c = λ text opening reading.
-    subst (λ s. ReadsTo (may_stand s) opening text (g.R.Source.left c.serve_lines.new.source) c.serve_lines.result) (sym (ap is_handset c.in-Handset.is))
+    subst (λ s. LinesReadTo (may_stand s) opening text (g.R.Source.left c.serve_lines.new.source) c.serve_lines.result) (sym (ap is_handset c.in-Handset.is))
     (c.serve_lines.ensures.reads text opening (subst (λ s. IsReading (may_stand s) opening text c.args.reader.now (g.R.Source.left c.args.script.now)) (ap is_handset c.in-Handset.is) reading))
 
 pub returns-in-Card-clause-reads : goal.returns-in-Card-clause-reads
 returns-in-Card-clause-reads g c = λ text opening reading.
-    subst (λ s. ReadsTo (may_stand s) opening text (g.R.Source.left c.play_lines.new.source) c.play_lines.result) (sym (ap is_handset c.in-Card.is))
+    subst (λ s. LinesReadTo (may_stand s) opening text (g.R.Source.left c.play_lines.new.source) c.play_lines.result) (sym (ap is_handset c.in-Card.is))
     (c.play_lines.ensures.reads text opening (subst (λ s. IsReading (may_stand s) opening text c.args.reader.now (g.R.Source.left c.args.script.now)) (ap is_handset c.in-Card.is) reading))

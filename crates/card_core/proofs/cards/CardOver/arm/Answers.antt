@@ -1,11 +1,11 @@
 use Rattle.std.proofs.Common.{sym, ◌∙◌, ap, subst}
-use Rattle.card_core.specs.Cards.{parts_of, card_of, IsReady}
+use Rattle.card_core.specs.Cards.{parts_of, card_of, IsCardReady}
 use Rattle.card_core.proofs.Restarts.{metered, metered_same, armed_ready}
 use Rattle.card_core.proofs.cards.CardOver.arm.Goals as goal
 
 pub returns-clause-ready : goal.returns-clause-ready
 returns-clause-ready g c =
-    subst IsReady (sym (metered (parts_of g.S.Store g.B.Applet c.args.self.now) _ _ _ _ _ _ c.arm.ensures.ready c.arm.ensures.size c.arm.ensures.mark c.arm.ensures.stable c.arm.ensures.commits))
+    subst IsCardReady (sym (metered (parts_of g.S.Store g.B.Applet c.args.self.now) _ _ _ _ _ _ c.arm.ensures.ready c.arm.ensures.size c.arm.ensures.mark c.arm.ensures.stable c.arm.ensures.commits))
     (armed_ready (parts_of g.S.Store g.B.Applet c.args.self.now) (g.S.Store.meter c.arm.new.self) c.args.plan c.arm.ensures.plan c.requires.ready)
 
 pub returns-clause-same : goal.returns-clause-same

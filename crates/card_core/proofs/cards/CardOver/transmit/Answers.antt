@@ -8,7 +8,7 @@ use Rattle.card_model.specs.States.{CardState}
 use Rattle.card_model.specs.Answers.{passed, answer}
 use Rattle.card_model.specs.Runs.{IsLeft}
 use Rattle.card_core.specs.AnyStore.{MovesItsOwn}
-use Rattle.card_core.specs.Cards.{parts_of, card_of, IsReady}
+use Rattle.card_core.specs.Cards.{parts_of, card_of, IsCardReady}
 use Rattle.card_core.proofs.AtMost.{all_commits, no_commits}
 use Rattle.card_core.proofs.Restarts.{due_same, failed_ready, fail_power, not_lost}
 use Rattle.card_core.proofs.Leaving.{fail_moves}
@@ -29,7 +29,7 @@ returns-in-Err-clause-moves g c =
 
 pub returns-in-Err-clause-ready : goal.returns-in-Err-clause-ready
 returns-in-Err-clause-ready g c =
-    subst (λ card. IsReady (parts_of g.S.Store g.B.Applet card)) (sym c.fail.ensures.others)
+    subst (λ card. IsCardReady (parts_of g.S.Store g.B.Applet card)) (sym c.fail.ensures.others)
     (failed_ready (parts_of g.S.Store g.B.Applet c.perform.new.self) c.fail.new.self.is_on c.perform.ensures.rests.set
     (fail_power c.in-Err.fault c.fail.new.self.is_on _ c.fail.ensures.off (λ failed. c.in-Err.ensures.rests.cause.power_kept (not_lost c.in-Err.fault _ refl failed) ∙ c.requires.ready.power c.if-not-self.false))
     c.in-Err.ensures.good.left)
