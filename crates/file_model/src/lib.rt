@@ -2,10 +2,12 @@
 //! command does, and what it is refused for. Definitions, and laws that hold of them.
 #![tactic(auto)]
 
+mod commands;
 mod descriptors;
 mod laws;
 mod selections;
 
+pub use commands::{ContentsCommand, FileCommand, PinCommand};
 pub use descriptors::{Descriptor, RuleReference, Wanted};
 pub use laws::{
     commands_on_files_are_lawful, files_are_found, pin_commands_are_lawful, pins_are_guarded,
