@@ -25,6 +25,8 @@ use Rattle.card_model.specs.Channels.{selected_on, is_open, names_channel, chann
 use Rattle.file_making.specs.Lawful.{ChangesOneNode, IsLawfulTree}
 use Rattle.file_making.specs.Outcomes.{TreeOutcome}
 use Rattle.card_model.specs.Laws.{ChangesOneThing, ChangesAtMostTries, IsKnownStatus, IsLawfulAnswer, statuses}
+use Rattle.card_model.specs.Naming.{all_hold}
+use Rattle.card_model.proofs.Statuses.{among}
 use Rattle.card_model.specs.States.{CardState, AreChannels, HasBox, IsGood}
 use Rattle.card_model.specs.Woken.{start_is_selected}
 
@@ -111,17 +113,8 @@ last_with_pins state pins (next ∷ passed) = last_with_pins state next passed
 abbrev done_statuses : List StatusWord
 done_statuses = DONE ∷ END_OF_FILE ∷ FILE_DEACTIVATED ∷ []
 
-done_known : (status : StatusWord) → Contains done_statuses status → Contains statuses status
-done_known status (zero, low, is) = (0, omega arith, is)
-done_known status (suc zero, low, is) = (1, omega arith, is)
-done_known status (suc (suc zero), low, is) = (2, omega arith, is)
-done_known status (suc (suc (suc k)), low, is) = absurd (omega (arith, low))
-
 done_carried : (status : StatusWord) → Contains done_statuses status → is_carried_out status ≡ true
-done_carried status (zero, low, is) = subst (λ word. is_carried_out word ≡ true) is refl
-done_carried status (suc zero, low, is) = subst (λ word. is_carried_out word ≡ true) is refl
-done_carried status (suc (suc zero), low, is) = subst (λ word. is_carried_out word ≡ true) is refl
-done_carried status (suc (suc (suc k)), low, is) = absurd (omega (arith, low))
+done_carried = all_hold is_carried_out done_statuses refl
 
 module _ (card : CardState) (good : IsGood card) where
   pub files_lawful : (channel key : ℕ) (outcome : FileOutcome) → channel < 4 → IsLawfulOutcome card.persistent outcome → IsLawfulAnswer card false key (on_files card channel outcome)
@@ -145,7 +138,7 @@ module _ (card : CardState) (good : IsGood card) where
         boxes = refl;
         session = refl;
         short = lawful.short;
-        status = inl (inl (done_known outcome.status lawful.status));
+        status = inl (inl (among done_statuses statuses refl outcome.status lawful.status));
         refused = λ not_done. absurd (false≢true (sym not_done ∙ done_carried outcome.status lawful.status));
       }
 

@@ -4,7 +4,7 @@ use Rattle.uicc_types.specs.declared.answers.StatusWord.{StatusWord}
 use Rattle.uicc_types.specs.declared.answers.TheConstants.StatusWord.{DONE, END_OF_FILE, FILE_DEACTIVATED, WRONG_LENGTH}
 use Rattle.apdu_form.specs.Model.{Apdu, command_in}
 use Rattle.access_rules.specs.declared.rules.Verified.{Verified}
-use Rattle.card_layout.specs.Persistent.{Pin, Persistent}
+use Rattle.card_layout.specs.Persistent.{Pin as HeldPin, Persistent}
 use Rattle.file_model.specs.declared.selections.Selection.{Selection}
 use Rattle.file_model.specs.declared.selections.TheConstants.Selection.{AT_START}
 use Rattle.file_model.specs.Chains.{given, and_given}
@@ -48,7 +48,7 @@ on_files card channel outcome = record {
   commits = outcome.passed;
 }
 
-abbrev pub with_pins : Persistent → List Pin → Persistent
+abbrev pub with_pins : Persistent → List HeldPin → Persistent
 with_pins persistent pins = record persistent { pins = pins }
 
 -- a PIN command changes the PINs and the marks of the keys, which all channels share
