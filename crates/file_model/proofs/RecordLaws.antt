@@ -22,7 +22,7 @@ use Rattle.file_model.specs.Files.{record_width, record_count, descriptor_in, de
 use Rattle.file_model.specs.Selections.{IsSelection}
 use Rattle.file_model.specs.Holdings.{records_held, held_by, records_in, contents_if}
 use Rattle.file_model.specs.Outcomes.{has_data, has_le_alone, addressed, pointer_before, worked_on}
-use Rattle.file_model.specs.Records.{mode_bits, next_mode, previous_mode, absolute_mode, forward_mode, short_in_p2, is_cyclic, has_record_parameters, next_record, previous_record, absolute_record, record_named, pointer_after, record_file, file_to_read, number_to_read, record_reading, record_read_from, record_read, may_be_updated, number_updated, file_to_update, number_to_update, record_updating, record_update_in, record_updated, has_search_parameters, has_within, numbers_searched, numbers_matched, match_pointer, file_to_search, searching, search_in, searched, short_to_increase, bytes_of, sum_of, may_be_increased, has_increase_parameters, has_increase_length, file_to_increase, increasing, increase_in, increased}
+use Rattle.file_model.specs.Records.{mode_bits, next_mode, previous_mode, absolute_mode, forward_mode, short_in_p2, is_cyclic, has_record_parameters, next_record, previous_record, absolute_record, record_named, pointer_after, record_file, file_to_read, number_to_read, record_reading, record_read_from, record_read, may_be_updated, number_updated, file_to_update, number_to_update, record_updating, record_update_in, record_updated, has_search_parameters, has_within, numbers_searched, numbers_matched, match_pointer, file_to_search, number_to_search, searching, search_in, searched, short_to_increase, sum_of, may_be_increased, has_increase_parameters, has_increase_length, file_to_increase, sum_to_write, increasing, increase_in, increased}
 use Rattle.file_model.specs.Laws.{HasSameAttributes, IsSoundCard, IsLawfulOutcome, IsFileRefusal, IsLawfulCommand}
 use Rattle.file_model.specs.Chained.{unless_so, given_so, and_given_so}
 use Rattle.file_model.proofs.Parts.{length-bytes_of}
@@ -290,6 +290,13 @@ searching_so state selection apdu file from lawful is few here =
     (match_so file (pointer_before selection (short_in_p2 apdu)) numbers is.pointer (numbers_so state file apdu from here)))
     (omega (arith, few_numbers state file apdu from here, few)) (none_or_some (length numbers == 0))
 
+number_searched_so : (file : Descriptor) (selection : Selection) (apdu : Apdu) → IfSome (pointer_before selection (short_in_p2 apdu)) (IsAmong file) → MatchResult (number_to_search file selection apdu) (IsAmong file) IsFileRefusal
+unfolding number_to_search
+number_searched_so file selection apdu among =
+    let pointer : Option ℕ = pointer_before selection (short_in_p2 apdu) in
+    given_so (IsAmong file) IsFileRefusal (absolute_record file apdu.p1 pointer) _ _ (inl (8, omega arith, refl)) (λ from named.
+    unless_so (IsAmong file) IsFileRefusal _ _ _ (inl (1, omega arith, refl)) (λ _. if_some_at (absolute_record file apdu.p1 pointer) (IsAmong file) from (absolute_so file apdu.p1 pointer among) named))
+
 pub searched_so : IsLawfulCommand searched
 unfolding searched search_in
 searched_so bytes apdu state seen selection is card lawful =
@@ -297,22 +304,25 @@ searched_so bytes apdu state seen selection is card lawful =
     and_given_so (IsTarget state selection short (λ f. has_records f.kind) (has_data apdu)) (IsLawfulOutcome state) IsFileRefusal (file_to_search (descriptors_in state) selection apdu) _
     (target_so state selection short (λ f. has_records f.kind) (has_search_parameters apdu) (has_data apdu) card lawful) (λ file found.
     unless_so (IsLawfulOutcome state) IsFileRefusal _ _ _ (inl (6, omega arith, refl)) (λ _.
-    given_so (IsLawfulOutcome state) IsFileRefusal (absolute_record file apdu.p1 (pointer_before selection short)) _ _ (inl (8, omega arith, refl)) (λ from named.
-    unless_so (IsLawfulOutcome state) IsFileRefusal _ _ _ (inl (1, omega arith, refl)) (λ _.
-    searching_so state selection apdu file from lawful found.there (counted_so state card short file selection found.there found.fits_it).few
-    (if_some_at (absolute_record file apdu.p1 (pointer_before selection short)) (IsAmong file) from (absolute_so file apdu.p1 (pointer_before selection short) found.there.pointer) named)))))
+    and_given_so (IsAmong file) (IsLawfulOutcome state) IsFileRefusal (number_to_search file selection apdu) _ (number_searched_so file selection apdu found.there.pointer) (λ from among.
+    searching_so state selection apdu file from lawful found.there (counted_so state card short file selection found.there found.fits_it).few among)))
 
 -- ---- INCREASE
 
-increasing_so : (state : Persistent) (card : IsSoundCard state) (selection : Selection) (apdu : Apdu) (whole : File) → Contains state.files whole → IsSelection (descriptors_in state) selection
-    → IsAddressed state selection (short_to_increase apdu) (descriptor_in whole) → HasRecords state whole → record_width whole.contents ≤ 127 → length apdu.body ≤ 127
-    → IsLawfulOutcome state (increasing state selection apdu (descriptor_in whole))
+sum_so : (state : Persistent) (file : Descriptor) (apdu : Apdu) → MatchResult (sum_to_write state apdu file) (λ sum. length sum ≡ file.width) IsFileRefusal
+unfolding sum_to_write
+sum_so state file apdu =
+    unless_so (λ sum. length sum ≡ file.width) IsFileRefusal _ _ _ (inl (1, omega arith, refl)) (λ _.
+    unless_so (λ sum. length sum ≡ file.width) IsFileRefusal _ _ _ (inl (9, omega arith, refl)) (λ _. length-bytes_of file.width (sum_of state file apdu)))
+
+increasing_so : (state : Persistent) (card : IsSoundCard state) (selection : Selection) (apdu : Apdu) (whole : File) (sum : List ℕ) → Contains state.files whole → IsSelection (descriptors_in state) selection
+    → IsAddressed state selection (short_to_increase apdu) (descriptor_in whole) → HasRecords state whole → record_width whole.contents ≤ 127 → length apdu.body ≤ 127 → length sum ≡ record_width whole.contents
+    → IsLawfulOutcome state (increasing state selection apdu (descriptor_in whole) sum)
 unfolding increasing descriptor_in
-increasing_so state card selection apdu whole there lawful is has narrow few =
-    let sum : List ℕ = bytes_of (record_width whole.contents) (sum_of state (descriptor_in whole) apdu) in
-    newest_so state card (sum ++ apdu.body) sum (worked_on selection (descriptor_in whole) (Some 1)) whole there is.ef has (length-bytes_of (record_width whole.contents) (sum_of state (descriptor_in whole) apdu))
+increasing_so state card selection apdu whole sum there lawful is has narrow few long =
+    newest_so state card (sum ++ apdu.body) sum (worked_on selection (descriptor_in whole) (Some 1)) whole there is.ef has long
     (worked_so state selection (short_to_increase apdu) (descriptor_in whole) (Some 1) lawful is (omega arith, has.some))
-    (omega (arith, length-append sum apdu.body, length-bytes_of (record_width whole.contents) (sum_of state (descriptor_in whole) apdu), narrow, few))
+    (omega (arith, length-append sum apdu.body, long, narrow, few))
 
 pub cyclic_has_records : (kind : ℕ) → (kind == cyclic_kind) ≡ true → IsTrue (has_records kind)
 cyclic_has_records kind is = subst (λ (k : ℕ). IsTrue (has_records k)) (sym (eqb-true kind cyclic_kind is)) refl
@@ -325,8 +335,7 @@ increased_so bytes apdu state seen selection is card lawful =
     (target_so state selection short may_be_increased (has_increase_parameters apdu) (has_increase_length apdu) card lawful) (λ file found.
     let ring = and_parts (is_cyclic file) (nat_le file.width 127) found.fits_it in
     unless_so (IsLawfulOutcome state) IsFileRefusal _ _ _ (inl (6, omega arith, refl)) (λ _.
-    unless_so (IsLawfulOutcome state) IsFileRefusal _ _ _ (inl (1, omega arith, refl)) (λ _.
-    unless_so (IsLawfulOutcome state) IsFileRefusal _ _ _ (inl (9, omega arith, refl)) (λ _.
-    on_whole state card short file selection found.there (cyclic_has_records file.kind ring.0) (λ f. nat_le f.width 127 ≡ true → IsLawfulOutcome state (increasing state selection apdu f))
-    (λ whole there is_there records narrow. increasing_so state card selection apdu whole there lawful is_there records (leb-true (record_width whole.contents) 127 narrow)
-    (leb-true (length apdu.body) 127 (and_parts (nat_le 1 (length apdu.body)) (nat_le (length apdu.body) 127) found.long).1)) ring.1))))
+    and_given_so (λ sum. length sum ≡ file.width) (IsLawfulOutcome state) IsFileRefusal (sum_to_write state apdu file) _ (sum_so state file apdu) (λ sum long.
+    on_whole state card short file selection found.there (cyclic_has_records file.kind ring.0) (λ f. nat_le f.width 127 ≡ true → length sum ≡ f.width → IsLawfulOutcome state (increasing state selection apdu f sum))
+    (λ whole there is_there records narrow wide. increasing_so state card selection apdu whole sum there lawful is_there records (leb-true (record_width whole.contents) 127 narrow)
+    (leb-true (length apdu.body) 127 (and_parts (nat_le 1 (length apdu.body)) (nat_le (length apdu.body) 127) found.long).1) wide) ring.1 long)))

@@ -7,7 +7,7 @@ use Rattle.file_model.specs.declared.selections.TheConstants.Selection.{AT_START
 use Rattle.file_model.specs.Holdings.{held_by}
 use Rattle.file_model.specs.Access.{arr_found, ruling_record, may}
 use Rattle.file_model.specs.Outcomes.{addressed}
-use Rattle.file_model.specs.Records.{record_file, record_named, number_to_read, record_reading, record_read_from, record_read, number_to_update, record_updating, record_update_in, record_updated, numbers_matched, searching, search_in, searched, increasing, increase_in, increased}
+use Rattle.file_model.specs.Records.{record_file, record_named, number_to_read, record_reading, record_read_from, record_read, number_to_update, record_updating, record_update_in, record_updated, numbers_matched, number_to_search, searching, search_in, searched, sum_to_write, increasing, increase_in, increased}
 use Rattle.file_model.proofs.WorkedCards.{card, with_ring, with_linear, on_ef, nothing_verified, command, answered, committed, refused}
 
 -- ---- READ RECORD
@@ -118,62 +118,62 @@ no_such_record_of_another_length = refl
 
 -- 00A201040142 answers 029000
 found : searched card nothing_verified (on_ef 2 None) (command 0x00 0xA2 0x01 0x04 (0x42 ∷ []) None) ≡ answered (0x02 ∷ []) 0x9000 (on_ef 2 (Some 2))
-unfolding refused_if given and_given descriptor_in descriptors_in file_found held_by arr_found ruling_record may addressed record_file numbers_matched searching search_in searched
+unfolding refused_if given and_given descriptor_in descriptors_in file_found held_by arr_found ruling_record may addressed record_file numbers_matched number_to_search searching search_in searched
 found = refl
 
 -- the pointer stays: 00A201040143 answers 6282
 not_found : searched card nothing_verified (on_ef 2 (Some 1)) (command 0x00 0xA2 0x01 0x04 (0x43 ∷ []) None) ≡ answered [] 0x6282 (on_ef 2 (Some 1))
-unfolding refused_if given and_given descriptor_in descriptors_in file_found held_by arr_found ruling_record may addressed record_file numbers_matched searching search_in searched
+unfolding refused_if given and_given descriptor_in descriptors_in file_found held_by arr_found ruling_record may addressed record_file numbers_matched number_to_search searching search_in searched
 not_found = refl
 
 -- 00A2020501FF answers 02019000
 backward : searched card nothing_verified (on_ef 2 None) (command 0x00 0xA2 0x02 0x05 (0xFF ∷ []) None) ≡ answered (0x02 ∷ 0x01 ∷ []) 0x9000 (on_ef 2 (Some 2))
-unfolding refused_if given and_given descriptor_in descriptors_in file_found held_by arr_found ruling_record may addressed record_file numbers_matched searching search_in searched
+unfolding refused_if given and_given descriptor_in descriptors_in file_found held_by arr_found ruling_record may addressed record_file numbers_matched number_to_search searching search_in searched
 backward = refl
 
 -- 00A2000401FF answers 029000
 from_the_pointer : searched card nothing_verified (on_ef 2 (Some 2)) (command 0x00 0xA2 0x00 0x04 (0xFF ∷ []) None) ≡ answered (0x02 ∷ []) 0x9000 (on_ef 2 (Some 2))
-unfolding refused_if given and_given descriptor_in descriptors_in file_found held_by arr_found ruling_record may addressed record_file numbers_matched searching search_in searched
+unfolding refused_if given and_given descriptor_in descriptors_in file_found held_by arr_found ruling_record may addressed record_file numbers_matched number_to_search searching search_in searched
 from_the_pointer = refl
 
 -- 00A2010405FFFFFFFFFF answers 6700
 longer_than_a_record : searched card nothing_verified (on_ef 2 None) (command 0x00 0xA2 0x01 0x04 (0xFF ∷ 0xFF ∷ 0xFF ∷ 0xFF ∷ 0xFF ∷ []) None) ≡ refused 0x6700
-unfolding refused_if given and_given descriptor_in descriptors_in file_found held_by arr_found ruling_record may addressed record_file numbers_matched searching search_in searched
+unfolding refused_if given and_given descriptor_in descriptors_in file_found held_by arr_found ruling_record may addressed record_file numbers_matched number_to_search searching search_in searched
 longer_than_a_record = refl
 
 -- 00A2030405FFFFFFFFFF answers 6A83
 from_no_record_and_longer : searched card nothing_verified (on_ef 2 None) (command 0x00 0xA2 0x03 0x04 (0xFF ∷ 0xFF ∷ 0xFF ∷ 0xFF ∷ 0xFF ∷ []) None) ≡ refused 0x6A83
-unfolding refused_if given and_given descriptor_in descriptors_in file_found held_by arr_found ruling_record may addressed record_file numbers_matched searching search_in searched
+unfolding refused_if given and_given descriptor_in descriptors_in file_found held_by arr_found ruling_record may addressed record_file numbers_matched number_to_search searching search_in searched
 from_no_record_and_longer = refl
 
 -- ---- INCREASE
 
 -- 8032000003000002 answers 0000060000029000
 the_sum_and_what_was_added : increased (with_ring ((0x00 ∷ 0x00 ∷ 0x04 ∷ []) ∷ (0x00 ∷ 0x00 ∷ 0x03 ∷ []) ∷ (0x00 ∷ 0x00 ∷ 0x02 ∷ []) ∷ [])) nothing_verified (on_ef 3 None) (command 0x80 0x32 0x00 0x00 (0x00 ∷ 0x00 ∷ 0x02 ∷ []) None) ≡ committed (0x00 ∷ 0x00 ∷ 0x06 ∷ 0x00 ∷ 0x00 ∷ 0x02 ∷ []) (on_ef 3 (Some 1)) (with_ring ((0x00 ∷ 0x00 ∷ 0x06 ∷ []) ∷ (0x00 ∷ 0x00 ∷ 0x04 ∷ []) ∷ (0x00 ∷ 0x00 ∷ 0x03 ∷ []) ∷ []))
-unfolding refused_if given and_given descriptor_in descriptors_in file_found held_by arr_found ruling_record may with_file_changed addressed record_file increasing increase_in increased
+unfolding refused_if given and_given descriptor_in descriptors_in file_found held_by arr_found ruling_record may with_file_changed addressed record_file sum_to_write increasing increase_in increased
 the_sum_and_what_was_added = refl
 
 -- 8032000003FFFFFF answers 9850
 too_much : increased (with_ring ((0x00 ∷ 0x00 ∷ 0x04 ∷ []) ∷ (0x00 ∷ 0x00 ∷ 0x03 ∷ []) ∷ (0x00 ∷ 0x00 ∷ 0x02 ∷ []) ∷ [])) nothing_verified (on_ef 3 None) (command 0x80 0x32 0x00 0x00 (0xFF ∷ 0xFF ∷ 0xFF ∷ []) None) ≡ refused 0x9850
-unfolding refused_if given and_given descriptor_in descriptors_in file_found held_by arr_found ruling_record may with_file_changed addressed record_file increasing increase_in increased
+unfolding refused_if given and_given descriptor_in descriptors_in file_found held_by arr_found ruling_record may with_file_changed addressed record_file sum_to_write increasing increase_in increased
 too_much = refl
 
 -- 80328300010100 answers 000005019000
 by_its_short_identifier : increased (with_ring ((0x00 ∷ 0x00 ∷ 0x04 ∷ []) ∷ (0x00 ∷ 0x00 ∷ 0x03 ∷ []) ∷ (0x00 ∷ 0x00 ∷ 0x02 ∷ []) ∷ [])) nothing_verified AT_START (command 0x80 0x32 0x83 0x00 (0x01 ∷ []) (Some 256)) ≡ committed (0x00 ∷ 0x00 ∷ 0x05 ∷ 0x01 ∷ []) (on_ef 3 (Some 1)) (with_ring ((0x00 ∷ 0x00 ∷ 0x05 ∷ []) ∷ (0x00 ∷ 0x00 ∷ 0x04 ∷ []) ∷ (0x00 ∷ 0x00 ∷ 0x03 ∷ []) ∷ []))
-unfolding refused_if given and_given descriptor_in descriptors_in file_found held_by arr_found ruling_record may with_file_changed addressed record_file increasing increase_in increased
+unfolding refused_if given and_given descriptor_in descriptors_in file_found held_by arr_found ruling_record may with_file_changed addressed record_file sum_to_write increasing increase_in increased
 by_its_short_identifier = refl
 
 -- 803200000101 answers 6981
 no_ring : increased card nothing_verified (on_ef 2 None) (command 0x80 0x32 0x00 0x00 (0x01 ∷ []) None) ≡ refused 0x6981
-unfolding refused_if given and_given descriptor_in descriptors_in file_found held_by arr_found ruling_record may with_file_changed addressed record_file increasing increase_in increased
+unfolding refused_if given and_given descriptor_in descriptors_in file_found held_by arr_found ruling_record may with_file_changed addressed record_file sum_to_write increasing increase_in increased
 no_ring = refl
 
 -- 80320000050000000000 answers 6981
 no_ring_and_too_long : increased card nothing_verified (on_ef 2 None) (command 0x80 0x32 0x00 0x00 (0x00 ∷ 0x00 ∷ 0x00 ∷ 0x00 ∷ 0x00 ∷ []) None) ≡ refused 0x6981
-unfolding refused_if given and_given descriptor_in descriptors_in file_found held_by arr_found ruling_record may with_file_changed addressed record_file increasing increase_in increased
+unfolding refused_if given and_given descriptor_in descriptors_in file_found held_by arr_found ruling_record may with_file_changed addressed record_file sum_to_write increasing increase_in increased
 no_ring_and_too_long = refl
 
 -- 803200000401FFFFFF answers 6700
 too_long_and_too_much : increased (with_ring ((0x00 ∷ 0x00 ∷ 0x04 ∷ []) ∷ (0x00 ∷ 0x00 ∷ 0x03 ∷ []) ∷ (0x00 ∷ 0x00 ∷ 0x02 ∷ []) ∷ [])) nothing_verified (on_ef 3 None) (command 0x80 0x32 0x00 0x00 (0x01 ∷ 0xFF ∷ 0xFF ∷ 0xFF ∷ []) None) ≡ refused 0x6700
-unfolding refused_if given and_given descriptor_in descriptors_in file_found held_by arr_found ruling_record may with_file_changed addressed record_file increasing increase_in increased
+unfolding refused_if given and_given descriptor_in descriptors_in file_found held_by arr_found ruling_record may with_file_changed addressed record_file sum_to_write increasing increase_in increased
 too_long_and_too_much = refl
