@@ -207,12 +207,18 @@ searching state selection apdu file from =
 abbrev pub file_to_search : List Descriptor → Selection → Apdu → Result Descriptor StatusWord
 file_to_search files selection apdu = record_file (has_search_parameters apdu) (has_data apdu) (λ file. has_records file.kind) files selection (short_in_p2 apdu)
 
+-- where the search begins
+unfoldable pub number_to_search : Descriptor → Selection → Apdu → Result ℕ StatusWord
+number_to_search file selection apdu =
+    given (absolute_record file apdu.p1 (pointer_before selection (short_in_p2 apdu))) RECORD_NOT_FOUND (λ from.
+    refused_if (nat_lt file.width (length apdu.body)) WRONG_LENGTH (
+    Ok from))
+
 unfoldable pub search_in : Persistent → Verified → Selection → Apdu → Descriptor → Result FileOutcome StatusWord
 search_in state seen selection apdu file =
     needs (may state Search seen file) SECURITY_NOT_SATISFIED (
-    given (absolute_record file apdu.p1 (pointer_before selection (short_in_p2 apdu))) RECORD_NOT_FOUND (λ from.
-    refused_if (nat_lt file.width (length apdu.body)) WRONG_LENGTH (
-    Ok (searching state selection apdu file from))))
+    and_given (number_to_search file selection apdu) (λ from.
+    Ok (searching state selection apdu file from)))
 
 unfoldable pub searched : Persistent → Verified → Selection → Apdu → Result FileOutcome StatusWord
 searched state seen selection apdu = and_given (file_to_search (descriptors_in state) selection apdu) (search_in state seen selection apdu)
@@ -247,25 +253,29 @@ abbrev pub sum_of : Persistent → Descriptor → Apdu → ℕ
 sum_of state file apdu = number_of (slice_index_or (records_in state file.number) 0 []) + number_of apdu.body
 
 -- the sum is the new first record, and is answered before what was added
-unfoldable pub increasing : Persistent → Selection → Apdu → Descriptor → FileOutcome
-increasing state selection apdu file =
-    let sum = bytes_of file.width (sum_of state file apdu) in
-    record {
-      body = sum ++ apdu.body;
-      status = DONE;
-      selection = worked_on selection file (Some 1);
-      passed = with_newest_record file.number sum state ∷ [];
-    }
+unfoldable pub increasing : Persistent → Selection → Apdu → Descriptor → List ℕ → FileOutcome
+increasing state selection apdu file sum = record {
+  body = sum ++ apdu.body;
+  status = DONE;
+  selection = worked_on selection file (Some 1);
+  passed = with_newest_record file.number sum state ∷ [];
+}
 
 abbrev pub file_to_increase : List Descriptor → Selection → Apdu → Result Descriptor StatusWord
 file_to_increase files selection apdu = record_file (has_increase_parameters apdu) (has_increase_length apdu) may_be_increased files selection (short_to_increase apdu)
 
+-- the sum, in the bytes of a record
+unfoldable pub sum_to_write : Persistent → Apdu → Descriptor → Result (List ℕ) StatusWord
+sum_to_write state apdu file =
+    refused_if (nat_lt file.width (length apdu.body)) WRONG_LENGTH (
+    refused_if (nat_le (256 ^ file.width) (sum_of state file apdu)) OVERFLOW (
+    Ok (bytes_of file.width (sum_of state file apdu))))
+
 unfoldable pub increase_in : Persistent → Verified → Selection → Apdu → Descriptor → Result FileOutcome StatusWord
 increase_in state seen selection apdu file =
     needs (may state Increase seen file) SECURITY_NOT_SATISFIED (
-    refused_if (nat_lt file.width (length apdu.body)) WRONG_LENGTH (
-    refused_if (nat_le (256 ^ file.width) (sum_of state file apdu)) OVERFLOW (
-    Ok (increasing state selection apdu file))))
+    and_given (sum_to_write state apdu file) (λ sum.
+    Ok (increasing state selection apdu file sum)))
 
 unfoldable pub increased : Persistent → Verified → Selection → Apdu → Result FileOutcome StatusWord
 increased state seen selection apdu = and_given (file_to_increase (descriptors_in state) selection apdu) (increase_in state seen selection apdu)
