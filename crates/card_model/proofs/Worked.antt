@@ -11,7 +11,7 @@ use Rattle.file_model.specs.Access.{keys_seen, arr_found, ruling_record, may}
 use Rattle.file_model.specs.Binaries.{reading, binary_read, updating, binary_updated, binary_file, read_from, update_in}
 use Rattle.access_rules.specs.Objects.{object}
 use Rattle.file_model.specs.Fcp.{fcp}
-use Rattle.file_model.specs.Records.{record_file, record_named, number_to_read, record_reading, record_read_from, record_read, increasing, increase_in, increased}
+use Rattle.file_model.specs.Records.{record_file, record_named, number_to_read, record_reading, record_read_from, record_read, sum_to_write, increasing, increase_in, increased}
 use Rattle.file_model.specs.Files.{descriptor_in, descriptors_in, file_found}
 use Rattle.file_model.specs.Holdings.{held_by}
 use Rattle.file_model.specs.Outcomes.{addressed}
@@ -147,5 +147,5 @@ le_cuts = refl
 -- of the sum and what was added, too
 le_cuts_a_sum : replies (woken (record held { files = mf ∷ record number_file { kind = 0x46; contents = Records ((0x00 ∷ 0x00 ∷ 0x04 ∷ []) ∷ []) } ∷ [] }) []) ((0x80 ∷ 0x32 ∷ 0x82 ∷ 0x00 ∷ 0x01 ∷ 0x02 ∷ 0x02 ∷ []) ∷ (0x00 ∷ 0xB2 ∷ 0x01 ∷ 0x04 ∷ 0x00 ∷ []) ∷ [])
     ≡ (0x00 ∷ 0x00 ∷ 0x90 ∷ 0x00 ∷ []) ∷ (0x00 ∷ 0x00 ∷ 0x06 ∷ 0x90 ∷ 0x00 ∷ []) ∷ []
-unfolding refused_if given and_given command_in fields_in instruction_tried carried_out file_outcome contents_outcome tried answer_of woken woken_boxes descriptor_in descriptors_in file_found keys_seen addressed arr_found ruling_record may held_by with_file_changed record_file increasing increase_in increased record_named record_reading number_to_read record_read_from record_read
+unfolding refused_if given and_given command_in fields_in instruction_tried carried_out file_outcome contents_outcome tried answer_of woken woken_boxes descriptor_in descriptors_in file_found keys_seen addressed arr_found ruling_record may held_by with_file_changed record_file sum_to_write increasing increase_in increased record_named record_reading number_to_read record_read_from record_read
 le_cuts_a_sum = refl

@@ -67,8 +67,8 @@ module _ (state : Persistent) (seen : Verified) (selection : Selection) (apdu : 
   file_leaves (Contents UpdateBinary) = past_result P _ _ (λ file. past P _ _ _ (past P _ _ _ (refl, tt)))
   file_leaves (Contents ReadRecord) = past_result P _ _ (λ file. past P _ _ _ (past_result P _ _ (λ number. tt)))
   file_leaves (Contents UpdateRecord) = past_result P _ _ (λ file. past P _ _ _ (past_result P _ _ (λ number. (record_leaves (is_cyclic file) file _, tt))))
-  file_leaves (Contents SearchRecord) = past_result P _ _ (λ file. past P _ _ _ (past_given P _ _ _ (λ from. past P _ _ _ tt)))
-  file_leaves (Contents Increase) = past_result P _ _ (λ file. past P _ _ _ (past P _ _ _ (past P _ _ _ (refl, tt))))
+  file_leaves (Contents SearchRecord) = past_result P _ _ (λ file. past P _ _ _ (past_result P _ _ (λ from. tt)))
+  file_leaves (Contents Increase) = past_result P _ _ (λ file. past P _ _ _ (past_result P _ _ (λ sum. (refl, tt))))
   file_leaves (Contents Deactivate) = life_leaves op.Deactivate deactivated
   file_leaves (Contents Activate) = life_leaves op.Activate activated
 

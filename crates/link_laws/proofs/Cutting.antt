@@ -13,7 +13,7 @@ use Rattle.file_model.specs.Chains.{and_given}
 use Rattle.file_model.specs.Commands.{contents_outcome, file_outcome}
 use Rattle.file_model.specs.LifeCycles.{life_file, bringing, life_changed}
 use Rattle.file_model.specs.Pins.{pin_verified, pin_changed, pin_disabled, pin_enabled, pin_unblocked}
-use Rattle.file_model.specs.Records.{record_file, record_named, number_to_update, record_updating, record_update_in, record_updated, numbers_matched, searching, search_in, searched, increasing, increase_in, increased}
+use Rattle.file_model.specs.Records.{record_file, record_named, number_to_update, record_updating, record_update_in, record_updated, numbers_matched, number_to_search, searching, search_in, searched, sum_to_write, increasing, increase_in, increased}
 use Rattle.file_model.specs.Selecting.{selecting, file_selected, telling, status_told}
 use Rattle.file_model.specs.Selections.{chosen}
 use Rattle.file_making.specs.declared.commands.TreeCommand.TheVariants as tree
@@ -44,7 +44,7 @@ module _ (card : CardState) (apdu : Apdu) where
   closed_alike false false none = refl
 
   carried_alike : (instruction : Instruction) → looks_at_le instruction apdu.p1 ≡ false → carried_out instruction card apdu ≡ carried_out instruction card (without_le apdu)
-  unfolding carried_out file_outcome contents_outcome file_selected selecting chosen status_told telling binary_file binary_updated update_in updating record_file record_named record_updated number_to_update record_update_in record_updating searched search_in searching numbers_matched increased increase_in increasing life_changed life_file bringing pin_verified pin_changed pin_disabled pin_enabled pin_unblocked channel_tried toolkit_outcome profile_taken response_taken envelope_taken applet_installed applet_deleted tree_outcome created deleted resized
+  unfolding carried_out file_outcome contents_outcome file_selected selecting chosen status_told telling binary_file binary_updated update_in updating record_file record_named record_updated number_to_update record_update_in record_updating searched number_to_search search_in searching numbers_matched increased sum_to_write increase_in increasing life_changed life_file bringing pin_verified pin_changed pin_disabled pin_enabled pin_unblocked channel_tried toolkit_outcome profile_taken response_taken envelope_taken applet_installed applet_deleted tree_outcome created deleted resized
   carried_alike (File Select) none = refl
   carried_alike (File Status) none = refl
   carried_alike (File (Contents ReadBinary)) none = cc

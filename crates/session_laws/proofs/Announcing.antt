@@ -5,21 +5,18 @@ use Rattle.std.specs.List.{list_all}
 use Rattle.std.proofs.lemmas.Bool.{false≢true, eq-eqb, ne_eqb, not-true}
 use Rattle.uicc_types.specs.Told.{AreBytes}
 use Rattle.uicc_types.specs.declared.answers.StatusWord.{StatusWord}
-use Rattle.uicc_types.specs.declared.answers.TheConstants.StatusWord.{DONE, END_OF_FILE, FILE_DEACTIVATED, WRONG_LENGTH, WRONG_PARAMETERS, NO_FREE_CHANNEL, CONDITIONS_NOT_SATISFIED}
+use Rattle.uicc_types.specs.declared.answers.TheConstants.StatusWord.{DONE, END_OF_FILE, FILE_DEACTIVATED}
 use Rattle.apdu_form.specs.Model.{Apdu, IsCommand, command_in}
 use Rattle.file_model.specs.declared.selections.Selection.{Selection}
-use Rattle.file_model.specs.Chains.{refused_if, given, and_given}
+use Rattle.file_model.specs.Chains.{and_given}
 use Rattle.file_model.specs.Laws.{IsLawfulOutcome, IsFileRefusal, file_refusals, IsLawfulCommand, TellsTries, IsLawfulPinOutcome, pin_refusals, IsLawfulPinCommand}
-use Rattle.file_model.specs.Outcomes.{FileOutcome, PinOutcome, has_no_data}
+use Rattle.file_model.specs.Outcomes.{FileOutcome, PinOutcome}
 use Rattle.file_model.specs.Pins.{tries_left}
-use Rattle.file_model.specs.Chained.{unless_so, given_so}
 use Rattle.file_making.specs.Outcomes.{TreeOutcome}
-use Rattle.file_making.specs.Creating.{created}
-use Rattle.file_making.specs.Deleting.{deleted}
-use Rattle.file_making.specs.Resizing.{resized}
+use Rattle.file_making.specs.Lawful.{IsLawfulTreeCommand, tree_refusals}
 use Rattle.toolkit_model.specs.Commands.{pending}
 use Rattle.card_model.specs.Answers.{Answered, settled, told_pending, file_tried, pin_tried, managed, tree_tried, toolkit_tried, selection_on, seen_by, is_status, event_told, carried_out, carried_with, tried, answer_of}
-use Rattle.card_model.specs.Channels.{ChannelOutcome, names_channel, channel_of, selected_on, is_open, closed_channel, is_le_of_number, channel_opened, channel_closed, channel_tried}
+use Rattle.card_model.specs.Channels.{ChannelOutcome, channel_of}
 use Rattle.card_model.specs.Instructions.{has_toolkit}
 use Rattle.card_model.specs.Naming.{all_hold}
 use Rattle.card_model.specs.States.{CardState, IsGood}
@@ -29,11 +26,11 @@ use Rattle.card_model.specs.declared.instructions.Instruction.TheVariants.{File,
 use Rattle.file_model.specs.declared.commands.FileCommand.{FileCommand}
 use Rattle.file_model.specs.declared.commands.PinCommand.{PinCommand}
 use Rattle.file_making.specs.declared.commands.TreeCommand.{TreeCommand}
-use Rattle.file_making.specs.declared.commands.TreeCommand.TheVariants as tree
 use Rattle.file_model.specs.Commands.{file_outcome, pin_outcome}
 use Rattle.file_making.specs.Commands.{tree_outcome}
 use Rattle.card_model.specs.Cases.{cut_so, command_is}
-use Rattle.card_model.proofs.Lawful.{channel_low, selected_is}
+use Rattle.card_model.proofs.Lawful.{channel_low, selected_is, managed_lawful}
+use Rattle.card_model.specs.Laws.{statuses}
 use Rattle.session_laws.specs.Announcing.{TellsWhatWaits}
 use Rattle.session_laws.proofs.Carrying.{outcome_is}
 use Rattle.session_laws.proofs.Naming.{IsRefusal, length_refused}
@@ -102,88 +99,53 @@ module _ (card : CardState) (good : IsGood card) (apdu : Apdu) where
   of_pin (Err status) is = listed_plain pin_refusals refl status is
   of_pin (Ok outcome) is = tries_plain outcome.status is.status
 
-  abbrev AnyOutcome : ChannelOutcome → Type 0
-  AnyOutcome outcome = ⊤
-
-  of_channel : (outcome : Result ChannelOutcome StatusWord) → MatchResult outcome AnyOutcome IsPlain → PlainIn (managed card outcome)
+  of_channel : (P : ChannelOutcome → Type 0) (outcome : Result ChannelOutcome StatusWord) → MatchResult outcome P (Contains statuses) → PlainIn (managed card outcome)
   unfolding and_given
-  of_channel (Err status) is = is
-  of_channel (Ok outcome) is = refl
+  of_channel P (Err status) is = listed_plain statuses refl status is
+  of_channel P (Ok outcome) is = refl
 
-  abbrev AnyTree : TreeOutcome → Type 0
-  AnyTree outcome = ⊤
-
-  of_tree : (outcome : Result TreeOutcome StatusWord) → MatchResult outcome AnyTree IsPlain → PlainIn (tree_tried card outcome)
+  of_tree : (P : TreeOutcome → Type 0) (outcome : Result TreeOutcome StatusWord) → MatchResult outcome P (Contains tree_refusals) → PlainIn (tree_tried card outcome)
   unfolding and_given
-  of_tree (Err status) is = is
-  of_tree (Ok outcome) is = refl
-
-  past : (bad : Bool) (status : StatusWord) (next : Result TreeOutcome StatusWord) → IsPlain status → MatchResult next AnyTree IsPlain → MatchResult (refused_if bad status next) AnyTree IsPlain
-  past bad status next plain rest = unless_so AnyTree IsPlain bad status next plain (λ _. rest)
-
-  past_given : {X : Type 0} (found : Option X) (status : StatusWord) (next : X → Result TreeOutcome StatusWord) → IsPlain status → ((x : X) → MatchResult (next x) AnyTree IsPlain) → MatchResult (given found status next) AnyTree IsPlain
-  past_given found status next plain rest = given_so AnyTree IsPlain found status next plain (λ x _. rest x)
-
-  tree_plain : (command : TreeCommand) → MatchResult (tree_outcome command card.persistent (seen_by card) card.channels (channel_of apdu.class) apdu) AnyTree IsPlain
-  unfolding tree_outcome created deleted resized
-  tree_plain tree.Create = past _ _ _ refl (past _ _ _ refl (past _ _ _ refl (past_given _ _ _ refl (λ asked. past _ _ _ refl (past_given _ _ _ refl (λ file. tt))))))
-  tree_plain tree.Delete = past _ _ _ refl (past _ _ _ refl (past_given _ _ _ refl (λ file. past _ _ _ refl (past _ _ _ refl tt))))
-  tree_plain tree.Resize =
-      past _ _ _ refl (past _ _ _ refl (past_given _ _ _ refl (λ file. past _ _ _ refl (past _ _ _ refl (past _ _ _ refl (past _ _ _ refl (past _ _ _ refl tt)))))))
+  of_tree P (Err status) is = listed_plain tree_refusals refl status is
+  of_tree P (Ok outcome) is = refl
 
   of_toolkit : (P : ToolkitOutcome → Type 0) (outcome : Result ToolkitOutcome StatusWord) → MatchResult outcome P IsRefusal → PlainIn (toolkit_tried card outcome)
   unfolding and_given
   of_toolkit P (Err status) is = refusal_plain status is
   of_toolkit P (Ok outcome) is = refl
 
-  opened_plain : (selection : Selection) → MatchResult (channel_opened card.channels selection apdu) AnyOutcome IsPlain
-  opened_plain selection =
-      unless_so AnyOutcome IsPlain (not (has_no_data apdu && is_le_of_number apdu.expected)) WRONG_LENGTH _ refl (λ _.
-      given_so AnyOutcome IsPlain (closed_channel card.channels) NO_FREE_CHANNEL _ refl (λ channel is. tt))
+  module _ (files : (command : FileCommand) → IsLawfulCommand (file_outcome command)) (pins : (command : PinCommand) → IsLawfulPinCommand (pin_outcome command))
+      (trees : (command : TreeCommand) → IsLawfulTreeCommand (tree_outcome command)) (bytes : List ℕ) (is : IsCommand bytes apdu)
+    where
+      abbrev selection : Selection
+      selection = selection_on card (channel_of apdu.class)
 
-  closed_plain : MatchResult (channel_closed card.channels apdu) AnyOutcome IsPlain
-  closed_plain =
-      unless_so AnyOutcome IsPlain (not (has_no_data apdu)) WRONG_LENGTH _ refl (λ _.
-      unless_so AnyOutcome IsPlain (not (is_open card.channels apdu.p2)) CONDITIONS_NOT_SATISFIED _ refl (λ _. tt))
+      carried_plain : (instruction : Instruction) → PlainIn (carried_out instruction card apdu)
+      unfolding carried_out
+      carried_plain (File command) = of_file _ (files command bytes apdu card.persistent (seen_by card) selection is good.sound (selected_is card good (channel_of apdu.class) (channel_low apdu.class)))
+      carried_plain (Pin command) = of_pin _ (pins command card.persistent card.verified apdu good.sound.sound)
+      carried_plain ManageChannel = of_channel _ _ (managed_lawful card good apdu)
+      carried_plain (Toolkit command) = of_toolkit _ _ (outcome_is card apdu good (seen_by card) command)
+      carried_plain (Tree command) = of_tree _ _ (trees command card.persistent (seen_by card) card.channels (channel_of apdu.class) apdu good.sound good.channels.selected)
 
-  channel_plain : (selection : Selection) → MatchResult (channel_tried card.channels selection apdu) AnyOutcome IsPlain
-  unfolding channel_tried
-  channel_plain selection = by_p1 (apdu.p1 == 0x00 && apdu.p2 == 0x00) (apdu.p1 == 0x80 && nat_le 1 apdu.p2 && nat_le apdu.p2 3) where
-    by_p1 : (first second : Bool) → MatchResult (if first then channel_opened card.channels selection apdu else if second then channel_closed card.channels apdu else Err WRONG_PARAMETERS) AnyOutcome IsPlain
-    by_p1 true second = opened_plain selection
-    by_p1 false true = closed_plain
-    by_p1 false false = refl
+      event_plain : (b : Bool) (result : Result Answered StatusWord) → PlainIn result → PlainIn (and_given result (λ answered. Ok (event_told b answered)))
+      unfolding and_given
+      event_plain b (Err status) plain = plain
+      event_plain true (Ok answered) plain = plain
+      event_plain false (Ok answered) plain = plain
 
-  module _ (files : (command : FileCommand) → IsLawfulCommand (file_outcome command)) (pins : (command : PinCommand) → IsLawfulPinCommand (pin_outcome command)) (bytes : List ℕ) (is : IsCommand bytes apdu) where
-    abbrev selection : Selection
-    selection = selection_on card (channel_of apdu.class)
-
-    carried_plain : (instruction : Instruction) → PlainIn (carried_out instruction card apdu)
-    unfolding carried_out
-    carried_plain (File command) = of_file _ (files command bytes apdu card.persistent (seen_by card) selection is good.sound (selected_is card good (channel_of apdu.class) (channel_low apdu.class)))
-    carried_plain (Pin command) = of_pin _ (pins command card.persistent card.verified apdu good.sound.sound)
-    carried_plain ManageChannel = of_channel _ (channel_plain selection)
-    carried_plain (Toolkit command) = of_toolkit _ _ (outcome_is card apdu good (seen_by card) command)
-    carried_plain (Tree command) = of_tree _ (tree_plain command)
-
-    event_plain : (b : Bool) (result : Result Answered StatusWord) → PlainIn result → PlainIn (and_given result (λ answered. Ok (event_told b answered)))
-    unfolding and_given
-    event_plain b (Err status) plain = plain
-    event_plain true (Ok answered) plain = plain
-    event_plain false (Ok answered) plain = plain
-
-    carried_with_plain : (instruction : Instruction) → PlainIn (carried_with true instruction card apdu)
-    carried_with_plain instruction = event_plain (is_status instruction) (carried_out instruction card apdu) (carried_plain instruction)
+      carried_with_plain : (instruction : Instruction) → PlainIn (carried_with true instruction card apdu)
+      carried_with_plain instruction = event_plain (is_status instruction) (carried_out instruction card apdu) (carried_plain instruction)
 
 -- ---- the answer
 
 module _ (files : (command : FileCommand) → IsLawfulCommand (file_outcome command)) (pins : (command : PinCommand) → IsLawfulPinCommand (pin_outcome command))
-    (knows : Instruction → Bool) (card : CardState) (bytes : List ℕ) (runs : has_toolkit knows ≡ true) (good : IsGood card)
+    (trees : (command : TreeCommand) → IsLawfulTreeCommand (tree_outcome command)) (knows : Instruction → Bool) (card : CardState) (bytes : List ℕ) (runs : has_toolkit knows ≡ true) (good : IsGood card)
   where
     tried_plain : AreBytes bytes → PlainIn (tried knows card bytes)
     tried_plain are =
         of_running knows card bytes runs PlainIn (record { length_is = refl; class_is = refl; secure_is = refl; channel_is = refl; instruction_is = refl })
-        (λ apdu instruction read. cut_so (λ answered. IsPlain answered.status) IsPlain apdu.expected _ (λ answered plain. plain) (carried_with_plain card good apdu files pins bytes (command_is bytes apdu are read.read) instruction))
+        (λ apdu instruction read. cut_so (λ answered. IsPlain answered.status) IsPlain apdu.expected _ (λ answered plain. plain) (carried_with_plain card good apdu files pins trees bytes (command_is bytes apdu are read.read) instruction))
 
     settled_plain : (result : Result Answered StatusWord) → PlainIn result → IsPlain (settled card result).status
     settled_plain (Err status) plain = plain

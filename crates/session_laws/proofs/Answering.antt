@@ -27,6 +27,7 @@ use Rattle.card_model.specs.States.{CardState, IsGood}
 use Rattle.card_model.specs.Toolkit.{ToolkitOutcome, toolkit_of, coming_to, with_rows, states_passed}
 use Rattle.card_model.specs.declared.instructions.Instruction.{Instruction}
 use Rattle.card_model.proofs.Answering.{not_carried}
+use Rattle.card_model.proofs.Counted.{last_joined}
 use Rattle.card_model.specs.declared.instructions.Instruction.TheVariants.{File, Pin, ManageChannel, Toolkit, Tree}
 use Rattle.file_model.specs.declared.commands.FileCommand.TheVariants as file
 use Rattle.session_laws.specs.Lawful.{IsStatus, ChangesOnePart, IsLawfulWithApplets, AnswersAreLawful}
@@ -61,10 +62,6 @@ rows_too of_tree base next state (first ∷ others) is =
 each_joined : (R : Persistent → Persistent → Type 0) (state : Persistent) (first second : List Persistent) → EachStep R state first → EachStep R (last_of state first) second → EachStep R state (first ++ second)
 each_joined R state [] second one other = other
 each_joined R state (next ∷ first) second one other = (one.0, each_joined R next first second one.1 other)
-
-last_joined : (state : Persistent) (first second : List Persistent) → last_of state (first ++ second) ≡ last_of (last_of state first) second
-last_joined state [] second = refl
-last_joined state (next ∷ first) second = last_joined next first second
 
 -- ---- one answer
 
