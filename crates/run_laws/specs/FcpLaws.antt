@@ -28,7 +28,7 @@ pub record IsFcp (pins : List Pin) (file : Descriptor) (bytes : List ℕ) : Type
 abbrev pub FcpAreObjects : Type 0
 FcpAreObjects = (state : Persistent) (file : Descriptor) → IsSound state → IsFcp state.pins file (fcp state.pins file)
 
--- SELECT answers those of the file that it selects, as far as Le lets it
+-- SELECT answers those of the file that it selects, before Le cuts them,
 abbrev pub SelectAnswersFcp : Type 0
 SelectAnswersFcp = (state : Persistent) (selection : Selection) (apdu : Apdu) (outcome : FileOutcome)
     → IsSound state → file_selected state selection apdu ≡ Ok outcome → apdu.p2 ≡ 0x04
