@@ -1,5 +1,5 @@
 -- The laws of answers, from what the commands come to.
-use Rattle.std.proofs.Common.{◌≡◌, inl, inr, ℕ, zero, suc, ◌+◌, ◌≤◌, Bool, true, false, List, [], ◌∷◌, length, map, Option, Some, None, refl, sym, ◌∙◌, ap, subst, arith}
+use Rattle.std.proofs.Common.{◌≡◌, inl, ℕ, zero, suc, ◌+◌, ◌≤◌, Bool, true, false, List, [], ◌∷◌, length, map, Option, Some, None, refl, sym, ◌∙◌, ap, subst, arith}
 use Rattle.std.specs.Prelude.{◌&&◌, is_some, is_none, if◌then◌else◌, Result, Ok, Err, All, Contains, MatchResult, MatchBool, IfSome, ⊤}
 use Rattle.std.specs.List.{enumerate_from, list_any}
 use Rattle.std.proofs.lemmas.Bool.{false≢true, or_parts}
@@ -7,7 +7,7 @@ use Rattle.std.proofs.lemmas.List.Elements.{All-cons, All-contains}
 use Rattle.uicc_types.specs.Told.{AreBytes}
 use Rattle.uicc_types.specs.declared.answers.StatusWord.{StatusWord}
 use Rattle.uicc_types.specs.declared.answers.TheConstants.StatusWord.{WRONG_LENGTH, NO_SUCH_CLASS, NO_SECURE_MESSAGING, NO_SUCH_CHANNEL, NO_SUCH_INSTRUCTION}
-use Rattle.apdu_form.specs.Model.{Apdu, IsCommand, command_in}
+use Rattle.apdu_form.specs.Model.{Apdu, IsCommand}
 use Rattle.card_layout.specs.Persistent.{Persistent, Registration}
 use Rattle.file_model.specs.Chains.{and_given}
 use Rattle.file_model.specs.Commands.{file_outcome, pin_outcome}

@@ -1,6 +1,6 @@
 -- Answers of good cards, put together from what the commands on files, PINs and channels come to.
 use Rattle.std.proofs.Common.{mod-lt, get_or, ◌≡◌, ◌⊎◌, inl, inr, ⊎_elim, ℕ, zero, suc, ◌<◌, ◌≤◌, Bool, true, false, List, [], ◌∷◌, length, map, Option, Some, None, refl, sym, ◌∙◌, ap, subst, arith}
-use Rattle.std.specs.Prelude.{◌==◌, ◌%◌, Result, Err, All, Contains, MatchResult, IfSome, slice_index_or, slice_set, is_some, unwrap_or, not, ◌&&◌, nat_le, if◌then◌else◌}
+use Rattle.std.specs.Prelude.{◌==◌, ◌%◌, Err, All, Contains, MatchResult, IfSome, slice_index_or, slice_set, is_some, unwrap_or, not, ◌&&◌, nat_le, if◌then◌else◌}
 use Rattle.std.proofs.lemmas.Bool.{false≢true, cases_eq, cond-true, cond-false, eq-eqb, ne_eqb, leb-true, and_parts}
 use Rattle.general_laws.specs.Finding.{find_Some}
 use Rattle.apdu_form.specs.Model.{Apdu}

@@ -9,19 +9,19 @@ use Rattle.file_model.specs.Chains.{given, and_given}
 use Rattle.card_model.specs.Answers.{Answered, refused, carried_with, cut_to, cut_answer, settled, tried, with_pending, answer_of}
 use Rattle.card_model.specs.Cases.{cut_result}
 use Rattle.card_model.specs.Chained.{Any}
-use Rattle.card_model.specs.Instructions.{InstructionRow, instructions, instruction_tried, has_toolkit}
-use Rattle.card_model.specs.Naming.{Each, each_of, instruction_so}
+use Rattle.card_model.specs.Channels.{family}
+use Rattle.card_model.specs.Instructions.{instruction_tried, has_toolkit}
+use Rattle.card_model.specs.Naming.{IsNamed, named_so, instruction_so}
 use Rattle.card_model.specs.States.{CardState}
 use Rattle.card_model.specs.declared.instructions.Instruction.{Instruction}
 use Rattle.link_laws.specs.Le.{without_le, looks_at_le, asks_by_le}
 use Rattle.link_laws.proofs.Cutting.{carried_with_alike}
 
 -- an instruction looks at Le where its byte says so
-abbrev TellsOfLe : ℕ → InstructionRow → Type 0
-TellsOfLe p1 row = looks_at_le row.instruction p1 ≡ asks_by_le row.ins p1
-
-rows_tell : (p1 : ℕ) → Each (TellsOfLe p1) instructions
-rows_tell p1 = (refl, (refl, (refl, (refl, (refl, (refl, (refl, (refl, (refl, (refl, (refl, (refl, (refl, (refl, (refl, (refl, (refl, (refl, (refl, (refl, (refl, (refl, (refl, (refl, (refl, tt)))))))))))))))))))))))))
+tells_of_le : (p1 : ℕ) (knows : Instruction → Bool) (class ins : ℕ) (instruction : Instruction) → IsNamed knows class ins instruction → looks_at_le instruction p1 ≡ asks_by_le ins p1
+tells_of_le p1 =
+    named_so (λ instruction class ins. looks_at_le instruction p1 ≡ asks_by_le ins p1)
+    (refl, (refl, (refl, (refl, (refl, (refl, (refl, (refl, (refl, (refl, (refl, (refl, (refl, (refl, (refl, (refl, (refl, (refl, (refl, (refl, (refl, (refl, (refl, (refl, (refl, tt)))))))))))))))))))))))))
 
 -- no data stay none
 cut_none : (expected : Option ℕ) → cut_to expected [] ≡ []
@@ -72,10 +72,10 @@ module _ (knows : Instruction → Bool) (card : CardState) (command : Apdu) wher
     unfolding answer_of
     answer_cut bytes bare read read_bare =
         ap with_pending (
-          ap (settled card) (tried_so bytes read)
-          ∙ by_found found (instruction_so (λ instruction. looks_at_le instruction command.p1 ≡ asks_by_le command.ins command.p1) Any knows card.channels command.class command.ins tt tt tt tt
-          (λ row named. each_of (TellsOfLe command.p1) instructions (rows_tell command.p1) row named.there ∙ ap (λ (byte : ℕ). asks_by_le byte command.p1) named.ins_is))
-          ∙ ap (λ (result : Result Answered StatusWord). cut_answer command.expected (settled card result)) (sym (bare_so bare read_bare))
+        ap (settled card) (tried_so bytes read)
+        ∙ by_found found (instruction_so (λ instruction. looks_at_le instruction command.p1 ≡ asks_by_le command.ins command.p1) Any knows card.channels command.class command.ins tt tt tt tt
+        (tells_of_le command.p1 knows (family command.class) command.ins))
+        ∙ ap (λ (result : Result Answered StatusWord). cut_answer command.expected (settled card result)) (sym (bare_so bare read_bare))
         )
 
   -- no answer has more data

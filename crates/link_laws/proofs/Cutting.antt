@@ -7,7 +7,6 @@ use Rattle.apdu_form.specs.Model.{Apdu}
 use Rattle.file_model.specs.declared.commands.ContentsCommand.TheVariants.{ReadBinary, UpdateBinary, ReadRecord, UpdateRecord, SearchRecord, Increase, Deactivate, Activate}
 use Rattle.file_model.specs.declared.commands.FileCommand.TheVariants.{Select, Status, Contents}
 use Rattle.file_model.specs.declared.commands.PinCommand.TheVariants as pin
-use Rattle.file_model.specs.declared.selections.Selection.{Selection}
 use Rattle.file_model.specs.Binaries.{binary_file, updating, update_in, binary_updated}
 use Rattle.file_model.specs.Chains.{and_given}
 use Rattle.file_model.specs.Commands.{contents_outcome, file_outcome}

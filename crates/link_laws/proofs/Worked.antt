@@ -17,7 +17,7 @@ use Rattle.file_model.specs.Fcp.{fcp}
 use Rattle.file_model.specs.Files.{descriptor_in, descriptors_in, file_found}
 use Rattle.file_model.specs.Holdings.{held_by}
 use Rattle.file_model.specs.Outcomes.{addressed}
-use Rattle.file_model.specs.Records.{record_named, record_reading, record_read, numbers_matched, searching, searched, number_to_read, record_file, record_read_from, search_in}
+use Rattle.file_model.specs.Records.{record_named, record_reading, record_read, numbers_matched, searching, searched, number_to_read, record_file, record_read_from, search_in, number_to_search}
 use Rattle.file_model.specs.Selecting.{selecting, file_selected, telling, status_told}
 use Rattle.file_model.specs.Selections.{selection_of, chosen_by_identifier, chosen}
 use Rattle.toolkit_model.specs.Commands.{polled}
@@ -126,7 +126,7 @@ record_other = record { is_carried = refl; linked = refl; by_itself = refl }
 
 -- SEARCH RECORD, with as many numbers of records as there are
 searched_one : HasBoth (0x00 ∷ 0xA2 ∷ 0x01 ∷ 0x1C ∷ 0x01 ∷ 0x43 ∷ 0x00 ∷ []) (0x02 ∷ 0x90 ∷ 0x00 ∷ [])
-unfolding command_in fields_in transfer_in link_answer command_answer refused_if given and_given instruction_tried carried_out file_outcome contents_outcome tried answer_of woken woken_boxes descriptor_in descriptors_in file_found keys_seen addressed arr_found ruling_record may held_by numbers_matched searching record_file search_in searched
+unfolding command_in fields_in transfer_in link_answer command_answer refused_if given and_given instruction_tried carried_out file_outcome contents_outcome tried answer_of woken woken_boxes descriptor_in descriptors_in file_found keys_seen addressed arr_found ruling_record may held_by numbers_matched searching record_file search_in number_to_search searched
 searched_one = record { is_carried = refl; linked = refl; by_itself = refl }
 
 -- FETCH where there is nothing to fetch

@@ -33,6 +33,11 @@ unfolding refused_if
 unless_ok true status next x is = let err : Err status ≡ Ok x = is in absurd (cc)
 unless_ok false status next x is = (refl, is)
 
+pub given_met : {X Y : Type 0} (o : Option X) (status : StatusWord) (next : X → Result Y StatusWord) (y : Y) → given o status next ≡ Ok y → (x : X) × (o ≡ Some x) × (next x ≡ Ok y)
+unfolding given
+given_met None status next y is = let err : Err status ≡ Ok y = is in absurd (cc)
+given_met (Some x) status next y is = (x, refl, is)
+
 and_ok : {X Y : Type 0} (r : Result X StatusWord) (next : X → Result Y StatusWord) (x : X) (y : Y) → r ≡ Ok x → and_given r next ≡ Ok y → next x ≡ Ok y
 unfolding and_given
 and_ok r next x y there is = subst (λ o. and_given o next ≡ Ok y) there is

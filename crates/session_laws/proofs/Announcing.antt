@@ -1,12 +1,12 @@
 -- What the status of an answer tells of the command that there is to fetch.
-use Rattle.std.proofs.Common.{mod-lt, ◌≡◌, ◌⊎◌, inl, inr, ℕ, ◌+◌, ◌<◌, ◌≤◌, Bool, true, false, List, [], ◌∷◌, Option, Some, None, Result, Ok, Err, refl, sym, ◌∙◌, ap, subst, arith}
-use Rattle.std.specs.Prelude.{◌==◌, ◌/◌, ◌%◌, ◌||◌, ◌&&◌, nat_le, not, if◌then◌else◌, IfSome, MatchResult, Contains, unwrap_or, ⊤}
+use Rattle.std.proofs.Common.{◌≡◌, ◌⊎◌, inl, inr, ℕ, ◌+◌, ◌≤◌, Bool, true, false, List, [], ◌∷◌, Option, Some, None, Result, Ok, Err, refl, sym, ◌∙◌, ap, subst, arith}
+use Rattle.std.specs.Prelude.{◌==◌, ◌/◌, ◌||◌, not, if◌then◌else◌, MatchResult, Contains}
 use Rattle.std.specs.List.{list_all}
 use Rattle.std.proofs.lemmas.Bool.{false≢true, eq-eqb, ne_eqb, not-true}
 use Rattle.uicc_types.specs.Told.{AreBytes}
 use Rattle.uicc_types.specs.declared.answers.StatusWord.{StatusWord}
 use Rattle.uicc_types.specs.declared.answers.TheConstants.StatusWord.{DONE, END_OF_FILE, FILE_DEACTIVATED}
-use Rattle.apdu_form.specs.Model.{Apdu, IsCommand, command_in}
+use Rattle.apdu_form.specs.Model.{Apdu, IsCommand}
 use Rattle.file_model.specs.declared.selections.Selection.{Selection}
 use Rattle.file_model.specs.Chains.{and_given}
 use Rattle.file_model.specs.Laws.{IsLawfulOutcome, IsFileRefusal, file_refusals, IsLawfulCommand, TellsTries, IsLawfulPinOutcome, pin_refusals, IsLawfulPinCommand}

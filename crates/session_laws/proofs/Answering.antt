@@ -1,12 +1,11 @@
 -- The laws of answers where applets run, from what each command comes to.
-use Rattle.std.proofs.Common.{◌≡◌, inl, inr, ℕ, ◌≤◌, Bool, true, false, List, [], ◌∷◌, ◌++◌, map, length, Option, Some, None, Result, Ok, Err, refl, sym, ◌∙◌, ap, subst, arith}
+use Rattle.std.proofs.Common.{◌≡◌, inl, inr, ℕ, ◌≤◌, Bool, true, false, List, [], ◌∷◌, ◌++◌, map, length, Option, Some, Result, Ok, Err, refl, sym, ◌∙◌, ap, subst, arith}
 use Rattle.std.specs.Prelude.{MatchResult, MatchBool, IfSome, ⊤}
 use Rattle.std.proofs.lemmas.Bool.{false≢true}
 use Rattle.uicc_types.specs.Told.{AreBytes}
 use Rattle.uicc_types.specs.declared.answers.StatusWord.{StatusWord}
-use Rattle.uicc_types.specs.declared.answers.TheConstants.StatusWord.{DONE, WRONG_LENGTH}
-use Rattle.apdu_form.specs.Model.{Apdu, IsCommand, command_in}
-use Rattle.apdu_form.specs.Reading.{commands_are}
+use Rattle.uicc_types.specs.declared.answers.TheConstants.StatusWord.{DONE}
+use Rattle.apdu_form.specs.Model.{Apdu, IsCommand}
 use Rattle.card_layout.specs.Persistent.{Persistent, Registration}
 use Rattle.file_model.specs.Chains.{and_given}
 use Rattle.file_model.specs.Commands.{file_outcome}

@@ -1,11 +1,11 @@
 -- A command of the toolkit that is carried out is taken.
-use Rattle.std.proofs.Common.{◌≡◌, ◌⊎◌, inl, inr, ℕ, Bool, true, false, List, length, Option, Some, None, Result, Ok, Err, refl, sym, ◌∙◌, ap, subst}
+use Rattle.std.proofs.Common.{◌≡◌, ◌⊎◌, inl, inr, ℕ, Bool, true, false, List, length, Option, Some, None, Result, Ok, Err, refl, sym, ◌∙◌, ap}
 use Rattle.std.specs.Prelude.{⊤, MatchResult, is_some, option_map, option_and_then}
 use Rattle.std.proofs.lemmas.Bool.{false≢true}
 use Rattle.uicc_types.specs.declared.answers.StatusWord.{StatusWord}
 use Rattle.uicc_types.specs.declared.answers.TheConstants.StatusWord.{WRONG_LENGTH, NO_SUCH_CLASS, NO_SECURE_MESSAGING, NO_SUCH_CHANNEL, NO_SUCH_INSTRUCTION}
 use Rattle.access_rules.specs.declared.rules.Verified.{Verified}
-use Rattle.apdu_form.specs.Model.{Apdu, command_in}
+use Rattle.apdu_form.specs.Model.{Apdu}
 use Rattle.card_layout.specs.Persistent.{Registration}
 use Rattle.file_model.specs.Chains.{refused_if, and_given}
 use Rattle.file_model.specs.Commands.{file_outcome}
@@ -15,17 +15,15 @@ use Rattle.file_model.specs.Chained.{unless_so, given_so}
 use Rattle.toolkit_commands.specs.Envelopes.{envelope_of}
 use Rattle.toolkit_model.specs.declared.faults.RowFault.{RowFault}
 use Rattle.toolkit_model.specs.declared.faults.RowFault.TheVariants.{BadData, NoBox, Narrow, Taken, MenuFull, Spent, NoRow, NotIdle}
-use Rattle.toolkit_model.specs.Commands.{is_busy, unfetched, unanswered, reply_to, bytes_of, pending}
-use Rattle.toolkit_model.specs.Driving.{is_idle}
-use Rattle.toolkit_model.specs.Orderly.{asks}
-use Rattle.toolkit_model.specs.Registry.{installed_row, deleted_row}
-use Rattle.toolkit_model.specs.Steps.{Command, Profile, Status, Report, Fetch, Respond, Delete}
-use Rattle.card_model.specs.Answers.{Answered, settled, with_pending, file_tried, toolkit_tried, selection_on, seen_by, then_polled, carried_out, carried_with, tried, answer_of, is_carried_out}
+use Rattle.toolkit_model.specs.Commands.{unfetched, unanswered, reply_to, bytes_of, pending}
+use Rattle.toolkit_model.specs.Registry.{installed_row}
+use Rattle.toolkit_model.specs.Steps.{Command, Status, Report, Fetch, Respond}
+use Rattle.card_model.specs.Answers.{Answered, settled, with_pending, file_tried, toolkit_tried, selection_on, seen_by, then_polled, carried_out, carried_with, answer_of, is_carried_out}
 use Rattle.card_model.specs.Channels.{channel_of}
 use Rattle.card_model.specs.Cases.{cut_result, IsRead}
 use Rattle.card_model.specs.Instructions.{has_toolkit}
 use Rattle.card_model.specs.States.{CardState, IsGood}
-use Rattle.card_model.specs.Toolkit.{ToolkitOutcome, toolkit_of, kind_in, row_status, row_or_status, profile_taken, command_fetched, response_taken, envelope_taken, applet_installed, applet_deleted, toolkit_outcome}
+use Rattle.card_model.specs.Toolkit.{ToolkitOutcome, kind_in, row_status, row_or_status, profile_taken, command_fetched, response_taken, envelope_taken, applet_installed, applet_deleted, toolkit_outcome}
 use Rattle.card_model.specs.declared.instructions.Instruction.{Instruction}
 use Rattle.card_model.specs.declared.instructions.Instruction.TheVariants.{File, Pin, ManageChannel, Toolkit, Tree}
 use Rattle.card_model.specs.declared.instructions.ToolkitCommand.{ToolkitCommand}

@@ -1,15 +1,13 @@
 -- How a card goes on with each command, and over all that happens to it.
 use Rattle.std.proofs.Common.{◌≡◌, ℕ, Bool, true, List, [], ◌∷◌, ◌++◌, map, Option, Some, None, Result, Ok, Err, refl, sym, ◌∙◌, ap, subst}
-use Rattle.std.specs.Prelude.{⊤, All, IfSome, IsSomeAnd, MatchResult, is_some, slice_index_or, slice_set, option_and_then}
+use Rattle.std.specs.Prelude.{⊤, All, IfSome, IsSomeAnd, MatchResult, is_some, slice_index_or, slice_set}
 use Rattle.std.specs.Option.{option_to_list}
 use Rattle.std.proofs.lemmas.List.Elements.{All-nil, All-cons, All-map, All-contains}
 use Rattle.uicc_types.specs.declared.answers.StatusWord.{StatusWord}
-use Rattle.uicc_types.specs.declared.answers.TheConstants.StatusWord.{DONE, WRONG_LENGTH}
-use Rattle.access_rules.specs.declared.rules.Op.TheVariants.{Deactivate, Activate}
-use Rattle.apdu_form.specs.Model.{Apdu, command_in}
-use Rattle.card_layout.specs.Kinds.{activated, deactivated}
+use Rattle.uicc_types.specs.declared.answers.TheConstants.StatusWord.{DONE}
+use Rattle.apdu_form.specs.Model.{Apdu}
 use Rattle.card_layout.specs.Persistent.{Persistent, Registration}
-use Rattle.file_model.specs.Chains.{given, and_given}
+use Rattle.file_model.specs.Chains.{and_given}
 use Rattle.file_model.specs.Outcomes.{FileOutcome, PinOutcome, last_of}
 use Rattle.file_model.specs.Commands.{file_outcome}
 use Rattle.file_model.specs.Selecting.{telling, status_told}
@@ -23,10 +21,10 @@ use Rattle.toolkit_model.specs.Steps.{HaveMinds, Command, Status, Wake, IsAccept
 use Rattle.toolkit_laws.specs.Installing.{InstallationsAreAccepted}
 use Rattle.toolkit_laws.specs.Orderly.{IsInOrder}
 use Rattle.toolkit_laws.specs.Sound.{InstalledRowsAreSound}
-use Rattle.card_model.specs.Answers.{Answered, refused, settled, with_pending, on_files, on_pins, on_channels, on_trees, on_toolkit, with_pins, file_tried, pin_tried, managed, tree_tried, toolkit_tried, selection_on, seen_by, then_polled, carried_out, carried_with, cut_to, tried, answer_of, passed_of}
+use Rattle.card_model.specs.Answers.{Answered, refused, settled, on_files, on_pins, on_channels, on_trees, on_toolkit, with_pins, file_tried, pin_tried, managed, tree_tried, toolkit_tried, selection_on, seen_by, then_polled, carried_out, carried_with, cut_to, tried, answer_of, passed_of}
 use Rattle.card_model.specs.Chained.{Any, past, past_given}
-use Rattle.card_model.specs.Channels.{ChannelOutcome, channel_of, channel_tried}
-use Rattle.card_model.specs.Instructions.{instruction_tried, has_toolkit}
+use Rattle.card_model.specs.Channels.{ChannelOutcome, channel_of}
+use Rattle.card_model.specs.Instructions.{has_toolkit}
 use Rattle.card_model.specs.OtherFiles.{HaveOtherFiles, file_leaves, tree_leaves}
 use Rattle.card_model.specs.Cases.{cut_result, all_so}
 use Rattle.card_model.specs.Runs.{boxes_left}
@@ -35,7 +33,7 @@ use Rattle.card_model.specs.Toolkit.{ToolkitOutcome, toolkit_of, coming_to, with
 use Rattle.card_model.specs.declared.instructions.Instruction.{Instruction}
 use Rattle.card_model.specs.declared.instructions.Instruction.TheVariants.{File, Pin, ManageChannel, Toolkit, Tree}
 use Rattle.file_model.specs.declared.commands.FileCommand.TheVariants as file
-use Rattle.session_laws.specs.Moving.{fixed, HaveFixed, rows_by, rows_after, LeavesRows, command_by, if_carried, taken_by, taken, GoesOn, HasOrder, Event, Answers, Breaks, Restarts, CanHappen, AllCanHappen, card_after, taken_at, card_after_all, all_taken, noted_of}
+use Rattle.session_laws.specs.Moving.{fixed, HaveFixed, rows_by, rows_after, LeavesRows, command_by, if_carried, taken, GoesOn, HasOrder, Event, Answers, Breaks, Restarts, CanHappen, AllCanHappen, card_after, taken_at, card_after_all, all_taken, noted_of}
 use Rattle.session_laws.proofs.Rows.{polled_commits}
 use Rattle.session_laws.proofs.Fixed.{AreBelow}
 use Rattle.session_laws.proofs.Breaking.{minds_left}

@@ -7,12 +7,10 @@ use Rattle.std.proofs.lemmas.List.Elements.{All-nil, All-cons, All-append, All-m
 use Rattle.std.proofs.lemmas.List.FromFn.{length-enumerate_from}
 use Rattle.uicc_types.specs.Told.{AreBytes}
 use Rattle.uicc_types.specs.declared.answers.StatusWord.{StatusWord}
-use Rattle.uicc_types.specs.declared.answers.TheConstants.StatusWord.{WRONG_LENGTH}
-use Rattle.apdu_form.specs.Model.{Apdu, IsCommand, command_in}
-use Rattle.apdu_form.specs.Reading.{commands_are}
+use Rattle.apdu_form.specs.Model.{Apdu, IsCommand}
 use Rattle.applet_trait.specs.Minds.{AppletState}
 use Rattle.card_layout.specs.Persistent.{Persistent, Registration}
-use Rattle.file_model.specs.Chains.{given, and_given}
+use Rattle.file_model.specs.Chains.{and_given}
 use Rattle.file_model.specs.Files.{descriptor_in, descriptors_in}
 use Rattle.file_model.specs.Laws.{IsSoundCard}
 use Rattle.file_model.specs.Outcomes.{last_of}
@@ -22,10 +20,10 @@ use Rattle.toolkit_model.specs.Commands.{polled}
 use Rattle.toolkit_model.specs.Steps.{Command, Status, moved}
 use Rattle.toolkit_laws.specs.Installing.{InstallationsAreAccepted}
 use Rattle.toolkit_laws.specs.Sound.{AreSoundRows, HasApplet, IsGoodToolkit, LeavesGood, StepsLeaveGood, InstalledRowsAreSound}
-use Rattle.card_model.specs.Answers.{Answered, settled, on_toolkit, toolkit_tried, then_polled, carried_out, carried_with, seen_by, tried, answer_of, passed_of}
+use Rattle.card_model.specs.Answers.{Answered, settled, on_toolkit, toolkit_tried, then_polled, carried_out, carried_with, seen_by, answer_of, passed_of}
 use Rattle.card_model.specs.Cases.{cut_result, all_so, command_is}
 use Rattle.card_model.specs.Chained.{Any}
-use Rattle.card_model.specs.Instructions.{instruction_tried, has_toolkit, is_of_tree}
+use Rattle.card_model.specs.Instructions.{has_toolkit}
 use Rattle.card_model.specs.Laws.{key_named, IsStatusOf, IsLawfulAnswer, CommandsAreLawful}
 use Rattle.card_model.specs.Runs.{IsLeft, box_left, boxes_left}
 use Rattle.card_model.specs.States.{CardState, AreChannels, HasBox, AreOfSevenKinds, IsGood, row_on}

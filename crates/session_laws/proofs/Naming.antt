@@ -1,12 +1,11 @@
 -- By which instruction byte a command of the toolkit is known, where it is carried out.
 use Rattle.std.proofs.Common.{◌≡◌, ℕ, ◌+◌, ◌≤◌, Bool, true, false, List, length, Option, Some, None, Result, Ok, Err, refl, sym, ◌∙◌, ap, subst, arith, option_and_then}
-use Rattle.std.specs.Prelude.{◌==◌, ◌||◌, ◌/◌, MatchResult, IfSome, option_map, if◌then◌else◌}
+use Rattle.std.specs.Prelude.{◌==◌, ◌||◌, ◌/◌, MatchResult, option_map, if◌then◌else◌}
 use Rattle.std.proofs.lemmas.Bool.{false≢true, eq-eqb, eqb-true, ne_eqb}
 use Rattle.uicc_types.specs.Told.{AreBytes}
 use Rattle.uicc_types.specs.declared.answers.StatusWord.{StatusWord}
-use Rattle.uicc_types.specs.declared.answers.TheConstants.StatusWord.{DONE, END_OF_FILE, FILE_DEACTIVATED, WRONG_LENGTH}
-use Rattle.apdu_form.specs.Model.{Apdu, IsCommand, command_in}
-use Rattle.apdu_form.specs.Reading.{commands_are}
+use Rattle.uicc_types.specs.declared.answers.TheConstants.StatusWord.{DONE, END_OF_FILE, FILE_DEACTIVATED}
+use Rattle.apdu_form.specs.Model.{Apdu}
 use Rattle.card_layout.specs.Persistent.{Registration}
 use Rattle.file_model.specs.Chains.{and_given}
 use Rattle.file_model.specs.Records.{other_length}
@@ -19,7 +18,7 @@ use Rattle.toolkit_model.specs.Sessions.{Outstanding}
 use Rattle.toolkit_model.specs.Commands.{unfetched, unanswered, reply_to, bytes_of, pending}
 use Rattle.toolkit_model.specs.Registry.{installed_row}
 use Rattle.toolkit_model.specs.Steps.{Command, Profile, Status, Report, Fetch, Respond, Delete}
-use Rattle.card_model.specs.Answers.{Answered, settled, told_pending, with_pending, toolkit_tried, carried_out, carried_with, tried, answer_of, is_carried_out}
+use Rattle.card_model.specs.Answers.{Answered, settled, told_pending, with_pending, toolkit_tried, carried_out, carried_with, answer_of, is_carried_out}
 use Rattle.card_model.specs.Cases.{cut_result, command_is}
 use Rattle.card_model.specs.Channels.{family}
 use Rattle.card_model.specs.Instructions.{has_toolkit}
