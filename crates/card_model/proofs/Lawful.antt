@@ -1,10 +1,10 @@
 -- Answers of good cards, put together from what the commands on files, PINs and channels come to.
 use Rattle.std.proofs.Common.{mod-lt, get_or, ◌≡◌, ◌⊎◌, inl, inr, ⊎_elim, ℕ, zero, suc, ◌<◌, ◌≤◌, Bool, true, false, List, [], ◌∷◌, length, map, Option, Some, None, refl, sym, ◌∙◌, ap, subst, arith}
-use Rattle.std.specs.Prelude.{◌==◌, ◌%◌, Result, Err, All, Contains, MatchResult, IfSome, slice_index_or, slice_set, is_some, unwrap_or, not, ◌&&◌, nat_le, if◌then◌else◌}
+use Rattle.std.specs.Prelude.{◌==◌, ◌%◌, Err, All, Contains, MatchResult, IfSome, slice_index_or, slice_set, is_some, unwrap_or, not, ◌&&◌, nat_le, if◌then◌else◌}
 use Rattle.std.proofs.lemmas.Bool.{false≢true, cases_eq, cond-true, cond-false, eq-eqb, ne_eqb, leb-true, and_parts}
 use Rattle.general_laws.specs.Finding.{find_Some}
 use Rattle.apdu_form.specs.Model.{Apdu}
-use Rattle.file_model.specs.Chains.{refused_if, given}
+use Rattle.file_model.specs.Chained.{unless_so, given_so}
 use Rattle.uicc_types.specs.declared.answers.TheConstants.StatusWord.{DONE, END_OF_FILE, FILE_DEACTIVATED, WRONG_PARAMETERS}
 use Rattle.std.proofs.lemmas.List.{length-set, get_or-set_other}
 use Rattle.std.proofs.lemmas.List.Elements.{All-nil, All-cons, All-map}
@@ -25,6 +25,8 @@ use Rattle.card_model.specs.Channels.{selected_on, is_open, names_channel, chann
 use Rattle.file_making.specs.Lawful.{ChangesOneNode, IsLawfulTree}
 use Rattle.file_making.specs.Outcomes.{TreeOutcome}
 use Rattle.card_model.specs.Laws.{ChangesOneThing, ChangesAtMostTries, IsKnownStatus, IsLawfulAnswer, statuses}
+use Rattle.card_model.specs.Naming.{all_hold}
+use Rattle.card_model.proofs.Statuses.{among}
 use Rattle.card_model.specs.States.{CardState, AreChannels, HasBox, IsGood}
 use Rattle.card_model.specs.Woken.{start_is_selected}
 
@@ -111,17 +113,8 @@ last_with_pins state pins (next ∷ passed) = last_with_pins state next passed
 abbrev done_statuses : List StatusWord
 done_statuses = DONE ∷ END_OF_FILE ∷ FILE_DEACTIVATED ∷ []
 
-done_known : (status : StatusWord) → Contains done_statuses status → Contains statuses status
-done_known status (zero, low, is) = (0, omega arith, is)
-done_known status (suc zero, low, is) = (1, omega arith, is)
-done_known status (suc (suc zero), low, is) = (2, omega arith, is)
-done_known status (suc (suc (suc k)), low, is) = absurd (omega (arith, low))
-
 done_carried : (status : StatusWord) → Contains done_statuses status → is_carried_out status ≡ true
-done_carried status (zero, low, is) = subst (λ word. is_carried_out word ≡ true) is refl
-done_carried status (suc zero, low, is) = subst (λ word. is_carried_out word ≡ true) is refl
-done_carried status (suc (suc zero), low, is) = subst (λ word. is_carried_out word ≡ true) is refl
-done_carried status (suc (suc (suc k)), low, is) = absurd (omega (arith, low))
+done_carried = all_hold is_carried_out done_statuses refl
 
 module _ (card : CardState) (good : IsGood card) where
   pub files_lawful : (channel key : ℕ) (outcome : FileOutcome) → channel < 4 → IsLawfulOutcome card.persistent outcome → IsLawfulAnswer card false key (on_files card channel outcome)
@@ -145,7 +138,7 @@ module _ (card : CardState) (good : IsGood card) where
         boxes = refl;
         session = refl;
         short = lawful.short;
-        status = inl (inl (done_known outcome.status lawful.status));
+        status = inl (inl (among done_statuses statuses refl outcome.status lawful.status));
         refused = λ not_done. absurd (false≢true (sym not_done ∙ done_carried outcome.status lawful.status));
       }
 
@@ -270,16 +263,6 @@ module _ (card : CardState) (good : IsGood card) where
   abbrev IsChannels : ChannelOutcome → Type 0
   IsChannels outcome = AreChannels held outcome.channels × (length outcome.body ≤ 256)
 
-  pub unless_known : {X : Type 0} (Q : X → Type 0) (bad : Bool) (status : StatusWord) (next : Result X StatusWord) → Contains statuses status → (bad ≡ false → MatchResult next Q (Contains statuses)) → MatchResult (refused_if bad status next) Q (Contains statuses)
-  unfolding refused_if
-  unless_known Q true status next known rest = known
-  unless_known Q false status next known rest = rest refl
-
-  pub given_known : {X Y : Type 0} (Q : Y → Type 0) (found : Option X) (status : StatusWord) (next : X → Result Y StatusWord) → Contains statuses status → ((x : X) → found ≡ Some x → MatchResult (next x) Q (Contains statuses)) → MatchResult (given found status next) Q (Contains statuses)
-  unfolding given
-  given_known Q None status next known rest = known
-  given_known Q (Some x) status next known rest = rest x refl
-
   -- what a channel begins with is there
   first_is : (from : ℕ) (selection : Selection) → IsSelection (descriptors_in held) selection → IsSelection (descriptors_in held) (first_selection from selection)
   first_is from selection is =
@@ -298,8 +281,8 @@ module _ (card : CardState) (good : IsGood card) where
 
   opened_lawful : (apdu : Apdu) → MatchResult (channel_opened card.channels (selection_on card (channel_of apdu.class)) apdu) IsChannels (Contains statuses)
   opened_lawful apdu =
-      unless_known IsChannels (not (has_no_data apdu && is_le_of_number apdu.expected)) _ _ (3, omega arith, refl) (λ fits.
-      given_known IsChannels (closed_channel card.channels) _ _ (12, omega arith, refl) (λ channel is.
+      unless_so IsChannels (Contains statuses) (not (has_no_data apdu && is_le_of_number apdu.expected)) _ _ (3, omega arith, refl) (λ fits.
+      given_so IsChannels (Contains statuses) (closed_channel card.channels) _ _ (12, omega arith, refl) (λ channel is.
       let low : (1 ≤ channel) × (channel ≤ 3) = closed_is channel is in (
         channels_set held held card.channels good.channels (λ other is. is) channel (Some (first_selection (channel_of apdu.class) (selection_on card (channel_of apdu.class)))) (omega (arith, low.1)) (λ zero. refl)
             (first_is (channel_of apdu.class) (selection_on card (channel_of apdu.class)) (selected_is card good (channel_of apdu.class) (channel_low apdu.class))),
@@ -308,8 +291,8 @@ module _ (card : CardState) (good : IsGood card) where
 
   closed_lawful : (apdu : Apdu) → 1 ≤ apdu.p2 → apdu.p2 ≤ 3 → MatchResult (channel_closed card.channels apdu) IsChannels (Contains statuses)
   closed_lawful apdu from to =
-      unless_known IsChannels (not (has_no_data apdu)) _ _ (3, omega arith, refl) (λ fits.
-      unless_known IsChannels (not (is_open card.channels apdu.p2)) _ _ (10, omega arith, refl) (λ open_there.
+      unless_so IsChannels (Contains statuses) (not (has_no_data apdu)) _ _ (3, omega arith, refl) (λ fits.
+      unless_so IsChannels (Contains statuses) (not (is_open card.channels apdu.p2)) _ _ (10, omega arith, refl) (λ open_there.
       (channels_set held held card.channels good.channels (λ other is. is) apdu.p2 None (omega (arith, to)) (λ zero. absurd (omega (arith, zero, from))) _, omega arith)))
 
   pub managed_lawful : (apdu : Apdu) → MatchResult (channel_tried card.channels (selection_on card (channel_of apdu.class)) apdu) IsChannels (Contains statuses)

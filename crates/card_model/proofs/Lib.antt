@@ -1,6 +1,6 @@
 pub mod Answering
-mod Cases
 pub mod Lawful
+mod Statuses
 mod Usual
 pub mod Counted
 mod Worked

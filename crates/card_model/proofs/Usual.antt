@@ -1,7 +1,8 @@
 -- No answer tells of a failing memory.
-use Rattle.std.proofs.Common.{◌≡◌, ℕ, zero, suc, ◌+◌, Bool, true, false, Option, Some, None, refl, sym, ◌∙◌, ap, arith, inl, inr}
-use Rattle.std.specs.Prelude.{◌==◌, ◌≢◌, if◌then◌else◌, Result, Ok, Err, Contains, MatchResult, ⊤}
-use Rattle.std.proofs.lemmas.Bool.{false≢true}
+use Rattle.std.proofs.Common.{◌≡◌, ℕ, ◌+◌, Bool, true, false, List, Option, Some, None, refl, sym, ◌∙◌, ap, arith, inl, inr}
+use Rattle.std.specs.Prelude.{◌==◌, ◌≢◌, not, if◌then◌else◌, Result, Ok, Err, Contains, MatchResult, ⊤}
+use Rattle.std.specs.List.{list_all}
+use Rattle.std.proofs.lemmas.Bool.{false≢true, not-true}
 use Rattle.uicc_types.specs.declared.answers.StatusWord.{StatusWord}
 use Rattle.uicc_types.specs.declared.answers.TheConstants.StatusWord.{DONE, MEMORY_PROBLEM, WRONG_LENGTH, WRONG_PARAMETERS, WRONG_DATA, NO_ROOM, TOOLKIT_BUSY, CONDITIONS_NOT_SATISFIED, SECURITY_NOT_SATISFIED, REFERENCE_NOT_FOUND}
 use Rattle.access_rules.specs.declared.rules.Verified.{Verified}
@@ -13,41 +14,30 @@ use Rattle.file_model.specs.Chained.{unless_so, given_so}
 use Rattle.toolkit_model.specs.declared.faults.RowFault.{RowFault}
 use Rattle.toolkit_model.specs.declared.faults.RowFault.TheVariants.{BadData, NoBox, Narrow, Taken, MenuFull, Spent, NoRow, NotIdle}
 use Rattle.card_model.specs.Answers.{Answered, toolkit_tried, settled, told_pending, with_pending, event_told}
-use Rattle.card_model.specs.Laws.{IsKnownStatus, IsStatusOf, IsLawfulAnswer, statuses}
+use Rattle.card_model.specs.Laws.{IsKnownStatus, IsStatusOf, IsLawfulAnswer, statuses, tree_statuses}
+use Rattle.card_model.specs.Naming.{all_hold}
 use Rattle.card_model.specs.States.{CardState}
-use Rattle.card_model.specs.Toolkit.{ToolkitOutcome, profile_taken, command_fetched, response_taken, envelope_taken, row_or_status, applet_installed, applet_deleted}
+use Rattle.card_model.specs.Toolkit.{ToolkitOutcome, profile_taken, command_fetched, response_taken, envelope_taken, row_or_status, applet_installed, applet_deleted, toolkit_outcome}
+use Rattle.card_model.specs.declared.instructions.ToolkitCommand.{ToolkitCommand}
+use Rattle.card_model.specs.declared.instructions.ToolkitCommand.TheVariants.{TerminalProfile, Fetch, TerminalResponse, Envelope, InstallApplet, DeleteApplet}
 
 -- ---- statuses
 
 abbrev pub IsUsual : StatusWord → Type 0
 IsUsual status = status ≢ MEMORY_PROBLEM
 
+-- another word than 6581
+pub other : (status : StatusWord) → (status.0 == 0x6581) ≡ false → IsUsual status
+other status differs same = absurd (false≢true (sym differs ∙ ap (λ (word : StatusWord). word.0 == 0x6581) same))
+
 word_of : (a b : StatusWord) → a ≡ b → a.0 ≡ b.0
 word_of a b same = ap (λ (word : StatusWord). word.0) same
 
+all_usual : (xs : List StatusWord) → list_all (λ word. not (word.0 == 0x6581)) xs ≡ true → (status : StatusWord) → Contains xs status → IsUsual status
+all_usual xs all status there = other status (not-true (status.0 == 0x6581) (all_hold (λ word. not (word.0 == 0x6581)) xs all status there))
+
 pub not_listed : (status : StatusWord) → Contains statuses status → status ≢ MEMORY_PROBLEM
-not_listed status (zero, low, is) same = absurd (let word = word_of _ _ (is ∙ same) in omega (arith, word))
-not_listed status (suc zero, low, is) same = absurd (let word = word_of _ _ (is ∙ same) in omega (arith, word))
-not_listed status (suc (suc zero), low, is) same = absurd (let word = word_of _ _ (is ∙ same) in omega (arith, word))
-not_listed status (suc (suc (suc zero)), low, is) same = absurd (let word = word_of _ _ (is ∙ same) in omega (arith, word))
-not_listed status (suc (suc (suc (suc zero))), low, is) same = absurd (let word = word_of _ _ (is ∙ same) in omega (arith, word))
-not_listed status (suc (suc (suc (suc (suc zero)))), low, is) same = absurd (let word = word_of _ _ (is ∙ same) in omega (arith, word))
-not_listed status (suc (suc (suc (suc (suc (suc zero))))), low, is) same = absurd (let word = word_of _ _ (is ∙ same) in omega (arith, word))
-not_listed status (suc (suc (suc (suc (suc (suc (suc zero)))))), low, is) same = absurd (let word = word_of _ _ (is ∙ same) in omega (arith, word))
-not_listed status (suc (suc (suc (suc (suc (suc (suc (suc zero))))))), low, is) same = absurd (let word = word_of _ _ (is ∙ same) in omega (arith, word))
-not_listed status (suc (suc (suc (suc (suc (suc (suc (suc (suc zero)))))))), low, is) same = absurd (let word = word_of _ _ (is ∙ same) in omega (arith, word))
-not_listed status (suc (suc (suc (suc (suc (suc (suc (suc (suc (suc zero))))))))), low, is) same = absurd (let word = word_of _ _ (is ∙ same) in omega (arith, word))
-not_listed status (suc (suc (suc (suc (suc (suc (suc (suc (suc (suc (suc zero)))))))))), low, is) same = absurd (let word = word_of _ _ (is ∙ same) in omega (arith, word))
-not_listed status (suc (suc (suc (suc (suc (suc (suc (suc (suc (suc (suc (suc zero))))))))))), low, is) same = absurd (let word = word_of _ _ (is ∙ same) in omega (arith, word))
-not_listed status (suc (suc (suc (suc (suc (suc (suc (suc (suc (suc (suc (suc (suc zero)))))))))))), low, is) same = absurd (let word = word_of _ _ (is ∙ same) in omega (arith, word))
-not_listed status (suc (suc (suc (suc (suc (suc (suc (suc (suc (suc (suc (suc (suc (suc zero))))))))))))), low, is) same = absurd (let word = word_of _ _ (is ∙ same) in omega (arith, word))
-not_listed status (suc (suc (suc (suc (suc (suc (suc (suc (suc (suc (suc (suc (suc (suc (suc zero)))))))))))))), low, is) same = absurd (let word = word_of _ _ (is ∙ same) in omega (arith, word))
-not_listed status (suc (suc (suc (suc (suc (suc (suc (suc (suc (suc (suc (suc (suc (suc (suc (suc zero))))))))))))))), low, is) same = absurd (let word = word_of _ _ (is ∙ same) in omega (arith, word))
-not_listed status (suc (suc (suc (suc (suc (suc (suc (suc (suc (suc (suc (suc (suc (suc (suc (suc (suc zero)))))))))))))))), low, is) same = absurd (let word = word_of _ _ (is ∙ same) in omega (arith, word))
-not_listed status (suc (suc (suc (suc (suc (suc (suc (suc (suc (suc (suc (suc (suc (suc (suc (suc (suc (suc zero))))))))))))))))), low, is) same = absurd (let word = word_of _ _ (is ∙ same) in omega (arith, word))
-not_listed status (suc (suc (suc (suc (suc (suc (suc (suc (suc (suc (suc (suc (suc (suc (suc (suc (suc (suc (suc zero)))))))))))))))))), low, is) same = absurd (let word = word_of _ _ (is ∙ same) in omega (arith, word))
-not_listed status (suc (suc (suc (suc (suc (suc (suc (suc (suc (suc (suc (suc (suc (suc (suc (suc (suc (suc (suc (suc zero))))))))))))))))))), low, is) same = absurd (let word = word_of _ _ (is ∙ same) in omega (arith, word))
-not_listed status (suc (suc (suc (suc (suc (suc (suc (suc (suc (suc (suc (suc (suc (suc (suc (suc (suc (suc (suc (suc (suc k)))))))))))))))))))), low, is) same = absurd (omega (arith, low))
+not_listed = all_usual statuses refl
 
 not_failing : (status : StatusWord) → IsKnownStatus status → status ≢ MEMORY_PROBLEM
 not_failing status (inl there) same = not_listed status there same
@@ -57,14 +47,7 @@ not_failing status (inr (inr (inr (count, low, is)))) same = absurd (let word = 
 
 pub never_failing : (of_tree : Bool) (status : StatusWord) → IsStatusOf of_tree status → status ≢ MEMORY_PROBLEM
 never_failing of_tree status (inl known) same = not_failing status known same
-never_failing of_tree status (inr (is, (zero, low, there))) same = absurd (let word = word_of _ _ (there ∙ same) in omega (arith, word))
-never_failing of_tree status (inr (is, (suc zero, low, there))) same = absurd (let word = word_of _ _ (there ∙ same) in omega (arith, word))
-never_failing of_tree status (inr (is, (suc (suc zero), low, there))) same = absurd (let word = word_of _ _ (there ∙ same) in omega (arith, word))
-never_failing of_tree status (inr (is, (suc (suc (suc k)), low, there))) same = absurd (omega (arith, low))
-
--- another word than 6581
-other : (status : StatusWord) → (status.0 == 0x6581) ≡ false → IsUsual status
-other status differs same = absurd (false≢true (sym differs ∙ ap (λ (word : StatusWord). word.0 == 0x6581) same))
+never_failing of_tree status (inr (is, there)) same = all_usual tree_statuses refl status there same
 
 length_usual : (count : ℕ) → IsUsual (other_length count)
 length_usual count same = absurd (let word = word_of _ _ same in omega (arith, word))
@@ -87,28 +70,6 @@ past_result (Ok x) next usual rest = rest x
 
 -- ---- commands of the toolkit
 
-pub profile_usual : (card : CardState) (apdu : Apdu) → Usual (profile_taken card apdu)
-unfolding profile_taken
-profile_usual card apdu = past _ _ _ (other WRONG_PARAMETERS refl) (past _ _ _ (other WRONG_LENGTH refl) tt)
-
-pub fetch_usual : (card : CardState) (apdu : Apdu) → Usual (command_fetched card apdu)
-unfolding command_fetched
-fetch_usual card apdu =
-    past _ _ _ (other WRONG_PARAMETERS refl) (past _ _ _ (other WRONG_LENGTH refl) (
-    past_given _ _ _ (other CONDITIONS_NOT_SATISFIED refl) (λ out. past _ _ _ (length_usual _) tt)))
-
-pub response_usual : (card : CardState) (apdu : Apdu) → Usual (response_taken card apdu)
-unfolding response_taken
-response_usual card apdu =
-    past _ _ _ (other WRONG_PARAMETERS refl) (past _ _ _ (other WRONG_LENGTH refl) (
-    past_given _ _ _ (other CONDITIONS_NOT_SATISFIED refl) (λ out. past_given _ _ _ (other WRONG_DATA refl) (λ reply. tt))))
-
-pub envelope_usual : (card : CardState) (apdu : Apdu) → Usual (envelope_taken card apdu)
-unfolding envelope_taken
-envelope_usual card apdu =
-    past _ _ _ (other WRONG_PARAMETERS refl) (past _ _ _ (other WRONG_LENGTH refl) (
-    past_given _ _ _ (other WRONG_DATA refl) (λ envelope. past _ _ _ (other TOOLKIT_BUSY refl) tt)))
-
 row_usual : (found : Result Registration RowFault) → Usual (row_or_status found)
 row_usual (Ok row) = tt
 row_usual (Err BadData) = other WRONG_DATA refl
@@ -120,15 +81,22 @@ row_usual (Err Spent) = other NO_ROOM refl
 row_usual (Err NoRow) = other REFERENCE_NOT_FOUND refl
 row_usual (Err NotIdle) = other CONDITIONS_NOT_SATISFIED refl
 
-pub install_usual : (card : CardState) (seen : Verified) (apdu : Apdu) → Usual (applet_installed card seen apdu)
-unfolding applet_installed
-install_usual card seen apdu =
+pub outcome_usual : (command : ToolkitCommand) (card : CardState) (seen : Verified) (apdu : Apdu) → Usual (toolkit_outcome command card seen apdu)
+unfolding toolkit_outcome profile_taken command_fetched response_taken envelope_taken applet_installed applet_deleted
+outcome_usual TerminalProfile card seen apdu = past _ _ _ (other WRONG_PARAMETERS refl) (past _ _ _ (other WRONG_LENGTH refl) tt)
+outcome_usual Fetch card seen apdu =
+    past _ _ _ (other WRONG_PARAMETERS refl) (past _ _ _ (other WRONG_LENGTH refl) (
+    past_given _ _ _ (other CONDITIONS_NOT_SATISFIED refl) (λ out. past _ _ _ (length_usual _) tt)))
+outcome_usual TerminalResponse card seen apdu =
+    past _ _ _ (other WRONG_PARAMETERS refl) (past _ _ _ (other WRONG_LENGTH refl) (
+    past_given _ _ _ (other CONDITIONS_NOT_SATISFIED refl) (λ out. past_given _ _ _ (other WRONG_DATA refl) (λ reply. tt))))
+outcome_usual Envelope card seen apdu =
+    past _ _ _ (other WRONG_PARAMETERS refl) (past _ _ _ (other WRONG_LENGTH refl) (
+    past_given _ _ _ (other WRONG_DATA refl) (λ envelope. past _ _ _ (other TOOLKIT_BUSY refl) tt)))
+outcome_usual InstallApplet card seen apdu =
     past _ _ _ (other WRONG_PARAMETERS refl) (past _ _ _ (other WRONG_LENGTH refl) (
     past _ _ _ (other SECURITY_NOT_SATISFIED refl) (past_result _ _ (row_usual _) (λ row. tt))))
-
-pub delete_usual : (card : CardState) (seen : Verified) (apdu : Apdu) → Usual (applet_deleted card seen apdu)
-unfolding applet_deleted
-delete_usual card seen apdu =
+outcome_usual DeleteApplet card seen apdu =
     past _ _ _ (other WRONG_PARAMETERS refl) (past _ _ _ (other WRONG_LENGTH refl) (
     past _ _ _ (other SECURITY_NOT_SATISFIED refl) (past_result _ _ (row_usual _) (λ row. tt))))
 

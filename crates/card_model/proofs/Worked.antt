@@ -4,11 +4,14 @@ use Rattle.std.specs.Int.{to_be_bytes, w16}
 use Rattle.uicc_types.specs.Patches.{patched}
 use Rattle.apdu_form.specs.Model.{command_in, fields_in}
 use Rattle.card_layout.specs.Changing.{with_file_changed}
-use Rattle.card_layout.specs.Persistent.{Files, Bytes, File, Pin, Persistent}
+use Rattle.card_layout.specs.Persistent.{Files, Bytes, Records, File, Pin, Persistent}
 use Rattle.card_layout.specs.Soundness.{mf}
 use Rattle.file_model.specs.Chains.{refused_if, given, and_given}
 use Rattle.file_model.specs.Access.{keys_seen, arr_found, ruling_record, may}
-use Rattle.file_model.specs.Binaries.{reading, binary_read, updating, binary_updated}
+use Rattle.file_model.specs.Binaries.{reading, binary_read, updating, binary_updated, binary_file, read_from, update_in}
+use Rattle.access_rules.specs.Objects.{object}
+use Rattle.file_model.specs.Fcp.{fcp}
+use Rattle.file_model.specs.Records.{record_file, record_named, number_to_read, record_reading, record_read_from, record_read, sum_to_write, increasing, increase_in, increased}
 use Rattle.file_model.specs.Files.{descriptor_in, descriptors_in, file_found}
 use Rattle.file_model.specs.Holdings.{held_by}
 use Rattle.file_model.specs.Outcomes.{addressed}
@@ -20,6 +23,7 @@ use Rattle.card_model.specs.Channels.{channel_tried}
 use Rattle.card_model.specs.Instructions.{instruction_tried}
 use Rattle.card_model.specs.States.{CardState, woken, woken_boxes}
 use Rattle.card_model.specs.declared.instructions.Instruction.{Instruction}
+use Rattle.file_model.specs.Commands.{contents_outcome, file_outcome}
 
 -- ---- the card
 
@@ -66,7 +70,7 @@ in_order : replies first_card (
     ∷ (0x00 ∷ 0xA4 ∷ 0x00 ∷ 0x0C ∷ 0x00 ∷ 0x00 ∷ 0x00 ∷ [])
     ∷ [])
     ≡ (0x67 ∷ 0x00 ∷ []) ∷ (0x6A ∷ 0x82 ∷ []) ∷ (0x69 ∷ 0x86 ∷ []) ∷ (0x6E ∷ 0x00 ∷ []) ∷ (0x68 ∷ 0x81 ∷ []) ∷ (0x68 ∷ 0x82 ∷ []) ∷ (0x6D ∷ 0x00 ∷ []) ∷ (0x6E ∷ 0x00 ∷ []) ∷ (0x67 ∷ 0x00 ∷ []) ∷ []
-unfolding refused_if given and_given command_in fields_in instruction_tried carried_out tried answer_of woken woken_boxes file_selected chosen chosen_by_identifier descriptor_in descriptors_in file_found keys_seen addressed binary_read
+unfolding refused_if given and_given command_in fields_in instruction_tried carried_out file_outcome contents_outcome tried answer_of woken woken_boxes file_selected chosen chosen_by_identifier descriptor_in descriptors_in file_found keys_seen addressed binary_file read_from binary_read
 in_order = refl
 
 -- two causes at once: secure messaging is told before the closed channel, and the closed channel before the instruction
@@ -95,7 +99,7 @@ channels : replies first_card (
     ∷ (0x00 ∷ 0x70 ∷ 0x80 ∷ 0x01 ∷ [])
     ∷ [])
     ≡ (0x01 ∷ 0x90 ∷ 0x00 ∷ []) ∷ (0x90 ∷ 0x00 ∷ []) ∷ (0x98 ∷ 0x10 ∷ 0x90 ∷ 0x00 ∷ []) ∷ (0x69 ∷ 0x86 ∷ []) ∷ (0x02 ∷ 0x90 ∷ 0x00 ∷ []) ∷ (0x03 ∷ 0x90 ∷ 0x00 ∷ []) ∷ (0x6A ∷ 0x81 ∷ []) ∷ (0x90 ∷ 0x00 ∷ []) ∷ (0x68 ∷ 0x81 ∷ []) ∷ (0x69 ∷ 0x85 ∷ []) ∷ []
-unfolding refused_if given and_given command_in fields_in instruction_tried carried_out tried answer_of woken woken_boxes channel_tried file_selected selecting selection_of chosen chosen_by_identifier descriptor_in descriptors_in file_found keys_seen addressed arr_found ruling_record may held_by reading binary_read
+unfolding refused_if given and_given command_in fields_in instruction_tried carried_out file_outcome contents_outcome tried answer_of woken woken_boxes channel_tried file_selected selecting selection_of chosen chosen_by_identifier descriptor_in descriptors_in file_found keys_seen addressed arr_found ruling_record may held_by reading binary_file read_from binary_read
 channels = refl
 
 -- a channel that is opened from another has its DF, and no other channel has
@@ -107,7 +111,7 @@ df_of_the_opener : replies first_card (
     ∷ (0x00 ∷ 0xA4 ∷ 0x00 ∷ 0x0C ∷ 0x02 ∷ 0x6F ∷ 0x3C ∷ [])
     ∷ [])
     ≡ (0x01 ∷ 0x90 ∷ 0x00 ∷ []) ∷ (0x90 ∷ 0x00 ∷ []) ∷ (0x02 ∷ 0x90 ∷ 0x00 ∷ []) ∷ (0x90 ∷ 0x00 ∷ []) ∷ (0x6A ∷ 0x82 ∷ []) ∷ []
-unfolding refused_if given and_given command_in fields_in instruction_tried carried_out tried answer_of woken woken_boxes channel_tried file_selected selecting selection_of chosen chosen_by_identifier descriptor_in descriptors_in file_found
+unfolding refused_if given and_given command_in fields_in instruction_tried carried_out file_outcome tried answer_of woken woken_boxes channel_tried file_selected selecting selection_of chosen chosen_by_identifier descriptor_in descriptors_in file_found
 df_of_the_opener = refl
 
 -- P1 and P2 come before the length, and the length before the state
@@ -130,5 +134,18 @@ update_and_read : replies first_card (
     ∷ (0x00 ∷ 0x20 ∷ 0x00 ∷ 0x01 ∷ 0x00 ∷ [])
     ∷ [])
     ≡ (0x90 ∷ 0x00 ∷ []) ∷ (0x98 ∷ 0xAA ∷ 0x32 ∷ 0x90 ∷ 0x00 ∷ []) ∷ (0x63 ∷ 0xC2 ∷ []) ∷ (0x63 ∷ 0xC2 ∷ []) ∷ []
-unfolding refused_if given and_given command_in fields_in instruction_tried carried_out tried answer_of woken woken_boxes descriptor_in descriptors_in file_found keys_seen addressed arr_found ruling_record may held_by reading binary_read updating binary_updated with_file_changed patched pin_found presented pin_presented pin_verified
+unfolding refused_if given and_given command_in fields_in instruction_tried carried_out file_outcome contents_outcome tried answer_of woken woken_boxes descriptor_in descriptors_in file_found keys_seen addressed arr_found ruling_record may held_by reading binary_file read_from binary_read updating update_in binary_updated with_file_changed patched pin_found presented pin_presented pin_verified
 update_and_read = refl
+
+-- ---- Le
+
+-- of the FCP two bytes are answered
+le_cuts : replies first_card ((0x00 ∷ 0xA4 ∷ 0x00 ∷ 0x04 ∷ 0x02 ∷ 0x2F ∷ 0xE2 ∷ 0x02 ∷ []) ∷ []) ≡ (0x62 ∷ 0x12 ∷ 0x90 ∷ 0x00 ∷ []) ∷ []
+unfolding object refused_if given and_given command_in fields_in instruction_tried carried_out file_outcome tried answer_of woken woken_boxes file_selected selecting fcp selection_of chosen chosen_by_identifier descriptor_in descriptors_in file_found
+le_cuts = refl
+
+-- of the sum and what was added, too
+le_cuts_a_sum : replies (woken (record held { files = mf ∷ record number_file { kind = 0x46; contents = Records ((0x00 ∷ 0x00 ∷ 0x04 ∷ []) ∷ []) } ∷ [] }) []) ((0x80 ∷ 0x32 ∷ 0x82 ∷ 0x00 ∷ 0x01 ∷ 0x02 ∷ 0x02 ∷ []) ∷ (0x00 ∷ 0xB2 ∷ 0x01 ∷ 0x04 ∷ 0x00 ∷ []) ∷ [])
+    ≡ (0x00 ∷ 0x00 ∷ 0x90 ∷ 0x00 ∷ []) ∷ (0x00 ∷ 0x00 ∷ 0x06 ∷ 0x90 ∷ 0x00 ∷ []) ∷ []
+unfolding refused_if given and_given command_in fields_in instruction_tried carried_out file_outcome contents_outcome tried answer_of woken woken_boxes descriptor_in descriptors_in file_found keys_seen addressed arr_found ruling_record may held_by with_file_changed record_file sum_to_write increasing increase_in increased record_named record_reading number_to_read record_read_from record_read
+le_cuts_a_sum = refl

@@ -13,7 +13,7 @@ use Rattle.toolkit_model.specs.Model.{AppletState, fresh}
 use Rattle.card_layout.specs.Soundness.{mf}
 use Rattle.file_model.specs.Chains.{refused_if, given, and_given}
 use Rattle.file_model.specs.Access.{keys_seen, arr_found, ruling_record, may}
-use Rattle.file_model.specs.Binaries.{reading, binary_read, updating, binary_updated}
+use Rattle.file_model.specs.Binaries.{reading, binary_read, updating, binary_updated, binary_file, read_from, update_in}
 use Rattle.file_model.specs.Files.{descriptor_in, descriptors_in, file_found}
 use Rattle.file_model.specs.Holdings.{held_by}
 use Rattle.file_model.specs.Outcomes.{addressed}
@@ -22,6 +22,7 @@ use Rattle.card_model.specs.Instructions.{instruction_tried}
 use Rattle.card_model.specs.Runs.{IsRun, IsLeft, boxes_left, plan_given}
 use Rattle.card_model.specs.States.{CardState, Machine, powered, unpowered, woken, woken_boxes, restarted}
 use Rattle.card_model.proofs.Worked.{first_card, held, number_file, telecom_df, message_file}
+use Rattle.file_model.specs.Commands.{contents_outcome, file_outcome}
 
 abbrev pub update : List ℕ
 update = 0x00 ∷ 0xD6 ∷ 0x82 ∷ 0x01 ∷ 0x01 ∷ 0xAA ∷ []
@@ -35,7 +36,7 @@ held_then = record held { files = mf ∷ record number_file { contents = Bytes (
 
 -- the update passes the state before it and the one after it
 passed_states : (answer first_card update).commits ≡ held_then ∷ []
-unfolding refused_if given and_given command_in fields_in instruction_tried carried_out tried answer_of woken woken_boxes descriptor_in descriptors_in file_found keys_seen addressed arr_found ruling_record may held_by updating binary_updated with_file_changed patched
+unfolding refused_if given and_given command_in fields_in instruction_tried carried_out file_outcome contents_outcome tried answer_of woken woken_boxes descriptor_in descriptors_in file_found keys_seen addressed arr_found ruling_record may held_by updating binary_file update_in binary_updated with_file_changed patched
 passed_states = refl
 
 -- what is read then
@@ -43,12 +44,12 @@ abbrev pub card_then : CardState
 card_then = woken held_then []
 
 read_back : (answer card_then reading_back).body ≡ 0x98 ∷ 0xAA ∷ 0x32 ∷ []
-unfolding refused_if given and_given command_in fields_in instruction_tried carried_out tried answer_of woken woken_boxes descriptor_in descriptors_in file_found keys_seen addressed arr_found ruling_record may held_by reading binary_read
+unfolding refused_if given and_given command_in fields_in instruction_tried carried_out file_outcome contents_outcome tried answer_of woken woken_boxes descriptor_in descriptors_in file_found keys_seen addressed arr_found ruling_record may held_by reading binary_file read_from binary_read
 read_back = refl
 
 -- the update is passed, and the card woke over it
 left : IsLeft first_card (passed first_card update) card_then
-unfolding refused_if given and_given command_in fields_in instruction_tried carried_out tried answer_of woken woken_boxes descriptor_in descriptors_in file_found keys_seen addressed arr_found ruling_record may held_by updating binary_updated with_file_changed patched
+unfolding refused_if given and_given command_in fields_in instruction_tried carried_out file_outcome contents_outcome tried answer_of woken woken_boxes descriptor_in descriptors_in file_found keys_seen addressed arr_found ruling_record may held_by updating binary_file update_in binary_updated with_file_changed patched
 left = record { persistent = held_then; passed = (1, omega arith, refl); woke = refl }
 
 -- nothing more happens

@@ -6,7 +6,7 @@ use Rattle.access_rules.specs.Objects.{object}
 use Rattle.card_layout.specs.Persistent.{Contents, Bytes, Records, File, Pin, Persistent}
 use Rattle.card_layout.specs.Soundness.{mf}
 use Rattle.file_model.specs.Access.{keys_seen, arr_found, ruling_record, may}
-use Rattle.file_model.specs.Binaries.{reading, binary_read}
+use Rattle.file_model.specs.Binaries.{reading, binary_read, binary_file, read_from}
 use Rattle.file_model.specs.Chains.{refused_if, given, and_given}
 use Rattle.file_model.specs.Files.{descriptor_in, descriptors_in, file_found}
 use Rattle.file_model.specs.Holdings.{held_by}
@@ -24,8 +24,10 @@ use Rattle.card_model.specs.Channels.{channel_tried}
 use Rattle.card_model.specs.Instructions.{instruction_tried}
 use Rattle.card_model.specs.Laws.{is_of_tree_named}
 use Rattle.card_model.specs.States.{CardState, woken, woken_boxes}
-use Rattle.card_model.specs.Toolkit.{applet_installed, applet_deleted}
+use Rattle.card_model.specs.Toolkit.{applet_installed, applet_deleted, toolkit_outcome}
 use Rattle.card_model.proofs.Worked.{every, replies}
+use Rattle.file_model.specs.Commands.{contents_outcome, file_outcome}
+use Rattle.file_making.specs.Commands.{tree_outcome}
 
 -- ---- a card with three EFs, of 10, 8 and 9 bytes
 
@@ -65,7 +67,7 @@ a_file_comes_and_goes : replies first_card (
     ∷ (0x00 ∷ 0xA4 ∷ 0x00 ∷ 0x0C ∷ 0x02 ∷ 0x6F ∷ 0x50 ∷ [])
     ∷ [])
     ≡ (0x90 ∷ 0x00 ∷ []) ∷ (0x90 ∷ 0x00 ∷ []) ∷ (0xFF ∷ 0xFF ∷ 0xFF ∷ 0xFF ∷ 0x90 ∷ 0x00 ∷ []) ∷ (0x6A ∷ 0x89 ∷ []) ∷ (0x90 ∷ 0x00 ∷ []) ∷ (0x90 ∷ 0x00 ∷ []) ∷ (0x6A ∷ 0x82 ∷ []) ∷ []
-unfolding refused_if given and_given command_in fields_in instruction_tried carried_out tried answer_of woken woken_boxes channel_tried keys_seen pin_found presented pin_presented pin_verified addressed arr_found ruling_record may held_by reading binary_read file_selected selecting selection_of chosen chosen_by_identifier descriptor_in descriptors_in file_found created creating deleted deleting resized resizing asked_in told template object room_at free_number
+unfolding refused_if given and_given command_in fields_in instruction_tried carried_out file_outcome contents_outcome tree_outcome tried answer_of woken woken_boxes channel_tried keys_seen pin_found presented pin_presented pin_verified addressed arr_found ruling_record may held_by reading binary_file read_from binary_read file_selected selecting selection_of chosen chosen_by_identifier descriptor_in descriptors_in file_found created creating deleted deleting resized resizing asked_in told template object room_at free_number
 a_file_comes_and_goes = refl
 
 -- it is deleted on another channel than that which has it, where no file is selected then
@@ -77,7 +79,7 @@ it_goes_from_the_other_channel : replies first_card (
     ∷ (0x01 ∷ 0xB0 ∷ 0x00 ∷ 0x00 ∷ 0x01 ∷ [])
     ∷ [])
     ≡ (0x90 ∷ 0x00 ∷ []) ∷ (0x01 ∷ 0x90 ∷ 0x00 ∷ []) ∷ (0x90 ∷ 0x00 ∷ []) ∷ (0x90 ∷ 0x00 ∷ []) ∷ (0x69 ∷ 0x86 ∷ []) ∷ []
-unfolding refused_if given and_given command_in fields_in instruction_tried carried_out tried answer_of woken woken_boxes channel_tried keys_seen pin_found presented pin_presented pin_verified addressed arr_found ruling_record may held_by reading binary_read file_selected selecting selection_of chosen chosen_by_identifier descriptor_in descriptors_in file_found created creating deleted deleting resized resizing asked_in told template object room_at free_number
+unfolding refused_if given and_given command_in fields_in instruction_tried carried_out file_outcome contents_outcome tree_outcome tried answer_of woken woken_boxes channel_tried keys_seen pin_found presented pin_presented pin_verified addressed arr_found ruling_record may held_by reading binary_file read_from binary_read file_selected selecting selection_of chosen chosen_by_identifier descriptor_in descriptors_in file_found created creating deleted deleting resized resizing asked_in told template object room_at free_number
 it_goes_from_the_other_channel = refl
 
 -- ---- a DF
@@ -92,7 +94,7 @@ a_df_goes : replies with_df (
     ∷ (0x00 ∷ 0xA4 ∷ 0x00 ∷ 0x0C ∷ 0x02 ∷ 0x7F ∷ 0x20 ∷ [])
     ∷ [])
     ≡ (0x90 ∷ 0x00 ∷ []) ∷ (0x90 ∷ 0x00 ∷ []) ∷ (0x6A ∷ 0x82 ∷ []) ∷ []
-unfolding refused_if given and_given command_in fields_in instruction_tried carried_out tried answer_of woken woken_boxes channel_tried keys_seen pin_found presented pin_presented pin_verified addressed arr_found ruling_record may held_by reading binary_read file_selected selecting selection_of chosen chosen_by_identifier descriptor_in descriptors_in file_found created creating deleted deleting resized resizing asked_in told template object room_at free_number
+unfolding refused_if given and_given command_in fields_in instruction_tried carried_out file_outcome contents_outcome tree_outcome tried answer_of woken woken_boxes channel_tried keys_seen pin_found presented pin_presented pin_verified addressed arr_found ruling_record may held_by reading binary_file read_from binary_read file_selected selecting selection_of chosen chosen_by_identifier descriptor_in descriptors_in file_found created creating deleted deleting resized resizing asked_in told template object room_at free_number
 a_df_goes = refl
 
 -- it stays while a channel has it as its current DF
@@ -105,7 +107,7 @@ a_df_in_use_stays : replies with_df (
     ∷ (0x00 ∷ 0xE4 ∷ 0x00 ∷ 0x00 ∷ 0x02 ∷ 0x7F ∷ 0x20 ∷ [])
     ∷ [])
     ≡ (0x90 ∷ 0x00 ∷ []) ∷ (0x01 ∷ 0x90 ∷ 0x00 ∷ []) ∷ (0x90 ∷ 0x00 ∷ []) ∷ (0x69 ∷ 0x85 ∷ []) ∷ (0x90 ∷ 0x00 ∷ []) ∷ (0x90 ∷ 0x00 ∷ []) ∷ []
-unfolding refused_if given and_given command_in fields_in instruction_tried carried_out tried answer_of woken woken_boxes channel_tried keys_seen pin_found presented pin_presented pin_verified addressed arr_found ruling_record may held_by reading binary_read file_selected selecting selection_of chosen chosen_by_identifier descriptor_in descriptors_in file_found created creating deleted deleting resized resizing asked_in told template object room_at free_number
+unfolding refused_if given and_given command_in fields_in instruction_tried carried_out file_outcome contents_outcome tree_outcome tried answer_of woken woken_boxes channel_tried keys_seen pin_found presented pin_presented pin_verified addressed arr_found ruling_record may held_by reading binary_file read_from binary_read file_selected selecting selection_of chosen chosen_by_identifier descriptor_in descriptors_in file_found created creating deleted deleting resized resizing asked_in told template object room_at free_number
 a_df_in_use_stays = refl
 
 -- and where the key of the administrator was not presented
@@ -115,7 +117,7 @@ a_df_is_kept : replies with_df (
     ∷ (0x80 ∷ 0xD4 ∷ 0x00 ∷ 0x00 ∷ 0x04 ∷ 0x2F ∷ 0xE2 ∷ 0x00 ∷ 0x06 ∷ [])
     ∷ [])
     ≡ (0x69 ∷ 0x82 ∷ []) ∷ (0x69 ∷ 0x82 ∷ []) ∷ (0x69 ∷ 0x82 ∷ []) ∷ []
-unfolding refused_if given and_given command_in fields_in instruction_tried carried_out tried answer_of woken woken_boxes channel_tried keys_seen pin_found presented pin_presented pin_verified addressed arr_found ruling_record may held_by reading binary_read file_selected selecting selection_of chosen chosen_by_identifier descriptor_in descriptors_in file_found created creating deleted deleting resized resizing asked_in told template object room_at free_number
+unfolding refused_if given and_given command_in fields_in instruction_tried carried_out file_outcome contents_outcome tree_outcome tried answer_of woken woken_boxes channel_tried keys_seen pin_found presented pin_presented pin_verified addressed arr_found ruling_record may held_by reading binary_file read_from binary_read file_selected selecting selection_of chosen chosen_by_identifier descriptor_in descriptors_in file_found created creating deleted deleting resized resizing asked_in told template object room_at free_number
 a_df_is_kept = refl
 
 -- ---- no room
@@ -130,7 +132,7 @@ no_room : replies full (
     ∷ (0x00 ∷ 0xE0 ∷ 0x00 ∷ 0x00 ∷ 0x10 ∷ 0x62 ∷ 0x0E ∷ 0x82 ∷ 0x02 ∷ 0x41 ∷ 0x21 ∷ 0x83 ∷ 0x02 ∷ 0x6F ∷ 0x50 ∷ 0x80 ∷ 0x02 ∷ 0x00 ∷ 0x04 ∷ 0x88 ∷ 0x00 ∷ [])
     ∷ [])
     ≡ (0x90 ∷ 0x00 ∷ []) ∷ (0x6A ∷ 0x84 ∷ []) ∷ []
-unfolding refused_if given and_given command_in fields_in instruction_tried carried_out tried answer_of woken woken_boxes channel_tried keys_seen pin_found presented pin_presented pin_verified addressed arr_found ruling_record may held_by reading binary_read file_selected selecting selection_of chosen chosen_by_identifier descriptor_in descriptors_in file_found created creating deleted deleting resized resizing asked_in told template object room_at free_number
+unfolding refused_if given and_given command_in fields_in instruction_tried carried_out file_outcome contents_outcome tree_outcome tried answer_of woken woken_boxes channel_tried keys_seen pin_found presented pin_presented pin_verified addressed arr_found ruling_record may held_by reading binary_file read_from binary_read file_selected selecting selection_of chosen chosen_by_identifier descriptor_in descriptors_in file_found created creating deleted deleting resized resizing asked_in told template object room_at free_number
 no_room = refl
 
 -- ---- classes
@@ -146,7 +148,7 @@ told_by_class : replies first_card (
     ∷ (0x00 ∷ 0xD5 ∷ 0x00 ∷ 0x00 ∷ 0x00 ∷ [])
     ∷ [])
     ≡ (0x69 ∷ 0x82 ∷ []) ∷ (0x69 ∷ 0x82 ∷ []) ∷ (0x6E ∷ 0x00 ∷ []) ∷ (0x6E ∷ 0x00 ∷ []) ∷ (0x6E ∷ 0x00 ∷ []) ∷ (0x6E ∷ 0x00 ∷ []) ∷ (0x6D ∷ 0x00 ∷ []) ∷ []
-unfolding refused_if given and_given command_in fields_in instruction_tried carried_out tried answer_of woken woken_boxes channel_tried keys_seen pin_found presented pin_presented pin_verified addressed arr_found ruling_record may held_by reading binary_read file_selected selecting selection_of chosen chosen_by_identifier descriptor_in descriptors_in file_found created creating deleted deleting resized resizing asked_in told template object room_at free_number applet_installed applet_deleted
+unfolding refused_if given and_given command_in fields_in instruction_tried carried_out file_outcome contents_outcome toolkit_outcome tree_outcome tried answer_of woken woken_boxes channel_tried keys_seen pin_found presented pin_presented pin_verified addressed arr_found ruling_record may held_by reading binary_file read_from binary_read file_selected selecting selection_of chosen chosen_by_identifier descriptor_in descriptors_in file_found created creating deleted deleting resized resizing asked_in told template object room_at free_number applet_installed applet_deleted
 told_by_class = refl
 
 -- a command on the tree of files is named by its class, on any channel, and its instruction byte; in another class the byte names none
@@ -166,5 +168,5 @@ named_by_class = refl
 -- the file, and nothing else, in one commit
 one_commit : map (λ state. state.files) (passed_of every (record first_card { verified = record { pin1 = false; pin2 = false; adm1 = true } }) (0x00 ∷ 0xE0 ∷ 0x00 ∷ 0x00 ∷ 0x10 ∷ 0x62 ∷ 0x0E ∷ 0x82 ∷ 0x02 ∷ 0x41 ∷ 0x21 ∷ 0x83 ∷ 0x02 ∷ 0x6F ∷ 0x50 ∷ 0x80 ∷ 0x02 ∷ 0x00 ∷ 0x04 ∷ 0x88 ∷ 0x00 ∷ []))
     ≡ three ∷ (three ++ ef 4 0x41 0x6F50 0 3995 4 (Bytes (replicate 4 0xFF)) ∷ []) ∷ []
-unfolding refused_if given and_given command_in fields_in instruction_tried carried_out tried answer_of woken woken_boxes channel_tried keys_seen pin_found presented pin_presented pin_verified addressed arr_found ruling_record may held_by reading binary_read file_selected selecting selection_of chosen chosen_by_identifier descriptor_in descriptors_in file_found created creating deleted deleting resized resizing asked_in told template object room_at free_number
+unfolding refused_if given and_given command_in fields_in instruction_tried carried_out file_outcome contents_outcome tree_outcome tried answer_of woken woken_boxes channel_tried keys_seen pin_found presented pin_presented pin_verified addressed arr_found ruling_record may held_by reading binary_file read_from binary_read file_selected selecting selection_of chosen chosen_by_identifier descriptor_in descriptors_in file_found created creating deleted deleting resized resizing asked_in told template object room_at free_number
 one_commit = refl

@@ -1,31 +1,26 @@
 -- What a card answers to a command, and what it is after it.
-use Rattle.std.specs.Prelude.{ℕ, ◌+◌, ◌==◌, ◌/◌, ◌||◌, Bool, true, false, if◌then◌else◌, List, [], ◌∷◌, ◌++◌, map, slice_set, Option, Some, None, unwrap_or, Result, Ok, Err}
+use Rattle.std.specs.Prelude.{ℕ, ◌+◌, ◌==◌, ◌/◌, ◌||◌, Bool, true, false, if◌then◌else◌, List, [], ◌∷◌, ◌++◌, map, slice_set, take, Option, Some, None, unwrap_or, Result, Ok, Err}
 use Rattle.uicc_types.specs.declared.answers.StatusWord.{StatusWord}
 use Rattle.uicc_types.specs.declared.answers.TheConstants.StatusWord.{DONE, END_OF_FILE, FILE_DEACTIVATED, WRONG_LENGTH}
 use Rattle.apdu_form.specs.Model.{Apdu, command_in}
 use Rattle.access_rules.specs.declared.rules.Verified.{Verified}
-use Rattle.card_layout.specs.Persistent.{Pin, Persistent}
+use Rattle.card_layout.specs.Persistent.{Pin as HeldPin, Persistent}
 use Rattle.file_model.specs.declared.selections.Selection.{Selection}
 use Rattle.file_model.specs.declared.selections.TheConstants.Selection.{AT_START}
 use Rattle.file_model.specs.Chains.{given, and_given}
 use Rattle.file_model.specs.Access.{keys_seen}
 use Rattle.file_model.specs.Outcomes.{FileOutcome, PinOutcome, last_of}
-use Rattle.file_model.specs.Selecting.{file_selected, status_told}
-use Rattle.file_model.specs.Binaries.{binary_read, binary_updated}
-use Rattle.file_model.specs.Records.{record_read, record_updated, searched, increased}
-use Rattle.file_model.specs.LifeCycles.{file_deactivated, file_activated}
-use Rattle.file_model.specs.Pins.{pin_verified, pin_changed, pin_disabled, pin_enabled, pin_unblocked}
+use Rattle.file_model.specs.Commands.{file_outcome, pin_outcome}
+use Rattle.file_model.specs.declared.commands.FileCommand.TheVariants.{Status}
+use Rattle.file_making.specs.Commands.{tree_outcome}
 use Rattle.file_making.specs.Outcomes.{TreeOutcome}
-use Rattle.file_making.specs.Creating.{created}
-use Rattle.file_making.specs.Deleting.{deleted}
-use Rattle.file_making.specs.Resizing.{resized}
 use Rattle.toolkit_model.specs.Commands.{polled, pending}
 use Rattle.card_model.specs.States.{CardState}
 use Rattle.card_model.specs.Channels.{ChannelOutcome, channel_of, selected_on, channel_tried}
 use Rattle.card_model.specs.Instructions.{instruction_tried, is_known, has_toolkit}
-use Rattle.card_model.specs.Toolkit.{ToolkitOutcome, toolkit_of, coming_to, states_passed, profile_taken, command_fetched, response_taken, envelope_taken, applet_installed, applet_deleted}
+use Rattle.card_model.specs.Toolkit.{ToolkitOutcome, toolkit_of, coming_to, states_passed, toolkit_outcome}
 use Rattle.card_model.specs.declared.instructions.Instruction.{Instruction}
-use Rattle.card_model.specs.declared.instructions.Instruction.TheVariants.{Select, Status, ReadBinary, UpdateBinary, ReadRecord, UpdateRecord, SearchRecord, Increase, DeactivateFile, ActivateFile, VerifyPin, ChangePin, DisablePin, EnablePin, UnblockPin, ManageChannel, TerminalProfile, Fetch, TerminalResponse, Envelope, InstallApplet, DeleteApplet, CreateFile, DeleteFile, ResizeFile}
+use Rattle.card_model.specs.declared.instructions.Instruction.TheVariants.{File, Pin, ManageChannel, Toolkit, Tree}
 
 -- The data of the answer and the status, the card after the command, and what it held for good after each of the command's
 -- commits, in order.
@@ -53,7 +48,7 @@ on_files card channel outcome = record {
   commits = outcome.passed;
 }
 
-abbrev pub with_pins : Persistent → List Pin → Persistent
+abbrev pub with_pins : Persistent → List HeldPin → Persistent
 with_pins persistent pins = record persistent { pins = pins }
 
 -- a PIN command changes the PINs and the marks of the keys, which all channels share
@@ -127,31 +122,11 @@ abbrev pub toolkit_tried : CardState → Result ToolkitOutcome StatusWord → Re
 toolkit_tried card outcome = and_given outcome (λ done. Ok (on_toolkit card done))
 
 unfoldable pub carried_out : Instruction → CardState → Apdu → Result Answered StatusWord
-carried_out Select card apdu = file_tried card apdu (file_selected card.persistent (selection_on card (channel_of apdu.class)) apdu)
-carried_out Status card apdu = file_tried card apdu (status_told card.persistent (selection_on card (channel_of apdu.class)) apdu)
-carried_out ReadBinary card apdu = file_tried card apdu (binary_read card.persistent (seen_by card) (selection_on card (channel_of apdu.class)) apdu)
-carried_out UpdateBinary card apdu = file_tried card apdu (binary_updated card.persistent (seen_by card) (selection_on card (channel_of apdu.class)) apdu)
-carried_out ReadRecord card apdu = file_tried card apdu (record_read card.persistent (seen_by card) (selection_on card (channel_of apdu.class)) apdu)
-carried_out UpdateRecord card apdu = file_tried card apdu (record_updated card.persistent (seen_by card) (selection_on card (channel_of apdu.class)) apdu)
-carried_out SearchRecord card apdu = file_tried card apdu (searched card.persistent (seen_by card) (selection_on card (channel_of apdu.class)) apdu)
-carried_out Increase card apdu = file_tried card apdu (increased card.persistent (seen_by card) (selection_on card (channel_of apdu.class)) apdu)
-carried_out DeactivateFile card apdu = file_tried card apdu (file_deactivated card.persistent (seen_by card) (selection_on card (channel_of apdu.class)) apdu)
-carried_out ActivateFile card apdu = file_tried card apdu (file_activated card.persistent (seen_by card) (selection_on card (channel_of apdu.class)) apdu)
-carried_out VerifyPin card apdu = pin_tried card (pin_verified card.persistent.pins card.verified apdu)
-carried_out ChangePin card apdu = pin_tried card (pin_changed card.persistent.pins card.verified apdu)
-carried_out DisablePin card apdu = pin_tried card (pin_disabled card.persistent.pins card.verified apdu)
-carried_out EnablePin card apdu = pin_tried card (pin_enabled card.persistent.pins card.verified apdu)
-carried_out UnblockPin card apdu = pin_tried card (pin_unblocked card.persistent.pins card.verified apdu)
+carried_out (File command) card apdu = file_tried card apdu (file_outcome command card.persistent (seen_by card) (selection_on card (channel_of apdu.class)) apdu)
+carried_out (Pin command) card apdu = pin_tried card (pin_outcome command card.persistent.pins card.verified apdu)
 carried_out ManageChannel card apdu = managed card (channel_tried card.channels (selection_on card (channel_of apdu.class)) apdu)
-carried_out TerminalProfile card apdu = toolkit_tried card (profile_taken card apdu)
-carried_out Fetch card apdu = toolkit_tried card (command_fetched card apdu)
-carried_out TerminalResponse card apdu = toolkit_tried card (response_taken card apdu)
-carried_out Envelope card apdu = toolkit_tried card (envelope_taken card apdu)
-carried_out InstallApplet card apdu = toolkit_tried card (applet_installed card (seen_by card) apdu)
-carried_out DeleteApplet card apdu = toolkit_tried card (applet_deleted card (seen_by card) apdu)
-carried_out CreateFile card apdu = tree_tried card (created card.persistent (seen_by card) card.channels (channel_of apdu.class) apdu)
-carried_out DeleteFile card apdu = tree_tried card (deleted card.persistent (seen_by card) card.channels (channel_of apdu.class) apdu)
-carried_out ResizeFile card apdu = tree_tried card (resized card.persistent (seen_by card) card.channels (channel_of apdu.class) apdu)
+carried_out (Toolkit command) card apdu = toolkit_tried card (toolkit_outcome command card (seen_by card) apdu)
+carried_out (Tree command) card apdu = tree_tried card (tree_outcome command card.persistent (seen_by card) card.channels (channel_of apdu.class) apdu)
 
 -- ---- STATUS as an event
 
@@ -162,7 +137,7 @@ then_polled answered =
     record answered { state = later.state; commits = answered.commits ++ later.commits }
 
 abbrev pub is_status : Instruction → Bool
-is_status Status = true
+is_status (File Status) = true
 is_status _ = false
 
 abbrev pub event_told : Bool → Answered → Answered
@@ -182,12 +157,22 @@ abbrev pub settled : CardState → Result Answered StatusWord → Answered
 settled card (Err status) = refused card status
 settled card (Ok answered) = answered
 
--- the whole order of refusals: the form, the class, the channel, the instruction, and then the command's own
+-- Le bounds the data of an answer; without Le all of them are answered (ISO 7816-4, 5.1)
+abbrev pub cut_to : Option ℕ → List ℕ → List ℕ
+cut_to None body = body
+cut_to (Some expected) body = take expected body
+
+abbrev pub cut_answer : Option ℕ → Answered → Answered
+cut_answer expected answered = record answered { body = cut_to expected answered.body }
+
+-- the whole order of refusals: the form, the class, the channel, the instruction, and then the command's own; the data of what comes
+-- of it are cut to Le
 unfoldable pub tried : (Instruction → Bool) → CardState → List ℕ → Result Answered StatusWord
 tried knows card bytes =
     given (command_in bytes) WRONG_LENGTH (λ apdu.
     and_given (instruction_tried knows card.channels apdu.class apdu.ins) (λ instruction.
-    carried_with (has_toolkit knows) instruction card apdu))
+    and_given (carried_with (has_toolkit knows) instruction card apdu) (λ answered.
+    Ok (cut_answer apdu.expected answered))))
 
 -- Where a command is done and a command of the toolkit is there to be fetched, the status says how many bytes it has (ETSI
 -- TS 102 221, 7.4.2.1).

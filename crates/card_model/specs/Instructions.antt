@@ -6,8 +6,14 @@ use Rattle.uicc_types.specs.declared.answers.TheConstants.StatusWord.{NO_SUCH_CL
 use Rattle.file_model.specs.Chains.{refused_if, given, needs}
 use Rattle.file_model.specs.declared.selections.Selection.{Selection}
 use Rattle.card_model.specs.Channels.{family, is_class, asks_secure_messaging, channel_of, is_open}
+use Rattle.file_model.specs.declared.commands.ContentsCommand.TheVariants.{ReadBinary, UpdateBinary, ReadRecord, UpdateRecord, SearchRecord, Increase, Deactivate, Activate}
+use Rattle.file_model.specs.declared.commands.FileCommand.TheVariants.{Select, Status, Contents}
+use Rattle.file_model.specs.declared.commands.PinCommand.TheVariants as pin
+use Rattle.file_making.specs.declared.commands.TreeCommand.TheVariants as tree
 use Rattle.card_model.specs.declared.instructions.Instruction.{Instruction}
-use Rattle.card_model.specs.declared.instructions.Instruction.TheVariants.{Select, Status, ReadBinary, UpdateBinary, ReadRecord, UpdateRecord, SearchRecord, Increase, DeactivateFile, ActivateFile, VerifyPin, ChangePin, DisablePin, EnablePin, UnblockPin, ManageChannel, TerminalProfile, Fetch, TerminalResponse, Envelope, InstallApplet, DeleteApplet, CreateFile, DeleteFile, ResizeFile}
+use Rattle.card_model.specs.declared.instructions.Instruction.TheVariants.{File, Pin, ManageChannel, Toolkit, Tree}
+use Rattle.card_model.specs.declared.instructions.ToolkitCommand.{ToolkitCommand}
+use Rattle.card_model.specs.declared.instructions.ToolkitCommand.TheVariants.{TerminalProfile, Fetch, TerminalResponse, Envelope, InstallApplet, DeleteApplet}
 
 -- a command with its class, without the channel, and its instruction byte; those between the toolkit and the handset are taken
 -- on the basic channel alone
@@ -25,31 +31,31 @@ basic_row class ins instruction = record { class = class; ins = ins; instruction
 
 abbrev pub instructions : List InstructionRow
 instructions =
-    row 0x00 0xA4 Select
-    ∷ row 0x80 0xF2 Status
-    ∷ row 0x00 0xB0 ReadBinary
-    ∷ row 0x00 0xD6 UpdateBinary
-    ∷ row 0x00 0xB2 ReadRecord
-    ∷ row 0x00 0xDC UpdateRecord
-    ∷ row 0x00 0xA2 SearchRecord
-    ∷ row 0x80 0x32 Increase
-    ∷ row 0x00 0x04 DeactivateFile
-    ∷ row 0x00 0x44 ActivateFile
-    ∷ row 0x00 0x20 VerifyPin
-    ∷ row 0x00 0x24 ChangePin
-    ∷ row 0x00 0x26 DisablePin
-    ∷ row 0x00 0x28 EnablePin
-    ∷ row 0x00 0x2C UnblockPin
+    row 0x00 0xA4 (File Select)
+    ∷ row 0x80 0xF2 (File Status)
+    ∷ row 0x00 0xB0 (File (Contents ReadBinary))
+    ∷ row 0x00 0xD6 (File (Contents UpdateBinary))
+    ∷ row 0x00 0xB2 (File (Contents ReadRecord))
+    ∷ row 0x00 0xDC (File (Contents UpdateRecord))
+    ∷ row 0x00 0xA2 (File (Contents SearchRecord))
+    ∷ row 0x80 0x32 (File (Contents Increase))
+    ∷ row 0x00 0x04 (File (Contents Deactivate))
+    ∷ row 0x00 0x44 (File (Contents Activate))
+    ∷ row 0x00 0x20 (Pin pin.Verify)
+    ∷ row 0x00 0x24 (Pin pin.Change)
+    ∷ row 0x00 0x26 (Pin pin.Disable)
+    ∷ row 0x00 0x28 (Pin pin.Enable)
+    ∷ row 0x00 0x2C (Pin pin.Unblock)
     ∷ row 0x00 0x70 ManageChannel
-    ∷ basic_row 0x80 0x10 TerminalProfile
-    ∷ basic_row 0x80 0x12 Fetch
-    ∷ basic_row 0x80 0x14 TerminalResponse
-    ∷ basic_row 0x80 0xC2 Envelope
-    ∷ row 0xF0 0xE6 InstallApplet
-    ∷ row 0xF0 0xE4 DeleteApplet
-    ∷ row 0x00 0xE0 CreateFile
-    ∷ row 0x00 0xE4 DeleteFile
-    ∷ row 0x80 0xD4 ResizeFile
+    ∷ basic_row 0x80 0x10 (Toolkit TerminalProfile)
+    ∷ basic_row 0x80 0x12 (Toolkit Fetch)
+    ∷ basic_row 0x80 0x14 (Toolkit TerminalResponse)
+    ∷ basic_row 0x80 0xC2 (Toolkit Envelope)
+    ∷ row 0xF0 0xE6 (Toolkit InstallApplet)
+    ∷ row 0xF0 0xE4 (Toolkit DeleteApplet)
+    ∷ row 0x00 0xE0 (Tree tree.Create)
+    ∷ row 0x00 0xE4 (Tree tree.Delete)
+    ∷ row 0x80 0xD4 (Tree tree.Resize)
     ∷ []
 
 -- the rows of the commands that a card knows
@@ -82,31 +88,24 @@ is_known instruction = true
 
 -- ---- applets
 
--- those between the toolkit and the handset, and those that install and delete applets
-abbrev pub toolkit_instructions : List Instruction
-toolkit_instructions = TerminalProfile ∷ Fetch ∷ TerminalResponse ∷ Envelope ∷ InstallApplet ∷ DeleteApplet ∷ []
+-- the commands between the toolkit and the terminal, and those that install and delete applets
+abbrev pub toolkit_commands : List ToolkitCommand
+toolkit_commands = TerminalProfile ∷ Fetch ∷ TerminalResponse ∷ Envelope ∷ InstallApplet ∷ DeleteApplet ∷ []
 
 -- a card that knows one of them runs applets
 abbrev pub has_toolkit : (Instruction → Bool) → Bool
-has_toolkit knows = list_any knows toolkit_instructions
+has_toolkit knows = list_any (λ command. knows (Toolkit command)) toolkit_commands
 
 -- whether it is one of those
 abbrev pub is_of_toolkit : Instruction → Bool
-is_of_toolkit TerminalProfile = true
-is_of_toolkit Fetch = true
-is_of_toolkit TerminalResponse = true
-is_of_toolkit Envelope = true
-is_of_toolkit InstallApplet = true
-is_of_toolkit DeleteApplet = true
+is_of_toolkit (Toolkit command) = true
 is_of_toolkit _ = false
 
 -- ---- the tree of files
 
 -- those that make, delete and resize files
 abbrev pub is_of_tree : Instruction → Bool
-is_of_tree CreateFile = true
-is_of_tree DeleteFile = true
-is_of_tree ResizeFile = true
+is_of_tree (Tree command) = true
 is_of_tree _ = false
 
 -- the class without the channel, and the instruction byte, of one of these; DELETE of an applet shares its byte with DELETE FILE

@@ -3,6 +3,7 @@ pub mod Channels
 pub mod Instructions
 pub mod Chained
 pub mod Naming
+pub mod Cases
 pub mod OtherFiles
 pub mod Toolkit
 pub mod Answers

@@ -3,17 +3,26 @@ use Rattle.std.proofs.Common.{◌≡◌, ℕ, Bool, true, false, List, [], ◌�
 use Rattle.std.specs.Prelude.{◌==◌, if◌then◌else◌, MatchResult, ⊤, Result}
 use Rattle.uicc_types.specs.declared.answers.StatusWord.{StatusWord}
 use Rattle.access_rules.specs.declared.rules.Op.{Op}
+use Rattle.access_rules.specs.declared.rules.Op.TheVariants as op
 use Rattle.access_rules.specs.declared.rules.Verified.{Verified}
 use Rattle.apdu_form.specs.Model.{Apdu}
 use Rattle.card_layout.specs.Changing.{with_file_changed, with_life, with_newest_record, with_record}
+use Rattle.card_layout.specs.Kinds.{activated, deactivated}
 use Rattle.card_layout.specs.Persistent.{Persistent}
 use Rattle.file_model.specs.declared.descriptors.Descriptor.{Descriptor}
 use Rattle.file_model.specs.declared.selections.Selection.{Selection}
 use Rattle.file_model.specs.Outcomes.{FileOutcome}
 use Rattle.file_model.specs.Selecting.{selecting, file_selected, telling, status_told}
-use Rattle.file_model.specs.Binaries.{reading, binary_read, updating, binary_updated}
-use Rattle.file_model.specs.Records.{is_cyclic, record_reading, record_read, record_updating, record_updated, searching, searched, increasing, increased}
-use Rattle.file_model.specs.LifeCycles.{bringing, life_changed}
+use Rattle.file_model.specs.Binaries.{reading, read_from, binary_read, updating, update_in, binary_updated}
+use Rattle.file_model.specs.Records.{is_cyclic, record_reading, record_read_from, record_read, record_updating, record_update_in, record_updated, searching, search_in, searched, increasing, increase_in, increased}
+use Rattle.file_model.specs.LifeCycles.{bringing, life_in, life_changed}
+use Rattle.file_model.specs.Commands.{contents_outcome, file_outcome}
+use Rattle.file_model.specs.declared.commands.ContentsCommand.TheVariants.{ReadBinary, UpdateBinary, ReadRecord, UpdateRecord, SearchRecord, Increase, Deactivate, Activate}
+use Rattle.file_model.specs.declared.commands.FileCommand.{FileCommand}
+use Rattle.file_model.specs.declared.commands.FileCommand.TheVariants.{Select, Status, Contents}
+use Rattle.file_making.specs.declared.commands.TreeCommand.{TreeCommand}
+use Rattle.file_making.specs.declared.commands.TreeCommand.TheVariants.{Create, Delete, Resize}
+use Rattle.file_making.specs.Commands.{tree_outcome}
 use Rattle.file_making.specs.Outcomes.{TreeOutcome}
 use Rattle.file_making.specs.Creating.{creating, created}
 use Rattle.file_making.specs.Deleting.{deleting, deleted}
@@ -41,55 +50,27 @@ module _ (state : Persistent) (seen : Verified) (selection : Selection) (apdu : 
   abbrev P : FileOutcome → Type 0
   P outcome = HaveOtherFiles state outcome.passed
 
-  pub select_leaves : Leaves (file_selected state selection apdu)
-  unfolding file_selected selecting
-  select_leaves = past P _ _ _ (past P _ _ _ (past_given P _ _ _ (λ file. tt)))
-
-  pub status_leaves : Leaves (status_told state selection apdu)
-  unfolding status_told telling
-  status_leaves = past P _ _ _ (past P _ _ _ (past_given P _ _ _ (λ file. tt)))
-
-  pub read_binary_leaves : Leaves (binary_read state seen selection apdu)
-  unfolding binary_read reading
-  read_binary_leaves = past P _ _ _ (past P _ _ _ (past_result P _ _ (λ file. past P _ _ _ (past P _ _ _ (past P _ _ _ (past P _ _ _ tt))))))
-
-  pub update_binary_leaves : Leaves (binary_updated state seen selection apdu)
-  unfolding binary_updated updating with_file_changed
-  update_binary_leaves = past P _ _ _ (past P _ _ _ (past_result P _ _ (λ file. past P _ _ _ (past P _ _ _ (past P _ _ _ (past P _ _ _ (refl, tt)))))))
-
-  pub read_record_leaves : Leaves (record_read state seen selection apdu)
-  unfolding record_read record_reading
-  read_record_leaves =
-      past P _ _ _ (past P _ _ _ (past_result P _ _ (λ file. past P _ _ _ (past P _ _ _ (past P _ _ _ (past_given P _ _ _ (λ number. past P _ _ _ tt)))))))
-
   record_leaves : (cyclic : Bool) (file : Descriptor) (number : ℕ) → IsWithFiles state (if cyclic then with_newest_record file.number apdu.body state else with_record file.number number apdu.body state)
   unfolding with_file_changed
   record_leaves true file number = refl
   record_leaves false file number = refl
 
-  pub update_record_leaves : Leaves (record_updated state seen selection apdu)
-  unfolding record_updated record_updating
-  update_record_leaves =
-      past P _ _ _ (past P _ _ _ (past_result P _ _ (λ file. past P _ _ _ (past P _ _ _ (past P _ _ _ (past_given P _ _ _ (λ number.
-      past P _ _ _ (record_leaves (is_cyclic file) file _, tt))))))))
+  life_leaves : (op : Op) (life : ℕ) → Leaves (life_changed op life state seen selection apdu)
+  unfolding life_changed life_in bringing with_file_changed
+  life_leaves op life = past_result P _ _ (λ file. past P _ _ _ (one_or_none state (file.life == life) (with_life file.number life state) refl))
 
-  pub search_leaves : Leaves (searched state seen selection apdu)
-  unfolding searched searching
-  search_leaves =
-      past P _ _ _ (past P _ _ _ (past_result P _ _ (λ file. past P _ _ _ (past P _ _ _ (past P _ _ _ (past_given P _ _ _ (λ number. past P _ _ _ tt)))))))
-
-  pub increase_leaves : Leaves (increased state seen selection apdu)
-  unfolding increased increasing with_file_changed
-  increase_leaves =
-      past P _ _ _ (past P _ _ _ (past_result P _ _ (λ file. past P _ _ _ (past P _ _ _ (past P _ _ _ (past P _ _ _ (past P _ _ _ (refl, tt))))))))
-
-  life_leaves : (life : ℕ) (file : Descriptor) → HaveOtherFiles state (bringing state selection life file).passed
-  unfolding bringing with_file_changed
-  life_leaves life file = one_or_none state (file.life == life) (with_life file.number life state) refl
-
-  pub life_change_leaves : (op : Op) (life : ℕ) → Leaves (life_changed op life state seen selection apdu)
-  unfolding life_changed
-  life_change_leaves op life = past P _ _ _ (past P _ _ _ (past_result P _ _ (λ file. past P _ _ _ (life_leaves life file))))
+  pub file_leaves : (command : FileCommand) → Leaves (file_outcome command state seen selection apdu)
+  unfolding file_outcome contents_outcome file_selected selecting status_told telling binary_read read_from reading binary_updated update_in updating record_read record_read_from record_reading record_updated record_update_in record_updating searched search_in searching increased increase_in increasing with_file_changed
+  file_leaves Select = past P _ _ _ (past P _ _ _ (past_given P _ _ _ (λ file. tt)))
+  file_leaves Status = past P _ _ _ (past P _ _ _ (past_given P _ _ _ (λ file. tt)))
+  file_leaves (Contents ReadBinary) = past_result P _ _ (λ file. past P _ _ _ (past P _ _ _ tt))
+  file_leaves (Contents UpdateBinary) = past_result P _ _ (λ file. past P _ _ _ (past P _ _ _ (refl, tt)))
+  file_leaves (Contents ReadRecord) = past_result P _ _ (λ file. past P _ _ _ (past_result P _ _ (λ number. tt)))
+  file_leaves (Contents UpdateRecord) = past_result P _ _ (λ file. past P _ _ _ (past_result P _ _ (λ number. (record_leaves (is_cyclic file) file _, tt))))
+  file_leaves (Contents SearchRecord) = past_result P _ _ (λ file. past P _ _ _ (past_result P _ _ (λ from. tt)))
+  file_leaves (Contents Increase) = past_result P _ _ (λ file. past P _ _ _ (past_result P _ _ (λ sum. (refl, tt))))
+  file_leaves (Contents Deactivate) = life_leaves op.Deactivate deactivated
+  file_leaves (Contents Activate) = life_leaves op.Activate activated
 
 -- ---- commands that make, delete and resize files
 
@@ -100,19 +81,10 @@ module _ (state : Persistent) (seen : Verified) (channels : List (Option Selecti
   abbrev T : TreeOutcome → Type 0
   T outcome = HaveOtherFiles state outcome.passed
 
-  pub create_leaves : TreeLeaves (created state seen channels channel apdu)
-  unfolding created creating
-  create_leaves = past T _ _ _ (past T _ _ _ (past T _ _ _ (past_given T _ _ _ (λ asked. past T _ _ _ (past_given T _ _ _ (λ file. (refl, tt)))))))
-
-  pub delete_leaves : TreeLeaves (deleted state seen channels channel apdu)
-  unfolding deleted deleting
-  delete_leaves = past T _ _ _ (past T _ _ _ (past_given T _ _ _ (λ file. past T _ _ _ (past T _ _ _ (refl, tt)))))
-
-  size_leaves : (size : ℕ) (file : Descriptor) → HaveOtherFiles state (resizing state channels size file).passed
-  unfolding resizing
-  size_leaves size file = one_or_none state (file.size == size) _ refl
-
-  pub resize_leaves : TreeLeaves (resized state seen channels channel apdu)
-  unfolding resized
-  resize_leaves =
-      past T _ _ _ (past T _ _ _ (past_given T _ _ _ (λ file. past T _ _ _ (past T _ _ _ (past T _ _ _ (past T _ _ _ (past T _ _ _ (size_leaves (size_asked apdu) file))))))))
+  pub tree_leaves : (command : TreeCommand) → TreeLeaves (tree_outcome command state seen channels channel apdu)
+  unfolding tree_outcome created creating deleted deleting resized resizing
+  tree_leaves Create = past T _ _ _ (past T _ _ _ (past T _ _ _ (past_given T _ _ _ (λ asked. past T _ _ _ (past_given T _ _ _ (λ file. (refl, tt)))))))
+  tree_leaves Delete = past T _ _ _ (past T _ _ _ (past_given T _ _ _ (λ file. past T _ _ _ (past T _ _ _ (refl, tt)))))
+  tree_leaves Resize =
+      past T _ _ _ (past T _ _ _ (past_given T _ _ _ (λ file. past T _ _ _ (past T _ _ _ (past T _ _ _ (past T _ _ _ (past T _ _ _
+      (one_or_none state (file.size == size_asked apdu) _ refl))))))))

@@ -8,7 +8,7 @@ use Rattle.access_rules.specs.declared.rules.Verified.{Verified}
 use Rattle.card_layout.specs.Persistent.{Registration, Persistent}
 use Rattle.toolkit_commands.specs.Envelopes.{envelope_of}
 use Rattle.file_model.specs.Chains.{refused_if, given, and_given, needs}
-use Rattle.file_model.specs.Outcomes.{cut_to, has_data, has_no_data, has_le_alone}
+use Rattle.file_model.specs.Outcomes.{has_data, has_no_data, has_le_alone}
 use Rattle.file_model.specs.Records.{other_length}
 use Rattle.toolkit_model.specs.declared.faults.RowFault.{RowFault}
 use Rattle.toolkit_model.specs.declared.faults.RowFault.TheVariants.{BadData, NoBox, Narrow, Taken, MenuFull, Spent, NoRow, NotIdle}
@@ -19,6 +19,8 @@ use Rattle.toolkit_model.specs.Running.{mind_on}
 use Rattle.toolkit_model.specs.Driving.{is_idle}
 use Rattle.toolkit_model.specs.Commands.{profiled, enveloped, is_busy, call_data, unfetched, unanswered, bytes_of, fetched, reply_to, responded, installed, deleted}
 use Rattle.card_model.specs.States.{CardState}
+use Rattle.card_model.specs.declared.instructions.ToolkitCommand.{ToolkitCommand}
+use Rattle.card_model.specs.declared.instructions.ToolkitCommand.TheVariants.{TerminalProfile, Fetch, TerminalResponse, Envelope, InstallApplet, DeleteApplet}
 
 -- A command of the toolkit was carried out: the data of its answer, what the toolkit came to, and the next sequence number of a
 -- row, which stands in each commit.
@@ -89,7 +91,7 @@ envelope_taken card apdu =
     needs (has_data apdu) WRONG_LENGTH (
     given (envelope_of apdu.body) WRONG_DATA (λ envelope.
     refused_if (is_busy envelope (toolkit_of card)) TOOLKIT_BUSY (
-    Ok (coming_to card (cut_to apdu.expected (call_data envelope (toolkit_of card))) (enveloped envelope (toolkit_of card)))))))
+    Ok (coming_to card (call_data envelope (toolkit_of card)) (enveloped envelope (toolkit_of card)))))))
 
 -- ---- INSTALL and DELETE, which this card has of its own
 
@@ -132,3 +134,14 @@ applet_deleted card seen apdu =
     needs seen.adm1 SECURITY_NOT_SATISFIED (
     and_given (row_or_status (deleted_row card.persistent.rows apdu.p2 (is_idle (asks card.session) apdu.p2))) (λ row.
     Ok (coming_to card [] (deleted row.shelf (toolkit_of card)))))))
+
+-- ---- the commands by their names
+
+-- what a command of the toolkit comes to, or its refusal
+unfoldable pub toolkit_outcome : ToolkitCommand → CardState → Verified → Apdu → Result ToolkitOutcome StatusWord
+toolkit_outcome TerminalProfile card seen apdu = profile_taken card apdu
+toolkit_outcome Fetch card seen apdu = command_fetched card apdu
+toolkit_outcome TerminalResponse card seen apdu = response_taken card apdu
+toolkit_outcome Envelope card seen apdu = envelope_taken card apdu
+toolkit_outcome InstallApplet card seen apdu = applet_installed card seen apdu
+toolkit_outcome DeleteApplet card seen apdu = applet_deleted card seen apdu

@@ -5,5 +5,5 @@
 mod instructions;
 mod laws;
 
-pub use instructions::Instruction;
+pub use instructions::{Instruction, ToolkitCommand};
 pub use laws::{answers_are_lawful, plans_are_set_in_order, restarts_are_good, runs_are_counted};

@@ -12,7 +12,7 @@ use Rattle.card_layout.specs.Persistent.{Contents, Bytes, Records, File, Persist
 use Rattle.card_layout.specs.Soundness.{mf}
 use Rattle.file_model.specs.declared.selections.Selection.{Selection}
 use Rattle.file_model.specs.Access.{may}
-use Rattle.file_model.specs.Binaries.{reading, binary_read}
+use Rattle.file_model.specs.Binaries.{binary_file, read_from, reading, binary_read}
 use Rattle.file_model.specs.Chains.{refused_if, given, and_given}
 use Rattle.file_model.specs.Files.{descriptor_in, descriptors_in, file_found}
 use Rattle.file_model.specs.Holdings.{held_by}
@@ -313,5 +313,5 @@ abbrev read_four : Apdu
 read_four = record { class = 0x00; ins = 0xB0; p1 = 0x00; p2 = 0x00; body = []; expected = Some 4 }
 
 it_is_blank : binary_read with_made admin (at_ef 0 4) read_four ≡ Ok (record { body = replicate 4 0xFF; status = DONE; selection = at_ef 0 4; passed = [] })
-unfolding binary_read reading refused_if given and_given may file_found descriptors_in descriptor_in addressed held_by
+unfolding binary_file read_from binary_read reading refused_if given and_given may file_found descriptors_in descriptor_in addressed held_by
 it_is_blank = refl

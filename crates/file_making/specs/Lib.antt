@@ -1,3 +1,4 @@
+pub mod Commands
 pub mod Creating
 pub mod Deleting
 pub mod Entries

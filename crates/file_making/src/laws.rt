@@ -2,6 +2,8 @@
 ghost use Rattle.file_making.specs.Laws.{RoomsAreSmallest, RoomsAreOne, ReadsTemplatesAlone, ReadsAllTemplates};
 ghost use Rattle.file_making.specs.OneFile.{CreatesOneFile, DeletesOneFile, ResizesOneFile};
 ghost use Rattle.file_making.specs.Standing.{RoomsAreFree, MadeBytesAreFree, MadeFilesStand, GrownFilesStand, ShrunkFilesStand, DeletedFilesStand};
+ghost use Rattle.file_making.specs.declared.commands.TreeCommand.{TreeCommand};
+ghost use Rattle.file_making.specs.Commands.{tree_outcome};
 ghost use Rattle.file_making.specs.Creating.{created};
 ghost use Rattle.file_making.specs.Deleting.{deleted};
 ghost use Rattle.file_making.specs.Resizing.{resized};
@@ -25,9 +27,7 @@ pub fn templates_are_read()
 /// Each command keeps the card sound and every selection lawful, on all channels, commits at most once, and is refused in known
 /// ways alone, in which it changes nothing.
 pub fn commands_on_trees_are_lawful()
-    ensures create { IsLawfulTreeCommand created }
-    ensures delete { IsLawfulTreeCommand deleted }
-    ensures resize { IsLawfulTreeCommand resized }
+    ensures { (command : TreeCommand) → IsLawfulTreeCommand (tree_outcome command) }
 {
     states_stay_sound();
 }

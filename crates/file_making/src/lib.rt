@@ -3,12 +3,14 @@
 #![tactic(auto)]
 
 mod asked;
+mod commands;
 mod entries;
 mod laws;
 mod rooms;
 mod templates;
 
 pub use asked::NewFile;
+pub use commands::TreeCommand;
 pub use entries::{NewEntry, new_entry};
 pub use laws::{
     commands_on_trees_are_lawful, one_file_comes, one_file_goes, one_file_is_resized,

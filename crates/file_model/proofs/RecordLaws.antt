@@ -1,9 +1,9 @@
 -- READ RECORD, UPDATE RECORD, SEARCH RECORD and INCREASE come to lawful outcomes.
 use Rattle.std.proofs.Common.{◌≡◌, ℕ, zero, suc, ◌+◌, ◌-◌, ◌<◌, ◌≤◌, Bool, true, false, List, [], ◌∷◌, ◌++◌, length, reverse, Option, Some, None, refl, sym, ◌∙◌, ap, subst, inl, inr, ⊎_elim, arith, length-append}
-use Rattle.std.specs.Prelude.{◌==◌, ◌||◌, not, nat_lt, nat_le, if◌then◌else◌, IsTrue, Contains, All, IfSome, slice_index_or}
+use Rattle.std.specs.Prelude.{◌==◌, ◌||◌, not, nat_lt, nat_le, if◌then◌else◌, IsTrue, Contains, All, IfSome, slice_index_or, MatchResult}
 use Rattle.std.specs.List.{range_with_len}
 use Rattle.std.proofs.lemmas.Bool.{ltb-true, leb-true, not-false, eqb-true, eqb-false, cases_lt, and_parts}
-use Rattle.std.proofs.lemmas.List.{length-take, length-reverse, get_or-reverse, get_or_past}
+use Rattle.std.proofs.lemmas.List.{length-reverse, get_or-reverse, get_or_past}
 use Rattle.std.proofs.lemmas.List.FromFn.{length-range_with_len, get_or-range_with_len}
 use Rattle.std.proofs.lemmas.List.Sums.{length-filter, count_by-le-length}
 use Rattle.std.proofs.lemmas.List.Elements.{All-contains, All-filter, All-head}
@@ -21,14 +21,14 @@ use Rattle.file_model.specs.declared.selections.Selection.{Selection}
 use Rattle.file_model.specs.Files.{record_width, record_count, descriptor_in, descriptors_in}
 use Rattle.file_model.specs.Selections.{IsSelection}
 use Rattle.file_model.specs.Holdings.{records_held, held_by, records_in, contents_if}
-use Rattle.file_model.specs.Outcomes.{addressed, pointer_before, worked_on, cut_to}
-use Rattle.file_model.specs.Records.{mode_bits, next_mode, previous_mode, absolute_mode, forward_mode, short_in_p2, is_cyclic, next_record, previous_record, absolute_record, record_named, pointer_after, record_reading, record_read, may_be_updated, number_updated, record_updating, record_updated, has_within, numbers_searched, numbers_matched, match_pointer, searching, searched, short_to_increase, bytes_of, sum_of, may_be_increased, has_increase_length, increasing, increased}
+use Rattle.file_model.specs.Outcomes.{has_data, has_le_alone, addressed, pointer_before, worked_on}
+use Rattle.file_model.specs.Records.{mode_bits, next_mode, previous_mode, absolute_mode, forward_mode, short_in_p2, is_cyclic, has_record_parameters, next_record, previous_record, absolute_record, record_named, pointer_after, record_file, file_to_read, number_to_read, record_reading, record_read_from, record_read, may_be_updated, number_updated, file_to_update, number_to_update, record_updating, record_update_in, record_updated, has_search_parameters, has_within, numbers_searched, numbers_matched, match_pointer, file_to_search, number_to_search, searching, search_in, searched, short_to_increase, sum_of, may_be_increased, has_increase_parameters, has_increase_length, file_to_increase, sum_to_write, increasing, increase_in, increased}
 use Rattle.file_model.specs.Laws.{HasSameAttributes, IsSoundCard, IsLawfulOutcome, IsFileRefusal, IsLawfulCommand}
 use Rattle.file_model.specs.Chained.{unless_so, given_so, and_given_so}
 use Rattle.file_model.proofs.Parts.{length-bytes_of}
 use Rattle.file_model.proofs.Shapes.{some_records, few_records, each_width, record_put_so, record_pushed_so}
 use Rattle.file_model.proofs.Changed.{numbers_ascend}
-use Rattle.file_model.proofs.Selected.{IsOf, IsAddressed, addressed_so, worked_so}
+use Rattle.file_model.proofs.Selected.{IsAddressed, addressed_so, worked_so}
 use Rattle.file_model.proofs.Committed.{good, unchanged_so, committed_so}
 
 -- the number of a record of the file
@@ -106,6 +106,23 @@ has_records_so state whole card there has ef =
       short = All-contains (λ (f : File). record_width f.contents ≤ 255) state.files whole card.short there;
     }
 
+-- what a command on records works on: it is there, of the structure that is wanted, and the command has the length that is wanted
+record IsTarget (state : Persistent) (selection : Selection) (short : Option ℕ) (fits : Descriptor → Bool) (has_length : Bool) (file : Descriptor) : Type 0 where
+  there : IsAddressed state selection short file
+  fits_it : fits file ≡ true
+  long : has_length ≡ true
+
+target_so : (state : Persistent) (selection : Selection) (short : Option ℕ) (fits : Descriptor → Bool) (has_parameters has_length : Bool) → IsSoundCard state → IsSelection (descriptors_in state) selection
+    → MatchResult (record_file has_parameters has_length fits (descriptors_in state) selection short) (IsTarget state selection short fits has_length) IsFileRefusal
+unfolding record_file
+target_so state selection short fits has_parameters has_length card lawful =
+    let P : Descriptor → Type 0 = IsTarget state selection short fits has_length in
+    unless_so P IsFileRefusal _ _ _ (inl (0, omega arith, refl)) (λ _.
+    unless_so P IsFileRefusal _ _ _ (inl (1, omega arith, refl)) (λ long.
+    and_given_so (IsAddressed state selection short) P IsFileRefusal (addressed (descriptors_in state) selection short) _ (addressed_so state selection short card.sound lawful) (λ file found.
+    unless_so P IsFileRefusal _ _ _ (inl (4, omega arith, refl)) (λ fit.
+    unless_so P IsFileRefusal _ _ _ (inl (5, omega arith, refl)) (λ _. record { there = found; fits_it = not-false (fits file) fit; long = not-false has_length long })))))
+
 -- what holds of a file with records holds of what is known of it
 on_whole : (state : Persistent) (card : IsSoundCard state) (short : Option ℕ) (file : Descriptor) (selection : Selection) (found : IsAddressed state selection short file) → IsTrue (has_records file.kind)
     → (P : Descriptor → Type 0) → ((whole : File) → Contains state.files whole → IsAddressed state selection short (descriptor_in whole) → HasRecords state whole → P (descriptor_in whole)) → P file
@@ -114,9 +131,15 @@ on_whole state card short file selection found has P rest =
     subst (λ (f : Descriptor). IsAddressed state selection short f → IsTrue (has_records f.kind) → P f) found.of.is
     (λ is kind. rest found.of.whole found.of.there is (has_records_so state found.of.whole card found.of.there kind is.ef)) found has
 
-width_low : (state : Persistent) (file : Descriptor) → IsSoundCard state → IsOf state file → file.width ≤ 255
+-- some records, few and short
+record IsCounted (file : Descriptor) : Type 0 where
+  some : 1 ≤ file.count
+  few : file.count ≤ 254
+  short : file.width ≤ 255
+
+counted_so : (state : Persistent) (card : IsSoundCard state) (short : Option ℕ) (file : Descriptor) (selection : Selection) → IsAddressed state selection short file → IsTrue (has_records file.kind) → IsCounted file
 unfolding descriptor_in
-width_low state file card of = subst (λ (f : Descriptor). f.width ≤ 255) of.is (All-contains (λ (f : File). record_width f.contents ≤ 255) state.files of.whole card.short of.there)
+counted_so state card short file selection found has = on_whole state card short file selection found has IsCounted (λ whole there is here. record { some = here.some; few = here.few; short = here.short })
 
 -- ---- READ RECORD
 
@@ -129,23 +152,24 @@ reading_so state card selection apdu whole number there lawful is has here =
     (omega (arith, ap (λ (c : Contents). length (slice_index_or (records_held c) (number - 1) [])) (held_is state whole card.sound there), record_short whole.kind whole.size (number - 1) whole.contents has.one.contents has.short))
     (0, omega arith, refl)
 
+number_read_so : (file : Descriptor) (selection : Selection) (apdu : Apdu) → IsCounted file → IfSome (pointer_before selection (short_in_p2 apdu)) (IsAmong file) → MatchResult (number_to_read file selection apdu) (IsAmong file) IsFileRefusal
+unfolding number_to_read
+number_read_so file selection apdu counted among =
+    let pointer : Option ℕ = pointer_before selection (short_in_p2 apdu) in
+    given_so (IsAmong file) IsFileRefusal (record_named file apdu pointer) _ _ (inl (8, omega arith, refl)) (λ number named.
+    unless_so (IsAmong file) IsFileRefusal _ _ _ (inr (file.width, counted.short, refl)) (λ _. if_some_at (record_named file apdu pointer) (IsAmong file) number (named_so file apdu pointer counted.some among) named))
+
 pub record_read_so : IsLawfulCommand record_read
-unfolding record_read descriptor_in
+unfolding record_read record_read_from
 record_read_so bytes apdu state seen selection is card lawful =
-    unless_so (IsLawfulOutcome state) IsFileRefusal _ _ _ (inl (0, omega arith, refl)) (λ _.
-    unless_so (IsLawfulOutcome state) IsFileRefusal _ _ _ (inl (1, omega arith, refl)) (λ _.
-    and_given_so (IsAddressed state selection (short_in_p2 apdu)) (IsLawfulOutcome state) IsFileRefusal (addressed (descriptors_in state) selection (short_in_p2 apdu)) _
-    (addressed_so state selection (short_in_p2 apdu) card.sound lawful) (λ file found.
-    unless_so (IsLawfulOutcome state) IsFileRefusal _ _ _ (inl (4, omega arith, refl)) (λ has.
-    unless_so (IsLawfulOutcome state) IsFileRefusal _ _ _ (inl (5, omega arith, refl)) (λ _.
+    let short : Option ℕ = short_in_p2 apdu in
+    and_given_so (IsTarget state selection short (λ f. has_records f.kind) (has_le_alone apdu)) (IsLawfulOutcome state) IsFileRefusal (file_to_read (descriptors_in state) selection apdu) _
+    (target_so state selection short (λ f. has_records f.kind) (has_record_parameters apdu) (has_le_alone apdu) card lawful) (λ file found.
     unless_so (IsLawfulOutcome state) IsFileRefusal _ _ _ (inl (6, omega arith, refl)) (λ _.
-    given_so (IsLawfulOutcome state) IsFileRefusal (record_named file apdu (pointer_before selection (short_in_p2 apdu))) _ _ (inl (8, omega arith, refl)) (λ number named.
-    unless_so (IsLawfulOutcome state) IsFileRefusal _ _ _ (inr (file.width, width_low state file card found.of, refl)) (λ _.
-    on_whole state card (short_in_p2 apdu) file selection found (not-false (has_records file.kind) has)
-    (λ f. IfSome (pointer_before selection (short_in_p2 apdu)) (IsAmong f) → record_named f apdu (pointer_before selection (short_in_p2 apdu)) ≡ Some number → IsLawfulOutcome state (record_reading state selection apdu f number))
-    (λ whole there addressed' here among name. reading_so state card selection apdu whole number there lawful addressed' here
-    (if_some_at (record_named (descriptor_in whole) apdu (pointer_before selection (short_in_p2 apdu))) (IsAmong (descriptor_in whole)) number (named_so (descriptor_in whole) apdu (pointer_before selection (short_in_p2 apdu)) here.some among) name))
-    found.pointer named))))))))
+    and_given_so (IsAmong file) (IsLawfulOutcome state) IsFileRefusal (number_to_read file selection apdu) _
+    (number_read_so file selection apdu (counted_so state card short file selection found.there found.fits_it) found.there.pointer) (λ number among.
+    on_whole state card short file selection found.there found.fits_it (λ f. IsAmong f number → IsLawfulOutcome state (record_reading state selection apdu f number))
+    (λ whole there is_there records here. reading_so state card selection apdu whole number there lawful is_there records here) among)))
 
 -- ---- UPDATE RECORD
 
@@ -188,25 +212,31 @@ updating_so state card selection apdu whole number there lawful is has here long
     (newest_so state card [] apdu.body worked whole there is.ef has long still (omega arith))
     (another_so state card (number - 1) apdu.body worked whole there is.ef has long still)
 
+-- the number of a record of the file, of this length
+abbrev Fits : List ℕ → Descriptor → ℕ → Type 0
+Fits body file number = IsAmong file number × (length body ≡ file.width)
+
+number_updated_so : (file : Descriptor) (selection : Selection) (apdu : Apdu) → IsCounted file → IfSome (pointer_before selection (short_in_p2 apdu)) (IsAmong file)
+    → MatchResult (number_to_update file selection apdu) (Fits apdu.body file) IsFileRefusal
+unfolding number_to_update
+number_updated_so file selection apdu counted among =
+    let pointer : Option ℕ = pointer_before selection (short_in_p2 apdu) in
+    given_so (Fits apdu.body file) IsFileRefusal (number_updated file apdu pointer) _ _ (inl (8, omega arith, refl)) (λ number named.
+    unless_so (Fits apdu.body file) IsFileRefusal _ _ _ (inl (1, omega arith, refl)) (λ long.
+    (if_some_at (number_updated file apdu pointer) (IsAmong file) number (number_so file apdu pointer counted.some among) named, eqb-true (length apdu.body) file.width (not-false (length apdu.body == file.width) long))))
+
 pub record_updated_so : IsLawfulCommand record_updated
-unfolding record_updated descriptor_in
+unfolding record_updated record_update_in descriptor_in
 record_updated_so bytes apdu state seen selection is card lawful =
-    unless_so (IsLawfulOutcome state) IsFileRefusal _ _ _ (inl (0, omega arith, refl)) (λ _.
-    unless_so (IsLawfulOutcome state) IsFileRefusal _ _ _ (inl (1, omega arith, refl)) (λ _.
-    and_given_so (IsAddressed state selection (short_in_p2 apdu)) (IsLawfulOutcome state) IsFileRefusal (addressed (descriptors_in state) selection (short_in_p2 apdu)) _
-    (addressed_so state selection (short_in_p2 apdu) card.sound lawful) (λ file found.
-    unless_so (IsLawfulOutcome state) IsFileRefusal _ _ _ (inl (4, omega arith, refl)) (λ may.
-    unless_so (IsLawfulOutcome state) IsFileRefusal _ _ _ (inl (5, omega arith, refl)) (λ _.
+    let short : Option ℕ = short_in_p2 apdu in
+    and_given_so (IsTarget state selection short (λ f. may_be_updated f apdu) (has_data apdu)) (IsLawfulOutcome state) IsFileRefusal (file_to_update (descriptors_in state) selection apdu) _
+    (target_so state selection short (λ f. may_be_updated f apdu) (has_record_parameters apdu) (has_data apdu) card lawful) (λ file found.
+    let has : IsTrue (has_records file.kind) = (and_parts (has_records file.kind) (not (is_cyclic file) || mode_bits apdu == previous_mode) found.fits_it).0 in
     unless_so (IsLawfulOutcome state) IsFileRefusal _ _ _ (inl (6, omega arith, refl)) (λ _.
-    given_so (IsLawfulOutcome state) IsFileRefusal (number_updated file apdu (pointer_before selection (short_in_p2 apdu))) _ _ (inl (8, omega arith, refl)) (λ number named.
-    unless_so (IsLawfulOutcome state) IsFileRefusal _ _ _ (inl (1, omega arith, refl)) (λ long.
-    on_whole state card (short_in_p2 apdu) file selection found
-    (and_parts (has_records file.kind) (not (is_cyclic file) || mode_bits apdu == previous_mode) (not-false (may_be_updated file apdu) may)).0
-    (λ f. IfSome (pointer_before selection (short_in_p2 apdu)) (IsAmong f) → number_updated f apdu (pointer_before selection (short_in_p2 apdu)) ≡ Some number → length apdu.body ≡ f.width
-    → IsLawfulOutcome state (record_updating state selection apdu f number))
-    (λ whole there addressed' here among name wide. updating_so state card selection apdu whole number there lawful addressed' here
-    (if_some_at (number_updated (descriptor_in whole) apdu (pointer_before selection (short_in_p2 apdu))) (IsAmong (descriptor_in whole)) number (number_so (descriptor_in whole) apdu (pointer_before selection (short_in_p2 apdu)) here.some among) name) wide)
-    found.pointer named (eqb-true (length apdu.body) file.width (not-false (length apdu.body == file.width) long))))))))))
+    and_given_so (Fits apdu.body file) (IsLawfulOutcome state) IsFileRefusal (number_to_update file selection apdu) _
+    (number_updated_so file selection apdu (counted_so state card short file selection found.there has) found.there.pointer) (λ number fits.
+    on_whole state card short file selection found.there has (λ f. Fits apdu.body f number → IsLawfulOutcome state (record_updating state selection apdu f number))
+    (λ whole there is_there records here. updating_so state card selection apdu whole number there lawful is_there records here.0 here.1) fits)))
 
 -- ---- SEARCH RECORD
 
@@ -246,10 +276,6 @@ match_so : (file : Descriptor) (pointer : Option ℕ) (numbers : List ℕ) → I
 match_so file pointer [] among all = among
 match_so file pointer (number ∷ numbers) among all = All-head (IsAmong file) number numbers all
 
-pub cut_low : (expected : Option ℕ) (body : List ℕ) → length (cut_to expected body) ≤ length body
-cut_low None body = omega arith
-cut_low (Some n) body = omega (arith, length-take n body)
-
 none_or_some : (b : Bool) → Contains good (if b then END_OF_FILE else DONE)
 none_or_some true = (1, omega arith, refl)
 none_or_some false = (0, omega arith, refl)
@@ -262,54 +288,54 @@ searching_so state selection apdu file from lawful is few here =
     unchanged_so state (searching state selection apdu file from) refl
     (worked_so state selection (short_in_p2 apdu) file (match_pointer (pointer_before selection (short_in_p2 apdu)) numbers) lawful is
     (match_so file (pointer_before selection (short_in_p2 apdu)) numbers is.pointer (numbers_so state file apdu from here)))
-    (omega (arith, cut_low apdu.expected numbers, few_numbers state file apdu from here, few)) (none_or_some (length numbers == 0))
+    (omega (arith, few_numbers state file apdu from here, few)) (none_or_some (length numbers == 0))
+
+number_searched_so : (file : Descriptor) (selection : Selection) (apdu : Apdu) → IfSome (pointer_before selection (short_in_p2 apdu)) (IsAmong file) → MatchResult (number_to_search file selection apdu) (IsAmong file) IsFileRefusal
+unfolding number_to_search
+number_searched_so file selection apdu among =
+    let pointer : Option ℕ = pointer_before selection (short_in_p2 apdu) in
+    given_so (IsAmong file) IsFileRefusal (absolute_record file apdu.p1 pointer) _ _ (inl (8, omega arith, refl)) (λ from named.
+    unless_so (IsAmong file) IsFileRefusal _ _ _ (inl (1, omega arith, refl)) (λ _. if_some_at (absolute_record file apdu.p1 pointer) (IsAmong file) from (absolute_so file apdu.p1 pointer among) named))
 
 pub searched_so : IsLawfulCommand searched
-unfolding searched descriptor_in
+unfolding searched search_in
 searched_so bytes apdu state seen selection is card lawful =
-    unless_so (IsLawfulOutcome state) IsFileRefusal _ _ _ (inl (0, omega arith, refl)) (λ _.
-    unless_so (IsLawfulOutcome state) IsFileRefusal _ _ _ (inl (1, omega arith, refl)) (λ _.
-    and_given_so (IsAddressed state selection (short_in_p2 apdu)) (IsLawfulOutcome state) IsFileRefusal (addressed (descriptors_in state) selection (short_in_p2 apdu)) _
-    (addressed_so state selection (short_in_p2 apdu) card.sound lawful) (λ file found.
-    unless_so (IsLawfulOutcome state) IsFileRefusal _ _ _ (inl (4, omega arith, refl)) (λ has.
-    unless_so (IsLawfulOutcome state) IsFileRefusal _ _ _ (inl (5, omega arith, refl)) (λ _.
+    let short : Option ℕ = short_in_p2 apdu in
+    and_given_so (IsTarget state selection short (λ f. has_records f.kind) (has_data apdu)) (IsLawfulOutcome state) IsFileRefusal (file_to_search (descriptors_in state) selection apdu) _
+    (target_so state selection short (λ f. has_records f.kind) (has_search_parameters apdu) (has_data apdu) card lawful) (λ file found.
     unless_so (IsLawfulOutcome state) IsFileRefusal _ _ _ (inl (6, omega arith, refl)) (λ _.
-    given_so (IsLawfulOutcome state) IsFileRefusal (absolute_record file apdu.p1 (pointer_before selection (short_in_p2 apdu))) _ _ (inl (8, omega arith, refl)) (λ from named.
-    unless_so (IsLawfulOutcome state) IsFileRefusal _ _ _ (inl (1, omega arith, refl)) (λ _.
-    searching_so state selection apdu file from lawful found
-    (on_whole state card (short_in_p2 apdu) file selection found (not-false (has_records file.kind) has) (λ f. f.count ≤ 254) (λ whole there addressed' here. here.few))
-    (if_some_at (absolute_record file apdu.p1 (pointer_before selection (short_in_p2 apdu))) (IsAmong file) from (absolute_so file apdu.p1 (pointer_before selection (short_in_p2 apdu)) found.pointer) named)))))))))
+    and_given_so (IsAmong file) (IsLawfulOutcome state) IsFileRefusal (number_to_search file selection apdu) _ (number_searched_so file selection apdu found.there.pointer) (λ from among.
+    searching_so state selection apdu file from lawful found.there (counted_so state card short file selection found.there found.fits_it).few among)))
 
 -- ---- INCREASE
 
-increasing_so : (state : Persistent) (card : IsSoundCard state) (selection : Selection) (apdu : Apdu) (whole : File) → Contains state.files whole → IsSelection (descriptors_in state) selection
-    → IsAddressed state selection (short_to_increase apdu) (descriptor_in whole) → HasRecords state whole → record_width whole.contents ≤ 127 → length apdu.body ≤ 127
-    → IsLawfulOutcome state (increasing state selection apdu (descriptor_in whole))
+sum_so : (state : Persistent) (file : Descriptor) (apdu : Apdu) → MatchResult (sum_to_write state apdu file) (λ sum. length sum ≡ file.width) IsFileRefusal
+unfolding sum_to_write
+sum_so state file apdu =
+    unless_so (λ sum. length sum ≡ file.width) IsFileRefusal _ _ _ (inl (1, omega arith, refl)) (λ _.
+    unless_so (λ sum. length sum ≡ file.width) IsFileRefusal _ _ _ (inl (9, omega arith, refl)) (λ _. length-bytes_of file.width (sum_of state file apdu)))
+
+increasing_so : (state : Persistent) (card : IsSoundCard state) (selection : Selection) (apdu : Apdu) (whole : File) (sum : List ℕ) → Contains state.files whole → IsSelection (descriptors_in state) selection
+    → IsAddressed state selection (short_to_increase apdu) (descriptor_in whole) → HasRecords state whole → record_width whole.contents ≤ 127 → length apdu.body ≤ 127 → length sum ≡ record_width whole.contents
+    → IsLawfulOutcome state (increasing state selection apdu (descriptor_in whole) sum)
 unfolding increasing descriptor_in
-increasing_so state card selection apdu whole there lawful is has narrow few =
-    let sum : List ℕ = bytes_of (record_width whole.contents) (sum_of state (descriptor_in whole) apdu) in
-    newest_so state card (cut_to apdu.expected (sum ++ apdu.body)) sum (worked_on selection (descriptor_in whole) (Some 1)) whole there is.ef has (length-bytes_of (record_width whole.contents) (sum_of state (descriptor_in whole) apdu))
+increasing_so state card selection apdu whole sum there lawful is has narrow few long =
+    newest_so state card (sum ++ apdu.body) sum (worked_on selection (descriptor_in whole) (Some 1)) whole there is.ef has long
     (worked_so state selection (short_to_increase apdu) (descriptor_in whole) (Some 1) lawful is (omega arith, has.some))
-    (omega (arith, cut_low apdu.expected (sum ++ apdu.body), length-append sum apdu.body, length-bytes_of (record_width whole.contents) (sum_of state (descriptor_in whole) apdu), narrow, few))
+    (omega (arith, length-append sum apdu.body, long, narrow, few))
 
 pub cyclic_has_records : (kind : ℕ) → (kind == cyclic_kind) ≡ true → IsTrue (has_records kind)
 cyclic_has_records kind is = subst (λ (k : ℕ). IsTrue (has_records k)) (sym (eqb-true kind cyclic_kind is)) refl
 
 pub increased_so : IsLawfulCommand increased
-unfolding increased descriptor_in
+unfolding increased increase_in descriptor_in
 increased_so bytes apdu state seen selection is card lawful =
-    unless_so (IsLawfulOutcome state) IsFileRefusal _ _ _ (inl (0, omega arith, refl)) (λ _.
-    unless_so (IsLawfulOutcome state) IsFileRefusal _ _ _ (inl (1, omega arith, refl)) (λ fits.
-    and_given_so (IsAddressed state selection (short_to_increase apdu)) (IsLawfulOutcome state) IsFileRefusal (addressed (descriptors_in state) selection (short_to_increase apdu)) _
-    (addressed_so state selection (short_to_increase apdu) card.sound lawful) (λ file found.
-    unless_so (IsLawfulOutcome state) IsFileRefusal _ _ _ (inl (4, omega arith, refl)) (λ may.
-    unless_so (IsLawfulOutcome state) IsFileRefusal _ _ _ (inl (5, omega arith, refl)) (λ _.
+    let short : Option ℕ = short_to_increase apdu in
+    and_given_so (IsTarget state selection short may_be_increased (has_increase_length apdu)) (IsLawfulOutcome state) IsFileRefusal (file_to_increase (descriptors_in state) selection apdu) _
+    (target_so state selection short may_be_increased (has_increase_parameters apdu) (has_increase_length apdu) card lawful) (λ file found.
+    let ring = and_parts (is_cyclic file) (nat_le file.width 127) found.fits_it in
     unless_so (IsLawfulOutcome state) IsFileRefusal _ _ _ (inl (6, omega arith, refl)) (λ _.
-    unless_so (IsLawfulOutcome state) IsFileRefusal _ _ _ (inl (1, omega arith, refl)) (λ _.
-    unless_so (IsLawfulOutcome state) IsFileRefusal _ _ _ (inl (9, omega arith, refl)) (λ _.
-    let ring = and_parts (is_cyclic file) (nat_le file.width 127) (not-false (may_be_increased file) may) in
-    on_whole state card (short_to_increase apdu) file selection found (cyclic_has_records file.kind ring.0)
-    (λ f. nat_le f.width 127 ≡ true → IsLawfulOutcome state (increasing state selection apdu f))
-    (λ whole there addressed' here narrow. increasing_so state card selection apdu whole there lawful addressed' here (leb-true (record_width whole.contents) 127 narrow)
-    (leb-true (length apdu.body) 127 (and_parts (nat_le 1 (length apdu.body)) (nat_le (length apdu.body) 127) (not-false (has_increase_length apdu) fits)).1))
-    ring.1))))))))
+    and_given_so (λ sum. length sum ≡ file.width) (IsLawfulOutcome state) IsFileRefusal (sum_to_write state apdu file) _ (sum_so state file apdu) (λ sum long.
+    on_whole state card short file selection found.there (cyclic_has_records file.kind ring.0) (λ f. nat_le f.width 127 ≡ true → length sum ≡ f.width → IsLawfulOutcome state (increasing state selection apdu f sum))
+    (λ whole there is_there records narrow wide. increasing_so state card selection apdu whole sum there lawful is_there records (leb-true (record_width whole.contents) 127 narrow)
+    (leb-true (length apdu.body) 127 (and_parts (nat_le 1 (length apdu.body)) (nat_le (length apdu.body) 127) found.long).1) wide) ring.1 long)))

@@ -31,7 +31,6 @@ use Rattle.file_model.specs.Chained.{unless_so, given_so}
 use Rattle.file_model.proofs.Changed.{df_no_ef}
 use Rattle.file_model.proofs.Selected.{IsOf, found_of, number_found}
 use Rattle.file_model.proofs.Committed.{good, unchanged_so}
-use Rattle.file_model.proofs.RecordLaws.{cut_low}
 
 -- ---- the file that is chosen is one of the card's
 
@@ -222,9 +221,7 @@ quiet_or_done false = (0, omega arith, refl)
 selecting_so : (state : Persistent) (apdu : Apdu) (file : Descriptor) → IsSound state → IsOf state file → IsLawfulOutcome state (selecting state apdu file)
 unfolding selecting
 selecting_so state apdu file sound of =
-    let body : List ℕ = if apdu.p2 == 0x04 then fcp state.pins file else [] in
-    unchanged_so state (selecting state apdu file) refl (selected_so state file sound of)
-    (omega (arith, cut_low apdu.expected body, low_chosen (apdu.p2 == 0x04) (fcp state.pins file) [] 256 (fcp_low state file sound) (omega arith))) (quiet_or_done (is_deactivated file))
+    unchanged_so state (selecting state apdu file) refl (selected_so state file sound of) (low_chosen (apdu.p2 == 0x04) (fcp state.pins file) [] 256 (fcp_low state file sound) (omega arith)) (quiet_or_done (is_deactivated file))
 
 pub file_selected_so : IsLawfulCommand (λ state seen selection apdu. file_selected state selection apdu)
 unfolding file_selected
@@ -237,9 +234,7 @@ file_selected_so bytes apdu state seen selection is card lawful =
 telling_so : (state : Persistent) (selection : Selection) (apdu : Apdu) (df : Descriptor) → IsSound state → IsSelection (descriptors_in state) selection → IsLawfulOutcome state (telling state selection apdu df)
 unfolding telling
 telling_so state selection apdu df sound lawful =
-    let body : List ℕ = if apdu.p2 == 0x00 then fcp state.pins df else [] in
-    unchanged_so state (telling state selection apdu df) refl lawful
-    (omega (arith, cut_low apdu.expected body, low_chosen (apdu.p2 == 0x00) (fcp state.pins df) [] 256 (fcp_low state df sound) (omega arith))) (0, omega arith, refl)
+    unchanged_so state (telling state selection apdu df) refl lawful (low_chosen (apdu.p2 == 0x00) (fcp state.pins df) [] 256 (fcp_low state df sound) (omega arith)) (0, omega arith, refl)
 
 pub status_told_so : IsLawfulCommand (λ state seen selection apdu. status_told state selection apdu)
 unfolding status_told

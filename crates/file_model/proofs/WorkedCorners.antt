@@ -3,19 +3,16 @@
 use Rattle.std.proofs.Common.{◌≡◌, ℕ, false, [], ◌∷◌, replicate, Option, Some, None, refl}
 use Rattle.std.specs.Prelude.{option_map}
 use Rattle.access_rules.specs.Objects.{object}
-use Rattle.card_layout.specs.Changing.{with_file_changed}
 use Rattle.card_layout.specs.Persistent.{Files, File, Persistent}
 use Rattle.card_layout.specs.Soundness.{mf}
 use Rattle.file_model.specs.declared.descriptors.Descriptor.{Descriptor}
-use Rattle.file_model.specs.Access.{arr_found, ruling_record, may}
 use Rattle.file_model.specs.Chains.{refused_if, given, and_given}
 use Rattle.file_model.specs.Fcp.{pin_object, fcp}
 use Rattle.file_model.specs.Files.{descriptor_in, descriptors_in, file_found}
-use Rattle.file_model.specs.Holdings.{held_by}
 use Rattle.file_model.specs.Outcomes.{addressed}
-use Rattle.file_model.specs.Records.{previous_record, increasing, increased}
+use Rattle.file_model.specs.Records.{previous_record, record_file, increased}
 use Rattle.file_model.specs.Selections.{chosen_by_identifier}
-use Rattle.file_model.proofs.WorkedCards.{iccid_file, linear_file, cyclic_file, user_pin, admin_pin, card, with_ring, on_ef, nothing_verified, command, committed, refused}
+use Rattle.file_model.proofs.WorkedCards.{iccid_file, linear_file, cyclic_file, user_pin, admin_pin, card, on_ef, nothing_verified, command, refused}
 
 -- ---- what files tell of themselves
 
@@ -64,17 +61,11 @@ ends = refl
 
 -- records of 128 bytes are too wide
 too_wide : increased (record card { files = mf ∷ record (cyclic_file (replicate 3 (replicate 128 0x00))) { number = 1; size = 384 } ∷ [] }) nothing_verified (on_ef 1 None) (command 0x80 0x32 0x00 0x00 (0x01 ∷ []) None) ≡ refused 0x6981
-unfolding refused_if given and_given descriptor_in descriptors_in file_found addressed increased
+unfolding refused_if given and_given descriptor_in descriptors_in file_found addressed record_file increased
 too_wide = refl
 
 -- P1 80, P1 9F and P2 01 are none of the parameters
 no_parameters : (increased card nothing_verified (on_ef 3 None) (command 0x80 0x32 0x80 0x00 (0x01 ∷ []) None) ∷ increased card nothing_verified (on_ef 3 None) (command 0x80 0x32 0x9F 0x00 (0x01 ∷ []) None)
     ∷ increased card nothing_verified (on_ef 3 None) (command 0x80 0x32 0x00 0x01 (0x01 ∷ []) None) ∷ []) ≡ replicate 3 (refused 0x6A86)
-unfolding refused_if increased
+unfolding refused_if and_given record_file increased
 no_parameters = refl
-
--- Le cuts the sum and what was added
-cut_to_le : increased (with_ring ((0x00 ∷ 0x00 ∷ 0x04 ∷ []) ∷ (0x00 ∷ 0x00 ∷ 0x03 ∷ []) ∷ (0x00 ∷ 0x00 ∷ 0x02 ∷ []) ∷ [])) nothing_verified (on_ef 3 None) (command 0x80 0x32 0x00 0x00 (0x02 ∷ []) (Some 2))
-    ≡ committed (0x00 ∷ 0x00 ∷ []) (on_ef 3 (Some 1)) (with_ring ((0x00 ∷ 0x00 ∷ 0x06 ∷ []) ∷ (0x00 ∷ 0x00 ∷ 0x04 ∷ []) ∷ (0x00 ∷ 0x00 ∷ 0x03 ∷ []) ∷ []))
-unfolding refused_if given and_given descriptor_in descriptors_in file_found held_by arr_found ruling_record may with_file_changed addressed increasing increased
-cut_to_le = refl

@@ -36,11 +36,6 @@ no_data_asked_for : file_selected card AT_START (command 0x00 0xA4 0x00 0x0C (0x
 unfolding object refused_if given and_given descriptor_in descriptors_in file_found selection_of chosen_by_identifier chosen_by_path chosen fcp selecting file_selected
 no_data_asked_for = refl
 
--- no more than Le bytes: 00A40004022FE202 answers 62129000
-a_short_le : file_selected card AT_START (command 0x00 0xA4 0x00 0x04 (0x2F ∷ 0xE2 ∷ []) (Some 2)) ≡ answered (0x62 ∷ 0x12 ∷ []) 0x9000 (on_ef 1 None)
-unfolding object refused_if given and_given descriptor_in descriptors_in file_found selection_of chosen_by_identifier chosen_by_path chosen fcp selecting file_selected
-a_short_le = refl
-
 -- 00A4000C026FFF answers 6A82
 no_such_file : file_selected card AT_START (command 0x00 0xA4 0x00 0x0C (0x6F ∷ 0xFF ∷ []) None) ≡ refused 0x6A82
 unfolding object refused_if given and_given descriptor_in descriptors_in file_found selection_of chosen_by_identifier chosen_by_path chosen fcp selecting file_selected

@@ -1,5 +1,5 @@
 -- READ BINARY and UPDATE BINARY (ETSI TS 102 221, 11.1.3 and 11.1.4).
-use Rattle.std.specs.Prelude.{ℕ, ◌+◌, ◌-◌, ◌*◌, ◌==◌, not, ◌&&◌, ◌||◌, nat_lt, nat_le, Bool, if◌then◌else◌, [], ◌∷◌, length, take, drop, Option, Some, None, unwrap_or, Result, Ok}
+use Rattle.std.specs.Prelude.{ℕ, ◌+◌, ◌-◌, ◌*◌, ◌==◌, not, ◌&&◌, ◌||◌, nat_lt, nat_le, Bool, if◌then◌else◌, List, [], ◌∷◌, length, take, drop, Option, Some, None, unwrap_or, Result, Ok}
 use Rattle.uicc_types.specs.declared.answers.StatusWord.{StatusWord}
 use Rattle.uicc_types.specs.declared.answers.TheConstants.StatusWord.{DONE, END_OF_FILE, WRONG_PARAMETERS, WRONG_LENGTH, WRONG_STRUCTURE, CONDITIONS_NOT_SATISFIED, SECURITY_NOT_SATISFIED, WRONG_OFFSET}
 use Rattle.apdu_form.specs.Model.{Apdu}
@@ -33,6 +33,24 @@ short_in_p1 apdu = if has_short apdu.p1 then Some (apdu.p1 - 0x80) else None
 abbrev pub offset_of : Apdu → ℕ
 offset_of apdu = if has_short apdu.p1 then apdu.p2 else apdu.p1 * 256 + apdu.p2
 
+-- ---- before access is tested
+
+-- the transparent EF that a command works on, or what refuses it; whether its data and Le are as they have to be is given
+unfoldable pub binary_file : Bool → List Descriptor → Selection → Apdu → Result Descriptor StatusWord
+binary_file has_length files selection apdu =
+    needs (has_binary_parameters apdu) WRONG_PARAMETERS (
+    needs has_length WRONG_LENGTH (
+    and_given (addressed files selection (short_in_p1 apdu)) (λ file.
+    needs (file.kind == transparent_kind) WRONG_STRUCTURE (
+    refused_if (is_deactivated file) CONDITIONS_NOT_SATISFIED (
+    Ok file)))))
+
+abbrev pub binary_to_read : List Descriptor → Selection → Apdu → Result Descriptor StatusWord
+binary_to_read files selection apdu = binary_file (has_le_alone apdu) files selection apdu
+
+abbrev pub binary_to_update : List Descriptor → Selection → Apdu → Result Descriptor StatusWord
+binary_to_update files selection apdu = binary_file (has_data apdu) files selection apdu
+
 -- ---- READ BINARY
 
 -- Le bytes from the offset on; fewer at the end of the file, with a warning unless as many as there are were asked for
@@ -46,16 +64,15 @@ reading state selection apdu file count =
       passed = [];
     }
 
-unfoldable pub binary_read : Persistent → Verified → Selection → Apdu → Result FileOutcome StatusWord
-binary_read state seen selection apdu =
-    needs (has_binary_parameters apdu) WRONG_PARAMETERS (
-    needs (has_le_alone apdu) WRONG_LENGTH (
-    and_given (addressed (descriptors_in state) selection (short_in_p1 apdu)) (λ file.
-    needs (file.kind == transparent_kind) WRONG_STRUCTURE (
-    refused_if (is_deactivated file) CONDITIONS_NOT_SATISFIED (
+-- from the test of access on
+unfoldable pub read_from : Persistent → Verified → Selection → Apdu → Descriptor → Result FileOutcome StatusWord
+read_from state seen selection apdu file =
     needs (may state ReadBinary seen file) SECURITY_NOT_SATISFIED (
     refused_if (nat_le file.size (offset_of apdu)) WRONG_OFFSET (
-    Ok (reading state selection apdu file (unwrap_or apdu.expected 0)))))))))
+    Ok (reading state selection apdu file (unwrap_or apdu.expected 0))))
+
+unfoldable pub binary_read : Persistent → Verified → Selection → Apdu → Result FileOutcome StatusWord
+binary_read state seen selection apdu = and_given (binary_to_read (descriptors_in state) selection apdu) (read_from state seen selection apdu)
 
 -- ---- UPDATE BINARY
 
@@ -67,13 +84,11 @@ updating state selection apdu file = record {
   passed = with_bytes file.number (offset_of apdu) apdu.body state ∷ [];
 }
 
-unfoldable pub binary_updated : Persistent → Verified → Selection → Apdu → Result FileOutcome StatusWord
-binary_updated state seen selection apdu =
-    needs (has_binary_parameters apdu) WRONG_PARAMETERS (
-    needs (has_data apdu) WRONG_LENGTH (
-    and_given (addressed (descriptors_in state) selection (short_in_p1 apdu)) (λ file.
-    needs (file.kind == transparent_kind) WRONG_STRUCTURE (
-    refused_if (is_deactivated file) CONDITIONS_NOT_SATISFIED (
+unfoldable pub update_in : Persistent → Verified → Selection → Apdu → Descriptor → Result FileOutcome StatusWord
+update_in state seen selection apdu file =
     needs (may state UpdateBinary seen file) SECURITY_NOT_SATISFIED (
     refused_if (nat_lt file.size (offset_of apdu + length apdu.body)) WRONG_OFFSET (
-    Ok (updating state selection apdu file))))))))
+    Ok (updating state selection apdu file)))
+
+unfoldable pub binary_updated : Persistent → Verified → Selection → Apdu → Result FileOutcome StatusWord
+binary_updated state seen selection apdu = and_given (binary_to_update (descriptors_in state) selection apdu) (update_in state seen selection apdu)

@@ -4,6 +4,8 @@ use Rattle.uicc_types.specs.declared.answers.StatusWord.{StatusWord}
 use Rattle.apdu_form.specs.Model.{Apdu}
 use Rattle.access_rules.specs.declared.rules.Verified.{Verified}
 use Rattle.card_layout.specs.Persistent.{Pin}
+use Rattle.file_model.specs.declared.commands.PinCommand.{PinCommand}
+use Rattle.file_model.specs.declared.commands.PinCommand.TheVariants.{Unblock}
 use Rattle.file_model.specs.Outcomes.{PinOutcome, last_of}
 use Rattle.file_model.specs.Pins.{pin_found, with_pin, tries_left}
 use Rattle.file_model.specs.Laws.{EachStep}
@@ -12,6 +14,11 @@ use Rattle.file_model.specs.Laws.{EachStep}
 pub data Guard : Type 0 where
   OfPin : Guard
   OfUnblock : Guard
+
+-- whose tries a command takes
+abbrev pub guard_of : PinCommand → Guard
+guard_of Unblock = OfUnblock
+guard_of _ = OfPin
 
 abbrev pub tries_by : Guard → Pin → ℕ
 tries_by OfPin pin = pin.tries

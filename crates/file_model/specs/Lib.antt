@@ -3,6 +3,7 @@ pub mod Binaries
 pub mod Cases
 pub mod Chained
 pub mod Chains
+pub mod Commands
 pub mod Fcp
 pub mod Files
 pub mod Guards

@@ -1,5 +1,5 @@
 -- DEACTIVATE FILE and ACTIVATE FILE (ETSI TS 102 221, 11.1.14 and 11.1.15).
-use Rattle.std.specs.Prelude.{ℕ, ◌==◌, ◌&&◌, Bool, if◌then◌else◌, [], ◌∷◌, None, Result, Ok}
+use Rattle.std.specs.Prelude.{ℕ, ◌==◌, ◌&&◌, Bool, if◌then◌else◌, List, [], ◌∷◌, None, Result, Ok}
 use Rattle.uicc_types.specs.declared.answers.StatusWord.{StatusWord}
 use Rattle.uicc_types.specs.declared.answers.TheConstants.StatusWord.{DONE, WRONG_PARAMETERS, WRONG_LENGTH, SECURITY_NOT_SATISFIED}
 use Rattle.apdu_form.specs.Model.{Apdu}
@@ -28,14 +28,21 @@ bringing state selection life file = record {
   passed = if file.life == life then [] else with_life file.number life state ∷ [];
 }
 
--- the current EF gets this life cycle status
-unfoldable pub life_changed : Op → ℕ → Persistent → Verified → Selection → Apdu → Result FileOutcome StatusWord
-life_changed op life state seen selection apdu =
+-- the current EF, or what refuses the command before access is tested
+unfoldable pub life_file : List Descriptor → Selection → Apdu → Result Descriptor StatusWord
+life_file files selection apdu =
     needs (has_no_parameters apdu) WRONG_PARAMETERS (
     needs (has_no_data apdu) WRONG_LENGTH (
-    and_given (addressed (descriptors_in state) selection None) (λ file.
-    needs (may state op seen file) SECURITY_NOT_SATISFIED (
-    Ok (bringing state selection life file)))))
+    addressed files selection None))
+
+-- from the test of access on
+unfoldable pub life_in : Op → ℕ → Persistent → Verified → Selection → Descriptor → Result FileOutcome StatusWord
+life_in op life state seen selection file =
+    needs (may state op seen file) SECURITY_NOT_SATISFIED (Ok (bringing state selection life file))
+
+-- the current EF gets this life cycle status
+unfoldable pub life_changed : Op → ℕ → Persistent → Verified → Selection → Apdu → Result FileOutcome StatusWord
+life_changed op life state seen selection apdu = and_given (life_file (descriptors_in state) selection apdu) (life_in op life state seen selection)
 
 abbrev pub file_deactivated : Persistent → Verified → Selection → Apdu → Result FileOutcome StatusWord
 file_deactivated = life_changed Deactivate deactivated

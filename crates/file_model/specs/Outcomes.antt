@@ -1,5 +1,5 @@
 -- What a command comes to.
-use Rattle.std.specs.Prelude.{ℕ, not, ◌&&◌, ◌==◌, Bool, List, [], ◌∷◌, length, take, Option, Some, None, is_some, Result, Ok, Err}
+use Rattle.std.specs.Prelude.{ℕ, not, ◌&&◌, ◌==◌, Bool, List, [], ◌∷◌, length, Option, Some, None, is_some, Result, Ok, Err}
 use Rattle.uicc_types.specs.declared.answers.StatusWord.{StatusWord}
 use Rattle.uicc_types.specs.declared.answers.TheConstants.StatusWord.{NO_CURRENT_FILE, FILE_NOT_FOUND}
 use Rattle.apdu_form.specs.Model.{Apdu}
@@ -40,11 +40,6 @@ settled_file selection (Ok outcome) = outcome
 abbrev pub settled_pin : Verified → Result PinOutcome StatusWord → PinOutcome
 settled_pin verified (Err status) = record { status = status; verified = verified; passed = [] }
 settled_pin verified (Ok outcome) = outcome
-
--- Le bounds the data of an answer; without Le all of them are answered (ISO 7816-4, 5.1)
-abbrev pub cut_to : Option ℕ → List ℕ → List ℕ
-cut_to None body = body
-cut_to (Some expected) body = take expected body
 
 -- ---- what a command may have beside its header
 

@@ -8,7 +8,7 @@ use Rattle.apdu_form.specs.Model.{Apdu}
 use Rattle.access_rules.specs.declared.rules.Verified.{Verified}
 use Rattle.card_layout.specs.Persistent.{Pin}
 use Rattle.file_model.specs.Chains.{refused_if, given, needs}
-use Rattle.file_model.specs.Outcomes.{PinOutcome, settled_pin, has_no_data}
+use Rattle.file_model.specs.Outcomes.{PinOutcome, has_no_data}
 
 -- ---- keys
 
@@ -126,16 +126,3 @@ pin_unblocked pins verified apdu =
     refused_if (pin.unblock_tries == 0) PIN_BLOCKED (
     if has_no_data apdu then Ok (told verified pin.unblock_tries)
     else Ok (unblock_presented pins verified pin (value_presented apdu) (record pin { value = new_value apdu; is_enabled = true }) (marked verified pin.key true))))
-
--- the five by their instructions
-abbrev pub pin_tried : List Pin → Verified → Apdu → Result PinOutcome StatusWord
-pin_tried pins verified apdu =
-    if apdu.ins == 0x20 then pin_verified pins verified apdu
-    else if apdu.ins == 0x24 then pin_changed pins verified apdu
-    else if apdu.ins == 0x26 then pin_disabled pins verified apdu
-    else if apdu.ins == 0x28 then pin_enabled pins verified apdu
-    else pin_unblocked pins verified apdu
-
--- what a PIN command comes to, refused or not
-unfoldable pub pin_outcome : List Pin → Verified → Apdu → PinOutcome
-pin_outcome pins verified apdu = settled_pin verified (pin_tried pins verified apdu)

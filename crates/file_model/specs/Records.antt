@@ -15,7 +15,7 @@ use Rattle.file_model.specs.Chains.{refused_if, given, and_given, needs}
 use Rattle.file_model.specs.Files.{descriptors_in}
 use Rattle.file_model.specs.Access.{may}
 use Rattle.file_model.specs.Holdings.{records_in}
-use Rattle.file_model.specs.Outcomes.{FileOutcome, cut_to, has_data, has_le_alone, addressed, is_deactivated, pointer_before, worked_on}
+use Rattle.file_model.specs.Outcomes.{FileOutcome, has_data, has_le_alone, addressed, is_deactivated, pointer_before, worked_on}
 
 -- ---- P1 and P2
 
@@ -77,6 +77,19 @@ record_named file apdu pointer =
 abbrev pub pointer_after : Apdu → ℕ → Option ℕ → Option ℕ
 pointer_after apdu number pointer = if mode_bits apdu == absolute_mode then pointer else Some number
 
+-- ---- before access is tested
+
+-- the EF that a command works on, or what refuses it; whether its P1 and P2, and its data and Le, are as they have to be is given, and
+-- of which structure the file has to be
+unfoldable pub record_file : Bool → Bool → (Descriptor → Bool) → List Descriptor → Selection → Option ℕ → Result Descriptor StatusWord
+record_file has_parameters has_length fits files selection short =
+    needs has_parameters WRONG_PARAMETERS (
+    needs has_length WRONG_LENGTH (
+    and_given (addressed files selection short) (λ file.
+    needs (fits file) WRONG_STRUCTURE (
+    refused_if (is_deactivated file) CONDITIONS_NOT_SATISFIED (
+    Ok file)))))
+
 -- ---- READ RECORD
 
 -- `6CXX`: this many bytes may be asked for
@@ -95,17 +108,24 @@ record_reading state selection apdu file number = record {
   passed = [];
 }
 
-unfoldable pub record_read : Persistent → Verified → Selection → Apdu → Result FileOutcome StatusWord
-record_read state seen selection apdu =
-    needs (has_record_parameters apdu) WRONG_PARAMETERS (
-    needs (has_le_alone apdu) WRONG_LENGTH (
-    and_given (addressed (descriptors_in state) selection (short_in_p2 apdu)) (λ file.
-    needs (has_records file.kind) WRONG_STRUCTURE (
-    refused_if (is_deactivated file) CONDITIONS_NOT_SATISFIED (
-    needs (may state ReadRecord seen file) SECURITY_NOT_SATISFIED (
+abbrev pub file_to_read : List Descriptor → Selection → Apdu → Result Descriptor StatusWord
+file_to_read files selection apdu = record_file (has_record_parameters apdu) (has_le_alone apdu) (λ file. has_records file.kind) files selection (short_in_p2 apdu)
+
+-- the number of the record that is read
+unfoldable pub number_to_read : Descriptor → Selection → Apdu → Result ℕ StatusWord
+number_to_read file selection apdu =
     given (record_named file apdu (pointer_before selection (short_in_p2 apdu))) RECORD_NOT_FOUND (λ number.
     needs (is_record_length file (unwrap_or apdu.expected 0)) (other_length file.width) (
-    Ok (record_reading state selection apdu file number)))))))))
+    Ok number))
+
+unfoldable pub record_read_from : Persistent → Verified → Selection → Apdu → Descriptor → Result FileOutcome StatusWord
+record_read_from state seen selection apdu file =
+    needs (may state ReadRecord seen file) SECURITY_NOT_SATISFIED (
+    and_given (number_to_read file selection apdu) (λ number.
+    Ok (record_reading state selection apdu file number)))
+
+unfoldable pub record_read : Persistent → Verified → Selection → Apdu → Result FileOutcome StatusWord
+record_read state seen selection apdu = and_given (file_to_read (descriptors_in state) selection apdu) (record_read_from state seen selection apdu)
 
 -- ---- UPDATE RECORD
 
@@ -125,17 +145,24 @@ record_updating state selection apdu file number = record {
   passed = (if is_cyclic file then with_newest_record file.number apdu.body state else with_record file.number (number - 1) apdu.body state) ∷ [];
 }
 
-unfoldable pub record_updated : Persistent → Verified → Selection → Apdu → Result FileOutcome StatusWord
-record_updated state seen selection apdu =
-    needs (has_record_parameters apdu) WRONG_PARAMETERS (
-    needs (has_data apdu) WRONG_LENGTH (
-    and_given (addressed (descriptors_in state) selection (short_in_p2 apdu)) (λ file.
-    needs (may_be_updated file apdu) WRONG_STRUCTURE (
-    refused_if (is_deactivated file) CONDITIONS_NOT_SATISFIED (
-    needs (may state UpdateRecord seen file) SECURITY_NOT_SATISFIED (
+abbrev pub file_to_update : List Descriptor → Selection → Apdu → Result Descriptor StatusWord
+file_to_update files selection apdu = record_file (has_record_parameters apdu) (has_data apdu) (λ file. may_be_updated file apdu) files selection (short_in_p2 apdu)
+
+-- the number of the record that is updated
+unfoldable pub number_to_update : Descriptor → Selection → Apdu → Result ℕ StatusWord
+number_to_update file selection apdu =
     given (number_updated file apdu (pointer_before selection (short_in_p2 apdu))) RECORD_NOT_FOUND (λ number.
     needs (length apdu.body == file.width) WRONG_LENGTH (
-    Ok (record_updating state selection apdu file number)))))))))
+    Ok number))
+
+unfoldable pub record_update_in : Persistent → Verified → Selection → Apdu → Descriptor → Result FileOutcome StatusWord
+record_update_in state seen selection apdu file =
+    needs (may state UpdateRecord seen file) SECURITY_NOT_SATISFIED (
+    and_given (number_to_update file selection apdu) (λ number.
+    Ok (record_updating state selection apdu file number)))
+
+unfoldable pub record_updated : Persistent → Verified → Selection → Apdu → Result FileOutcome StatusWord
+record_updated state seen selection apdu = and_given (file_to_update (descriptors_in state) selection apdu) (record_update_in state seen selection apdu)
 
 -- ---- SEARCH RECORD
 
@@ -171,23 +198,30 @@ unfoldable pub searching : Persistent → Selection → Apdu → Descriptor → 
 searching state selection apdu file from =
     let numbers = numbers_matched state file apdu from in
     record {
-      body = cut_to apdu.expected numbers;
+      body = numbers;
       status = if length numbers == 0 then END_OF_FILE else DONE;
       selection = worked_on selection file (match_pointer (pointer_before selection (short_in_p2 apdu)) numbers);
       passed = [];
     }
 
-unfoldable pub searched : Persistent → Verified → Selection → Apdu → Result FileOutcome StatusWord
-searched state seen selection apdu =
-    needs (has_search_parameters apdu) WRONG_PARAMETERS (
-    needs (has_data apdu) WRONG_LENGTH (
-    and_given (addressed (descriptors_in state) selection (short_in_p2 apdu)) (λ file.
-    needs (has_records file.kind) WRONG_STRUCTURE (
-    refused_if (is_deactivated file) CONDITIONS_NOT_SATISFIED (
-    needs (may state Search seen file) SECURITY_NOT_SATISFIED (
+abbrev pub file_to_search : List Descriptor → Selection → Apdu → Result Descriptor StatusWord
+file_to_search files selection apdu = record_file (has_search_parameters apdu) (has_data apdu) (λ file. has_records file.kind) files selection (short_in_p2 apdu)
+
+-- where the search begins
+unfoldable pub number_to_search : Descriptor → Selection → Apdu → Result ℕ StatusWord
+number_to_search file selection apdu =
     given (absolute_record file apdu.p1 (pointer_before selection (short_in_p2 apdu))) RECORD_NOT_FOUND (λ from.
     refused_if (nat_lt file.width (length apdu.body)) WRONG_LENGTH (
-    Ok (searching state selection apdu file from)))))))))
+    Ok from))
+
+unfoldable pub search_in : Persistent → Verified → Selection → Apdu → Descriptor → Result FileOutcome StatusWord
+search_in state seen selection apdu file =
+    needs (may state Search seen file) SECURITY_NOT_SATISFIED (
+    and_given (number_to_search file selection apdu) (λ from.
+    Ok (searching state selection apdu file from)))
+
+unfoldable pub searched : Persistent → Verified → Selection → Apdu → Result FileOutcome StatusWord
+searched state seen selection apdu = and_given (file_to_search (descriptors_in state) selection apdu) (search_in state seen selection apdu)
 
 -- ---- INCREASE
 
@@ -219,24 +253,29 @@ abbrev pub sum_of : Persistent → Descriptor → Apdu → ℕ
 sum_of state file apdu = number_of (slice_index_or (records_in state file.number) 0 []) + number_of apdu.body
 
 -- the sum is the new first record, and is answered before what was added
-unfoldable pub increasing : Persistent → Selection → Apdu → Descriptor → FileOutcome
-increasing state selection apdu file =
-    let sum = bytes_of file.width (sum_of state file apdu) in
-    record {
-      body = cut_to apdu.expected (sum ++ apdu.body);
-      status = DONE;
-      selection = worked_on selection file (Some 1);
-      passed = with_newest_record file.number sum state ∷ [];
-    }
+unfoldable pub increasing : Persistent → Selection → Apdu → Descriptor → List ℕ → FileOutcome
+increasing state selection apdu file sum = record {
+  body = sum ++ apdu.body;
+  status = DONE;
+  selection = worked_on selection file (Some 1);
+  passed = with_newest_record file.number sum state ∷ [];
+}
 
-unfoldable pub increased : Persistent → Verified → Selection → Apdu → Result FileOutcome StatusWord
-increased state seen selection apdu =
-    needs (has_increase_parameters apdu) WRONG_PARAMETERS (
-    needs (has_increase_length apdu) WRONG_LENGTH (
-    and_given (addressed (descriptors_in state) selection (short_to_increase apdu)) (λ file.
-    needs (may_be_increased file) WRONG_STRUCTURE (
-    refused_if (is_deactivated file) CONDITIONS_NOT_SATISFIED (
-    needs (may state Increase seen file) SECURITY_NOT_SATISFIED (
+abbrev pub file_to_increase : List Descriptor → Selection → Apdu → Result Descriptor StatusWord
+file_to_increase files selection apdu = record_file (has_increase_parameters apdu) (has_increase_length apdu) may_be_increased files selection (short_to_increase apdu)
+
+-- the sum, in the bytes of a record
+unfoldable pub sum_to_write : Persistent → Apdu → Descriptor → Result (List ℕ) StatusWord
+sum_to_write state apdu file =
     refused_if (nat_lt file.width (length apdu.body)) WRONG_LENGTH (
     refused_if (nat_le (256 ^ file.width) (sum_of state file apdu)) OVERFLOW (
-    Ok (increasing state selection apdu file)))))))))
+    Ok (bytes_of file.width (sum_of state file apdu))))
+
+unfoldable pub increase_in : Persistent → Verified → Selection → Apdu → Descriptor → Result FileOutcome StatusWord
+increase_in state seen selection apdu file =
+    needs (may state Increase seen file) SECURITY_NOT_SATISFIED (
+    and_given (sum_to_write state apdu file) (λ sum.
+    Ok (increasing state selection apdu file sum)))
+
+unfoldable pub increased : Persistent → Verified → Selection → Apdu → Result FileOutcome StatusWord
+increased state seen selection apdu = and_given (file_to_increase (descriptors_in state) selection apdu) (increase_in state seen selection apdu)

@@ -11,7 +11,7 @@ use Rattle.file_model.specs.Chains.{given, needs}
 use Rattle.file_model.specs.Files.{descriptors_in, file_found}
 use Rattle.file_model.specs.Selections.{chosen, selection_of}
 use Rattle.file_model.specs.Fcp.{fcp}
-use Rattle.file_model.specs.Outcomes.{FileOutcome, cut_to, has_no_data, is_deactivated}
+use Rattle.file_model.specs.Outcomes.{FileOutcome, has_no_data, is_deactivated}
 
 -- ---- SELECT
 
@@ -31,7 +31,7 @@ has_select_length apdu =
 -- the FCP where they are asked for; a deactivated EF is selected with a warning
 unfoldable pub selecting : Persistent → Apdu → Descriptor → FileOutcome
 selecting state apdu file = record {
-  body = cut_to apdu.expected (if apdu.p2 == 0x04 then fcp state.pins file else []);
+  body = if apdu.p2 == 0x04 then fcp state.pins file else [];
   status = if is_deactivated file then FILE_DEACTIVATED else DONE;
   selection = selection_of file;
   passed = [];
@@ -52,7 +52,7 @@ has_status_parameters apdu = (apdu.p1 == 0x00 || apdu.p1 == 0x01 || apdu.p1 == 0
 -- the FCP of the current DF where they are asked for
 unfoldable pub telling : Persistent → Selection → Apdu → Descriptor → FileOutcome
 telling state selection apdu df = record {
-  body = cut_to apdu.expected (if apdu.p2 == 0x00 then fcp state.pins df else []);
+  body = if apdu.p2 == 0x00 then fcp state.pins df else [];
   status = DONE;
   selection = selection;
   passed = [];

@@ -1,82 +1,94 @@
--- From the commands to the answers: the instruction byte, what is refused, and what the status tells.
-use Rattle.std.proofs.Common.{◌≡◌, ℕ, zero, suc, ◌<◌, Bool, false, List, [], ◌∷◌, length, Option, Some, Result, Ok, Err, refl, sym, ◌∙◌, ap, subst, arith}
-use Rattle.std.specs.Prelude.{slice_index_or, MatchResult, ⊤}
+-- From the commands to the answers: which instructions look at Le, and how Le cuts the data.
+use Rattle.std.proofs.Common.{◌≡◌, ℕ, ◌≤◌, Bool, false, List, [], length, Option, Some, None, Result, Ok, Err, refl, sym, ◌∙◌, ap, subst, arith}
+use Rattle.std.specs.Prelude.{IfSome, MatchResult}
+use Rattle.std.proofs.lemmas.List.{length-take, take_all}
 use Rattle.uicc_types.specs.declared.answers.StatusWord.{StatusWord}
 use Rattle.uicc_types.specs.declared.answers.TheConstants.StatusWord.{WRONG_LENGTH}
 use Rattle.apdu_form.specs.Model.{Apdu, command_in}
 use Rattle.file_model.specs.Chains.{given, and_given}
-use Rattle.file_model.specs.declared.selections.Selection.{Selection}
-use Rattle.card_model.specs.Answers.{Answered, refused, carried_with, settled, tried, with_pending, answer_of}
+use Rattle.card_model.specs.Answers.{Answered, refused, carried_with, cut_to, cut_answer, settled, tried, with_pending, answer_of}
+use Rattle.card_model.specs.Cases.{cut_result}
 use Rattle.card_model.specs.Chained.{Any}
-use Rattle.card_model.specs.Instructions.{InstructionRow, instructions, instruction_tried, has_toolkit}
-use Rattle.card_model.specs.Naming.{instruction_so}
+use Rattle.card_model.specs.Channels.{family}
+use Rattle.card_model.specs.Instructions.{instruction_tried, has_toolkit}
+use Rattle.card_model.specs.Naming.{IsNamed, named_so, instruction_so}
 use Rattle.card_model.specs.States.{CardState}
 use Rattle.card_model.specs.declared.instructions.Instruction.{Instruction}
-use Rattle.link_laws.specs.Le.{without_le, cut_answer, cut_result, looks_at_le, asks_by_le}
-use Rattle.link_laws.proofs.Cutting.{none_cut, carried_with_cut}
+use Rattle.link_laws.specs.Le.{without_le, looks_at_le, asks_by_le}
+use Rattle.link_laws.proofs.Cutting.{carried_with_alike}
 
--- ---- which instruction a byte names
+-- an instruction looks at Le where its byte says so
+tells_of_le : (p1 : ℕ) (knows : Instruction → Bool) (class ins : ℕ) (instruction : Instruction) → IsNamed knows class ins instruction → looks_at_le instruction p1 ≡ asks_by_le ins p1
+tells_of_le p1 =
+    named_so (λ instruction class ins. looks_at_le instruction p1 ≡ asks_by_le ins p1)
+    (refl, (refl, (refl, (refl, (refl, (refl, (refl, (refl, (refl, (refl, (refl, (refl, (refl, (refl, (refl, (refl, (refl, (refl, (refl, (refl, (refl, (refl, (refl, (refl, (refl, tt)))))))))))))))))))))))))
 
-abbrev pub Each : {X : Type 0} → (X → Type 0) → List X → Type 0
-Each P [] = ⊤
-Each P (x ∷ xs) = P x × Each P xs
+-- no data stay none
+cut_none : (expected : Option ℕ) → cut_to expected [] ≡ []
+cut_none None = refl
+cut_none (Some most) = take_all most [] (omega arith)
 
-pub each_of : {X : Type 0} (P : X → Type 0) (xs : List X) → Each P xs → (x : X) (k : ℕ) → k < length xs → slice_index_or xs k x ≡ x → P x
-each_of P [] each x k low is = absurd (omega (arith, low))
-each_of P (y ∷ ys) each x zero low is = subst P is each.0
-each_of P (y ∷ ys) each x (suc k) low is = each_of P ys each.1 x k (omega (arith, low)) is
+abbrev pub Keeps : Option ℕ → List ℕ → Type 0
+Keeps expected body = IfSome expected (λ most. length body ≤ most)
 
-abbrev TellsOfLe : ℕ → InstructionRow → Type 0
-TellsOfLe p1 row = looks_at_le row.instruction p1 ≡ asks_by_le row.ins p1
+cut_keeps : (expected : Option ℕ) (body : List ℕ) → Keeps expected (cut_to expected body)
+cut_keeps None body = tt
+cut_keeps (Some most) body = omega (arith, length-take most body)
 
--- each row of the table
-rows_tell : (p1 : ℕ) → Each (TellsOfLe p1) instructions
-rows_tell p1 = (refl, (refl, (refl, (refl, (refl, (refl, (refl, (refl, (refl, (refl, (refl, (refl, (refl, (refl, (refl, (refl, (refl, (refl, (refl, (refl, (refl, (refl, (refl, (refl, (refl, tt)))))))))))))))))))))))))
+module _ (knows : Instruction → Bool) (card : CardState) (command : Apdu) where
+  abbrev found : Result Instruction StatusWord
+  found = instruction_tried knows card.channels command.class command.ins
 
--- the instruction that is found looks at Le where its byte says so
-pub instruction_tells : (knows : Instruction → Bool) (channels : List (Option Selection)) (class ins p1 : ℕ)
-    → MatchResult (instruction_tried knows channels class ins) (λ instruction. looks_at_le instruction p1 ≡ asks_by_le ins p1) Any
-instruction_tells knows channels class ins p1 =
-    instruction_so (λ instruction. looks_at_le instruction p1 ≡ asks_by_le ins p1) Any knows channels class ins tt tt tt tt
-    (λ row there known is in_class. each_of (TellsOfLe p1) instructions (rows_tell p1) row there.0 there.1 there.2 ∙ ap (λ (byte : ℕ). asks_by_le byte p1) is)
+  abbrev carried : Option ℕ → Apdu → Instruction → Result Answered StatusWord
+  carried expected each instruction = cut_result expected (carried_with (has_toolkit knows) instruction card each)
 
--- ---- what comes of the bytes of a command
+  -- the bytes of this command
+  tried_so : (bytes : List ℕ) → command_in bytes ≡ Some command → tried knows card bytes ≡ and_given found (carried command.expected command)
+  unfolding tried given
+  tried_so bytes read =
+      ap (λ (read : Option Apdu). given read WRONG_LENGTH (λ apdu. and_given (instruction_tried knows card.channels apdu.class apdu.ins) (λ instruction. cut_result apdu.expected (carried_with (has_toolkit knows) instruction card apdu)))) read
 
-abbrev pub carried : (Instruction → Bool) → CardState → Apdu → Instruction → Result Answered StatusWord
-carried knows card command instruction = carried_with (has_toolkit knows) instruction card command
+  -- and those of the command without Le
+  bare_so : (bare : List ℕ) → command_in bare ≡ Some (without_le command) → tried knows card bare ≡ and_given found (carried None (without_le command))
+  unfolding tried given
+  bare_so bare read =
+      ap (λ (read : Option Apdu). given read WRONG_LENGTH (λ apdu. and_given (instruction_tried knows card.channels apdu.class apdu.ins) (λ instruction. cut_result apdu.expected (carried_with (has_toolkit knows) instruction card apdu)))) read
 
-abbrev pub found : (Instruction → Bool) → CardState → Apdu → Result Instruction StatusWord
-found knows card command = instruction_tried knows card.channels command.class command.ins
+  module _ (none : asks_by_le command.ins command.p1 ≡ false) where
+    settled_cut : (result : Result Answered StatusWord) → settled card (cut_result command.expected result) ≡ cut_answer command.expected (settled card (cut_result None result))
+    unfolding and_given
+    settled_cut (Err status) = ap (λ (body : List ℕ). record (refused card status) { body = body }) (sym (cut_none command.expected))
+    settled_cut (Ok answered) = refl
 
--- the bytes of this command
-pub tried_so : (knows : Instruction → Bool) (card : CardState) (bytes : List ℕ) (command : Apdu) → command_in bytes ≡ Some command
-    → tried knows card bytes ≡ and_given (found knows card command) (carried knows card command)
-unfolding tried given
-tried_so knows card bytes command read = ap (λ (read : Option Apdu). given read WRONG_LENGTH (λ apdu. and_given (found knows card apdu) (carried knows card apdu))) read
+    by_found : (result : Result Instruction StatusWord) → MatchResult result (λ instruction. looks_at_le instruction command.p1 ≡ asks_by_le command.ins command.p1) Any
+        → settled card (and_given result (carried command.expected command)) ≡ cut_answer command.expected (settled card (and_given result (carried None (without_le command))))
+    unfolding and_given
+    by_found (Err status) tells = ap (λ (body : List ℕ). record (refused card status) { body = body }) (sym (cut_none command.expected))
+    by_found (Ok instruction) tells =
+        ap (λ (result : Result Answered StatusWord). settled card (cut_result command.expected result)) (carried_with_alike card command (has_toolkit knows) instruction (tells ∙ none))
+        ∙ settled_cut (carried_with (has_toolkit knows) instruction card (without_le command))
 
--- ---- Le cuts the data
+    pub answer_cut : (bytes bare : List ℕ) → command_in bytes ≡ Some command → command_in bare ≡ Some (without_le command) → answer_of knows card bytes ≡ cut_answer command.expected (answer_of knows card bare)
+    unfolding answer_of
+    answer_cut bytes bare read read_bare =
+        ap with_pending (
+        ap (settled card) (tried_so bytes read)
+        ∙ by_found found (instruction_so (λ instruction. looks_at_le instruction command.p1 ≡ asks_by_le command.ins command.p1) Any knows card.channels command.class command.ins tt tt tt tt
+        (tells_of_le command.p1 knows (family command.class) command.ins))
+        ∙ ap (λ (result : Result Answered StatusWord). cut_answer command.expected (settled card result)) (sym (bare_so bare read_bare))
+        )
 
-module _ (knows : Instruction → Bool) (card : CardState) (command : Apdu) (none : asks_by_le command.ins command.p1 ≡ false) where
-  by_found : (result : Result Instruction StatusWord) → MatchResult result (λ instruction. looks_at_le instruction command.p1 ≡ asks_by_le command.ins command.p1) Any
-      → and_given result (carried knows card command) ≡ cut_result command.expected (and_given result (carried knows card (without_le command)))
+  -- no answer has more data
+  keeps : (result : Result Answered StatusWord) → Keeps command.expected (settled card (cut_result command.expected result)).body
   unfolding and_given
-  by_found (Err status) tells = refl
-  by_found (Ok instruction) tells = carried_with_cut card command (has_toolkit knows) instruction (tells ∙ none)
+  keeps (Err status) = subst (Keeps command.expected) (cut_none command.expected) (cut_keeps command.expected [])
+  keeps (Ok answered) = cut_keeps command.expected answered.body
 
-  tried_cut : (bytes bare : List ℕ) → command_in bytes ≡ Some command → command_in bare ≡ Some (without_le command) → tried knows card bytes ≡ cut_result command.expected (tried knows card bare)
-  tried_cut bytes bare read read_bare =
-      tried_so knows card bytes command read
-      ∙ by_found (found knows card command) (instruction_tells knows card.channels command.class command.ins command.p1)
-      ∙ ap (cut_result command.expected) (sym (tried_so knows card bare (without_le command) read_bare))
+  found_keeps : (result : Result Instruction StatusWord) → Keeps command.expected (settled card (and_given result (carried command.expected command))).body
+  unfolding and_given
+  found_keeps (Err status) = subst (Keeps command.expected) (cut_none command.expected) (cut_keeps command.expected [])
+  found_keeps (Ok instruction) = keeps (carried_with (has_toolkit knows) instruction card command)
 
-  -- a refusal has no data
-  settled_cut : (result : Result Answered StatusWord) → settled card (cut_result command.expected result) ≡ cut_answer command.expected (settled card result)
-  settled_cut (Err status) = ap (λ (body : List ℕ). record (refused card status) { body = body }) (none_cut command.expected [] refl)
-  settled_cut (Ok answered) = refl
-
-  pub answer_cut : (bytes bare : List ℕ) → command_in bytes ≡ Some command → command_in bare ≡ Some (without_le command)
-      → answer_of knows card bytes ≡ cut_answer command.expected (answer_of knows card bare)
+  pub answer_keeps : (bytes : List ℕ) → command_in bytes ≡ Some command → Keeps command.expected (answer_of knows card bytes).body
   unfolding answer_of
-  answer_cut bytes bare read read_bare =
-      ap (λ (result : Result Answered StatusWord). with_pending (settled card result)) (tried_cut bytes bare read read_bare)
-      ∙ ap with_pending (settled_cut (tried knows card bare))
+  answer_keeps bytes read = subst (λ (result : Result Answered StatusWord). Keeps command.expected (settled card result).body) (sym (tried_so bytes read)) (found_keeps found)

@@ -1,7 +1,5 @@
-mod Chains
 mod Cutting
 mod Answering
-mod Keeping
 mod Spelling
 mod Passing
 mod Stepping

@@ -1,7 +1,8 @@
 -- What the link passes for a command, beside the command's own bytes: the card answers both alike, but for the cut to Le.
 use Rattle.std.proofs.Common.{◌≡◌, inl, inr, ℕ, ◌<◌, ◌≤◌, Bool, true, false, List, [], ◌∷◌, ◌++◌, length, Option, Some, None, refl, sym, ◌∙◌, ap, subst, arith}
 use Rattle.std.specs.Prelude.{◌≢◌, ◌^◌, ◌/◌, ◌%◌, ◌==◌, ◌&&◌, ◌||◌, not, if◌then◌else◌, is_some, Contains, IfSome, IsTrue, MatchBool, ⊤}
-use Rattle.std.proofs.lemmas.Bool.{eqb-false, and_parts}
+use Rattle.std.specs.List.{list_all}
+use Rattle.std.proofs.lemmas.Bool.{eqb-false, not-true, and_parts}
 use Rattle.std.proofs.lemmas.List.{length-append, get_or_append_left, take_all}
 use Rattle.std.proofs.Math.Bool.{and-false}
 use Rattle.uicc_types.specs.Told.{AreBytes}
@@ -17,16 +18,16 @@ use Rattle.t0_link.specs.Linking.{Course, Answers, Passes, status_alone}
 use Rattle.t0_link.specs.Carrying.{is_carried_by, command_answer, front_of, cut_answer_to}
 use Rattle.t0_link.specs.Passing.{IsPlain, GivesAnswer, passed_by, passed_apdu}
 use Rattle.t0_link.proofs.Passed.{carried_gives, no_data}
-use Rattle.card_model.specs.Answers.{Answered, answer_of}
+use Rattle.card_model.specs.Answers.{Answered, cut_answer, answer_of}
+use Rattle.card_model.specs.Naming.{all_hold}
 use Rattle.card_model.specs.Instructions.{has_toolkit}
 use Rattle.card_model.specs.Laws.{IsKnownStatus, IsStatusOf, statuses, tree_statuses, PlainAnswersAreLawful, IsLawfulAnswer, is_of_tree_named, key_named}
 use Rattle.card_model.specs.States.{CardState, IsGood}
 use Rattle.card_model.specs.declared.instructions.Instruction.{Instruction}
 use Rattle.session_laws.specs.Lawful.{IsStatus, toolkit_statuses, IsLawfulWithApplets, AnswersAreLawful as AnswersWithAppletsAreLawful}
-use Rattle.link_laws.specs.Le.{cut_answer, asks_by_le}
+use Rattle.link_laws.specs.Le.{asks_by_le}
 use Rattle.link_laws.specs.Linked.{shown, HasOwnAnswer, GivesOwnAnswer, LinkChangesNoAnswer}
-use Rattle.link_laws.proofs.Answering.{Each, each_of, answer_cut}
-use Rattle.link_laws.proofs.Keeping.{answer_keeps}
+use Rattle.link_laws.proofs.Answering.{answer_cut, answer_keeps}
 use Rattle.link_laws.proofs.Spelling.{bare_read}
 
 -- ---- what the link can pass back: data that fit, and a status that isn't the link's own
@@ -34,29 +35,25 @@ use Rattle.link_laws.proofs.Spelling.{bare_read}
 abbrev pub Fits : Answered → Type 0
 Fits answered = (length answered.body ≤ 256) × IsPlain (shown answered)
 
-abbrev IsNotOwn : StatusWord → Type 0
-IsNotOwn status = (status.0 / 256 == 0x61) ≡ false
-
-listed_plain : (list : List StatusWord) → Each IsNotOwn list → (status : StatusWord) → Contains list status → IsPlain (record { body = []; status = status })
-listed_plain list each status there = eqb-false (status.0 / 256) 0x61 (each_of IsNotOwn list each status there.0 there.1 there.2)
+listed_plain : (list : List StatusWord) → list_all (λ word. not (word.0 / 256 == 0x61)) list ≡ true → (status : StatusWord) → Contains list status → IsPlain (record { body = []; status = status })
+listed_plain list none status there = eqb-false (status.0 / 256) 0x61 (not-true (status.0 / 256 == 0x61) (all_hold (λ word. not (word.0 / 256 == 0x61)) list none status there))
 
 of_word : (status other : StatusWord) → status ≡ other → other.0 / 256 ≢ 0x61 → IsPlain (record { body = []; status = status })
 of_word status other is plain same = plain (ap (λ (word : StatusWord). word.0 / 256) (sym is) ∙ same)
 
 known_plain : (status : StatusWord) → IsKnownStatus status → IsPlain (record { body = []; status = status })
-known_plain status (inl there) =
-    listed_plain statuses (refl, (refl, (refl, (refl, (refl, (refl, (refl, (refl, (refl, (refl, (refl, (refl, (refl, (refl, (refl, (refl, (refl, (refl, (refl, (refl, (refl, tt))))))))))))))))))))) status there
+known_plain status (inl there) = listed_plain statuses refl status there
 known_plain status (inr (inl (width, low, is))) = of_word status _ is (λ same. absurd (omega (arith, low, same)))
 known_plain status (inr (inr (inl (tries, low, is)))) = of_word status _ is (λ same. absurd (omega (arith, low, same)))
 known_plain status (inr (inr (inr (count, low, is)))) = of_word status _ is (λ same. absurd (omega (arith, low, same)))
 
 answered_plain : (of_tree : Bool) (status : StatusWord) → IsStatusOf of_tree status → IsPlain (record { body = []; status = status })
 answered_plain of_tree status (inl known) = known_plain status known
-answered_plain of_tree status (inr tree) = listed_plain tree_statuses (refl, (refl, (refl, tt))) status tree.1
+answered_plain of_tree status (inr tree) = listed_plain tree_statuses refl status tree.1
 
 status_plain : (of_tree : Bool) (status : StatusWord) → IsStatus of_tree status → IsPlain (record { body = []; status = status })
 status_plain of_tree status (inl known) = answered_plain of_tree status known
-status_plain of_tree status (inr there) = listed_plain toolkit_statuses (refl, (refl, (refl, tt))) status there
+status_plain of_tree status (inr there) = listed_plain toolkit_statuses refl status there
 
 -- a good card's answers fit, whether it runs applets or not
 module _ (without : PlainAnswersAreLawful) (with_applets : AnswersWithAppletsAreLawful) (knows : Instruction → Bool) (card : CardState) (good : IsGood card) where
@@ -124,7 +121,7 @@ module _ (knows : Instruction → Bool) (card : CardState) (good : IsGood card) 
 
     own_with_le : (most : ℕ) → command_in bytes ≡ Some (with_le (Some most)) → body ≡ [] → IsOwn (Some most) (header (most % 256 ∷ []))
     own_with_le most read none =
-        subst (IsOwn (Some most)) (same_bytes most read none) (sym (uncut most own (answer_keeps card good (with_le (Some most)) knows bytes read)), fit bytes are)
+        subst (IsOwn (Some most)) (same_bytes most read none) (sym (uncut most own (answer_keeps knows card (with_le (Some most)) bytes read)), fit bytes are)
 
     all_read : command_in (header (0 ∷ [])) ≡ Some (record { class = class; ins = ins; p1 = p1; p2 = p2; body = []; expected = Some 256 })
     unfolding command_in fields_in

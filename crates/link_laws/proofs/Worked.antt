@@ -11,13 +11,13 @@ use Rattle.access_rules.specs.Objects.{object}
 use Rattle.card_layout.specs.Persistent.{Bytes, Records, File, Pin}
 use Rattle.card_layout.specs.Soundness.{mf}
 use Rattle.file_model.specs.Access.{keys_seen, arr_found, ruling_record, may}
-use Rattle.file_model.specs.Binaries.{reading, binary_read}
+use Rattle.file_model.specs.Binaries.{reading, binary_read, binary_file, read_from}
 use Rattle.file_model.specs.Chains.{refused_if, given, and_given}
 use Rattle.file_model.specs.Fcp.{fcp}
 use Rattle.file_model.specs.Files.{descriptor_in, descriptors_in, file_found}
 use Rattle.file_model.specs.Holdings.{held_by}
 use Rattle.file_model.specs.Outcomes.{addressed}
-use Rattle.file_model.specs.Records.{record_named, record_reading, record_read, numbers_matched, searching, searched}
+use Rattle.file_model.specs.Records.{record_named, record_reading, record_read, numbers_matched, searching, searched, number_to_read, record_file, record_read_from, search_in, number_to_search}
 use Rattle.file_model.specs.Selecting.{selecting, file_selected, telling, status_told}
 use Rattle.file_model.specs.Selections.{selection_of, chosen_by_identifier, chosen}
 use Rattle.toolkit_model.specs.Commands.{polled}
@@ -29,12 +29,13 @@ use Rattle.card_model.specs.Channels.{channel_tried}
 use Rattle.card_model.specs.Instructions.{instruction_tried}
 use Rattle.card_model.specs.Runs.{StepGives}
 use Rattle.card_model.specs.States.{CardState, powered, woken, woken_boxes}
-use Rattle.card_model.specs.Toolkit.{command_fetched}
+use Rattle.card_model.specs.Toolkit.{command_fetched, toolkit_outcome}
 use Rattle.t0_link.specs.Tpdus.{transfer_in}
 use Rattle.t0_link.specs.Linking.{Linked, Course, Answers, Passes, link_answer}
 use Rattle.t0_link.specs.Carrying.{carried, command_answer}
 use Rattle.link_laws.specs.Linked.{shown}
 use Rattle.link_laws.specs.Shown.{item_of, shown_for, shown_over}
+use Rattle.file_model.specs.Commands.{contents_outcome, file_outcome}
 
 -- ---- the card
 
@@ -75,62 +76,62 @@ pub record HasBoth (bytes wanted : List ℕ) : Type 0 where
 
 -- SELECT with the FCP, of which five bytes are asked for
 select : HasBoth (0x00 ∷ 0xA4 ∷ 0x00 ∷ 0x04 ∷ 0x02 ∷ 0x2F ∷ 0xE2 ∷ 0x05 ∷ []) (0x62 ∷ 0x12 ∷ 0x82 ∷ 0x02 ∷ 0x41 ∷ 0x90 ∷ 0x00 ∷ [])
-unfolding command_in fields_in transfer_in link_answer command_answer refused_if given and_given instruction_tried carried_out tried answer_of woken woken_boxes descriptor_in descriptors_in file_found file_selected selecting chosen chosen_by_identifier selection_of fcp object
+unfolding command_in fields_in transfer_in link_answer command_answer refused_if given and_given instruction_tried carried_out file_outcome tried answer_of woken woken_boxes descriptor_in descriptors_in file_found file_selected selecting chosen chosen_by_identifier selection_of fcp object
 select = record { is_carried = refl; linked = refl; by_itself = refl }
 
 -- the same without Le
 select_all : HasBoth (0x00 ∷ 0xA4 ∷ 0x00 ∷ 0x04 ∷ 0x02 ∷ 0x2F ∷ 0xE2 ∷ []) (0x62 ∷ 0x12 ∷ 0x82 ∷ 0x02 ∷ 0x41 ∷ 0x21 ∷ 0x83 ∷ 0x02 ∷ 0x2F ∷ 0xE2 ∷ 0x8A ∷ 0x01 ∷ 0x05 ∷ 0x80 ∷ 0x02 ∷ 0x00 ∷ 0x03 ∷ 0x88 ∷ 0x01 ∷ 0x10 ∷ 0x90 ∷ 0x00 ∷ [])
-unfolding command_in fields_in transfer_in link_answer command_answer refused_if given and_given instruction_tried carried_out tried answer_of woken woken_boxes descriptor_in descriptors_in file_found file_selected selecting chosen chosen_by_identifier selection_of fcp object
+unfolding command_in fields_in transfer_in link_answer command_answer refused_if given and_given instruction_tried carried_out file_outcome tried answer_of woken woken_boxes descriptor_in descriptors_in file_found file_selected selecting chosen chosen_by_identifier selection_of fcp object
 select_all = record { is_carried = refl; linked = refl; by_itself = refl }
 
 -- SELECT without the FCP, with Le
 select_no_data : HasBoth (0x00 ∷ 0xA4 ∷ 0x00 ∷ 0x0C ∷ 0x02 ∷ 0x2F ∷ 0xE2 ∷ 0x00 ∷ []) (0x90 ∷ 0x00 ∷ [])
-unfolding command_in fields_in transfer_in link_answer command_answer refused_if given and_given instruction_tried carried_out tried answer_of woken woken_boxes descriptor_in descriptors_in file_found file_selected selecting chosen chosen_by_identifier selection_of fcp object
+unfolding command_in fields_in transfer_in link_answer command_answer refused_if given and_given instruction_tried carried_out file_outcome tried answer_of woken woken_boxes descriptor_in descriptors_in file_found file_selected selecting chosen chosen_by_identifier selection_of fcp object
 select_no_data = record { is_carried = refl; linked = refl; by_itself = refl }
 
 -- STATUS without Le is passed with 00
 status : HasBoth (0x80 ∷ 0xF2 ∷ 0x00 ∷ 0x00 ∷ []) (0x62 ∷ 0x13 ∷ 0x82 ∷ 0x02 ∷ 0x78 ∷ 0x21 ∷ 0x83 ∷ 0x02 ∷ 0x3F ∷ 0x00 ∷ 0x8A ∷ 0x01 ∷ 0x05 ∷ 0xC6 ∷ 0x06 ∷ 0x90 ∷ 0x01 ∷ 0x80 ∷ 0x83 ∷ 0x01 ∷ 0x01 ∷ 0x90 ∷ 0x00 ∷ [])
-unfolding command_in fields_in transfer_in link_answer command_answer refused_if given and_given instruction_tried carried_out tried answer_of woken woken_boxes descriptor_in descriptors_in file_found status_told telling fcp object polled told_one given_one caught_up wanted settled driven trigger_order asks
+unfolding command_in fields_in transfer_in link_answer command_answer refused_if given and_given instruction_tried carried_out file_outcome tried answer_of woken woken_boxes descriptor_in descriptors_in file_found status_told telling fcp object polled told_one given_one caught_up wanted settled driven trigger_order asks
 status = record { is_carried = refl; linked = refl; by_itself = refl }
 
 -- STATUS with Le
 status_cut : HasBoth (0x80 ∷ 0xF2 ∷ 0x00 ∷ 0x00 ∷ 0x02 ∷ []) (0x62 ∷ 0x13 ∷ 0x90 ∷ 0x00 ∷ [])
-unfolding command_in fields_in transfer_in link_answer command_answer refused_if given and_given instruction_tried carried_out tried answer_of woken woken_boxes descriptor_in descriptors_in file_found status_told telling fcp object polled told_one given_one caught_up wanted settled driven trigger_order asks
+unfolding command_in fields_in transfer_in link_answer command_answer refused_if given and_given instruction_tried carried_out file_outcome tried answer_of woken woken_boxes descriptor_in descriptors_in file_found status_told telling fcp object polled told_one given_one caught_up wanted settled driven trigger_order asks
 status_cut = record { is_carried = refl; linked = refl; by_itself = refl }
 
 -- STATUS without the FCP
 status_no_data : HasBoth (0x80 ∷ 0xF2 ∷ 0x00 ∷ 0x0C ∷ []) (0x90 ∷ 0x00 ∷ [])
-unfolding command_in fields_in transfer_in link_answer command_answer refused_if given and_given instruction_tried carried_out tried answer_of woken woken_boxes descriptor_in descriptors_in file_found status_told telling fcp object polled told_one given_one caught_up wanted settled driven trigger_order asks
+unfolding command_in fields_in transfer_in link_answer command_answer refused_if given and_given instruction_tried carried_out file_outcome tried answer_of woken woken_boxes descriptor_in descriptors_in file_found status_told telling fcp object polled told_one given_one caught_up wanted settled driven trigger_order asks
 status_no_data = record { is_carried = refl; linked = refl; by_itself = refl }
 
 -- READ BINARY
 read : HasBoth (0x00 ∷ 0xB0 ∷ 0x82 ∷ 0x00 ∷ 0x02 ∷ []) (0x98 ∷ 0x10 ∷ 0x90 ∷ 0x00 ∷ [])
-unfolding command_in fields_in transfer_in link_answer command_answer refused_if given and_given instruction_tried carried_out tried answer_of woken woken_boxes descriptor_in descriptors_in file_found keys_seen addressed arr_found ruling_record may held_by reading binary_read
+unfolding command_in fields_in transfer_in link_answer command_answer refused_if given and_given instruction_tried carried_out file_outcome contents_outcome tried answer_of woken woken_boxes descriptor_in descriptors_in file_found keys_seen addressed arr_found ruling_record may held_by reading binary_file read_from binary_read
 read = record { is_carried = refl; linked = refl; by_itself = refl }
 
 -- READ BINARY past the end
 read_past : HasBoth (0x00 ∷ 0xB0 ∷ 0x82 ∷ 0x01 ∷ 0x05 ∷ []) (0x10 ∷ 0x32 ∷ 0x62 ∷ 0x82 ∷ [])
-unfolding command_in fields_in transfer_in link_answer command_answer refused_if given and_given instruction_tried carried_out tried answer_of woken woken_boxes descriptor_in descriptors_in file_found keys_seen addressed arr_found ruling_record may held_by reading binary_read
+unfolding command_in fields_in transfer_in link_answer command_answer refused_if given and_given instruction_tried carried_out file_outcome contents_outcome tried answer_of woken woken_boxes descriptor_in descriptors_in file_found keys_seen addressed arr_found ruling_record may held_by reading binary_file read_from binary_read
 read_past = record { is_carried = refl; linked = refl; by_itself = refl }
 
 -- READ RECORD for all there is
 record_all : HasBoth (0x00 ∷ 0xB2 ∷ 0x02 ∷ 0x1C ∷ 0x00 ∷ []) (0x43 ∷ 0x44 ∷ 0x90 ∷ 0x00 ∷ [])
-unfolding command_in fields_in transfer_in link_answer command_answer refused_if given and_given instruction_tried carried_out tried answer_of woken woken_boxes descriptor_in descriptors_in file_found keys_seen addressed arr_found ruling_record may held_by record_named record_reading record_read
+unfolding command_in fields_in transfer_in link_answer command_answer refused_if given and_given instruction_tried carried_out file_outcome contents_outcome tried answer_of woken woken_boxes descriptor_in descriptors_in file_found keys_seen addressed arr_found ruling_record may held_by record_named record_reading record_file number_to_read record_read_from record_read
 record_all = record { is_carried = refl; linked = refl; by_itself = refl }
 
 -- and for another length
 record_other : HasBoth (0x00 ∷ 0xB2 ∷ 0x02 ∷ 0x1C ∷ 0x01 ∷ []) (0x6C ∷ 0x02 ∷ [])
-unfolding command_in fields_in transfer_in link_answer command_answer refused_if given and_given instruction_tried carried_out tried answer_of woken woken_boxes descriptor_in descriptors_in file_found keys_seen addressed arr_found ruling_record may held_by record_named record_reading record_read
+unfolding command_in fields_in transfer_in link_answer command_answer refused_if given and_given instruction_tried carried_out file_outcome contents_outcome tried answer_of woken woken_boxes descriptor_in descriptors_in file_found keys_seen addressed arr_found ruling_record may held_by record_named record_reading record_file number_to_read record_read_from record_read
 record_other = record { is_carried = refl; linked = refl; by_itself = refl }
 
 -- SEARCH RECORD, with as many numbers of records as there are
 searched_one : HasBoth (0x00 ∷ 0xA2 ∷ 0x01 ∷ 0x1C ∷ 0x01 ∷ 0x43 ∷ 0x00 ∷ []) (0x02 ∷ 0x90 ∷ 0x00 ∷ [])
-unfolding command_in fields_in transfer_in link_answer command_answer refused_if given and_given instruction_tried carried_out tried answer_of woken woken_boxes descriptor_in descriptors_in file_found keys_seen addressed arr_found ruling_record may held_by numbers_matched searching searched
+unfolding command_in fields_in transfer_in link_answer command_answer refused_if given and_given instruction_tried carried_out file_outcome contents_outcome tried answer_of woken woken_boxes descriptor_in descriptors_in file_found keys_seen addressed arr_found ruling_record may held_by numbers_matched searching record_file search_in number_to_search searched
 searched_one = record { is_carried = refl; linked = refl; by_itself = refl }
 
 -- FETCH where there is nothing to fetch
 fetch_none : HasBoth (0x80 ∷ 0x12 ∷ 0x00 ∷ 0x00 ∷ 0x10 ∷ []) (0x69 ∷ 0x85 ∷ [])
-unfolding command_in fields_in transfer_in link_answer command_answer refused_if given and_given instruction_tried carried_out tried answer_of woken woken_boxes command_fetched
+unfolding command_in fields_in transfer_in link_answer command_answer refused_if given and_given instruction_tried carried_out toolkit_outcome tried answer_of woken woken_boxes command_fetched
 fetch_none = record { is_carried = refl; linked = refl; by_itself = refl }
 
 -- MANAGE CHANNEL that opens one
@@ -183,9 +184,9 @@ abbrev Selects : List ℕ → List ℕ → Type 0
 Selects bytes body = StepGives (powered card) (step.Apdu bytes) (shown_for bytes (item.Answer body (record { 0 = 0x9000 }))) (powered (answer card (select_header [])).state)
 
 passed_step : Selects (select_header []) (0x62 ∷ 0x12 ∷ 0x82 ∷ 0x02 ∷ 0x41 ∷ 0x21 ∷ 0x83 ∷ 0x02 ∷ 0x2F ∷ 0xE2 ∷ 0x8A ∷ 0x01 ∷ 0x05 ∷ 0x80 ∷ 0x02 ∷ 0x00 ∷ 0x03 ∷ 0x88 ∷ 0x01 ∷ 0x10 ∷ [])
-unfolding command_in fields_in refused_if given and_given instruction_tried carried_out tried answer_of woken woken_boxes descriptor_in descriptors_in file_found file_selected selecting chosen chosen_by_identifier selection_of fcp object
+unfolding command_in fields_in refused_if given and_given instruction_tried carried_out file_outcome tried answer_of woken woken_boxes descriptor_in descriptors_in file_found file_selected selecting chosen chosen_by_identifier selection_of fcp object
 passed_step = inl (record { seen = refl; moved = refl })
 
 own_step : Selects (select_header (0x02 ∷ [])) (0x62 ∷ 0x12 ∷ [])
-unfolding command_in fields_in refused_if given and_given instruction_tried carried_out tried answer_of woken woken_boxes descriptor_in descriptors_in file_found file_selected selecting chosen chosen_by_identifier selection_of fcp object
+unfolding command_in fields_in refused_if given and_given instruction_tried carried_out file_outcome tried answer_of woken woken_boxes descriptor_in descriptors_in file_found file_selected selecting chosen chosen_by_identifier selection_of fcp object
 own_step = inl (record { seen = refl; moved = refl })

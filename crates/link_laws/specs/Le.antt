@@ -1,14 +1,15 @@
 -- What Le, the most data that a command lets its answer have, does to the answer of a card.
-use Rattle.std.specs.Prelude.{◌≡◌, ◌≤◌, ◌==◌, ◌&&◌, not, ℕ, Bool, true, false, List, ◌∷◌, length, Option, Some, None, IfSome, Result, Ok, Err}
-use Rattle.uicc_types.specs.declared.answers.StatusWord.{StatusWord}
+use Rattle.std.specs.Prelude.{◌≡◌, ◌≤◌, ◌==◌, ◌&&◌, not, ℕ, Bool, true, false, List, ◌∷◌, length, Some, None, IfSome}
 use Rattle.apdu_form.specs.Model.{Apdu, data_field, command_in}
 use Rattle.t0_link.specs.declared.instructions.TheConstants.{STATUS}
 use Rattle.t0_link.specs.Tpdus.{is_outgoing}
-use Rattle.file_model.specs.Outcomes.{cut_to}
-use Rattle.card_model.specs.Answers.{Answered, carried_with, answer_of}
-use Rattle.card_model.specs.States.{CardState, IsGood}
+use Rattle.file_model.specs.declared.commands.ContentsCommand.TheVariants.{ReadBinary, ReadRecord}
+use Rattle.file_model.specs.declared.commands.FileCommand.TheVariants.{Contents}
+use Rattle.card_model.specs.Answers.{carried_with, cut_answer, answer_of}
+use Rattle.card_model.specs.States.{CardState}
 use Rattle.card_model.specs.declared.instructions.Instruction.{Instruction}
-use Rattle.card_model.specs.declared.instructions.Instruction.TheVariants.{ReadBinary, ReadRecord, Fetch, ManageChannel}
+use Rattle.card_model.specs.declared.instructions.Instruction.TheVariants.{File, ManageChannel, Toolkit}
+use Rattle.card_model.specs.declared.instructions.ToolkitCommand.TheVariants.{Fetch}
 
 -- the same command without Le
 abbrev pub without_le : Apdu → Apdu
@@ -18,22 +19,13 @@ without_le command = record command { expected = None }
 abbrev pub bare_bytes : Apdu → List ℕ
 bare_bytes command = command.class ∷ command.ins ∷ command.p1 ∷ command.p2 ∷ data_field command.body
 
--- the same answer with its data cut to Le; what the card is after it, its commits and the status are no others
-abbrev pub cut_answer : Option ℕ → Answered → Answered
-cut_answer expected answered = record answered { body = cut_to expected answered.body }
-
--- the same of a command that may be refused
-abbrev pub cut_result : Option ℕ → Result Answered StatusWord → Result Answered StatusWord
-cut_result expected (Err status) = Err status
-cut_result expected (Ok answered) = Ok (cut_answer expected answered)
-
 -- ---- the commands that look at Le
 
 -- READ BINARY, READ RECORD and FETCH, and MANAGE CHANNEL with P1 00, which opens a channel
 abbrev pub looks_at_le : Instruction → ℕ → Bool
-looks_at_le ReadBinary p1 = true
-looks_at_le ReadRecord p1 = true
-looks_at_le Fetch p1 = true
+looks_at_le (File (Contents ReadBinary)) p1 = true
+looks_at_le (File (Contents ReadRecord)) p1 = true
+looks_at_le (Toolkit Fetch) p1 = true
 looks_at_le ManageChannel p1 = p1 == 0x00
 looks_at_le _ p1 = false
 
@@ -43,14 +35,13 @@ asks_by_le ins p1 = not (ins == STATUS) && is_outgoing ins p1
 
 -- ---- laws
 
--- No other command looks at Le, on a card that runs applets or on one that doesn't: the outcome is that of the command without Le,
--- with its data cut to Le.
-abbrev pub CommandsAreCutToLe : Type 0
-CommandsAreCutToLe =
+-- No other command looks at Le, on a card that runs applets or on one that doesn't: it comes to what it comes to without Le.
+abbrev pub OthersDontLookAtLe : Type 0
+OthersDontLookAtLe =
     (runs_applets : Bool) (instruction : Instruction) (card : CardState) (command : Apdu) → looks_at_le instruction command.p1 ≡ false
-    → carried_with runs_applets instruction card command ≡ cut_result command.expected (carried_with runs_applets instruction card (without_le command))
+    → carried_with runs_applets instruction card command ≡ carried_with runs_applets instruction card (without_le command)
 
--- So it is with the answers of every card, whatever commands it knows,
+-- So the answer of every card, whatever commands it knows, is that to the command without Le, with its data cut to Le,
 abbrev pub AnswersAreCutToLe : Type 0
 AnswersAreCutToLe =
     (knows : Instruction → Bool) (card : CardState) (bytes bare : List ℕ) (command : Apdu)
@@ -61,8 +52,8 @@ AnswersAreCutToLe =
 abbrev pub BareBytesAreRead : Type 0
 BareBytesAreRead = (command : Apdu) → command_in (bare_bytes command) ≡ Some (without_le command)
 
--- No answer of a good card has more data than Le lets it have, whatever the command.
+-- No answer has more data than Le lets it have, whatever the command.
 abbrev pub AnswersKeepToLe : Type 0
 AnswersKeepToLe =
-    (knows : Instruction → Bool) (card : CardState) (bytes : List ℕ) (command : Apdu) → IsGood card → command_in bytes ≡ Some command
+    (knows : Instruction → Bool) (card : CardState) (bytes : List ℕ) (command : Apdu) → command_in bytes ≡ Some command
     → IfSome command.expected (λ most. length (answer_of knows card bytes).body ≤ most)

@@ -6,10 +6,9 @@ use Rattle.uicc_types.specs.declared.answers.TheConstants.StatusWord.{MEMORY_PRO
 use Rattle.apdu_form.specs.Model.{Apdu, command_in}
 use Rattle.t0_link.specs.Linking.{Linked, Course, Answers, Passes, status_alone}
 use Rattle.t0_link.specs.Carrying.{is_carried, command_answer}
-use Rattle.card_model.specs.Answers.{Answered, answer_of}
+use Rattle.card_model.specs.Answers.{Answered, cut_answer, answer_of}
 use Rattle.card_model.specs.States.{CardState, IsGood}
 use Rattle.card_model.specs.declared.instructions.Instruction.{Instruction}
-use Rattle.link_laws.specs.Le.{cut_answer}
 
 -- what a card shows of its answer: the data and the status
 abbrev pub shown : Answered → Answer

@@ -1,5 +1,5 @@
 //! What holds of every card and command. The functions do nothing: each one's contract is the law.
-ghost use Rattle.link_laws.specs.Le.{CommandsAreCutToLe, AnswersAreCutToLe, BareBytesAreRead, AnswersKeepToLe};
+ghost use Rattle.link_laws.specs.Le.{OthersDontLookAtLe, AnswersAreCutToLe, BareBytesAreRead, AnswersKeepToLe};
 ghost use Rattle.link_laws.specs.Linked.{LinkChangesNoAnswer};
 ghost use Rattle.link_laws.specs.Stepped.{LinkChangesNoStep, CountsSeeNoBytes};
 
@@ -7,9 +7,9 @@ use card_model::answers_are_lawful;
 use session_laws::answers_with_applets_are_lawful;
 
 /// No command but READ BINARY, READ RECORD, FETCH and MANAGE CHANNEL with P1 00 looks at Le: Le cuts the data of its answer, and does
-/// no more. No answer of a good card has more data than Le lets it have.
+/// no more. No answer has more data than Le lets it have.
 pub fn le_cuts_alone()
-    ensures commands { CommandsAreCutToLe }
+    ensures commands { OthersDontLookAtLe }
     ensures answers { AnswersAreCutToLe }
     ensures bare { BareBytesAreRead }
     ensures most { AnswersKeepToLe }

@@ -1,5 +1,5 @@
 -- What a PIN command has done, on any card, and on one that tells its state.
-use Rattle.std.specs.Prelude.{◌≡◌, ◌≢◌, ◌⊎◌, ℕ, ◌+◌, ◌<◌, ◌≤◌, ◌==◌, ◌||◌, false, if◌then◌else◌, List, [], ◌∷◌, length, slice_index_or, None, Some, option_map, IfSome, IsSomeAnd, Result, IfOk, OnOk, OnErr}
+use Rattle.std.specs.Prelude.{◌≡◌, ◌≢◌, ◌⊎◌, ℕ, ◌+◌, ◌<◌, ◌≤◌, false, List, [], ◌∷◌, length, slice_index_or, None, Some, option_map, IfSome, IsSomeAnd, Result, IfOk, OnOk, OnErr}
 use Rattle.uicc_types.specs.Counts.{raised_by}
 use Rattle.uicc_types.specs.declared.answers.Answer.{Answer}
 use Rattle.uicc_types.specs.declared.answers.StatusWord.{StatusWord}
@@ -11,9 +11,10 @@ use Rattle.card_layout.specs.Persistent.{Pin, Persistent}
 use Rattle.card_layout.specs.Memory.{Memory, held, Keeps}
 use Rattle.card_layout.specs.Standing.{Agrees}
 use Rattle.card_layout.specs.States.{pins_of}
+use Rattle.file_model.specs.declared.commands.PinCommand.{PinCommand}
 use Rattle.file_model.specs.Outcomes.{PinOutcome, last_of, has_no_data}
 use Rattle.file_model.specs.Pins.{pin_found, tries_left}
-use Rattle.file_model.specs.Guards.{Guard, OfPin, OfUnblock, tries_by, TakesATry}
+use Rattle.file_model.specs.Guards.{guard_of, tries_by, TakesATry}
 use Rattle.card_memory.specs.Performing.{with_each}
 
 -- the status and the marks are those of the outcome, and the PINs those after its last commit
@@ -69,13 +70,9 @@ pub record AnswersPins (old new : Memory) (answer : Answer) (result : Result Uni
   pub empty : answer.body ≡ []
   pub usual : OnOk result (answer.status.0 ≢ MEMORY_PROBLEM.0)
 
--- VERIFY PIN, CHANGE PIN, DISABLE PIN and ENABLE PIN present a value of the PIN, UNBLOCK PIN one of its own
-abbrev pub guard_of : Apdu → Guard
-guard_of apdu = if apdu.ins == 0x20 || apdu.ins == 0x24 || apdu.ins == 0x26 || apdu.ins == 0x28 then OfPin else OfUnblock
-
 -- After an answer that tells how many tries are left, where a value was presented, they are one less than before; nothing else
 -- of the PINs has changed.
-abbrev pub LeavesOneLess : Apdu → StatusWord → List Pin → List Pin → Type 0
-LeavesOneLess apdu status before after =
+abbrev pub LeavesOneLess : PinCommand → Apdu → StatusWord → List Pin → List Pin → Type 0
+LeavesOneLess command apdu status before after =
     (tries : ℕ) → tries ≤ 10 → has_no_data apdu ≡ false → status ≡ tries_left tries
-    → TakesATry (guard_of apdu) apdu.p2 before after × IsSomeAnd (pin_found after apdu.p2) (λ pin. tries_by (guard_of apdu) pin ≡ tries)
+    → TakesATry (guard_of command) apdu.p2 before after × IsSomeAnd (pin_found after apdu.p2) (λ pin. tries_by (guard_of command) pin ≡ tries)

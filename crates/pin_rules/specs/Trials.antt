@@ -11,7 +11,7 @@ use Rattle.card_layout.specs.Used.{HasPin}
 use Rattle.card_memory.specs.declared.pins.PinChange.{PinChange}
 use Rattle.card_memory.specs.declared.pins.PinChange.TheVariants.{Tries, UnblockTries, Value, Enabled, Unblocked}
 use Rattle.card_memory.specs.Pins.{changed_pin}
-use Rattle.file_model.specs.Outcomes.{PinOutcome, has_no_data}
+use Rattle.file_model.specs.Outcomes.{PinOutcome, settled_pin, has_no_data}
 use Rattle.file_model.specs.Pins.{marked, told, value_presented, pin_presented, unblock_presented}
 use Rattle.pin_rules.specs.declared.slots.Held.{Held}
 use Rattle.pin_rules.specs.declared.trials.Trial.{Trial}
@@ -55,6 +55,10 @@ outcome_of pins verified apdu (Unblock held value) = unblock_trial pins verified
 abbrev pub meaning_of : List Pin → Verified → Apdu → Result Trial StatusWord → Result PinOutcome StatusWord
 meaning_of pins verified apdu (Err status) = Err status
 meaning_of pins verified apdu (Ok trial) = Ok (outcome_of pins verified apdu trial)
+
+-- the same, refused or not
+abbrev pub comes_to : List Pin → Verified → Apdu → Result Trial StatusWord → PinOutcome
+comes_to pins verified apdu tried = settled_pin verified (meaning_of pins verified apdu tried)
 
 -- whichever keys are verified, the definition of a command comes to this
 abbrev pub Means : (List Pin → Verified → Apdu → Result PinOutcome StatusWord) → Loaded → Apdu → Result Trial StatusWord → Type 0

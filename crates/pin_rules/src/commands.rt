@@ -1,12 +1,12 @@
 //! VERIFY PIN, CHANGE PIN, DISABLE PIN, ENABLE PIN and UNBLOCK PIN.
-ghost use Rattle.std.specs.Prelude.{◌≡◌, [], length, Err, IsOk, OnOk, OnErr};
+ghost use Rattle.std.specs.Prelude.{◌≡◌, ◌≤◌, [], length, Err, IfErr, IfOk, IsOk, OnOk, OnErr};
 ghost use Rattle.uicc_types.specs.Counts.{raised_by};
 ghost use Rattle.card_layout.specs.Memory.{IsMounted, memory};
 ghost use Rattle.card_layout.specs.States.{pins_of};
-ghost use Rattle.file_model.specs.Pins.{pin_tried, pin_outcome};
+ghost use Rattle.file_model.specs.Commands.{pin_outcome, pin_settled};
 ghost use Rattle.card_memory.specs.Model.{PerformsPin};
 ghost use Rattle.pin_rules.specs.Outcomes.{IsCarriedOut, LeavesOneLess, IsPinRefused, IsPinCutShort, IsTried, ChangesPins, AnswersPins};
-ghost use Rattle.pin_rules.specs.Trials.{IsTrial, OnlyTells, outcome_of};
+ghost use Rattle.pin_rules.specs.Trials.{IsTrial, OnlyTells, comes_to};
 
 use crate::marks::{marked, tries_left};
 use crate::presenting::{present_pin, present_unblock};
@@ -15,28 +15,30 @@ use access_rules::Verified;
 use apdu_form::Command;
 use card_layout::Loaded;
 use card_memory::tables_tell_states;
-use file_model::pins_are_guarded;
+use file_model::{PinCommand, pins_are_guarded};
 use store_form::{Store, StoreFault};
 use uicc_types::{Answer, StatusWord};
 
-// Does what a command does where nothing refuses it.
+// Does what a command does where nothing refuses it, and answers the status that it ends with.
 fn carry_out<S: Store>(
     store: &mut S,
     loaded: &mut Loaded,
     verified: &mut Verified,
     command: &Command<'_>,
-    trial: &Trial,
+    tried: Result<Trial, StatusWord>,
 ) -> Result<StatusWord, StoreFault>
     requires mounted { IsMounted (memory S.Store store.old loaded.old) }
-    requires trial { IsTrial loaded.old command.now trial.now }
-    ensures tried { IsTried (outcome_of (pins_of loaded.old) verified.old command.now trial.now)
+    requires trial { IfOk tried (IsTrial loaded.old command.now) }
+    requires usual { IfErr tried (λ status. 0x6700 ≤ status.0) }
+    ensures tried { IsTried (comes_to (pins_of loaded.old) verified.old command.now tried)
         (memory S.Store store.old loaded.old) (memory S.Store store.new loaded.new) verified.old verified.new result }
-    ensures still { OnlyTells trial.now → IsOk result × (store.new ≡ store.old) × (loaded.new ≡ loaded.old) }
+    ensures still { IfOk tried OnlyTells → IsOk result × (store.new ≡ store.old) × (loaded.new ≡ loaded.old) }
     ensures ends { ChangesPins (memory S.Store store.old loaded.old) (memory S.Store store.new loaded.new) result }
 {
-    match *trial {
-        Trial::Tell(tries) => Ok(tries_left(tries)),
-        Trial::Present(held, change, verifies) => {
+    match tried {
+        Err(status) => Ok(status),
+        Ok(Trial::Tell(tries)) => Ok(tries_left(tries)),
+        Ok(Trial::Present(held, change, verifies)) => {
             let right = if verifies {
                 marked(*verified, held.pin.key, true)
             } else {
@@ -45,19 +47,20 @@ fn carry_out<S: Store>(
             let value = &command.body[..8];
             present_pin(store, loaded, verified, &held, value, change, right)
         }
-        Trial::Unblock(held, new) => {
+        Ok(Trial::Unblock(held, new)) => {
             let value = &command.body[..8];
             present_unblock(store, loaded, verified, &held, value, new)
         }
     }
 }
 
-/// Carries out one of the five PIN commands, told by its instruction. A value that is presented takes a try first, in a commit
-/// of its own; then it is compared, and a right one brings a second commit. What refuses a command is told by the table alone, and
-/// one that commits nothing doesn't touch the memory. `out` has the status, and no data ever. After a fault the table has the PINs
+/// Carries out one of the five PIN commands. A value that is presented takes a try first, in a commit of its own; then it is
+/// compared, and a right one brings a second commit. What refuses a command is told by the table alone, and one that commits
+/// nothing doesn't touch the memory. `out` has the status, and no data ever. After a fault the table has the PINs
 /// before the commit that failed, the memory those or the ones after it, the commits before it are counted, and the same keys are
 /// verified as before.
 pub fn pin_command<S: Store>(
+    pin: PinCommand,
     store: &mut S,
     loaded: &mut Loaded,
     verified: &mut Verified,
@@ -65,19 +68,19 @@ pub fn pin_command<S: Store>(
     out: &mut Answer,
 ) -> Result<(), StoreFault>
     requires mounted { IsMounted (memory S.Store store.old loaded.old) }
-    ensures comes { OnOk result (IsCarriedOut (pin_outcome (pins_of loaded.old) verified.old command.now)
+    ensures comes { OnOk result (IsCarriedOut (pin_settled pin (pins_of loaded.old) verified.old command.now)
         (pins_of loaded.old) out.new.status verified.new (pins_of loaded.new)) }
     ensures commits { OnOk result (S.Store.commits store.new
-        ≡ raised_by (length (pin_outcome (pins_of loaded.old) verified.old command.now).passed)
+        ≡ raised_by (length (pin_settled pin (pins_of loaded.old) verified.old command.now).passed)
         (S.Store.commits store.old)) }
     ensures performs { PerformsPin result (memory S.Store store.old loaded.old) (memory S.Store store.new loaded.new)
-        out.new verified.new (λ state. pin_outcome state.pins verified.old command.now) }
-    ensures guessed { OnOk result (LeavesOneLess command.now out.new.status (pins_of loaded.old) (pins_of loaded.new)) }
-    ensures refused { (status : StatusWord) → pin_tried (pins_of loaded.old) verified.old command.now ≡ Err status
+        out.new verified.new (λ state. pin_settled pin state.pins verified.old command.now) }
+    ensures guessed { OnOk result (LeavesOneLess pin command.now out.new.status (pins_of loaded.old) (pins_of loaded.new)) }
+    ensures refused { (status : StatusWord) → pin_outcome pin (pins_of loaded.old) verified.old command.now ≡ Err status
         → IsOk result × IsPinRefused status out.new verified.old verified.new × (loaded.new ≡ loaded.old) }
-    ensures still { (pin_outcome (pins_of loaded.old) verified.old command.now).passed ≡ []
+    ensures still { (pin_settled pin (pins_of loaded.old) verified.old command.now).passed ≡ []
         → IsOk result × (store.new ≡ store.old) × (loaded.new ≡ loaded.old) }
-    ensures stops { OnErr result (IsPinCutShort (pin_outcome (pins_of loaded.old) verified.old command.now)
+    ensures stops { OnErr result (IsPinCutShort (pin_settled pin (pins_of loaded.old) verified.old command.now)
         (memory S.Store store.old loaded.old) (memory S.Store store.new loaded.new) verified.old verified.new) }
     ensures ends { AnswersPins (memory S.Store store.old loaded.old) (memory S.Store store.new loaded.new)
         out.new result }
@@ -85,9 +88,7 @@ pub fn pin_command<S: Store>(
     tables_tell_states();
     pins_are_guarded();
     out.body.clear();
-    match trial_of(loaded, command) {
-        Ok(trial) => out.status = carry_out(store, loaded, verified, command, &trial)?,
-        Err(status) => out.status = status,
-    }
+    let tried = trial_of(pin, loaded, command);
+    out.status = carry_out(store, loaded, verified, command, tried)?;
     Ok(())
 }

@@ -3,8 +3,9 @@ ghost use Rattle.std.specs.Prelude.{◌≡◌, ◌≤◌, ◌==◌, true, drop, 
 ghost use Rattle.uicc_types.specs.declared.answers.StatusWord.{StatusWord};
 ghost use Rattle.card_layout.specs.Persistent.{Pin};
 ghost use Rattle.card_layout.specs.States.{pins_of};
+ghost use Rattle.file_model.specs.Commands.{pin_outcome};
 ghost use Rattle.file_model.specs.Outcomes.{PinOutcome};
-ghost use Rattle.file_model.specs.Pins.{is_users_key, is_pin_key, pin_addressed, pin_verified, pin_changed, pin_disabled, pin_enabled, pin_unblocked, pin_tried};
+ghost use Rattle.file_model.specs.Pins.{is_users_key, is_pin_key, pin_addressed, pin_verified, pin_changed, pin_disabled, pin_enabled, pin_unblocked};
 ghost use Rattle.pin_rules.specs.Trials.{IsHeld, IsTrial, Means, tested_with};
 
 use crate::slots::{Held, find_pin};
@@ -12,6 +13,7 @@ use apdu_form::Command;
 use card_layout::Loaded;
 use card_layout::sizes::TRIES;
 use card_memory::PinChange;
+use file_model::PinCommand;
 use uicc_types::keys::{ADM_1, PIN_1, PIN_2};
 use uicc_types::{Pin8, StatusWord};
 
@@ -179,17 +181,21 @@ fn to_unblock(loaded: &Loaded, command: &Command<'_>) -> Result<Trial, StatusWor
     Ok(Trial::Unblock(held, new_value(command)))
 }
 
-/// What refuses a command of the five, told by its instruction, or what it does.
-pub fn trial_of(loaded: &Loaded, command: &Command<'_>) -> Result<Trial, StatusWord>
-    ensures means { Means pin_tried loaded.now command.now result }
+/// What refuses a command of the five, or what it does.
+pub fn trial_of(
+    pin: PinCommand,
+    loaded: &Loaded,
+    command: &Command<'_>,
+) -> Result<Trial, StatusWord>
+    ensures means { Means (pin_outcome pin) loaded.now command.now result }
     ensures lawful { IfOk result (IsTrial loaded.now command.now) }
     ensures usual { IfErr result (λ status. 0x6700 ≤ status.0) }
 {
-    match command.ins {
-        0x20 => to_verify(loaded, command),
-        0x24 => to_change(loaded, command),
-        0x26 => to_disable(loaded, command),
-        0x28 => to_enable(loaded, command),
-        _ => to_unblock(loaded, command),
+    match pin {
+        PinCommand::Verify => to_verify(loaded, command),
+        PinCommand::Change => to_change(loaded, command),
+        PinCommand::Disable => to_disable(loaded, command),
+        PinCommand::Enable => to_enable(loaded, command),
+        PinCommand::Unblock => to_unblock(loaded, command),
     }
 }

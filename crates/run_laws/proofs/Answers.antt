@@ -17,7 +17,7 @@ use Rattle.file_model.specs.Pins.{pin_found, with_pin, presented, value_presente
 use Rattle.file_model.specs.Guards.{Guard, OfPin, OfUnblock, tries_by, with_one_less, GivesNoTries}
 use Rattle.file_model.specs.Laws.{EachStep}
 use Rattle.file_model.proofs.GuardLaws.{key_found, less_key, less_tries}
-use Rattle.card_model.specs.Answers.{Answered, refused, with_pins, on_pins, told_pending, with_pending}
+use Rattle.card_model.specs.Answers.{Answered, cut_answer, refused, with_pins, on_pins, told_pending, with_pending}
 use Rattle.card_model.specs.States.{CardState}
 use Rattle.card_model.proofs.Lawful.{last_with_pins}
 use Rattle.run_laws.specs.Guesses.{presents_by, is_trial, if_command, presents, tells_tries, tries_of, IsOneLess, value_by, is_right_by, presents_right, is_marked}
@@ -261,6 +261,11 @@ module _ (card : CardState) (bytes : List ℕ) (apdu : Apdu) (read : command_in 
   pub pin_guarded : (outcome : PinOutcome) → Comes guard card.persistent.pins card.verified apdu outcome → EachStep GivesNoTries card.persistent.pins outcome.passed → IsGuarded card bytes (on_pins card outcome)
   pin_guarded outcome (inl told) steps = told_none outcome told
   pin_guarded outcome (inr is) steps = tried_guarded outcome is steps
+
+-- ---- whatever the data are cut to
+
+pub cut_guarded : (card : CardState) (bytes : List ℕ) (expected : Option ℕ) (answered : Answered) → IsGuarded card bytes answered → IsGuarded card bytes (cut_answer expected answered)
+cut_guarded card bytes expected answered is = record { ends = is.ends; steps = is.steps; guess = is.guess; wrong = is.wrong; mark = is.mark }
 
 -- ---- a command of the toolkit that waits
 

@@ -1,17 +1,16 @@
 -- The file control parameters are read back.
-use Rattle.std.proofs.Common.{◌≡◌, ℕ, ◌+◌, ◌*◌, ◌<◌, ◌≤◌, Bool, true, false, List, [], ◌∷◌, ◌++◌, length, map, Option, Some, None, Ok, refl, sym, ap, ◌∙◌, subst, inl, inr, arith, append_assoc, length-append, append-nil}
+use Rattle.std.proofs.Common.{◌≡◌, ℕ, ◌+◌, ◌*◌, ◌<◌, ◌≤◌, Bool, true, false, List, [], ◌∷◌, ◌++◌, length, map, Option, Some, None, Ok, refl, sym, ap, ◌∙◌, subst, arith, append_assoc, length-append, append-nil}
 use Rattle.std.specs.Prelude.{◌==◌, if◌then◌else◌, nat_le, All}
 use Rattle.std.specs.Int.{to_be_bytes, w16}
 use Rattle.std.specs.List.{flat_map}
 use Rattle.std.proofs.lemmas.Bool.{cond-true, eq-eqb, leb-false}
-use Rattle.std.proofs.lemmas.List.{take_all}
 use Rattle.std.proofs.lemmas.List.Elements.{All-cons, All-nil}
 use Rattle.access_rules.specs.Objects.{object}
 use Rattle.card_layout.specs.Persistent.{Pin}
 use Rattle.file_model.specs.Fcp.{df_objects, ef_objects, enabled_bits, fcp, kind_bytes, rule_object}
 use Rattle.file_model.specs.Chains.{given}
 use Rattle.file_model.specs.Files.{descriptors_in, file_found, is_df}
-use Rattle.file_model.specs.Outcomes.{FileOutcome, cut_to}
+use Rattle.file_model.specs.Outcomes.{FileOutcome}
 use Rattle.file_model.specs.Selecting.{file_selected, selecting, status_told, telling}
 use Rattle.file_model.specs.Selections.{chosen}
 use Rattle.file_model.specs.declared.descriptors.Descriptor.{Descriptor}
@@ -21,7 +20,7 @@ use Rattle.uicc_types.specs.declared.answers.StatusWord.{StatusWord}
 use Rattle.general_laws.specs.Choices.{low_chosen}
 use Rattle.file_model.proofs.SelectLaws.{object_low, kind_low, keys_low, few_pins}
 use Rattle.run_laws.specs.Fcp.{Object, file_told, objects_in, pins_told, rule_told, short_told}
-use Rattle.run_laws.specs.FcpLaws.{FcpAreObjects, IsFcp, SelectAnswersFcp, StatusAnswersFcp, WantsAll}
+use Rattle.run_laws.specs.FcpLaws.{FcpAreObjects, IsFcp, SelectAnswersFcp, StatusAnswersFcp}
 use Rattle.run_laws.proofs.PutAndRead.{unless_ok}
 use Rattle.run_laws.proofs.ObjectsRead.{IsShortObject, all_spelled, spelled_are_read}
 
@@ -145,28 +144,21 @@ unfolding given
 given_done None status f y is = absurd (cc)
 given_done (Some x) status f y is = (x, refl, cc)
 
-all_answered : (expected : Option ℕ) (body : List ℕ) → WantsAll expected → length body ≤ 256 → cut_to expected body ≡ body
-all_answered expected body (inl is) low = ap (λ (o : Option ℕ). cut_to o body) is
-all_answered expected body (inr is) low = ap (λ (o : Option ℕ). cut_to o body) is ∙ take_all 256 body low
-
-fcp_answered : (pins : List Pin) (file : Descriptor) (expected : Option ℕ) (wanted : Bool) → wanted ≡ true → WantsAll expected → length pins ≤ 3 → IsFcp pins file (cut_to expected (if wanted then fcp pins file else []))
-fcp_answered pins file expected wanted is all few =
-    let told : IsFcp pins file (fcp pins file) = told_is_fcp pins file few in
-    let low : length (fcp pins file) ≤ 256 = omega (arith, told.short, ap (λ (l : List ℕ). length l) told.one_object) in
-    subst (IsFcp pins file) (sym (ap (cut_to expected) (cond-true wanted (fcp pins file) [] is) ∙ all_answered expected (fcp pins file) all low)) told
+fcp_answered : (pins : List Pin) (file : Descriptor) (wanted : Bool) → wanted ≡ true → length pins ≤ 3 → IsFcp pins file (if wanted then fcp pins file else [])
+fcp_answered pins file wanted is few = subst (IsFcp pins file) (sym (cond-true wanted (fcp pins file) [] is)) (told_is_fcp pins file few)
 
 pub select_answers_fcp : SelectAnswersFcp
 unfolding file_selected selecting
-select_answers_fcp state selection apdu outcome sound is p2 all =
+select_answers_fcp state selection apdu outcome sound is p2 =
     let a = unless_ok _ _ _ outcome is in
     let b = unless_ok _ _ _ outcome a.1 in
     let found = given_done (chosen (descriptors_in state) selection apdu) _ (selecting state apdu) outcome b.1 in
-    (found.0, found.1, subst (λ (o : FileOutcome). IsFcp state.pins found.0 o.body) found.2 (fcp_answered state.pins found.0 apdu.expected (apdu.p2 == 0x04) (eq-eqb apdu.p2 0x04 p2) all (few_pins state sound)))
+    (found.0, found.1, subst (λ (o : FileOutcome). IsFcp state.pins found.0 o.body) found.2 (fcp_answered state.pins found.0 (apdu.p2 == 0x04) (eq-eqb apdu.p2 0x04 p2) (few_pins state sound)))
 
 pub status_answers_fcp : StatusAnswersFcp
 unfolding status_told telling
-status_answers_fcp state selection apdu outcome sound is p2 all =
+status_answers_fcp state selection apdu outcome sound is p2 =
     let a = unless_ok _ _ _ outcome is in
     let b = unless_ok _ _ _ outcome a.1 in
     let found = given_done (file_found (descriptors_in state) (Number selection.df)) _ (telling state selection apdu) outcome b.1 in
-    (found.0, found.1, subst (λ (o : FileOutcome). IsFcp state.pins found.0 o.body) found.2 (fcp_answered state.pins found.0 apdu.expected (apdu.p2 == 0x00) (eq-eqb apdu.p2 0x00 p2) all (few_pins state sound)))
+    (found.0, found.1, subst (λ (o : FileOutcome). IsFcp state.pins found.0 o.body) found.2 (fcp_answered state.pins found.0 (apdu.p2 == 0x00) (eq-eqb apdu.p2 0x00 p2) (few_pins state sound)))

@@ -5,7 +5,6 @@ mod Files
 mod Pins
 mod Marks
 mod Trials
-mod Commands
 mod Answers
 mod Steps
 mod Runs

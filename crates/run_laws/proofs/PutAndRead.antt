@@ -11,18 +11,20 @@ use Rattle.card_layout.specs.Kinds.{df_kind, has_records, transparent_kind}
 use Rattle.card_layout.specs.Persistent.{Bytes, Contents, File, Files, Persistent, Records}
 use Rattle.card_layout.specs.Soundness.{AreContents, IsSound, IsSoundFile}
 use Rattle.card_layout.specs.StateLaws.{file_with_number}
-use Rattle.file_model.specs.Binaries.{binary_read, binary_updated, offset_of, reading, short_in_p1, updating}
+use Rattle.file_model.specs.Binaries.{binary_file, binary_read, binary_updated, has_binary_parameters, offset_of, read_from, reading, short_in_p1, update_in, updating}
+use Rattle.file_model.specs.Chained.{past_given}
 use Rattle.file_model.specs.Chains.{and_given, given, refused_if}
 use Rattle.file_model.specs.Files.{descriptor_in, descriptors_in, record_count}
 use Rattle.file_model.specs.Holdings.{bytes_held, bytes_in, contents_if, held_by, records_held, records_in}
-use Rattle.file_model.specs.Outcomes.{FileOutcome, addressed, last_of, pointer_before}
-use Rattle.file_model.specs.Records.{is_cyclic, number_updated, record_named, record_read, record_reading, record_updated, record_updating, short_in_p2, may_be_updated}
+use Rattle.file_model.specs.Outcomes.{FileOutcome, addressed, has_data, has_le_alone, is_deactivated, last_of, pointer_before}
+use Rattle.file_model.specs.Records.{has_record_parameters, is_cyclic, number_to_read, number_to_update, number_updated, record_file, record_named, record_read, record_read_from, record_reading, record_update_in, record_updated, record_updating, short_in_p2, may_be_updated}
 use Rattle.file_model.specs.declared.descriptors.Descriptor.{Descriptor}
 use Rattle.file_model.specs.declared.selections.Selection.{Selection}
 use Rattle.general_laws.specs.Finding.{find-map, find_alike, numbered_found}
 use Rattle.run_laws.specs.ReadingLaws.{BytesAreRead, RecordsAreRead}
 use Rattle.uicc_types.specs.Patches.{patched, range-patched_there}
 use Rattle.uicc_types.specs.declared.answers.StatusWord.{StatusWord}
+use Rattle.uicc_types.specs.declared.answers.TheConstants.StatusWord.{CONDITIONS_NOT_SATISFIED, WRONG_STRUCTURE}
 
 -- ---- a chain of tests that were all met
 
@@ -31,13 +33,24 @@ unfolding refused_if
 unless_ok true status next x is = let err : Err status ≡ Ok x = is in absurd (cc)
 unless_ok false status next x is = (refl, is)
 
+pub given_met : {X Y : Type 0} (o : Option X) (status : StatusWord) (next : X → Result Y StatusWord) (y : Y) → given o status next ≡ Ok y → (x : X) × (o ≡ Some x) × (next x ≡ Ok y)
+unfolding given
+given_met None status next y is = let err : Err status ≡ Ok y = is in absurd (cc)
+given_met (Some x) status next y is = (x, refl, is)
+
 and_ok : {X Y : Type 0} (r : Result X StatusWord) (next : X → Result Y StatusWord) (x : X) (y : Y) → r ≡ Ok x → and_given r next ≡ Ok y → next x ≡ Ok y
 unfolding and_given
 and_ok r next x y there is = subst (λ o. and_given o next ≡ Ok y) there is
 
-given_ok : {X Y : Type 0} (o : Option X) (status : StatusWord) (next : X → Result Y StatusWord) (x : X) (y : Y) → o ≡ Some x → given o status next ≡ Ok y → next x ≡ Ok y
+-- the same of tests that stand before others
+past_ok : {X Y : Type 0} (bad : Bool) (status : StatusWord) (first : Result X StatusWord) (next : X → Result Y StatusWord) (y : Y) → and_given (refused_if bad status first) next ≡ Ok y → (bad ≡ false) × (and_given first next ≡ Ok y)
+unfolding refused_if and_given
+past_ok true status first next y is = let err : Err status ≡ Ok y = is in absurd (cc)
+past_ok false status first next y is = (refl, is)
+
+named_ok : {X Y Z : Type 0} (o : Option Z) (status : StatusWord) (first : Z → Result X StatusWord) (next : X → Result Y StatusWord) (z : Z) (y : Y) → o ≡ Some z → and_given (given o status first) next ≡ Ok y → and_given (first z) next ≡ Ok y
 unfolding given
-given_ok o status next x y there is = subst (λ o. given o status next ≡ Ok y) there is
+named_ok o status first next z y there is = subst (λ o. and_given (given o status first) next ≡ Ok y) there is
 
 abbrev ok_or : {X E : Type 0} → X → Result X E → X
 ok_or other (Ok value) = value
@@ -49,6 +62,19 @@ same_ok a b r first second = ap (ok_or a) (sym first ∙ second)
 is_so : (b : Bool) → not b ≡ false → b ≡ true
 is_so true is = refl
 is_so false is = absurd (cc)
+
+-- a command on a file that was carried out: the file was fit for it
+met : (has_parameters has_length : Bool) (fits : Descriptor → Bool) (files : List Descriptor) (selection : Selection) (short : Option ℕ) (next : Descriptor → Result FileOutcome StatusWord) (file : Descriptor) (outcome : FileOutcome)
+    → and_given (record_file has_parameters has_length fits files selection short) next ≡ Ok outcome → addressed files selection short ≡ Ok file → (fits file ≡ true) × (next file ≡ Ok outcome)
+unfolding record_file and_given
+met has_parameters has_length fits files selection short next file outcome is there =
+    let of_kind : Descriptor → Result Descriptor StatusWord = λ each. refused_if (not (fits each)) WRONG_STRUCTURE (refused_if (is_deactivated each) CONDITIONS_NOT_SATISFIED (Ok each)) in
+    let a = past_ok _ _ _ next outcome is in
+    let b = past_ok _ _ _ next outcome a.1 in
+    let c = and_ok (addressed files selection short) (λ each. and_given (of_kind each) next) file outcome there (sym (past_given (addressed files selection short) of_kind next) ∙ b.1) in
+    let d = past_ok _ _ _ next outcome c in
+    let e = past_ok _ _ _ next outcome d.1 in
+    (is_so (fits file) d.0, e.1)
 
 -- ---- what the file with a number holds once it is changed
 
@@ -103,30 +129,22 @@ sound_contents state sound whole there = (All-contains (IsSoundFile state.is_wid
 updated_so : (state : Persistent) (seen : Verified) (selection : Selection) (apdu : Apdu) (updated : FileOutcome) (file : Descriptor)
     → binary_updated state seen selection apdu ≡ Ok updated → addressed (descriptors_in state) selection (short_in_p1 apdu) ≡ Ok file
     → (file.kind ≡ transparent_kind) × (nat_lt file.size (offset_of apdu + length apdu.body) ≡ false) × (updating state selection apdu file ≡ updated)
-unfolding binary_updated
+unfolding binary_updated binary_file record_file update_in
 updated_so state seen selection apdu updated file is there =
-    let a = unless_ok _ _ _ updated is in
+    let a = met (has_binary_parameters apdu) (has_data apdu) (λ each. each.kind == transparent_kind) (descriptors_in state) selection (short_in_p1 apdu) (update_in state seen selection apdu) file updated is there in
     let b = unless_ok _ _ _ updated a.1 in
-    let c = and_ok (addressed (descriptors_in state) selection (short_in_p1 apdu)) _ file updated there b.1 in
-    let d = unless_ok _ _ _ updated c in
-    let e = unless_ok _ _ _ updated d.1 in
-    let f = unless_ok _ _ _ updated e.1 in
-    let g = unless_ok _ _ _ updated f.1 in
-    (eqb-true file.kind transparent_kind (is_so (file.kind == transparent_kind) d.0), g.0, same_ok (updating state selection apdu file) updated (Ok (updating state selection apdu file)) refl g.1)
+    let c = unless_ok _ _ _ updated b.1 in
+    (eqb-true file.kind transparent_kind a.0, c.0, same_ok (updating state selection apdu file) updated (Ok (updating state selection apdu file)) refl c.1)
 
 read_so : (state : Persistent) (seen : Verified) (selection : Selection) (apdu : Apdu) (answered : FileOutcome) (file : Descriptor)
     → binary_read state seen selection apdu ≡ Ok answered → addressed (descriptors_in state) selection (short_in_p1 apdu) ≡ Ok file
     → reading state selection apdu file (unwrap_or apdu.expected 0) ≡ answered
-unfolding binary_read
+unfolding binary_read binary_file record_file read_from
 read_so state seen selection apdu answered file is there =
-    let a = unless_ok _ _ _ answered is in
+    let a = met (has_binary_parameters apdu) (has_le_alone apdu) (λ each. each.kind == transparent_kind) (descriptors_in state) selection (short_in_p1 apdu) (read_from state seen selection apdu) file answered is there in
     let b = unless_ok _ _ _ answered a.1 in
-    let c = and_ok (addressed (descriptors_in state) selection (short_in_p1 apdu)) _ file answered there b.1 in
-    let d = unless_ok _ _ _ answered c in
-    let e = unless_ok _ _ _ answered d.1 in
-    let f = unless_ok _ _ _ answered e.1 in
-    let g = unless_ok _ _ _ answered f.1 in
-    same_ok (reading state selection apdu file (unwrap_or apdu.expected 0)) answered (Ok (reading state selection apdu file (unwrap_or apdu.expected 0))) refl g.1
+    let c = unless_ok _ _ _ answered b.1 in
+    same_ok (reading state selection apdu file (unwrap_or apdu.expected 0)) answered (Ok (reading state selection apdu file (unwrap_or apdu.expected 0))) refl c.1
 
 pub bytes_are_read : BytesAreRead
 unfolding reading updating descriptor_in
@@ -159,33 +177,25 @@ record_updated_so : (state : Persistent) (seen : Verified) (selection : Selectio
     → record_updated state seen selection apdu ≡ Ok updated → addressed (descriptors_in state) selection (short_in_p2 apdu) ≡ Ok file
     → number_updated file apdu (pointer_before selection (short_in_p2 apdu)) ≡ Some number
     → (has_records file.kind ≡ true) × (record_updating state selection apdu file number ≡ updated)
-unfolding record_updated
+unfolding record_updated record_update_in number_to_update and_given
 record_updated_so state seen selection apdu updated file number is there named =
-    let a = unless_ok _ _ _ updated is in
+    let next : ℕ → Result FileOutcome StatusWord = λ each. Ok (record_updating state selection apdu file each) in
+    let a = met (has_record_parameters apdu) (has_data apdu) (λ each. may_be_updated each apdu) (descriptors_in state) selection (short_in_p2 apdu) (record_update_in state seen selection apdu) file updated is there in
     let b = unless_ok _ _ _ updated a.1 in
-    let c = and_ok (addressed (descriptors_in state) selection (short_in_p2 apdu)) _ file updated there b.1 in
-    let d = unless_ok _ _ _ updated c in
-    let e = unless_ok _ _ _ updated d.1 in
-    let f = unless_ok _ _ _ updated e.1 in
-    let g = given_ok (number_updated file apdu (pointer_before selection (short_in_p2 apdu))) _ _ number updated named f.1 in
-    let h = unless_ok _ _ _ updated g in
-    ((and_parts (has_records file.kind) _ (is_so (may_be_updated file apdu) d.0)).0, same_ok (record_updating state selection apdu file number) updated (Ok (record_updating state selection apdu file number)) refl h.1)
+    let c = past_ok _ _ _ next updated (named_ok (number_updated file apdu (pointer_before selection (short_in_p2 apdu))) _ _ next number updated named b.1) in
+    ((and_parts (has_records file.kind) _ a.0).0, same_ok (record_updating state selection apdu file number) updated (Ok (record_updating state selection apdu file number)) refl c.1)
 
 record_read_so : (state : Persistent) (seen : Verified) (selection : Selection) (apdu : Apdu) (answered : FileOutcome) (file : Descriptor) (number : ℕ)
     → record_read state seen selection apdu ≡ Ok answered → addressed (descriptors_in state) selection (short_in_p2 apdu) ≡ Ok file
     → record_named file apdu (pointer_before selection (short_in_p2 apdu)) ≡ Some number
     → record_reading state selection apdu file number ≡ answered
-unfolding record_read
+unfolding record_read record_read_from number_to_read and_given
 record_read_so state seen selection apdu answered file number is there named =
-    let a = unless_ok _ _ _ answered is in
+    let next : ℕ → Result FileOutcome StatusWord = λ each. Ok (record_reading state selection apdu file each) in
+    let a = met (has_record_parameters apdu) (has_le_alone apdu) (λ each. has_records each.kind) (descriptors_in state) selection (short_in_p2 apdu) (record_read_from state seen selection apdu) file answered is there in
     let b = unless_ok _ _ _ answered a.1 in
-    let c = and_ok (addressed (descriptors_in state) selection (short_in_p2 apdu)) _ file answered there b.1 in
-    let d = unless_ok _ _ _ answered c in
-    let e = unless_ok _ _ _ answered d.1 in
-    let f = unless_ok _ _ _ answered e.1 in
-    let g = given_ok (record_named file apdu (pointer_before selection (short_in_p2 apdu))) _ _ number answered named f.1 in
-    let h = unless_ok _ _ _ answered g in
-    same_ok (record_reading state selection apdu file number) answered (Ok (record_reading state selection apdu file number)) refl h.1
+    let c = past_ok _ _ _ next answered (named_ok (record_named file apdu (pointer_before selection (short_in_p2 apdu))) _ _ next number answered named b.1) in
+    same_ok (record_reading state selection apdu file number) answered (Ok (record_reading state selection apdu file number)) refl c.1
 
 -- the record stands where it was put
 module _ (state : Persistent) (sound : IsSound state) (whole : File) (there : Contains state.files whole) (old : List (List ℕ)) (holds : whole.contents ≡ Records old) (added : List ℕ) where

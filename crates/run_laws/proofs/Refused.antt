@@ -6,22 +6,20 @@ use Rattle.std.proofs.lemmas.List.Elements.{All-cons, All-contains, All-head, Al
 use Rattle.access_rules.specs.declared.rules.Op.{Op}
 use Rattle.access_rules.specs.declared.rules.Op.TheVariants.{ReadBinary, UpdateBinary, ReadRecord, UpdateRecord, Search, Increase, Deactivate, Activate}
 use Rattle.access_rules.specs.declared.rules.Verified.{Verified}
-use Rattle.apdu_form.specs.Model.{Apdu}
-use Rattle.card_layout.specs.Kinds.{activated, deactivated, transparent_kind}
+use Rattle.card_layout.specs.Kinds.{activated, deactivated, has_records, transparent_kind}
 use Rattle.card_layout.specs.Persistent.{File, Persistent}
 use Rattle.card_layout.specs.Soundness.{IsDf, IsEf, IsSound, IsSoundDf, IsSoundEf, IsSoundFile}
-use Rattle.file_making.specs.Creating.{created, is_there, made_in}
-use Rattle.file_making.specs.Deleting.{deleted, is_in_use}
-use Rattle.file_making.specs.Outcomes.{df_on}
-use Rattle.file_making.specs.Resizing.{has_no_room, may_have, resized, size_asked}
-use Rattle.file_making.specs.Templates.{asked_in}
+use Rattle.file_making.specs.Creating.{created}
+use Rattle.file_making.specs.Deleting.{deleted}
+use Rattle.file_making.specs.Resizing.{resized}
 use Rattle.file_model.specs.Access.{may}
-use Rattle.file_model.specs.Binaries.{binary_read, binary_updated, short_in_p1}
+use Rattle.file_model.specs.Binaries.{binary_file, has_binary_parameters, binary_read, binary_updated, read_from, short_in_p1, update_in}
+use Rattle.file_model.specs.Chained.{past_given as past_result}
 use Rattle.file_model.specs.Chains.{and_given, given, refused_if}
 use Rattle.file_model.specs.Files.{descriptor_in, descriptors_in, file_found, is_wanted}
-use Rattle.file_model.specs.LifeCycles.{file_activated, file_deactivated, has_no_parameters, life_changed}
-use Rattle.file_model.specs.Outcomes.{addressed, has_data, has_no_data, is_deactivated}
-use Rattle.file_model.specs.Records.{increased, record_read, record_updated, searched, short_in_p2, short_to_increase}
+use Rattle.file_model.specs.LifeCycles.{file_activated, file_deactivated, has_no_parameters, life_changed, life_file, life_in}
+use Rattle.file_model.specs.Outcomes.{addressed, has_data, has_le_alone, has_no_data, is_deactivated}
+use Rattle.file_model.specs.Records.{has_increase_length, has_increase_parameters, has_record_parameters, has_search_parameters, increase_in, increased, may_be_increased, may_be_updated, number_to_read, number_to_search, number_to_update, record_file, record_read, record_read_from, record_update_in, record_updated, search_in, searched, short_in_p2, short_to_increase, sum_to_write}
 use Rattle.file_model.specs.Selecting.{file_selected, status_told}
 use Rattle.file_model.specs.Selections.{current_ef}
 use Rattle.file_model.specs.declared.descriptors.Descriptor.{Descriptor}
@@ -30,9 +28,10 @@ use Rattle.file_model.specs.declared.descriptors.Wanted.TheVariants.{Number, Sho
 use Rattle.file_model.specs.declared.selections.Selection.{Selection}
 use Rattle.general_laws.specs.Finding.{find_Some}
 use Rattle.run_laws.specs.RefusalLaws.{DoesNotHold, IsAdmitted, IsDoneByAdm, IsDoneByLeave, IsDoneByRule, IsFirst, IsGranted, IsRefusedFor, IsTestedBy, IsTreeRefusedFor}
-use Rattle.run_laws.specs.Refusals.{Refusal, child_of, file_meant, of_file, of_found, refusals_of_create, refusals_of_delete, refusals_of_increase, refusals_of_life_cycle, refusals_of_read_binary, refusals_of_read_record, refusals_of_resize, refusals_of_search_record, refusals_of_select, refusals_of_status, refusals_of_update_binary, refusals_of_update_record, without_file}
+use Rattle.run_laws.proofs.PutAndRead.{given_met, unless_ok}
+use Rattle.run_laws.specs.Refusals.{Refusal, file_meant, of_file, of_found, refusals_of_create, refusals_of_delete, refusals_of_increase, refusals_of_life_cycle, refusals_of_read_binary, refusals_of_read_record, refusals_of_resize, refusals_of_search_record, refusals_of_select, refusals_of_status, refusals_of_update_binary, refusals_of_update_record, without_file}
 use Rattle.uicc_types.specs.declared.answers.StatusWord.{StatusWord}
-use Rattle.uicc_types.specs.declared.answers.TheConstants.StatusWord.{CONDITIONS_NOT_SATISFIED, FILE_ALREADY_THERE, FILE_NOT_FOUND, NO_ROOM, SECURITY_NOT_SATISFIED, WRONG_DATA, WRONG_LENGTH, WRONG_PARAMETERS, WRONG_STRUCTURE}
+use Rattle.uicc_types.specs.declared.answers.TheConstants.StatusWord.{CONDITIONS_NOT_SATISFIED, SECURITY_NOT_SATISFIED, WRONG_LENGTH, WRONG_PARAMETERS, WRONG_STRUCTURE}
 
 -- ---- the first of a list
 
@@ -134,43 +133,62 @@ module _ {X : Type 0} where
   tested_file state selection None rest next tested = tested_found (file_meant state selection None) (without_file None) rest next tested
   tested_file state selection (Some short) rest next tested = tested_found (file_meant state selection (Some short)) (without_file (Some short)) rest next tested
 
+  -- ---- tests before others
+
+  past_unless : {Y : Type 0} (bad : Bool) (status : StatusWord) (rest : List Refusal) (first : Result Y StatusWord) (next : Y → Result X StatusWord) → IsTestedBy rest (and_given first next)
+      → IsTestedBy ((bad, status) ∷ rest) (and_given (refused_if bad status first) next)
+  unfolding refused_if and_given
+  past_unless true status rest first next tested = tested_at_head status rest
+  past_unless false status rest first next tested = tested_further status rest (and_given first next) tested
+
+  past_given : {Y Z : Type 0} (o : Option Z) (status : StatusWord) (rest : List Refusal) (first : Z → Result Y StatusWord) (next : Y → Result X StatusWord) → ((z : Z) → IsTestedBy rest (and_given (first z) next))
+      → IsTestedBy ((is_none o, status) ∷ rest) (and_given (given o status first) next)
+  unfolding given and_given
+  past_given None status rest first next tested = tested_at_head status rest
+  past_given (Some z) status rest first next tested = tested_further status rest (and_given (first z) next) (tested z)
+
+  -- what is tested before access, and what behind it
+  tested_before : (has_parameters has_length : Bool) (fits : Descriptor → Bool) (state : Persistent) (selection : Selection) (short : Option ℕ) (rest : Descriptor → List Refusal) (next : Descriptor → Result X StatusWord)
+      → ((file : Descriptor) → IsTestedBy (rest file) (next file))
+      → IsTestedBy ((not has_parameters, WRONG_PARAMETERS) ∷ (not has_length, WRONG_LENGTH) ∷ of_file state selection short (λ file. (not (fits file), WRONG_STRUCTURE) ∷ (is_deactivated file, CONDITIONS_NOT_SATISFIED) ∷ rest file))
+      (and_given (record_file has_parameters has_length fits (descriptors_in state) selection short) next)
+  unfolding record_file and_given
+  tested_before has_parameters has_length fits state selection short rest next tested =
+      let rows : Descriptor → List Refusal = λ file. (not (fits file), WRONG_STRUCTURE) ∷ (is_deactivated file, CONDITIONS_NOT_SATISFIED) ∷ rest file in
+      let of_kind : Descriptor → Result Descriptor StatusWord = λ file. refused_if (not (fits file)) WRONG_STRUCTURE (refused_if (is_deactivated file) CONDITIONS_NOT_SATISFIED (Ok file)) in
+      past_unless _ _ _ _ next (past_unless _ _ _ _ next (
+      subst (IsTestedBy (of_file state selection short rows)) (sym (past_result (addressed (descriptors_in state) selection short) of_kind next)) (
+      tested_file state selection short rows (λ file. and_given (of_kind file) next) (λ file. past_unless _ _ _ _ next (past_unless _ _ _ _ next (tested file))))))
+
 -- ---- the commands
 
 pub read_binary_refused : IsRefusedFor refusals_of_read_binary binary_read
-unfolding binary_read
-read_binary_refused state seen selection apdu =
-    tested_unless _ _ _ _ (tested_unless _ _ _ _ (tested_file state selection (short_in_p1 apdu) _ _ (λ file.
-    tested_unless _ _ _ _ (tested_unless _ _ _ _ (tested_unless _ _ _ _ (tested_unless _ _ _ _ (tested_done _)))))))
+unfolding binary_read binary_file record_file read_from
+read_binary_refused state seen selection apdu = tested_before (has_binary_parameters apdu) (has_le_alone apdu) (λ file. file.kind == transparent_kind) state selection (short_in_p1 apdu) _ _ (λ file. tested_unless _ _ _ _ (tested_unless _ _ _ _ (tested_done _)))
 
 pub update_binary_refused : IsRefusedFor refusals_of_update_binary binary_updated
-unfolding binary_updated
-update_binary_refused state seen selection apdu =
-    tested_unless _ _ _ _ (tested_unless _ _ _ _ (tested_file state selection (short_in_p1 apdu) _ _ (λ file.
-    tested_unless _ _ _ _ (tested_unless _ _ _ _ (tested_unless _ _ _ _ (tested_unless _ _ _ _ (tested_done _)))))))
+unfolding binary_updated binary_file record_file update_in
+update_binary_refused state seen selection apdu = tested_before (has_binary_parameters apdu) (has_data apdu) (λ file. file.kind == transparent_kind) state selection (short_in_p1 apdu) _ _ (λ file. tested_unless _ _ _ _ (tested_unless _ _ _ _ (tested_done _)))
 
 pub read_record_refused : IsRefusedFor refusals_of_read_record record_read
-unfolding record_read
+unfolding record_read record_read_from number_to_read and_given
 read_record_refused state seen selection apdu =
-    tested_unless _ _ _ _ (tested_unless _ _ _ _ (tested_file state selection (short_in_p2 apdu) _ _ (λ file.
-    tested_unless _ _ _ _ (tested_unless _ _ _ _ (tested_unless _ _ _ _ (tested_given _ _ _ _ (λ number. tested_unless _ _ _ _ (tested_done _))))))))
+    tested_before (has_record_parameters apdu) (has_le_alone apdu) (λ file. has_records file.kind) state selection (short_in_p2 apdu) _ _ (λ file. tested_unless _ _ _ _ (past_given _ _ _ _ _ (λ number. past_unless _ _ _ _ _ (tested_done _))))
 
 pub update_record_refused : IsRefusedFor refusals_of_update_record record_updated
-unfolding record_updated
+unfolding record_updated record_update_in number_to_update and_given
 update_record_refused state seen selection apdu =
-    tested_unless _ _ _ _ (tested_unless _ _ _ _ (tested_file state selection (short_in_p2 apdu) _ _ (λ file.
-    tested_unless _ _ _ _ (tested_unless _ _ _ _ (tested_unless _ _ _ _ (tested_given _ _ _ _ (λ number. tested_unless _ _ _ _ (tested_done _))))))))
+    tested_before (has_record_parameters apdu) (has_data apdu) (λ file. may_be_updated file apdu) state selection (short_in_p2 apdu) _ _ (λ file. tested_unless _ _ _ _ (past_given _ _ _ _ _ (λ number. past_unless _ _ _ _ _ (tested_done _))))
 
 pub search_record_refused : IsRefusedFor refusals_of_search_record searched
-unfolding searched
+unfolding searched search_in number_to_search and_given
 search_record_refused state seen selection apdu =
-    tested_unless _ _ _ _ (tested_unless _ _ _ _ (tested_file state selection (short_in_p2 apdu) _ _ (λ file.
-    tested_unless _ _ _ _ (tested_unless _ _ _ _ (tested_unless _ _ _ _ (tested_given _ _ _ _ (λ number. tested_unless _ _ _ _ (tested_done _))))))))
+    tested_before (has_search_parameters apdu) (has_data apdu) (λ file. has_records file.kind) state selection (short_in_p2 apdu) _ _ (λ file. tested_unless _ _ _ _ (past_given _ _ _ _ _ (λ from. past_unless _ _ _ _ _ (tested_done _))))
 
 pub increase_refused : IsRefusedFor refusals_of_increase increased
-unfolding increased
+unfolding increased increase_in sum_to_write and_given
 increase_refused state seen selection apdu =
-    tested_unless _ _ _ _ (tested_unless _ _ _ _ (tested_file state selection (short_to_increase apdu) _ _ (λ file.
-    tested_unless _ _ _ _ (tested_unless _ _ _ _ (tested_unless _ _ _ _ (tested_unless _ _ _ _ (tested_unless _ _ _ _ (tested_done _))))))))
+    tested_before (has_increase_parameters apdu) (has_increase_length apdu) may_be_increased state selection (short_to_increase apdu) _ _ (λ file. tested_unless _ _ _ _ (past_unless _ _ _ _ _ (past_unless _ _ _ _ _ (tested_done _))))
 
 pub select_refused : IsRefusedFor refusals_of_select (λ state seen. file_selected state)
 unfolding file_selected
@@ -181,8 +199,9 @@ unfolding status_told
 status_refused state seen selection apdu = tested_unless _ _ _ _ (tested_unless _ _ _ _ (tested_given _ _ _ _ (λ df. tested_done _)))
 
 life_refused : (op : Op) (life : ℕ) → IsRefusedFor (refusals_of_life_cycle op) (life_changed op life)
-unfolding life_changed
-life_refused op life state seen selection apdu = tested_unless _ _ _ _ (tested_unless _ _ _ _ (tested_file state selection None _ _ (λ file. tested_unless _ _ _ _ (tested_done _))))
+unfolding life_changed life_file life_in
+life_refused op life state seen selection apdu =
+    past_unless _ _ _ _ _ (past_unless _ _ _ _ _ (tested_file state selection None _ _ (λ file. tested_unless _ _ _ _ (tested_done _))))
 
 pub deactivate_refused : IsRefusedFor (refusals_of_life_cycle Deactivate) file_deactivated
 deactivate_refused = life_refused Deactivate deactivated
@@ -208,61 +227,28 @@ resize_refused state seen channels channel apdu =
 
 -- ---- what is carried out was asked for with ADM1
 
-module _ (seen : Verified) where
-  abbrev without_adm : Refusal
-  without_adm = (not seen.adm1, SECURITY_NOT_SATISFIED)
-
-  first_adm : (rest : List Refusal) → All DoesNotHold (without_adm ∷ rest) → seen.adm1 ≡ true
-  first_adm rest none = not-false seen.adm1 (All-head DoesNotHold without_adm rest none)
-
-  third_adm : (first second : Refusal) (rest : List Refusal) → All DoesNotHold (first ∷ second ∷ without_adm ∷ rest) → seen.adm1 ≡ true
-  third_adm first second rest none = first_adm rest (All-tail DoesNotHold second (without_adm ∷ rest) (All-tail DoesNotHold first (second ∷ without_adm ∷ rest) none))
-
-  -- where the file is there, what is tested of it comes to ADM1
-  adm_of_found : (first second : Refusal) (child : Option Descriptor) (rest : Descriptor → List Refusal) → ((file : Descriptor) → All DoesNotHold (rest file) → seen.adm1 ≡ true)
-      → All DoesNotHold (first ∷ second ∷ (is_none child, FILE_NOT_FOUND) ∷ of_found child rest) → seen.adm1 ≡ true
-  adm_of_found first second None rest tested none =
-      absurd (not_both true refl (All-head DoesNotHold (true, FILE_NOT_FOUND) [] (All-tail DoesNotHold second ((true, FILE_NOT_FOUND) ∷ []) (All-tail DoesNotHold first (second ∷ (true, FILE_NOT_FOUND) ∷ []) none))))
-  adm_of_found first second (Some file) rest tested none =
-      tested file (All-tail DoesNotHold (false, FILE_NOT_FOUND) (rest file) (All-tail DoesNotHold second ((false, FILE_NOT_FOUND) ∷ rest file) (All-tail DoesNotHold first (second ∷ (false, FILE_NOT_FOUND) ∷ rest file) none)))
-
-module _ (state : Persistent) (seen : Verified) (channels : List (Option Selection)) (channel : ℕ) (apdu : Apdu) where
-  abbrev wrong_parameters : Refusal
-  wrong_parameters = (not (has_no_parameters apdu), WRONG_PARAMETERS)
-
-  create_asks : All DoesNotHold (refusals_of_create state seen channels channel apdu) → seen.adm1 ≡ true
-  create_asks none =
-      third_adm seen wrong_parameters (not (has_data apdu), WRONG_LENGTH)
-      ((is_none (asked_in apdu.body), WRONG_DATA)
-      ∷ of_found (asked_in apdu.body) (λ asked.
-      (is_there (descriptors_in state) (df_on channels channel) asked, FILE_ALREADY_THERE)
-      ∷ (is_none (made_in state (df_on channels channel) asked), NO_ROOM)
-      ∷ []))
-      none
-
-  delete_asks : All DoesNotHold (refusals_of_delete state seen channels channel apdu) → seen.adm1 ≡ true
-  delete_asks none =
-      let further : Descriptor → List Refusal = λ file. (is_in_use (descriptors_in state) channels file, CONDITIONS_NOT_SATISFIED) ∷ [] in
-      adm_of_found seen wrong_parameters (not (length apdu.body == 2), WRONG_LENGTH) (child_of state channels channel apdu) (λ file. without_adm seen ∷ further file)
-      (λ file rest. first_adm seen (further file) rest) none
-
-  resize_asks : All DoesNotHold (refusals_of_resize state seen channels channel apdu) → seen.adm1 ≡ true
-  resize_asks none =
-      let structure : Descriptor → Refusal = λ file. (not (file.kind == transparent_kind), WRONG_STRUCTURE) in
-      let life : Descriptor → Refusal = λ file. (is_deactivated file, CONDITIONS_NOT_SATISFIED) in
-      let further : Descriptor → List Refusal = λ file. (not (may_have (size_asked apdu)), WRONG_DATA) ∷ (has_no_room state (size_asked apdu) file, NO_ROOM) ∷ [] in
-      adm_of_found seen wrong_parameters (not (length apdu.body == 4), WRONG_LENGTH) (child_of state channels channel apdu)
-      (λ file. structure file ∷ life file ∷ without_adm seen ∷ further file)
-      (λ file rest. third_adm seen (structure file) (life file) (further file) rest) none
-
 pub create_by_adm : IsDoneByAdm created
-create_by_adm state seen channels channel apdu outcome is = create_asks state seen channels channel apdu ((create_refused state seen channels channel apdu).carried_out.0 (outcome, is))
+unfolding created
+create_by_adm state seen channels channel apdu outcome is =
+    let a = unless_ok _ _ _ outcome is in
+    let b = unless_ok _ _ _ outcome a.1 in
+    not-false seen.adm1 (unless_ok _ _ _ outcome b.1).0
 
 pub delete_by_adm : IsDoneByAdm deleted
-delete_by_adm state seen channels channel apdu outcome is = delete_asks state seen channels channel apdu ((delete_refused state seen channels channel apdu).carried_out.0 (outcome, is))
+unfolding deleted
+delete_by_adm state seen channels channel apdu outcome is =
+    let a = unless_ok _ _ _ outcome is in
+    let b = unless_ok _ _ _ outcome a.1 in
+    not-false seen.adm1 (unless_ok _ _ _ outcome (given_met _ _ _ outcome b.1).2).0
 
 pub resize_by_adm : IsDoneByAdm resized
-resize_by_adm state seen channels channel apdu outcome is = resize_asks state seen channels channel apdu ((resize_refused state seen channels channel apdu).carried_out.0 (outcome, is))
+unfolding resized
+resize_by_adm state seen channels channel apdu outcome is =
+    let a = unless_ok _ _ _ outcome is in
+    let b = unless_ok _ _ _ outcome a.1 in
+    let c = unless_ok _ _ _ outcome (given_met _ _ _ outcome b.1).2 in
+    let d = unless_ok _ _ _ outcome c.1 in
+    not-false seen.adm1 (unless_ok _ _ _ outcome d.1).0
 
 -- ---- what is carried out was admitted
 

@@ -1,181 +1,167 @@
 -- What each command is answered, and what each step of a run does to the tries of a key.
-use Rattle.std.proofs.Common.{◌≡◌, ℕ, zero, suc, ◌≤◌, ◌<◌, Bool, true, false, List, [], ◌∷◌, ◌++◌, length, take, Some, refl, sym, ◌∙◌, ap, subst, inl, inr, arith}
+use Rattle.std.proofs.Common.{◌≡◌, ℕ, zero, suc, ◌≤◌, ◌<◌, Bool, true, false, List, [], ◌∷◌, ◌++◌, length, take, Some, refl, sym, ◌∙◌, ap, inl, inr, arith}
 use Rattle.std.specs.Prelude.{◌==◌, ◌&&◌, Contains, IfOk, MatchResult, slice_index_or, Result, Ok, Err}
 use Rattle.std.proofs.lemmas.Bool.{false≢true}
 use Rattle.uicc_types.specs.declared.answers.StatusWord.{StatusWord}
+use Rattle.uicc_types.specs.declared.answers.TheConstants.StatusWord.{WRONG_LENGTH, NO_SUCH_CLASS, NO_SECURE_MESSAGING, NO_SUCH_CHANNEL, NO_SUCH_INSTRUCTION}
 use Rattle.apdu_form.specs.Model.{Apdu, command_in}
-use Rattle.access_rules.specs.declared.rules.Op.TheVariants.{Deactivate, Activate}
-use Rattle.card_layout.specs.Kinds.{activated, deactivated}
 use Rattle.card_layout.specs.Persistent.{Persistent}
 use Rattle.file_model.specs.Chains.{and_given}
-use Rattle.file_model.specs.Guards.{Guard, OfPin, OfUnblock, IsGuarded as IsGuardedBy, GuardsPins}
+use Rattle.file_model.specs.Commands.{pin_outcome}
+use Rattle.file_model.specs.declared.commands.FileCommand.TheVariants.{Select, Status, Contents}
+use Rattle.file_model.specs.declared.commands.PinCommand.{PinCommand}
+use Rattle.file_model.specs.declared.selections.Selection.{Selection}
+use Rattle.file_model.specs.Guards.{Guard, OfPin, OfUnblock, guard_of, IsGuarded as IsGuardedBy, GuardsPins}
 use Rattle.file_model.specs.Laws.{EachStep}
 use Rattle.file_model.specs.Outcomes.{FileOutcome, PinOutcome, last_of, has_data}
-use Rattle.file_model.specs.Pins.{pin_verified, pin_changed, pin_disabled, pin_enabled, pin_unblocked}
 use Rattle.file_making.specs.Outcomes.{TreeOutcome}
-use Rattle.file_making.specs.Creating.{created}
-use Rattle.file_making.specs.Deleting.{deleted}
-use Rattle.file_making.specs.Resizing.{resized}
 use Rattle.toolkit_model.specs.Commands.{polled}
 use Rattle.toolkit_model.specs.Passing.{passed_rows}
 use Rattle.card_model.specs.Answers.{Answered, settled, file_tried, pin_tried, managed, tree_tried, toolkit_tried, selection_on, seen_by, carried_out, on_files, then_polled, carried_with, tried, answer_of, passed}
-use Rattle.card_model.specs.Channels.{ChannelOutcome, channel_of}
+use Rattle.card_model.specs.Cases.{cut_so, of_tried}
+use Rattle.card_model.specs.Channels.{ChannelOutcome, family, channel_of}
 use Rattle.card_model.specs.Instructions.{has_toolkit}
 use Rattle.card_model.specs.States.{CardState}
-use Rattle.card_model.specs.Toolkit.{ToolkitOutcome, toolkit_of, coming_to, states_passed, profile_taken, command_fetched, response_taken, envelope_taken, applet_installed, applet_deleted}
+use Rattle.card_model.specs.Toolkit.{ToolkitOutcome, toolkit_of, coming_to, states_passed}
 use Rattle.card_model.specs.declared.instructions.Instruction.{Instruction}
-use Rattle.card_model.specs.declared.instructions.Instruction.TheVariants.{Select, Status, ReadBinary, UpdateBinary, ReadRecord, UpdateRecord, SearchRecord, Increase, DeactivateFile, ActivateFile, VerifyPin, ChangePin, DisablePin, EnablePin, UnblockPin, ManageChannel, TerminalProfile, Fetch, TerminalResponse, Envelope, InstallApplet, DeleteApplet, CreateFile, DeleteFile, ResizeFile}
+use Rattle.card_model.specs.declared.instructions.Instruction.TheVariants.{File, Pin, ManageChannel, Toolkit, Tree}
 use Rattle.run_laws.specs.Guesses.{presents_by, is_trial, if_command, tries_of}
 use Rattle.run_laws.specs.GuessLaws.{SetsNoTries}
-use Rattle.run_laws.proofs.Answers.{IsGuarded, NoGuess, PresentsNone, PresentsBy, EachKeepsOrFills, none_told, refused_guarded, quiet_guarded, pin_guarded, pending_guarded}
+use Rattle.run_laws.proofs.Answers.{IsGuarded, NoGuess, PresentsNone, PresentsBy, EachKeepsOrFills, none_told, refused_guarded, quiet_guarded, pin_guarded, cut_guarded, pending_guarded}
 use Rattle.card_model.specs.Chained.{Any}
-use Rattle.card_model.specs.Naming.{byte_of}
-use Rattle.run_laws.proofs.Commands.{of_tried}
+use Rattle.card_model.specs.Naming.{IsNamed, named_so}
 use Rattle.run_laws.proofs.Files.{HaveSamePins, same_with_files, same_with_rows, same_joined, same_last}
-use Rattle.card_model.specs.OtherFiles.{HaveOtherFiles, select_leaves, status_leaves, read_binary_leaves, update_binary_leaves, read_record_leaves, update_record_leaves, search_leaves, increase_leaves, life_change_leaves, create_leaves, delete_leaves, resize_leaves}
+use Rattle.card_model.specs.OtherFiles.{HaveOtherFiles, file_leaves, tree_leaves}
 use Rattle.card_model.proofs.Counted.{last_joined}
 use Rattle.run_laws.proofs.Pins.{KeepsOrFills}
-use Rattle.run_laws.proofs.Trials.{Comes, TellsNone, verify_comes, change_comes, disable_comes, enable_comes, unblock_comes}
+use Rattle.run_laws.proofs.Trials.{Comes, TellsNone, pin_comes}
 
 -- ---- commands
 
--- a byte of no PIN command
-none_by : (ins byte : ℕ) → byte ≡ ins → presents_by OfPin byte ≡ false → presents_by OfUnblock byte ≡ false → (guard : Guard) → presents_by guard ins ≡ false
-none_by ins byte is of_pin of_unblock OfPin = subst (λ (b : ℕ). presents_by OfPin b ≡ false) is of_pin
-none_by ins byte is of_pin of_unblock OfUnblock = subst (λ (b : ℕ). presents_by OfUnblock b ≡ false) is of_unblock
+-- the instruction byte presents a value as its command does
+abbrev is_of : Guard → Guard → Bool
+is_of OfPin OfPin = true
+is_of OfUnblock OfUnblock = true
+is_of _ _ = false
 
--- a byte of a command on PINs, or of the one on UNBLOCK PINs
-by_pin : (ins byte : ℕ) → byte ≡ ins → presents_by OfUnblock byte ≡ false → PresentsBy OfPin ins
-by_pin ins byte is none OfPin shown = refl
-by_pin ins byte is none OfUnblock shown = absurd (false≢true (sym none ∙ ap (presents_by OfUnblock) is ∙ shown))
+abbrev is_presented : Guard → Instruction → Bool
+is_presented guard (Pin command) = is_of guard (guard_of command)
+is_presented guard _ = false
 
-by_unblock : (ins byte : ℕ) → byte ≡ ins → presents_by OfPin byte ≡ false → PresentsBy OfUnblock ins
-by_unblock ins byte is none OfPin shown = absurd (false≢true (sym none ∙ ap (presents_by OfPin) is ∙ shown))
-by_unblock ins byte is none OfUnblock shown = refl
+abbrev Presents : Instruction → ℕ → ℕ → Type 0
+Presents instruction class ins = (presents_by OfPin ins ≡ is_presented OfPin instruction) × (presents_by OfUnblock ins ≡ is_presented OfUnblock instruction)
 
-module _ (verify : GuardsPins OfPin pin_verified) (change : GuardsPins OfPin pin_changed) (disable : GuardsPins OfPin pin_disabled) (enable : GuardsPins OfPin pin_enabled) (unblock : GuardsPins OfUnblock pin_unblocked)
-    (card : CardState) (bytes : List ℕ)
-  where
-    abbrev Q : Result Answered StatusWord → Type 0
-    Q result = MatchResult result (IsGuarded card bytes) (NoGuess bytes)
+named_presents : (knows : Instruction → Bool) (class ins : ℕ) (instruction : Instruction) → IsNamed knows class ins instruction → Presents instruction class ins
+named_presents =
+    named_so Presents
+    ((refl, refl), ((refl, refl), ((refl, refl), ((refl, refl), ((refl, refl), ((refl, refl), ((refl, refl), ((refl, refl), ((refl, refl), ((refl, refl), ((refl, refl), ((refl, refl), ((refl, refl), ((refl, refl), ((refl, refl), ((refl, refl), ((refl, refl), ((refl, refl), ((refl, refl), ((refl, refl), ((refl, refl), ((refl, refl), ((refl, refl), ((refl, refl), ((refl, refl), tt)))))))))))))))))))))))))
 
-    module _ (apdu : Apdu) (read : command_in bytes ≡ Some apdu) where
-      quiet : ((guard : Guard) → presents_by guard apdu.ins ≡ false) → PresentsNone bytes
-      quiet none guard key = ap (if_command (is_trial guard key)) read ∙ ap (λ (b : Bool). b && apdu.p2 == key && has_data apdu) (none guard)
+none_by : (ins : ℕ) → (presents_by OfPin ins ≡ false) × (presents_by OfUnblock ins ≡ false) → (guard : Guard) → presents_by guard ins ≡ false
+none_by ins is OfPin = is.0
+none_by ins is OfUnblock = is.1
 
-      file_so : (outcome : Result FileOutcome StatusWord) → ((guard : Guard) → presents_by guard apdu.ins ≡ false) → MatchResult outcome (λ done. HaveOtherFiles card.persistent done.passed) Any → Q (file_tried card apdu outcome)
-      unfolding and_given
-      file_so (Err status) none leaves = λ guard key shown. absurd (false≢true (sym (quiet none guard key) ∙ shown))
-      file_so (Ok outcome) none leaves = quiet_guarded card bytes _ (quiet none) refl (same_with_files card.persistent outcome.passed leaves) refl
+-- of one on PINs, against its guard and no other
+by_guard : (ins : ℕ) (guard : Guard) → (presents_by OfPin ins ≡ is_of OfPin guard) × (presents_by OfUnblock ins ≡ is_of OfUnblock guard) → (presents_by guard ins ≡ true) × PresentsBy guard ins
+by_guard ins OfPin is = (is.0, only) where
+  only : PresentsBy OfPin ins
+  only OfPin shown = refl
+  only OfUnblock shown = absurd (false≢true (sym is.1 ∙ shown))
+by_guard ins OfUnblock is = (is.1, only) where
+  only : PresentsBy OfUnblock ins
+  only OfPin shown = absurd (false≢true (sym is.0 ∙ shown))
+  only OfUnblock shown = refl
 
-      channel_so : (outcome : Result ChannelOutcome StatusWord) → ((guard : Guard) → presents_by guard apdu.ins ≡ false) → Q (managed card outcome)
-      unfolding and_given
-      channel_so (Err status) none = λ guard key shown. absurd (false≢true (sym (quiet none guard key) ∙ shown))
-      channel_so (Ok outcome) none = quiet_guarded card bytes _ (quiet none) refl tt refl
+module _ (guards : (command : PinCommand) → GuardsPins (guard_of command) (pin_outcome command)) (card : CardState) (bytes : List ℕ) where
+  abbrev Q : Result Answered StatusWord → Type 0
+  Q result = MatchResult result (IsGuarded card bytes) (NoGuess bytes)
 
-      tree_so : (outcome : Result TreeOutcome StatusWord) → ((guard : Guard) → presents_by guard apdu.ins ≡ false) → MatchResult outcome (λ done. HaveOtherFiles card.persistent done.passed) Any → Q (tree_tried card outcome)
-      unfolding and_given
-      tree_so (Err status) none leaves = λ guard key shown. absurd (false≢true (sym (quiet none guard key) ∙ shown))
-      tree_so (Ok outcome) none leaves = quiet_guarded card bytes _ (quiet none) refl (same_with_files card.persistent outcome.passed leaves) refl
+  module _ (apdu : Apdu) (read : command_in bytes ≡ Some apdu) where
+    quiet : ((guard : Guard) → presents_by guard apdu.ins ≡ false) → PresentsNone bytes
+    quiet none guard key = ap (if_command (is_trial guard key)) read ∙ ap (λ (b : Bool). b && apdu.p2 == key && has_data apdu) (none guard)
 
-      toolkit_so : (outcome : Result ToolkitOutcome StatusWord) → ((guard : Guard) → presents_by guard apdu.ins ≡ false) → Q (toolkit_tried card outcome)
-      unfolding and_given
-      toolkit_so (Err status) none = λ guard key shown. absurd (false≢true (sym (quiet none guard key) ∙ shown))
-      toolkit_so (Ok outcome) none = quiet_guarded card bytes _ (quiet none) refl (same_with_rows card.persistent card.persistent outcome.next_sequence (passed_rows outcome.passed.log) refl) refl
+    file_so : (outcome : Result FileOutcome StatusWord) → ((guard : Guard) → presents_by guard apdu.ins ≡ false) → MatchResult outcome (λ done. HaveOtherFiles card.persistent done.passed) Any → Q (file_tried card apdu outcome)
+    unfolding and_given
+    file_so (Err status) none leaves = λ guard key shown. absurd (false≢true (sym (quiet none guard key) ∙ shown))
+    file_so (Ok outcome) none leaves = quiet_guarded card bytes _ (quiet none) refl (same_with_files card.persistent outcome.passed leaves) refl
 
-      pin_so : (guard : Guard) (outcome : Result PinOutcome StatusWord) → presents_by guard apdu.ins ≡ true → PresentsBy guard apdu.ins
-          → MatchResult outcome (Comes guard card.persistent.pins card.verified apdu) TellsNone → IfOk outcome (IsGuardedBy guard card.persistent.pins apdu.p2) → Q (pin_tried card outcome)
-      unfolding and_given
-      pin_so guard (Err status) shows only comes guarded = none_told bytes status comes
-      pin_so guard (Ok outcome) shows only comes guarded = pin_guarded card bytes apdu read guard shows only outcome comes guarded.steps
+    channel_so : (outcome : Result ChannelOutcome StatusWord) → ((guard : Guard) → presents_by guard apdu.ins ≡ false) → Q (managed card outcome)
+    unfolding and_given
+    channel_so (Err status) none = λ guard key shown. absurd (false≢true (sym (quiet none guard key) ∙ shown))
+    channel_so (Ok outcome) none = quiet_guarded card bytes _ (quiet none) refl tt refl
 
-      carried_so : (instruction : Instruction) → byte_of instruction ≡ apdu.ins → Q (carried_out instruction card apdu)
-      unfolding carried_out
-      carried_so Select is = file_so _ (none_by apdu.ins 0xA4 is refl refl) (select_leaves card.persistent (seen_by card) (selection_on card (channel_of apdu.class)) apdu)
-      carried_so Status is = file_so _ (none_by apdu.ins 0xF2 is refl refl) (status_leaves card.persistent (seen_by card) (selection_on card (channel_of apdu.class)) apdu)
-      carried_so ReadBinary is = file_so _ (none_by apdu.ins 0xB0 is refl refl) (read_binary_leaves card.persistent (seen_by card) (selection_on card (channel_of apdu.class)) apdu)
-      carried_so UpdateBinary is = file_so _ (none_by apdu.ins 0xD6 is refl refl) (update_binary_leaves card.persistent (seen_by card) (selection_on card (channel_of apdu.class)) apdu)
-      carried_so ReadRecord is = file_so _ (none_by apdu.ins 0xB2 is refl refl) (read_record_leaves card.persistent (seen_by card) (selection_on card (channel_of apdu.class)) apdu)
-      carried_so UpdateRecord is = file_so _ (none_by apdu.ins 0xDC is refl refl) (update_record_leaves card.persistent (seen_by card) (selection_on card (channel_of apdu.class)) apdu)
-      carried_so SearchRecord is = file_so _ (none_by apdu.ins 0xA2 is refl refl) (search_leaves card.persistent (seen_by card) (selection_on card (channel_of apdu.class)) apdu)
-      carried_so Increase is = file_so _ (none_by apdu.ins 0x32 is refl refl) (increase_leaves card.persistent (seen_by card) (selection_on card (channel_of apdu.class)) apdu)
-      carried_so DeactivateFile is = file_so _ (none_by apdu.ins 0x04 is refl refl) (life_change_leaves card.persistent (seen_by card) (selection_on card (channel_of apdu.class)) apdu Deactivate deactivated)
-      carried_so ActivateFile is = file_so _ (none_by apdu.ins 0x44 is refl refl) (life_change_leaves card.persistent (seen_by card) (selection_on card (channel_of apdu.class)) apdu Activate activated)
-      carried_so VerifyPin is = pin_so OfPin _ (ap (presents_by OfPin) (sym is)) (by_pin apdu.ins 0x20 is refl) (verify_comes card.persistent.pins card.verified apdu) (verify card.persistent.pins card.verified apdu)
-      carried_so ChangePin is = pin_so OfPin _ (ap (presents_by OfPin) (sym is)) (by_pin apdu.ins 0x24 is refl) (change_comes card.persistent.pins card.verified apdu) (change card.persistent.pins card.verified apdu)
-      carried_so DisablePin is = pin_so OfPin _ (ap (presents_by OfPin) (sym is)) (by_pin apdu.ins 0x26 is refl) (disable_comes card.persistent.pins card.verified apdu) (disable card.persistent.pins card.verified apdu)
-      carried_so EnablePin is = pin_so OfPin _ (ap (presents_by OfPin) (sym is)) (by_pin apdu.ins 0x28 is refl) (enable_comes card.persistent.pins card.verified apdu) (enable card.persistent.pins card.verified apdu)
-      carried_so UnblockPin is = pin_so OfUnblock _ (ap (presents_by OfUnblock) (sym is)) (by_unblock apdu.ins 0x2C is refl) (unblock_comes card.persistent.pins card.verified apdu) (unblock card.persistent.pins card.verified apdu)
-      carried_so ManageChannel is = channel_so _ (none_by apdu.ins 0x70 is refl refl)
-      carried_so TerminalProfile is = toolkit_so (profile_taken card apdu) (none_by apdu.ins 0x10 is refl refl)
-      carried_so Fetch is = toolkit_so (command_fetched card apdu) (none_by apdu.ins 0x12 is refl refl)
-      carried_so TerminalResponse is = toolkit_so (response_taken card apdu) (none_by apdu.ins 0x14 is refl refl)
-      carried_so Envelope is = toolkit_so (envelope_taken card apdu) (none_by apdu.ins 0xC2 is refl refl)
-      carried_so InstallApplet is = toolkit_so (applet_installed card (seen_by card) apdu) (none_by apdu.ins 0xE6 is refl refl)
-      carried_so DeleteApplet is = toolkit_so (applet_deleted card (seen_by card) apdu) (none_by apdu.ins 0xE4 is refl refl)
-      carried_so CreateFile is = tree_so (created card.persistent (seen_by card) card.channels (channel_of apdu.class) apdu) (none_by apdu.ins 0xE0 is refl refl) (create_leaves card.persistent (seen_by card) card.channels (channel_of apdu.class) apdu)
-      carried_so DeleteFile is = tree_so (deleted card.persistent (seen_by card) card.channels (channel_of apdu.class) apdu) (none_by apdu.ins 0xE4 is refl refl) (delete_leaves card.persistent (seen_by card) card.channels (channel_of apdu.class) apdu)
-      carried_so ResizeFile is = tree_so (resized card.persistent (seen_by card) card.channels (channel_of apdu.class) apdu) (none_by apdu.ins 0xD4 is refl refl) (resize_leaves card.persistent (seen_by card) card.channels (channel_of apdu.class) apdu)
+    tree_so : (outcome : Result TreeOutcome StatusWord) → ((guard : Guard) → presents_by guard apdu.ins ≡ false) → MatchResult outcome (λ done. HaveOtherFiles card.persistent done.passed) Any → Q (tree_tried card outcome)
+    unfolding and_given
+    tree_so (Err status) none leaves = λ guard key shown. absurd (false≢true (sym (quiet none guard key) ∙ shown))
+    tree_so (Ok outcome) none leaves = quiet_guarded card bytes _ (quiet none) refl (same_with_files card.persistent outcome.passed leaves) refl
 
-      -- applets that are told of STATUS leave the PINs, too
-      status_so : (outcome : Result FileOutcome StatusWord) → ((guard : Guard) → presents_by guard apdu.ins ≡ false) → MatchResult outcome (λ done. HaveOtherFiles card.persistent done.passed) Any
-          → Q (and_given (file_tried card apdu outcome) (λ answered. Ok (then_polled answered)))
-      unfolding and_given
-      status_so (Err status) none leaves = λ guard key shown. absurd (false≢true (sym (quiet none guard key) ∙ shown))
-      status_so (Ok outcome) none leaves =
-          let same : HaveSamePins card.persistent outcome.passed = same_with_files card.persistent outcome.passed leaves in
-          let left : CardState = (on_files card (channel_of apdu.class) outcome).state in
-          let later : ToolkitOutcome = coming_to left [] (polled (toolkit_of left)) in
-          let later_same : HaveSamePins card.persistent (states_passed left.persistent later) =
-          same_with_rows card.persistent left.persistent later.next_sequence (passed_rows later.passed.log) (same_last card.persistent outcome.passed same) in
-          quiet_guarded card bytes _ (quiet none) (last_joined card.persistent outcome.passed (states_passed left.persistent later))
-          (same_joined card.persistent outcome.passed (states_passed left.persistent later) same later_same) refl
+    toolkit_so : (outcome : Result ToolkitOutcome StatusWord) → ((guard : Guard) → presents_by guard apdu.ins ≡ false) → Q (toolkit_tried card outcome)
+    unfolding and_given
+    toolkit_so (Err status) none = λ guard key shown. absurd (false≢true (sym (quiet none guard key) ∙ shown))
+    toolkit_so (Ok outcome) none = quiet_guarded card bytes _ (quiet none) refl (same_with_rows card.persistent card.persistent outcome.next_sequence (passed_rows outcome.passed.log) refl) refl
 
-      -- no other command is an event
-      no_event : (result : Result Answered StatusWord) → Q result → Q (and_given result (λ answered. Ok answered))
-      unfolding and_given
-      no_event (Err status) holds = holds
-      no_event (Ok answered) holds = holds
+    pin_so : (guard : Guard) (outcome : Result PinOutcome StatusWord) → presents_by guard apdu.ins ≡ true → PresentsBy guard apdu.ins
+        → MatchResult outcome (Comes guard card.persistent.pins card.verified apdu) TellsNone → IfOk outcome (IsGuardedBy guard card.persistent.pins apdu.p2) → Q (pin_tried card outcome)
+    unfolding and_given
+    pin_so guard (Err status) shows only comes guarded = none_told bytes status comes
+    pin_so guard (Ok outcome) shows only comes guarded = pin_guarded card bytes apdu read guard shows only outcome comes guarded.steps
 
-      carried_with_so : (runs_applets : Bool) (instruction : Instruction) → byte_of instruction ≡ apdu.ins → Q (carried_with runs_applets instruction card apdu)
-      unfolding carried_out
-      carried_with_so false instruction is = carried_so instruction is
-      carried_with_so true Status is = status_so _ (none_by apdu.ins 0xF2 is refl refl) (status_leaves card.persistent (seen_by card) (selection_on card (channel_of apdu.class)) apdu)
-      carried_with_so true Select is = no_event (carried_out Select card apdu) (carried_so Select is)
-      carried_with_so true ReadBinary is = no_event (carried_out ReadBinary card apdu) (carried_so ReadBinary is)
-      carried_with_so true UpdateBinary is = no_event (carried_out UpdateBinary card apdu) (carried_so UpdateBinary is)
-      carried_with_so true ReadRecord is = no_event (carried_out ReadRecord card apdu) (carried_so ReadRecord is)
-      carried_with_so true UpdateRecord is = no_event (carried_out UpdateRecord card apdu) (carried_so UpdateRecord is)
-      carried_with_so true SearchRecord is = no_event (carried_out SearchRecord card apdu) (carried_so SearchRecord is)
-      carried_with_so true Increase is = no_event (carried_out Increase card apdu) (carried_so Increase is)
-      carried_with_so true DeactivateFile is = no_event (carried_out DeactivateFile card apdu) (carried_so DeactivateFile is)
-      carried_with_so true ActivateFile is = no_event (carried_out ActivateFile card apdu) (carried_so ActivateFile is)
-      carried_with_so true VerifyPin is = no_event (carried_out VerifyPin card apdu) (carried_so VerifyPin is)
-      carried_with_so true ChangePin is = no_event (carried_out ChangePin card apdu) (carried_so ChangePin is)
-      carried_with_so true DisablePin is = no_event (carried_out DisablePin card apdu) (carried_so DisablePin is)
-      carried_with_so true EnablePin is = no_event (carried_out EnablePin card apdu) (carried_so EnablePin is)
-      carried_with_so true UnblockPin is = no_event (carried_out UnblockPin card apdu) (carried_so UnblockPin is)
-      carried_with_so true ManageChannel is = no_event (carried_out ManageChannel card apdu) (carried_so ManageChannel is)
-      carried_with_so true TerminalProfile is = no_event (carried_out TerminalProfile card apdu) (carried_so TerminalProfile is)
-      carried_with_so true Fetch is = no_event (carried_out Fetch card apdu) (carried_so Fetch is)
-      carried_with_so true TerminalResponse is = no_event (carried_out TerminalResponse card apdu) (carried_so TerminalResponse is)
-      carried_with_so true Envelope is = no_event (carried_out Envelope card apdu) (carried_so Envelope is)
-      carried_with_so true InstallApplet is = no_event (carried_out InstallApplet card apdu) (carried_so InstallApplet is)
-      carried_with_so true DeleteApplet is = no_event (carried_out DeleteApplet card apdu) (carried_so DeleteApplet is)
-      carried_with_so true CreateFile is = no_event (carried_out CreateFile card apdu) (carried_so CreateFile is)
-      carried_with_so true DeleteFile is = no_event (carried_out DeleteFile card apdu) (carried_so DeleteFile is)
-      carried_with_so true ResizeFile is = no_event (carried_out ResizeFile card apdu) (carried_so ResizeFile is)
+    abbrev selection : Selection
+    selection = selection_on card (channel_of apdu.class)
 
-    settled_so : (result : Result Answered StatusWord) → Q result → IsGuarded card bytes (settled card result)
-    settled_so (Err status) none = refused_guarded card bytes status none
-    settled_so (Ok answered) guarded = guarded
+    carried_so : (instruction : Instruction) → Presents instruction 0 apdu.ins → Q (carried_out instruction card apdu)
+    unfolding carried_out
+    carried_so (File command) is = file_so _ (none_by apdu.ins is) (file_leaves card.persistent (seen_by card) selection apdu command)
+    carried_so (Pin command) is =
+        let by = by_guard apdu.ins (guard_of command) is in
+        pin_so (guard_of command) _ by.0 by.1 (pin_comes card.persistent.pins card.verified apdu command) (guards command card.persistent.pins card.verified apdu)
+    carried_so ManageChannel is = channel_so _ (none_by apdu.ins is)
+    carried_so (Toolkit command) is = toolkit_so _ (none_by apdu.ins is)
+    carried_so (Tree command) is = tree_so _ (none_by apdu.ins is) (tree_leaves card.persistent (seen_by card) card.channels (channel_of apdu.class) apdu command)
 
-    -- a card of any commands
-    pub answer_guarded : (knows : Instruction → Bool) → IsGuarded card bytes (answer_of knows card bytes)
-    unfolding answer_of
-    answer_guarded knows =
-        pending_guarded card bytes (settled card (tried knows card bytes)) (settled_so (tried knows card bytes)
-        (of_tried knows card bytes Q (λ status none. none_told bytes status none) (λ apdu instruction read is. carried_with_so apdu read (has_toolkit knows) instruction is)))
+    -- applets that are told of STATUS leave the PINs, too
+    status_so : (outcome : Result FileOutcome StatusWord) → ((guard : Guard) → presents_by guard apdu.ins ≡ false) → MatchResult outcome (λ done. HaveOtherFiles card.persistent done.passed) Any
+        → Q (and_given (file_tried card apdu outcome) (λ answered. Ok (then_polled answered)))
+    unfolding and_given
+    status_so (Err status) none leaves = λ guard key shown. absurd (false≢true (sym (quiet none guard key) ∙ shown))
+    status_so (Ok outcome) none leaves =
+        let same : HaveSamePins card.persistent outcome.passed = same_with_files card.persistent outcome.passed leaves in
+        let left : CardState = (on_files card (channel_of apdu.class) outcome).state in
+        let later : ToolkitOutcome = coming_to left [] (polled (toolkit_of left)) in
+        let later_same : HaveSamePins card.persistent (states_passed left.persistent later) =
+        same_with_rows card.persistent left.persistent later.next_sequence (passed_rows later.passed.log) (same_last card.persistent outcome.passed same) in
+        quiet_guarded card bytes _ (quiet none) (last_joined card.persistent outcome.passed (states_passed left.persistent later))
+        (same_joined card.persistent outcome.passed (states_passed left.persistent later) same later_same) refl
+
+    -- no other command is an event
+    no_event : (result : Result Answered StatusWord) → Q result → Q (and_given result (λ answered. Ok answered))
+    unfolding and_given
+    no_event (Err status) holds = holds
+    no_event (Ok answered) holds = holds
+
+    carried_with_so : (runs_applets : Bool) (instruction : Instruction) → Presents instruction 0 apdu.ins → Q (carried_with runs_applets instruction card apdu)
+    unfolding carried_out
+    carried_with_so false instruction is = carried_so instruction is
+    carried_with_so true (File Status) is = status_so _ (none_by apdu.ins is) (file_leaves card.persistent (seen_by card) selection apdu Status)
+    carried_with_so true (File Select) is = no_event (carried_out (File Select) card apdu) (carried_so (File Select) is)
+    carried_with_so true (File (Contents command)) is = no_event (carried_out (File (Contents command)) card apdu) (carried_so (File (Contents command)) is)
+    carried_with_so true (Pin command) is = no_event (carried_out (Pin command) card apdu) (carried_so (Pin command) is)
+    carried_with_so true ManageChannel is = no_event (carried_out ManageChannel card apdu) (carried_so ManageChannel is)
+    carried_with_so true (Toolkit command) is = no_event (carried_out (Toolkit command) card apdu) (carried_so (Toolkit command) is)
+    carried_with_so true (Tree command) is = no_event (carried_out (Tree command) card apdu) (carried_so (Tree command) is)
+
+  settled_so : (result : Result Answered StatusWord) → Q result → IsGuarded card bytes (settled card result)
+  settled_so (Err status) none = refused_guarded card bytes status none
+  settled_so (Ok answered) guarded = guarded
+
+  -- a card of any commands
+  pub answer_guarded : (knows : Instruction → Bool) → IsGuarded card bytes (answer_of knows card bytes)
+  unfolding answer_of
+  answer_guarded knows =
+      let told : (status : StatusWord) → TellsNone status → NoGuess bytes status = none_told bytes in
+      pending_guarded card bytes (settled card (tried knows card bytes)) (settled_so (tried knows card bytes) (
+      of_tried knows card bytes Q (record { length_is = told WRONG_LENGTH refl; class_is = told NO_SUCH_CLASS refl; secure_is = told NO_SECURE_MESSAGING refl; channel_is = told NO_SUCH_CHANNEL refl; instruction_is = told NO_SUCH_INSTRUCTION refl })
+      (λ apdu instruction read. cut_so (IsGuarded card bytes) (NoGuess bytes) apdu.expected _ (cut_guarded card bytes apdu.expected)
+      (carried_with_so apdu read.read (has_toolkit knows) instruction (named_presents knows (family apdu.class) apdu.ins instruction read.named)))))
 
 -- ---- commits
 

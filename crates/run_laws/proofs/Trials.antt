@@ -9,7 +9,10 @@ use Rattle.access_rules.specs.declared.rules.Verified.{Verified}
 use Rattle.card_layout.specs.Persistent.{Pin}
 use Rattle.file_model.specs.Outcomes.{PinOutcome, has_no_data}
 use Rattle.file_model.specs.Pins.{pin_found, marked, pin_addressed, presented, pin_presented, unblock_presented, value_presented, new_value, pin_verified, pin_changed, pin_disabled, pin_enabled, pin_unblocked}
-use Rattle.file_model.specs.Guards.{Guard, OfPin, OfUnblock, tries_by, with_one_less}
+use Rattle.file_model.specs.Commands.{pin_outcome}
+use Rattle.file_model.specs.declared.commands.PinCommand.{PinCommand}
+use Rattle.file_model.specs.declared.commands.PinCommand.TheVariants.{Verify, Change, Disable, Enable, Unblock}
+use Rattle.file_model.specs.Guards.{Guard, OfPin, OfUnblock, guard_of, tries_by, with_one_less}
 use Rattle.file_model.specs.Chained.{unless_so, given_so}
 use Rattle.run_laws.specs.Guesses.{tells_tries, value_by}
 use Rattle.card_model.specs.Chained.{either_so}
@@ -77,7 +80,7 @@ module _ (pins : List Pin) (verified : Verified) (apdu : Apdu) where
   abbrev Q : PinOutcome → Type 0
   Q outcome = Comes OfUnblock pins verified apdu outcome
 
-  pub verify_comes : MatchResult (pin_verified pins verified apdu) P TellsNone
+  verify_comes : MatchResult (pin_verified pins verified apdu) P TellsNone
   unfolding pin_verified
   verify_comes =
       addressed_so P _ _ _ (λ long pin found.
@@ -85,7 +88,7 @@ module _ (pins : List Pin) (verified : Verified) (apdu : Apdu) where
       either_so P TellsNone (has_no_data apdu) _ _ (λ lacks. inl (record { none = lacks; nothing = refl; same = refl })) (λ there.
       unless_so P TellsNone _ _ _ refl (λ _. tried pin pin (marked verified pin.key true) found some there refl (inr refl)))))
 
-  pub change_comes : MatchResult (pin_changed pins verified apdu) P TellsNone
+  change_comes : MatchResult (pin_changed pins verified apdu) P TellsNone
   unfolding pin_changed
   change_comes =
       addressed_so P _ _ _ (λ long pin found.
@@ -93,7 +96,7 @@ module _ (pins : List Pin) (verified : Verified) (apdu : Apdu) where
       unless_so P TellsNone _ _ _ refl (λ _.
       tried pin (record pin { value = new_value apdu }) (marked verified pin.key true) found some (long_data (length apdu.body) 16 (omega arith) long) refl (inr refl))))
 
-  pub disable_comes : MatchResult (pin_disabled pins verified apdu) P TellsNone
+  disable_comes : MatchResult (pin_disabled pins verified apdu) P TellsNone
   unfolding pin_disabled
   disable_comes =
       addressed_so P _ _ _ (λ long pin found.
@@ -101,7 +104,7 @@ module _ (pins : List Pin) (verified : Verified) (apdu : Apdu) where
       unless_so P TellsNone _ _ _ refl (λ _.
       tried pin (record pin { is_enabled = false }) verified found some (long_data (length apdu.body) 8 (omega arith) long) refl (inl refl))))
 
-  pub enable_comes : MatchResult (pin_enabled pins verified apdu) P TellsNone
+  enable_comes : MatchResult (pin_enabled pins verified apdu) P TellsNone
   unfolding pin_enabled
   enable_comes =
       addressed_so P _ _ _ (λ long pin found.
@@ -109,10 +112,17 @@ module _ (pins : List Pin) (verified : Verified) (apdu : Apdu) where
       unless_so P TellsNone _ _ _ refl (λ _.
       tried pin (record pin { is_enabled = true }) (marked verified pin.key true) found some (long_data (length apdu.body) 8 (omega arith) long) refl (inr refl))))
 
-  pub unblock_comes : MatchResult (pin_unblocked pins verified apdu) Q TellsNone
+  unblock_comes : MatchResult (pin_unblocked pins verified apdu) Q TellsNone
   unfolding pin_unblocked
   unblock_comes =
       addressed_so Q _ _ _ (λ long pin found.
       unless_so Q TellsNone _ _ _ refl (λ some.
       either_so Q TellsNone (has_no_data apdu) _ _ (λ lacks. inl (record { none = lacks; nothing = refl; same = refl })) (λ there.
       unblock_tried pin (record pin { value = new_value apdu; is_enabled = true }) (marked verified pin.key true) found some there refl (inr refl))))
+
+  pub pin_comes : (command : PinCommand) → MatchResult (pin_outcome command pins verified apdu) (Comes (guard_of command) pins verified apdu) TellsNone
+  pin_comes Verify = verify_comes
+  pin_comes Change = change_comes
+  pin_comes Disable = disable_comes
+  pin_comes Enable = enable_comes
+  pin_comes Unblock = unblock_comes

@@ -1,5 +1,5 @@
 -- What SELECT and STATUS answer is read back, object by object, and tells what the file is (ETSI TS 102 221, 11.1.1.3 and 11.1.1.4).
-use Rattle.std.specs.Prelude.{◌≡◌, ℕ, ◌^◌, ◌<◌, ◌≤◌, ◌⊎◌, List, ◌∷◌, length, Contains, Option, Some, None, IfSome, Ok}
+use Rattle.std.specs.Prelude.{◌≡◌, ℕ, ◌^◌, ◌<◌, ◌≤◌, List, ◌∷◌, length, Contains, Some, IfSome, Ok}
 use Rattle.apdu_form.specs.Model.{Apdu}
 use Rattle.card_layout.specs.Persistent.{File, Persistent, Pin}
 use Rattle.card_layout.specs.Soundness.{IsSound}
@@ -28,20 +28,16 @@ pub record IsFcp (pins : List Pin) (file : Descriptor) (bytes : List ℕ) : Type
 abbrev pub FcpAreObjects : Type 0
 FcpAreObjects = (state : Persistent) (file : Descriptor) → IsSound state → IsFcp state.pins file (fcp state.pins file)
 
--- all the data of the answer are wanted
-abbrev pub WantsAll : Option ℕ → Type 0
-WantsAll expected = (expected ≡ None) ⊎ (expected ≡ Some 256)
-
--- SELECT answers those of the file that it selects
+-- SELECT answers those of the file that it selects, before Le cuts them,
 abbrev pub SelectAnswersFcp : Type 0
 SelectAnswersFcp = (state : Persistent) (selection : Selection) (apdu : Apdu) (outcome : FileOutcome)
-    → IsSound state → file_selected state selection apdu ≡ Ok outcome → apdu.p2 ≡ 0x04 → WantsAll apdu.expected
+    → IsSound state → file_selected state selection apdu ≡ Ok outcome → apdu.p2 ≡ 0x04
     → (file : Descriptor) × (chosen (descriptors_in state) selection apdu ≡ Some file) × IsFcp state.pins file outcome.body
 
 -- and STATUS those of the current DF
 abbrev pub StatusAnswersFcp : Type 0
 StatusAnswersFcp = (state : Persistent) (selection : Selection) (apdu : Apdu) (outcome : FileOutcome)
-    → IsSound state → status_told state selection apdu ≡ Ok outcome → apdu.p2 ≡ 0x00 → WantsAll apdu.expected
+    → IsSound state → status_told state selection apdu ≡ Ok outcome → apdu.p2 ≡ 0x00
     → (df : Descriptor) × (file_found (descriptors_in state) (Number selection.df) ≡ Some df) × IsFcp state.pins df outcome.body
 
 -- the identifiers of a file have two bytes

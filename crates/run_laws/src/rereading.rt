@@ -11,7 +11,7 @@ pub fn what_is_put_is_read()
     ensures records { RecordsAreRead }
 {}
 
-/// What SELECT and STATUS answer is one object, and falls apart into just the objects that tell of the file. Two
+/// What SELECT and STATUS answer, before Le cuts it, is one object, and falls apart into just the objects that tell of the file. Two
 /// files of which the same is told are alike in all that is told.
 pub fn what_is_told_is_read()
     ensures objects { FcpAreObjects }

@@ -1,34 +1,39 @@
 -- The laws of answers where applets run, from what each command comes to.
-use Rattle.std.proofs.Common.{◌≡◌, inl, inr, ℕ, ◌≤◌, Bool, true, false, List, [], ◌∷◌, ◌++◌, map, length, Option, Some, None, Result, Ok, Err, refl, sym, ◌∙◌, ap, subst, arith}
+use Rattle.std.proofs.Common.{◌≡◌, inl, inr, ℕ, ◌≤◌, Bool, true, false, List, [], ◌∷◌, ◌++◌, map, length, Option, Some, Result, Ok, Err, refl, sym, ◌∙◌, ap, subst, arith}
 use Rattle.std.specs.Prelude.{MatchResult, MatchBool, IfSome, ⊤}
 use Rattle.std.proofs.lemmas.Bool.{false≢true}
 use Rattle.uicc_types.specs.Told.{AreBytes}
 use Rattle.uicc_types.specs.declared.answers.StatusWord.{StatusWord}
-use Rattle.uicc_types.specs.declared.answers.TheConstants.StatusWord.{DONE, WRONG_LENGTH}
-use Rattle.apdu_form.specs.Model.{Apdu, IsCommand, command_in}
-use Rattle.apdu_form.specs.Reading.{commands_are}
+use Rattle.uicc_types.specs.declared.answers.TheConstants.StatusWord.{DONE}
+use Rattle.apdu_form.specs.Model.{Apdu, IsCommand}
 use Rattle.card_layout.specs.Persistent.{Persistent, Registration}
-use Rattle.file_model.specs.Chains.{given, and_given}
+use Rattle.file_model.specs.Chains.{and_given}
+use Rattle.file_model.specs.Commands.{file_outcome}
 use Rattle.file_model.specs.Laws.{EachStep}
 use Rattle.file_model.specs.Outcomes.{FileOutcome, last_of}
 use Rattle.file_model.specs.Selecting.{status_told}
 use Rattle.toolkit_model.specs.Commands.{polled, pending}
 use Rattle.toolkit_model.specs.Passing.{passed_rows}
-use Rattle.card_model.specs.Answers.{Answered, refused, settled, told_pending, with_pending, on_toolkit, file_tried, toolkit_tried, then_polled, selection_on, carried_out, carried_with, seen_by, tried, answer_of, is_carried_out, refusal}
+use Rattle.card_model.specs.Answers.{Answered, refused, settled, told_pending, with_pending, on_toolkit, file_tried, toolkit_tried, then_polled, selection_on, carried_out, carried_with, cut_answer, seen_by, tried, answer_of, is_carried_out, refusal}
 use Rattle.card_model.specs.Chained.{Any}
 use Rattle.card_model.specs.Channels.{family, channel_of}
-use Rattle.card_model.specs.Instructions.{instruction_tried, has_toolkit, is_of_tree, is_row_of_tree}
+use Rattle.card_model.specs.Cases.{cut_so, cut_low, command_is}
+use Rattle.card_model.specs.Instructions.{has_toolkit, is_of_tree}
+use Rattle.card_model.specs.Naming.{tree_named}
 use Rattle.card_model.specs.Laws.{ChangesOneThing, ChangesAtMostTries, is_of_tree_named, key_named, IsStatusOf, IsLawfulAnswer, CommandsAreLawful, PlainRefusalsChangeTriesAndMarkAlone}
 use Rattle.card_model.specs.Pending.{pending_few, told_so, told_same}
 use Rattle.card_model.specs.States.{CardState, IsGood}
-use Rattle.card_model.specs.Toolkit.{ToolkitOutcome, toolkit_of, coming_to, with_rows, states_passed, profile_taken, command_fetched, response_taken, envelope_taken, applet_installed, applet_deleted}
+use Rattle.card_model.specs.Toolkit.{ToolkitOutcome, toolkit_of, coming_to, with_rows, states_passed}
 use Rattle.card_model.specs.declared.instructions.Instruction.{Instruction}
 use Rattle.card_model.proofs.Answering.{not_carried}
-use Rattle.card_model.specs.declared.instructions.Instruction.TheVariants as Instructions
+use Rattle.card_model.proofs.Counted.{last_joined}
+use Rattle.card_model.specs.declared.instructions.Instruction.TheVariants.{File, Pin, ManageChannel, Toolkit, Tree}
+use Rattle.file_model.specs.declared.commands.FileCommand.TheVariants as file
 use Rattle.session_laws.specs.Lawful.{IsStatus, ChangesOnePart, IsLawfulWithApplets, AnswersAreLawful}
 use Rattle.session_laws.proofs.Going.{IsDone, status_done}
 use Rattle.session_laws.proofs.Good.{IsWell}
-use Rattle.session_laws.proofs.Statuses.{known_at, any_status, named_known, IsShort, profile_short, fetch_short, response_short, envelope_short, install_short, delete_short}
+use Rattle.session_laws.proofs.Statuses.{known_at, any_status, IsShort, outcome_short}
+use Rattle.session_laws.proofs.Taken.{of_running}
 
 -- what is asked of an answer, but that a good card is left and that each commit is sound
 pub record IsTold (card : CardState) (of_tree : Bool) (key : ℕ) (answered : Answered) : Type 0 where
@@ -56,10 +61,6 @@ rows_too of_tree base next state (first ∷ others) is =
 each_joined : (R : Persistent → Persistent → Type 0) (state : Persistent) (first second : List Persistent) → EachStep R state first → EachStep R (last_of state first) second → EachStep R state (first ++ second)
 each_joined R state [] second one other = other
 each_joined R state (next ∷ first) second one other = (one.0, each_joined R next first second one.1 other)
-
-last_joined : (state : Persistent) (first second : List Persistent) → last_of state (first ++ second) ≡ last_of (last_of state first) second
-last_joined state [] second = refl
-last_joined state (next ∷ first) second = last_joined next first second
 
 -- ---- one answer
 
@@ -98,6 +99,10 @@ polled_told card of_tree key answered done told =
       refused = λ not_done. absurd (false≢true (sym not_done ∙ ap is_carried_out done));
     }
 
+cut_told : (card : CardState) (of_tree : Bool) (key : ℕ) (expected : Option ℕ) (answered : Answered) → IsTold card of_tree key answered → IsTold card of_tree key (cut_answer expected answered)
+cut_told card of_tree key expected answered told =
+    record { ends = told.ends; steps = told.steps; short = omega (arith, told.short, cut_low expected answered.body); status = told.status; refused = told.refused }
+
 pending_told : (card : CardState) (of_tree : Bool) (key : ℕ) (answered : Answered) → IsGood answered.state → IsTold card of_tree key answered → IsTold card of_tree key (with_pending answered)
 pending_told card of_tree key answered good told =
     let count : Option ℕ = pending answered.state.session in
@@ -122,117 +127,48 @@ module _ (lawful : CommandsAreLawful) (card : CardState) (good : IsGood card) wh
   of_lawful of_tree key (Err status) is = inl is
   of_lawful of_tree key (Ok answered) is = lawful_told card of_tree key answered is
 
-  of_toolkit : (of_tree : Bool) (key : ℕ) (outcome : Result ToolkitOutcome StatusWord) → MatchResult outcome IsShort (IsStatus false) → Tells of_tree key (and_given (toolkit_tried card outcome) (λ answered. Ok answered))
+  of_toolkit : (key : ℕ) (outcome : Result ToolkitOutcome StatusWord) → MatchResult outcome IsShort (IsStatus false) → Tells false key (and_given (toolkit_tried card outcome) (λ answered. Ok answered))
   unfolding and_given
-  of_toolkit of_tree key (Err status) is = any_status of_tree status is
-  of_toolkit of_tree key (Ok outcome) is = toolkit_told card of_tree key outcome is
+  of_toolkit key (Err status) is = is
+  of_toolkit key (Ok outcome) is = toolkit_told card false key outcome is
 
   no_event : (of_tree : Bool) (key : ℕ) (result : Result Answered StatusWord) → Tells of_tree key result → Tells of_tree key (and_given result (λ answered. Ok answered))
   unfolding and_given
   no_event of_tree key (Err status) tells = tells
   no_event of_tree key (Ok answered) tells = tells
 
-  of_status : (of_tree : Bool) (key : ℕ) (apdu : Apdu) (outcome : Result FileOutcome StatusWord) → MatchResult outcome IsDone Any → Tells of_tree key (file_tried card apdu outcome)
-      → Tells of_tree key (and_given (file_tried card apdu outcome) (λ answered. Ok (then_polled answered)))
+  of_status : (key : ℕ) (apdu : Apdu) (outcome : Result FileOutcome StatusWord) → MatchResult outcome IsDone Any → Tells false key (file_tried card apdu outcome)
+      → Tells false key (and_given (file_tried card apdu outcome) (λ answered. Ok (then_polled answered)))
   unfolding and_given
-  of_status of_tree key apdu (Err status) is tells = tells
-  of_status of_tree key apdu (Ok outcome) is tells = polled_told card of_tree key _ is.1 tells
+  of_status key apdu (Err status) is tells = tells
+  of_status key apdu (Ok outcome) is tells = polled_told card false key _ is.1 tells
 
-  module _ (bytes : List ℕ) (apdu : Apdu) (command : IsCommand bytes apdu) (of_tree : Bool) where
-    abbrev key : ℕ
-    key = key_named bytes
-
-    -- the command makes, deletes or resizes files where it was said to
-    abbrev IsSo : Instruction → Type 0
-    IsSo instruction = is_of_tree instruction ≡ of_tree
-
-    plain : (instruction : Instruction) → is_of_tree instruction ≡ of_tree → MatchResult (carried_out instruction card apdu) (IsLawfulAnswer card (is_of_tree instruction) key) (IsStatusOf (is_of_tree instruction))
-        → Tells of_tree key (and_given (carried_out instruction card apdu) (λ answered. Ok answered))
-    plain instruction so is =
-        subst (λ (each : Bool). Tells each key (and_given (carried_out instruction card apdu) (λ answered. Ok answered))) so
-        (no_event (is_of_tree instruction) key (carried_out instruction card apdu) (of_lawful (is_of_tree instruction) key (carried_out instruction card apdu) is))
-
-    status_tells : false ≡ of_tree → Tells of_tree key (carried_with true Instructions.Status card apdu)
-    unfolding carried_out
-    status_tells so =
-        subst (λ (each : Bool). Tells each key (carried_with true Instructions.Status card apdu)) so
-        (of_status false key apdu (status_told card.persistent (selection_on card (channel_of apdu.class)) apdu) (status_done card.persistent (selection_on card (channel_of apdu.class)) apdu)
-        (of_lawful false key (carried_out Instructions.Status card apdu) (lawful card bytes apdu Instructions.Status good command refl)))
-
-    toolkit_tells : (instruction : Instruction) (outcome : Result ToolkitOutcome StatusWord) → carried_out instruction card apdu ≡ toolkit_tried card outcome → MatchResult outcome IsShort (IsStatus false)
-        → Tells of_tree key (and_given (carried_out instruction card apdu) (λ answered. Ok answered))
-    toolkit_tells instruction outcome is short = subst (λ (result : Result Answered StatusWord). Tells of_tree key (and_given result (λ answered. Ok answered))) (sym is) (of_toolkit of_tree key outcome short)
-
-    profile_is : carried_out Instructions.TerminalProfile card apdu ≡ toolkit_tried card (profile_taken card apdu)
-    unfolding carried_out
-    profile_is = refl
-
-    fetch_is : carried_out Instructions.Fetch card apdu ≡ toolkit_tried card (command_fetched card apdu)
-    unfolding carried_out
-    fetch_is = refl
-
-    response_is : carried_out Instructions.TerminalResponse card apdu ≡ toolkit_tried card (response_taken card apdu)
-    unfolding carried_out
-    response_is = refl
-
-    envelope_is : carried_out Instructions.Envelope card apdu ≡ toolkit_tried card (envelope_taken card apdu)
-    unfolding carried_out
-    envelope_is = refl
-
-    install_is : carried_out Instructions.InstallApplet card apdu ≡ toolkit_tried card (applet_installed card (seen_by card) apdu)
-    unfolding carried_out
-    install_is = refl
-
-    delete_is : carried_out Instructions.DeleteApplet card apdu ≡ toolkit_tried card (applet_deleted card (seen_by card) apdu)
-    unfolding carried_out
-    delete_is = refl
-
-    carried_tells : (instruction : Instruction) → IsSo instruction → Tells of_tree key (carried_with true instruction card apdu)
-    carried_tells Instructions.Status so = status_tells so
-    carried_tells Instructions.Select so = plain Instructions.Select so (lawful card bytes apdu Instructions.Select good command refl)
-    carried_tells Instructions.ReadBinary so = plain Instructions.ReadBinary so (lawful card bytes apdu Instructions.ReadBinary good command refl)
-    carried_tells Instructions.UpdateBinary so = plain Instructions.UpdateBinary so (lawful card bytes apdu Instructions.UpdateBinary good command refl)
-    carried_tells Instructions.ReadRecord so = plain Instructions.ReadRecord so (lawful card bytes apdu Instructions.ReadRecord good command refl)
-    carried_tells Instructions.UpdateRecord so = plain Instructions.UpdateRecord so (lawful card bytes apdu Instructions.UpdateRecord good command refl)
-    carried_tells Instructions.SearchRecord so = plain Instructions.SearchRecord so (lawful card bytes apdu Instructions.SearchRecord good command refl)
-    carried_tells Instructions.Increase so = plain Instructions.Increase so (lawful card bytes apdu Instructions.Increase good command refl)
-    carried_tells Instructions.DeactivateFile so = plain Instructions.DeactivateFile so (lawful card bytes apdu Instructions.DeactivateFile good command refl)
-    carried_tells Instructions.ActivateFile so = plain Instructions.ActivateFile so (lawful card bytes apdu Instructions.ActivateFile good command refl)
-    carried_tells Instructions.VerifyPin so = plain Instructions.VerifyPin so (lawful card bytes apdu Instructions.VerifyPin good command refl)
-    carried_tells Instructions.ChangePin so = plain Instructions.ChangePin so (lawful card bytes apdu Instructions.ChangePin good command refl)
-    carried_tells Instructions.DisablePin so = plain Instructions.DisablePin so (lawful card bytes apdu Instructions.DisablePin good command refl)
-    carried_tells Instructions.EnablePin so = plain Instructions.EnablePin so (lawful card bytes apdu Instructions.EnablePin good command refl)
-    carried_tells Instructions.UnblockPin so = plain Instructions.UnblockPin so (lawful card bytes apdu Instructions.UnblockPin good command refl)
-    carried_tells Instructions.ManageChannel so = plain Instructions.ManageChannel so (lawful card bytes apdu Instructions.ManageChannel good command refl)
-    carried_tells Instructions.CreateFile so = plain Instructions.CreateFile so (lawful card bytes apdu Instructions.CreateFile good command refl)
-    carried_tells Instructions.DeleteFile so = plain Instructions.DeleteFile so (lawful card bytes apdu Instructions.DeleteFile good command refl)
-    carried_tells Instructions.ResizeFile so = plain Instructions.ResizeFile so (lawful card bytes apdu Instructions.ResizeFile good command refl)
-    carried_tells Instructions.TerminalProfile so = toolkit_tells Instructions.TerminalProfile (profile_taken card apdu) profile_is (profile_short card good apdu)
-    carried_tells Instructions.Fetch so = toolkit_tells Instructions.Fetch (command_fetched card apdu) fetch_is (fetch_short card good apdu)
-    carried_tells Instructions.TerminalResponse so = toolkit_tells Instructions.TerminalResponse (response_taken card apdu) response_is (response_short card good apdu)
-    carried_tells Instructions.Envelope so = toolkit_tells Instructions.Envelope (envelope_taken card apdu) envelope_is (envelope_short card good apdu)
-    carried_tells Instructions.InstallApplet so = toolkit_tells Instructions.InstallApplet (applet_installed card (seen_by card) apdu) install_is (install_short card good apdu (seen_by card))
-    carried_tells Instructions.DeleteApplet so = toolkit_tells Instructions.DeleteApplet (applet_deleted card (seen_by card) apdu) delete_is (delete_short card good apdu (seen_by card))
-
-    by_found : (found : Result Instruction StatusWord) → MatchResult found IsSo (IsStatus false) → Tells of_tree key (and_given found (λ instruction. carried_with true instruction card apdu))
-    unfolding and_given
-    by_found (Err status) known = any_status of_tree status known
-    by_found (Ok instruction) so = carried_tells instruction so
-
-  by_read : (knows : Instruction → Bool) (bytes : List ℕ) (read : Option Apdu) → IfSome read (IsCommand bytes)
-      → Tells (is_of_tree_named bytes) (key_named bytes) (given read WRONG_LENGTH (λ apdu. and_given (instruction_tried knows card.channels apdu.class apdu.ins) (λ instruction. carried_with true instruction card apdu)))
-  unfolding given
-  by_read knows bytes None is = any_status (is_of_tree_named bytes) WRONG_LENGTH (known_at WRONG_LENGTH (3, omega arith, refl))
-  by_read knows bytes (Some apdu) is =
-      subst (λ (each : Bool). Tells each (key_named bytes) (and_given (instruction_tried knows card.channels apdu.class apdu.ins) (λ instruction. carried_with true instruction card apdu))) (sym (ap is_of_tree_named is.spelling))
-      (by_found bytes apdu is (is_row_of_tree (family apdu.class) apdu.ins) (instruction_tried knows card.channels apdu.class apdu.ins) (named_known knows card apdu.class apdu.ins))
+  carried_tells : (bytes : List ℕ) (apdu : Apdu) → IsCommand bytes apdu → (instruction : Instruction) → Tells (is_of_tree instruction) (key_named bytes) (carried_with true instruction card apdu)
+  unfolding carried_out file_outcome
+  carried_tells bytes apdu is (File file.Status) =
+      of_status (key_named bytes) apdu (status_told card.persistent (selection_on card (channel_of apdu.class)) apdu) (status_done card.persistent (selection_on card (channel_of apdu.class)) apdu)
+      (of_lawful false (key_named bytes) _ (lawful card bytes apdu (File file.Status) good is refl))
+  carried_tells bytes apdu is (File file.Select) = no_event false (key_named bytes) _ (of_lawful false (key_named bytes) _ (lawful card bytes apdu (File file.Select) good is refl))
+  carried_tells bytes apdu is (File (file.Contents command)) = no_event false (key_named bytes) _ (of_lawful false (key_named bytes) _ (lawful card bytes apdu (File (file.Contents command)) good is refl))
+  carried_tells bytes apdu is (Pin command) = no_event false (key_named bytes) _ (of_lawful false (key_named bytes) _ (lawful card bytes apdu (Pin command) good is refl))
+  carried_tells bytes apdu is ManageChannel = no_event false (key_named bytes) _ (of_lawful false (key_named bytes) _ (lawful card bytes apdu ManageChannel good is refl))
+  carried_tells bytes apdu is (Toolkit command) = of_toolkit (key_named bytes) _ (outcome_short card good apdu command (seen_by card))
+  carried_tells bytes apdu is (Tree command) = no_event true (key_named bytes) _ (of_lawful true (key_named bytes) _ (lawful card bytes apdu (Tree command) good is refl))
 
   tried_tells : (knows : Instruction → Bool) (bytes : List ℕ) → has_toolkit knows ≡ true → AreBytes bytes → Tells (is_of_tree_named bytes) (key_named bytes) (tried knows card bytes)
-  unfolding tried
   tried_tells knows bytes runs are =
-      subst (λ (runs_applets : Bool). Tells (is_of_tree_named bytes) (key_named bytes) (given (command_in bytes) WRONG_LENGTH (λ apdu.
-      and_given (instruction_tried knows card.channels apdu.class apdu.ins) (λ instruction. carried_with runs_applets instruction card apdu)))) (sym runs)
-      (by_read knows bytes (command_in bytes) (commands_are bytes are))
+      let of_tree : Bool = is_of_tree_named bytes in
+      of_running knows card bytes runs (Tells of_tree (key_named bytes)) (record {
+        length_is = any_status of_tree _ (known_at _ (3, omega arith, refl));
+        class_is = any_status of_tree _ (known_at _ (19, omega arith, refl));
+        secure_is = any_status of_tree _ (known_at _ (5, omega arith, refl));
+        channel_is = any_status of_tree _ (known_at _ (4, omega arith, refl));
+        instruction_is = any_status of_tree _ (known_at _ (18, omega arith, refl));
+      })
+      (λ apdu instruction read.
+      let is : IsCommand bytes apdu = command_is bytes apdu are read.read in
+      cut_so (IsTold card of_tree (key_named bytes)) (IsStatus of_tree) apdu.expected _ (cut_told card of_tree (key_named bytes) apdu.expected)
+      (subst (λ (each : Bool). Tells each (key_named bytes) (carried_with true instruction card apdu)) (tree_named knows (family apdu.class) apdu.ins instruction read.named ∙ sym (ap is_of_tree_named is.spelling)) (carried_tells bytes apdu is instruction)))
 
   settled_told : (of_tree : Bool) (named : ℕ) (result : Result Answered StatusWord) → Tells of_tree named result → IsTold card of_tree named (settled card result)
   settled_told of_tree named (Err status) known = refused_told card of_tree named status known

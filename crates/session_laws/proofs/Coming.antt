@@ -12,7 +12,7 @@ use Rattle.card_layout.specs.Persistent.{Registration, Persistent}
 use Rattle.card_layout.specs.Sections.{Installation, installation_of, needs_wide, new_row, with_row}
 use Rattle.applet_trait.specs.Minds.{AppletState}
 use Rattle.file_model.specs.Chains.{and_given}
-use Rattle.file_model.specs.Outcomes.{last_of, cut_to}
+use Rattle.file_model.specs.Outcomes.{last_of}
 use Rattle.file_model.specs.Chained.{unless_so, given_so}
 use Rattle.toolkit_commands.specs.Envelopes.{envelope_of}
 use Rattle.toolkit_model.specs.declared.faults.RowFault.{RowFault}
@@ -30,8 +30,10 @@ use Rattle.toolkit_laws.proofs.Inserted.{with_all}
 use Rattle.toolkit_laws.proofs.Others.{rows_without}
 use Rattle.card_model.specs.Chained.{Any, past}
 use Rattle.card_model.specs.States.{CardState, IsOfSevenKinds, AreOfSevenKinds}
-use Rattle.card_model.specs.Toolkit.{has_shelf, ToolkitOutcome, toolkit_of, coming_to, with_rows, states_passed, row_or_status, kind_in, profile_taken, command_fetched, response_taken, envelope_taken, applet_installed, applet_deleted}
-use Rattle.session_laws.specs.Moving.{rows_by, HaveFixed, if_row, HasOrder}
+use Rattle.card_model.specs.Toolkit.{has_shelf, ToolkitOutcome, toolkit_of, coming_to, with_rows, states_passed, row_or_status, kind_in, profile_taken, command_fetched, response_taken, envelope_taken, applet_installed, applet_deleted, toolkit_outcome}
+use Rattle.card_model.specs.declared.instructions.ToolkitCommand.{ToolkitCommand}
+use Rattle.card_model.specs.declared.instructions.ToolkitCommand.TheVariants as toolkit
+use Rattle.session_laws.specs.Moving.{rows_by, HaveFixed, if_row, HasOrder, command_of}
 use Rattle.session_laws.proofs.Fixed.{AreBelow, rows_fixed, below_fixed, minds_fixed, applets_fixed}
 use Rattle.session_laws.proofs.SevenKinds.{BringsGood, at_shelf}
 use Rattle.session_laws.proofs.Rows.{Commits, now_fixed, profiled_commits, enveloped_commits, fetched_commits, responded_commits, CommitsFirst, installed_commits, deleted_commits}
@@ -191,18 +193,18 @@ module _ (installs : InstallationsAreAccepted) (sounds : InstalledRowsAreSound) 
   abbrev P : Option Command → ToolkitOutcome → Type 0
   P command outcome = IsSomeAnd command (λ each. Comes card each outcome)
 
-  pub profile_comes : ComesTo card (Some (Profile apdu.body)) (profile_taken card apdu)
+  profile_comes : ComesTo card (Some (Profile apdu.body)) (profile_taken card apdu)
   unfolding profile_taken
   profile_comes = past (P (Some (Profile apdu.body))) _ _ _ (past (P (Some (Profile apdu.body))) _ _ _ (comes_by card ready (Profile apdu.body) [] tt (profiled_commits apdu.body at) refl (tt, tt)))
 
-  pub fetch_comes : ComesTo card (option_map (λ out. Fetch out) (unfetched card.session)) (command_fetched card apdu)
+  fetch_comes : ComesTo card (option_map (λ out. Fetch out) (unfetched card.session)) (command_fetched card apdu)
   unfolding command_fetched
   fetch_comes =
       let Q : ToolkitOutcome → Type 0 = P (option_map (λ out. Fetch out) (unfetched card.session)) in
       past Q _ _ _ (past Q _ _ _ (given_so Q Any (unfetched card.session) _ _ tt (λ out is. past Q _ _ _ (
       subst (λ found. P (option_map (λ each. Fetch each) found) (coming_to card (bytes_of out) (fetched out at))) (sym is) (comes_by card ready (Fetch out) (bytes_of out) is (fetched_commits out at) refl (tt, tt))))))
 
-  pub response_comes : ComesTo card (option_and_then (λ out. option_map (λ reply. Respond out reply) (reply_to out apdu.body)) (unanswered card.session)) (response_taken card apdu)
+  response_comes : ComesTo card (option_and_then (λ out. option_map (λ reply. Respond out reply) (reply_to out apdu.body)) (unanswered card.session)) (response_taken card apdu)
   unfolding response_taken
   response_comes =
       let Q : ToolkitOutcome → Type 0 = P (option_and_then (λ out. option_map (λ reply. Respond out reply) (reply_to out apdu.body)) (unanswered card.session)) in
@@ -210,12 +212,12 @@ module _ (installs : InstallationsAreAccepted) (sounds : InstalledRowsAreSound) 
       subst (λ found. P (option_and_then (λ each. option_map (λ said. Respond each said) (reply_to each apdu.body)) found) (coming_to card [] (responded out reply at))) (sym is) (
       subst (λ found. P (option_map (λ said. Respond out said) found) (coming_to card [] (responded out reply at))) (sym answers) (comes_by card ready (Respond out reply) [] is (responded_commits out reply at) refl (tt, tt)))))))
 
-  pub envelope_comes : ComesTo card (option_map (λ envelope. Report envelope) (envelope_of apdu.body)) (envelope_taken card apdu)
+  envelope_comes : ComesTo card (option_map (λ envelope. Report envelope) (envelope_of apdu.body)) (envelope_taken card apdu)
   unfolding envelope_taken
   envelope_comes =
       let Q : ToolkitOutcome → Type 0 = P (option_map (λ envelope. Report envelope) (envelope_of apdu.body)) in
       past Q _ _ _ (past Q _ _ _ (given_so Q Any (envelope_of apdu.body) _ _ tt (λ envelope is. unless_so Q Any (is_busy envelope at) _ _ tt (λ free.
-      subst (λ found. P (option_map (λ each. Report each) found) (coming_to card (cut_to apdu.expected (call_data envelope at)) (enveloped envelope at))) (sym is) (comes_by card ready (Report envelope) (cut_to apdu.expected (call_data envelope at)) free (enveloped_commits envelope at) refl (tt, tt))))))
+      subst (λ found. P (option_map (λ each. Report each) found) (coming_to card (call_data envelope at) (enveloped envelope at))) (sym is) (comes_by card ready (Report envelope) (call_data envelope at) free (enveloped_commits envelope at) refl (tt, tt))))))
 
   -- a row that is registered
   install_one : (row : Registration) → 1 ≤ apdu.p1 → apdu.p2 < 32 → installed_row card.persistent (kind_in card apdu.p2) apdu.p2 apdu.p1 apdu.body ≡ Ok row
@@ -248,7 +250,7 @@ module _ (installs : InstallationsAreAccepted) (sounds : InstalledRowsAreSound) 
         next = first_next card.persistent next (with_row card.persistent.rows row) (installed row at) commits;
       }
 
-  pub install_comes : (seen : Verified) → ComesTo card (if_row (installed_row card.persistent (kind_in card apdu.p2) apdu.p2 apdu.p1 apdu.body)) (applet_installed card seen apdu)
+  install_comes : (seen : Verified) → ComesTo card (if_row (installed_row card.persistent (kind_in card apdu.p2) apdu.p2 apdu.p1 apdu.body)) (applet_installed card seen apdu)
   unfolding applet_installed
   install_comes seen =
       let Q : ToolkitOutcome → Type 0 = P (if_row (installed_row card.persistent (kind_in card apdu.p2) apdu.p2 apdu.p1 apdu.body)) in
@@ -282,8 +284,17 @@ module _ (installs : InstallationsAreAccepted) (sounds : InstalledRowsAreSound) 
         next = first_next card.persistent card.persistent.next_sequence (without_row card.persistent.rows apdu.p2) (deleted apdu.p2 at) commits;
       })
 
-  pub delete_comes : (seen : Verified) → ComesTo card (Some (Delete apdu.p2)) (applet_deleted card seen apdu)
+  delete_comes : (seen : Verified) → ComesTo card (Some (Delete apdu.p2)) (applet_deleted card seen apdu)
   unfolding applet_deleted
   delete_comes seen =
       let Q : ToolkitOutcome → Type 0 = P (Some (Delete apdu.p2)) in
       past Q _ _ _ (past Q _ _ _ (past Q _ _ _ (row_so Q (deleted_row card.persistent.rows apdu.p2 (is_idle (asks card.session) apdu.p2)) _ (λ row is. delete_one row is))))
+
+  pub outcome_comes : (command : ToolkitCommand) (seen : Verified) → ComesTo card (command_of command card apdu) (toolkit_outcome command card seen apdu)
+  unfolding toolkit_outcome
+  outcome_comes toolkit.TerminalProfile seen = profile_comes
+  outcome_comes toolkit.Fetch seen = fetch_comes
+  outcome_comes toolkit.TerminalResponse seen = response_comes
+  outcome_comes toolkit.Envelope seen = envelope_comes
+  outcome_comes toolkit.InstallApplet seen = install_comes seen
+  outcome_comes toolkit.DeleteApplet seen = delete_comes seen

@@ -1,17 +1,15 @@
 -- How a card goes on with each command, and over all that happens to it.
 use Rattle.std.proofs.Common.{◌≡◌, ℕ, Bool, true, List, [], ◌∷◌, ◌++◌, map, Option, Some, None, Result, Ok, Err, refl, sym, ◌∙◌, ap, subst}
-use Rattle.std.specs.Prelude.{⊤, All, IfSome, IsSomeAnd, MatchResult, is_some, slice_index_or, slice_set, option_and_then}
+use Rattle.std.specs.Prelude.{⊤, All, IfSome, IsSomeAnd, MatchResult, is_some, slice_index_or, slice_set}
 use Rattle.std.specs.Option.{option_to_list}
 use Rattle.std.proofs.lemmas.List.Elements.{All-nil, All-cons, All-map, All-contains}
 use Rattle.uicc_types.specs.declared.answers.StatusWord.{StatusWord}
-use Rattle.uicc_types.specs.declared.answers.TheConstants.StatusWord.{DONE, WRONG_LENGTH}
-use Rattle.access_rules.specs.declared.rules.Op.TheVariants.{Deactivate, Activate}
-use Rattle.apdu_form.specs.Model.{Apdu, command_in}
-use Rattle.card_layout.specs.Kinds.{activated, deactivated}
+use Rattle.uicc_types.specs.declared.answers.TheConstants.StatusWord.{DONE}
+use Rattle.apdu_form.specs.Model.{Apdu}
 use Rattle.card_layout.specs.Persistent.{Persistent, Registration}
-use Rattle.file_model.specs.Chains.{given, and_given}
+use Rattle.file_model.specs.Chains.{and_given}
 use Rattle.file_model.specs.Outcomes.{FileOutcome, PinOutcome, last_of}
-use Rattle.file_model.specs.Pins.{pin_verified, pin_changed, pin_disabled, pin_enabled, pin_unblocked}
+use Rattle.file_model.specs.Commands.{file_outcome}
 use Rattle.file_model.specs.Selecting.{telling, status_told}
 use Rattle.file_model.specs.declared.selections.Selection.{Selection}
 use Rattle.applet_trait.specs.Minds.{AppletState}
@@ -23,21 +21,24 @@ use Rattle.toolkit_model.specs.Steps.{HaveMinds, Command, Status, Wake, IsAccept
 use Rattle.toolkit_laws.specs.Installing.{InstallationsAreAccepted}
 use Rattle.toolkit_laws.specs.Orderly.{IsInOrder}
 use Rattle.toolkit_laws.specs.Sound.{InstalledRowsAreSound}
-use Rattle.card_model.specs.Answers.{Answered, refused, settled, with_pending, on_files, on_pins, on_channels, on_trees, on_toolkit, with_pins, file_tried, pin_tried, managed, tree_tried, toolkit_tried, selection_on, seen_by, then_polled, carried_out, carried_with, tried, answer_of, passed_of}
+use Rattle.card_model.specs.Answers.{Answered, refused, settled, on_files, on_pins, on_channels, on_trees, on_toolkit, with_pins, file_tried, pin_tried, managed, tree_tried, toolkit_tried, selection_on, seen_by, then_polled, carried_out, carried_with, cut_to, tried, answer_of, passed_of}
 use Rattle.card_model.specs.Chained.{Any, past, past_given}
-use Rattle.card_model.specs.Channels.{ChannelOutcome, channel_of, channel_tried}
-use Rattle.card_model.specs.Instructions.{instruction_tried, has_toolkit}
-use Rattle.card_model.specs.OtherFiles.{HaveOtherFiles, select_leaves, read_binary_leaves, update_binary_leaves, read_record_leaves, update_record_leaves, search_leaves, increase_leaves, life_change_leaves, create_leaves, delete_leaves, resize_leaves}
+use Rattle.card_model.specs.Channels.{ChannelOutcome, channel_of}
+use Rattle.card_model.specs.Instructions.{has_toolkit}
+use Rattle.card_model.specs.OtherFiles.{HaveOtherFiles, file_leaves, tree_leaves}
+use Rattle.card_model.specs.Cases.{cut_result, all_so}
 use Rattle.card_model.specs.Runs.{boxes_left}
 use Rattle.card_model.specs.States.{CardState, IsGood, woken}
-use Rattle.card_model.specs.Toolkit.{ToolkitOutcome, toolkit_of, coming_to, with_rows, states_passed, profile_taken, command_fetched, response_taken, envelope_taken, applet_installed, applet_deleted}
+use Rattle.card_model.specs.Toolkit.{ToolkitOutcome, toolkit_of, coming_to, with_rows, states_passed}
 use Rattle.card_model.specs.declared.instructions.Instruction.{Instruction}
-use Rattle.card_model.specs.declared.instructions.Instruction.TheVariants as Instructions
-use Rattle.session_laws.specs.Moving.{fixed, HaveFixed, rows_by, rows_after, LeavesRows, command_by, if_carried, taken_by, taken, GoesOn, HasOrder, Event, Answers, Breaks, Restarts, CanHappen, AllCanHappen, card_after, taken_at, card_after_all, all_taken, noted_of}
+use Rattle.card_model.specs.declared.instructions.Instruction.TheVariants.{File, Pin, ManageChannel, Toolkit, Tree}
+use Rattle.file_model.specs.declared.commands.FileCommand.TheVariants as file
+use Rattle.session_laws.specs.Moving.{fixed, HaveFixed, rows_by, rows_after, LeavesRows, command_by, if_carried, taken, GoesOn, HasOrder, Event, Answers, Breaks, Restarts, CanHappen, AllCanHappen, card_after, taken_at, card_after_all, all_taken, noted_of}
 use Rattle.session_laws.proofs.Rows.{polled_commits}
 use Rattle.session_laws.proofs.Fixed.{AreBelow}
 use Rattle.session_laws.proofs.Breaking.{minds_left}
-use Rattle.session_laws.proofs.Coming.{CanStand, Comes, ComesTo, comes_by, profile_comes, fetch_comes, response_comes, envelope_comes, install_comes, delete_comes}
+use Rattle.session_laws.proofs.Coming.{CanStand, Comes, ComesTo, comes_by, outcome_comes}
+use Rattle.session_laws.proofs.Taken.{of_taken}
 use Rattle.session_laws.proofs.Waking.{wakes}
 
 -- ---- what a command leaves
@@ -48,6 +49,11 @@ CanWake card state = CanStand card state.next_sequence state.rows
 
 pub wakes_now : (card : CardState) → HasOrder card → CanWake card card.persistent
 wakes_now card ready = record { are_rows = ready.order.rows; minds = ready.order.minds; below = ready.sequences; applets = λ have. have }
+
+-- it goes on so whatever it tells
+told_goes : (command : Option Command) (card : CardState) (answered : Answered) (body : List ℕ) (status : StatusWord) → GoesOn command card answered → GoesOn command card (record answered { body = body; status = status })
+told_goes (Some command) card answered body status goes = record { accepted = goes.accepted; toolkit = goes.toolkit; commits = goes.commits }
+told_goes None card answered body status goes = record { toolkit = goes.toolkit; commits = goes.commits }
 
 -- The card goes on so, the next sequence number is above those of its rows, and it can wake over each state that it passes. Where a
 -- command of the toolkit was carried out, that is what the status tells.
@@ -223,41 +229,21 @@ module _ (installs : InstallationsAreAccepted) (sounds : InstalledRowsAreSound) 
   selection = selection_on card (channel_of apdu.class)
 
   carried_goes : (instruction : Instruction) → Q (command_by instruction card apdu) (carried_with true instruction card apdu)
-  unfolding carried_out
-  carried_goes Instructions.Select = no_event None _ (of_file _ (select_leaves card.persistent (seen_by card) selection apdu))
-  carried_goes Instructions.Status = of_status (status_told card.persistent selection apdu) (status_done card.persistent selection apdu)
-  carried_goes Instructions.ReadBinary = no_event None _ (of_file _ (read_binary_leaves card.persistent (seen_by card) selection apdu))
-  carried_goes Instructions.UpdateBinary = no_event None _ (of_file _ (update_binary_leaves card.persistent (seen_by card) selection apdu))
-  carried_goes Instructions.ReadRecord = no_event None _ (of_file _ (read_record_leaves card.persistent (seen_by card) selection apdu))
-  carried_goes Instructions.UpdateRecord = no_event None _ (of_file _ (update_record_leaves card.persistent (seen_by card) selection apdu))
-  carried_goes Instructions.SearchRecord = no_event None _ (of_file _ (search_leaves card.persistent (seen_by card) selection apdu))
-  carried_goes Instructions.Increase = no_event None _ (of_file _ (increase_leaves card.persistent (seen_by card) selection apdu))
-  carried_goes Instructions.DeactivateFile = no_event None _ (of_file _ (life_change_leaves card.persistent (seen_by card) selection apdu Deactivate deactivated))
-  carried_goes Instructions.ActivateFile = no_event None _ (of_file _ (life_change_leaves card.persistent (seen_by card) selection apdu Activate activated))
-  carried_goes Instructions.VerifyPin = no_event None _ (of_pin (pin_verified card.persistent.pins card.verified apdu))
-  carried_goes Instructions.ChangePin = no_event None _ (of_pin (pin_changed card.persistent.pins card.verified apdu))
-  carried_goes Instructions.DisablePin = no_event None _ (of_pin (pin_disabled card.persistent.pins card.verified apdu))
-  carried_goes Instructions.EnablePin = no_event None _ (of_pin (pin_enabled card.persistent.pins card.verified apdu))
-  carried_goes Instructions.UnblockPin = no_event None _ (of_pin (pin_unblocked card.persistent.pins card.verified apdu))
-  carried_goes Instructions.ManageChannel = no_event None _ (of_channel (channel_tried card.channels selection apdu))
-  carried_goes Instructions.TerminalProfile = no_event _ _ (of_toolkit _ (profile_taken card apdu) (profile_comes installs sounds card ready apdu))
-  carried_goes Instructions.Fetch = no_event _ _ (of_toolkit _ (command_fetched card apdu) (fetch_comes installs sounds card ready apdu))
-  carried_goes Instructions.TerminalResponse = no_event _ _ (of_toolkit _ (response_taken card apdu) (response_comes installs sounds card ready apdu))
-  carried_goes Instructions.Envelope = no_event _ _ (of_toolkit _ (envelope_taken card apdu) (envelope_comes installs sounds card ready apdu))
-  carried_goes Instructions.InstallApplet = no_event _ _ (of_toolkit _ (applet_installed card (seen_by card) apdu) (install_comes installs sounds card ready apdu (seen_by card)))
-  carried_goes Instructions.DeleteApplet = no_event _ _ (of_toolkit _ (applet_deleted card (seen_by card) apdu) (delete_comes installs sounds card ready apdu (seen_by card)))
-  carried_goes Instructions.CreateFile = no_event None _ (of_tree _ (create_leaves card.persistent (seen_by card) card.channels (channel_of apdu.class) apdu))
-  carried_goes Instructions.DeleteFile = no_event None _ (of_tree _ (delete_leaves card.persistent (seen_by card) card.channels (channel_of apdu.class) apdu))
-  carried_goes Instructions.ResizeFile = no_event None _ (of_tree _ (resize_leaves card.persistent (seen_by card) card.channels (channel_of apdu.class) apdu))
+  unfolding carried_out file_outcome
+  carried_goes (File file.Status) = of_status (status_told card.persistent selection apdu) (status_done card.persistent selection apdu)
+  carried_goes (File file.Select) = no_event None _ (of_file _ (file_leaves card.persistent (seen_by card) selection apdu file.Select))
+  carried_goes (File (file.Contents command)) = no_event None _ (of_file _ (file_leaves card.persistent (seen_by card) selection apdu (file.Contents command)))
+  carried_goes (Pin command) = no_event None _ (of_pin _)
+  carried_goes ManageChannel = no_event None _ (of_channel _)
+  carried_goes (Toolkit command) = no_event _ _ (of_toolkit _ _ (outcome_comes installs sounds card ready apdu command (seen_by card)))
+  carried_goes (Tree command) = no_event None _ (of_tree _ (tree_leaves card.persistent (seen_by card) card.channels (channel_of apdu.class) apdu command))
 
-  by_carried : (command : Option Command) (result : Result Answered StatusWord) → Q command result → Goes (if_carried result command) card (settled card result)
-  by_carried command (Err status) goes = refused_goes card ready status
-  by_carried command (Ok answered) goes = goes
-
-  pub by_found : (found : Result Instruction StatusWord) → Goes (taken_by card apdu found) card (settled card (and_given found (λ instruction. carried_with true instruction card apdu)))
+  -- whatever the data are cut to
+  pub by_carried : (command : Option Command) (result : Result Answered StatusWord) → Q command result → Goes (if_carried result command) card (settled card (cut_result apdu.expected result))
   unfolding and_given
-  by_found (Err status) = refused_goes card ready status
-  by_found (Ok instruction) = by_carried (command_by instruction card apdu) (carried_with true instruction card apdu) (carried_goes instruction)
+  by_carried command (Err status) goes = refused_goes card ready status
+  by_carried command (Ok answered) goes =
+      record { goes = told_goes command card answered (cut_to apdu.expected answered.body) answered.status goes.goes; below = goes.below; states = goes.states; fixed = goes.fixed; done = goes.done }
 
   left_by : (command : Option Command) (result : Result Answered StatusWord) → Q command result → MatchResult result (λ answered. LeavesRows command card answered) (λ status. ⊤)
   left_by command (Err status) goes = tt
@@ -281,30 +267,17 @@ pub record GoesOnWell (command : Option Command) (card : CardState) (answered : 
   pub below : AreBelow answered.state.persistent.next_sequence answered.state.persistent.rows
   pub states : All (CanWake card) answered.commits
 
-pending_goes : (command : Option Command) (card : CardState) (answered : Answered) → GoesOn command card answered → GoesOn command card (with_pending answered)
-pending_goes (Some command) card answered goes = record { accepted = goes.accepted; toolkit = goes.toolkit; commits = goes.commits }
-pending_goes None card answered goes = record { toolkit = goes.toolkit; commits = goes.commits }
-
 module _ (installs : InstallationsAreAccepted) (sounds : InstalledRowsAreSound) (knows : Instruction → Bool) (runs : has_toolkit knows ≡ true) where
-  by_read : (card : CardState) → HasOrder card → (read : Option Apdu)
-      → Goes (option_and_then (λ apdu. taken_by card apdu (instruction_tried knows card.channels apdu.class apdu.ins)) read) card
-      (settled card (given read WRONG_LENGTH (λ apdu. and_given (instruction_tried knows card.channels apdu.class apdu.ins) (λ instruction. carried_with true instruction card apdu))))
-  unfolding given
-  by_read card ready None = refused_goes card ready WRONG_LENGTH
-  by_read card ready (Some apdu) = by_found installs sounds card ready apdu (instruction_tried knows card.channels apdu.class apdu.ins)
-
   pub tried_goes : (card : CardState) → HasOrder card → (bytes : List ℕ) → Goes (taken knows card bytes) card (settled card (tried knows card bytes))
-  unfolding tried
   tried_goes card ready bytes =
-      subst (λ (runs_applets : Bool). Goes (taken knows card bytes) card
-      (settled card (given (command_in bytes) WRONG_LENGTH (λ apdu. and_given (instruction_tried knows card.channels apdu.class apdu.ins) (λ instruction. carried_with runs_applets instruction card apdu))))) (sym runs)
-      (by_read card ready (command_in bytes))
+      of_taken knows card bytes runs (λ command result. Goes command card (settled card result)) (all_so _ (refused_goes card ready))
+      (λ apdu instruction read. by_carried installs sounds card ready apdu (command_by instruction card apdu) (carried_with true instruction card apdu) (carried_goes installs sounds card ready apdu instruction))
 
   pub answer_goes : (card : CardState) → HasOrder card → (bytes : List ℕ) → GoesOnWell (taken knows card bytes) card (answer_of knows card bytes)
   unfolding answer_of
   answer_goes card ready bytes =
       let goes : Goes (taken knows card bytes) card (settled card (tried knows card bytes)) = tried_goes card ready bytes in
-      record { goes = pending_goes (taken knows card bytes) card (settled card (tried knows card bytes)) goes.goes; below = goes.below; states = goes.states }
+      record { goes = told_goes (taken knows card bytes) card (settled card (tried knows card bytes)) _ _ goes.goes; below = goes.below; states = goes.states }
 
 -- ---- good cards
 

@@ -1,5 +1,5 @@
 -- Good cards stay good, also where applets run.
-use Rattle.std.proofs.Common.{◌≡◌, ℕ, Bool, true, List, [], ◌∷◌, map, Option, Some, None, Result, Ok, Err, refl, sym, ◌∙◌, ap, subst}
+use Rattle.std.proofs.Common.{◌≡◌, ℕ, Bool, true, false, List, [], ◌∷◌, map, Option, Some, None, Result, Ok, Err, refl, sym, ◌∙◌, ap, subst}
 use Rattle.std.specs.Prelude.{All, IfSome, IsSomeAnd, MatchResult, is_some, is_none, slice_index_or}
 use Rattle.std.specs.List.{enumerate_from}
 use Rattle.std.proofs.lemmas.List.{length-map}
@@ -7,12 +7,10 @@ use Rattle.std.proofs.lemmas.List.Elements.{All-nil, All-cons, All-append, All-m
 use Rattle.std.proofs.lemmas.List.FromFn.{length-enumerate_from}
 use Rattle.uicc_types.specs.Told.{AreBytes}
 use Rattle.uicc_types.specs.declared.answers.StatusWord.{StatusWord}
-use Rattle.uicc_types.specs.declared.answers.TheConstants.StatusWord.{WRONG_LENGTH}
-use Rattle.apdu_form.specs.Model.{Apdu, IsCommand, command_in}
-use Rattle.apdu_form.specs.Reading.{commands_are}
+use Rattle.apdu_form.specs.Model.{Apdu, IsCommand}
 use Rattle.applet_trait.specs.Minds.{AppletState}
 use Rattle.card_layout.specs.Persistent.{Persistent, Registration}
-use Rattle.file_model.specs.Chains.{given, and_given}
+use Rattle.file_model.specs.Chains.{and_given}
 use Rattle.file_model.specs.Files.{descriptor_in, descriptors_in}
 use Rattle.file_model.specs.Laws.{IsSoundCard}
 use Rattle.file_model.specs.Outcomes.{last_of}
@@ -22,20 +20,23 @@ use Rattle.toolkit_model.specs.Commands.{polled}
 use Rattle.toolkit_model.specs.Steps.{Command, Status, moved}
 use Rattle.toolkit_laws.specs.Installing.{InstallationsAreAccepted}
 use Rattle.toolkit_laws.specs.Sound.{AreSoundRows, HasApplet, IsGoodToolkit, LeavesGood, StepsLeaveGood, InstalledRowsAreSound}
-use Rattle.card_model.specs.Answers.{Answered, settled, on_toolkit, toolkit_tried, then_polled, carried_out, carried_with, seen_by, tried, answer_of, passed_of}
+use Rattle.card_model.specs.Answers.{Answered, settled, on_toolkit, toolkit_tried, then_polled, carried_out, carried_with, seen_by, answer_of, passed_of}
+use Rattle.card_model.specs.Cases.{cut_result, all_so, command_is}
 use Rattle.card_model.specs.Chained.{Any}
-use Rattle.card_model.specs.Instructions.{instruction_tried, has_toolkit, is_of_tree}
+use Rattle.card_model.specs.Instructions.{has_toolkit}
 use Rattle.card_model.specs.Laws.{key_named, IsStatusOf, IsLawfulAnswer, CommandsAreLawful}
 use Rattle.card_model.specs.Runs.{IsLeft, box_left, boxes_left}
 use Rattle.card_model.specs.States.{CardState, AreChannels, HasBox, AreOfSevenKinds, IsGood, row_on}
-use Rattle.card_model.specs.Toolkit.{ToolkitOutcome, toolkit_of, coming_to, with_rows, states_passed, profile_taken, command_fetched, response_taken, envelope_taken, applet_installed, applet_deleted}
+use Rattle.card_model.specs.Toolkit.{ToolkitOutcome, toolkit_of, coming_to, with_rows, states_passed}
 use Rattle.card_model.specs.Woken.{woken_is_good}
 use Rattle.card_model.specs.declared.instructions.Instruction.{Instruction}
 use Rattle.card_model.proofs.Lawful.{last_is}
-use Rattle.card_model.specs.declared.instructions.Instruction.TheVariants as Instructions
-use Rattle.session_laws.specs.Moving.{HasOrder, command_by}
+use Rattle.card_model.specs.declared.instructions.Instruction.TheVariants.{File, Pin, ManageChannel, Toolkit, Tree}
+use Rattle.file_model.specs.declared.commands.FileCommand.TheVariants as file
+use Rattle.session_laws.specs.Moving.{HasOrder}
 use Rattle.session_laws.proofs.Breaking.{left_at, stays_there, kinds_left}
-use Rattle.session_laws.proofs.Coming.{Comes, ComesTo, comes_by, profile_comes, fetch_comes, response_comes, envelope_comes, install_comes, delete_comes}
+use Rattle.session_laws.proofs.Coming.{Comes, ComesTo, comes_by, outcome_comes}
+use Rattle.session_laws.proofs.Taken.{of_running}
 use Rattle.session_laws.proofs.Fixed.{row_there}
 use Rattle.session_laws.proofs.Going.{CanWake, wakes_now, goes_by, good_order, answer_goes}
 use Rattle.session_laws.proofs.SevenKinds.{TurnsKeepKinds, BringsGood, moved_keeps}
@@ -150,84 +151,26 @@ module _ (installs : InstallationsAreAccepted) (sounds : InstalledRowsAreSound) 
   no_event (Err status) well = tt
   no_event (Ok answered) well = well
 
-  module _ (bytes : List ℕ) (apdu : Apdu) (command : IsCommand bytes apdu) where
-    profile_well : Well (carried_out Instructions.TerminalProfile card apdu)
-    unfolding carried_out
-    profile_well = of_toolkit (command_by Instructions.TerminalProfile card apdu) (profile_taken card apdu) (profile_comes installs sounds card ready apdu)
+  carried_well : (bytes : List ℕ) (apdu : Apdu) → IsCommand bytes apdu → (instruction : Instruction) → Well (carried_with true instruction card apdu)
+  unfolding carried_out
+  carried_well bytes apdu is (File file.Status) = of_status _ (of_lawful false (key_named bytes) _ (lawful card bytes apdu (File file.Status) good is refl))
+  carried_well bytes apdu is (File file.Select) = no_event _ (of_lawful false (key_named bytes) _ (lawful card bytes apdu (File file.Select) good is refl))
+  carried_well bytes apdu is (File (file.Contents command)) = no_event _ (of_lawful false (key_named bytes) _ (lawful card bytes apdu (File (file.Contents command)) good is refl))
+  carried_well bytes apdu is (Pin command) = no_event _ (of_lawful false (key_named bytes) _ (lawful card bytes apdu (Pin command) good is refl))
+  carried_well bytes apdu is ManageChannel = no_event _ (of_lawful false (key_named bytes) _ (lawful card bytes apdu ManageChannel good is refl))
+  carried_well bytes apdu is (Toolkit command) = no_event _ (of_toolkit _ _ (outcome_comes installs sounds card ready apdu command (seen_by card)))
+  carried_well bytes apdu is (Tree command) = no_event _ (of_lawful true (key_named bytes) _ (lawful card bytes apdu (Tree command) good is refl))
 
-    fetch_well : Well (carried_out Instructions.Fetch card apdu)
-    unfolding carried_out
-    fetch_well = of_toolkit (command_by Instructions.Fetch card apdu) (command_fetched card apdu) (fetch_comes installs sounds card ready apdu)
-
-    response_well : Well (carried_out Instructions.TerminalResponse card apdu)
-    unfolding carried_out
-    response_well = of_toolkit (command_by Instructions.TerminalResponse card apdu) (response_taken card apdu) (response_comes installs sounds card ready apdu)
-
-    envelope_well : Well (carried_out Instructions.Envelope card apdu)
-    unfolding carried_out
-    envelope_well = of_toolkit (command_by Instructions.Envelope card apdu) (envelope_taken card apdu) (envelope_comes installs sounds card ready apdu)
-
-    install_well : Well (carried_out Instructions.InstallApplet card apdu)
-    unfolding carried_out
-    install_well = of_toolkit (command_by Instructions.InstallApplet card apdu) (applet_installed card (seen_by card) apdu) (install_comes installs sounds card ready apdu (seen_by card))
-
-    delete_well : Well (carried_out Instructions.DeleteApplet card apdu)
-    unfolding carried_out
-    delete_well = of_toolkit (command_by Instructions.DeleteApplet card apdu) (applet_deleted card (seen_by card) apdu) (delete_comes installs sounds card ready apdu (seen_by card))
-
-    carried_well : (instruction : Instruction) → Well (carried_with true instruction card apdu)
-    carried_well Instructions.Status = of_status _ (of_lawful (is_of_tree Instructions.Status) (key_named bytes) (carried_out Instructions.Status card apdu) (lawful card bytes apdu Instructions.Status good command refl))
-    carried_well Instructions.Select = no_event _ (of_lawful (is_of_tree Instructions.Select) (key_named bytes) (carried_out Instructions.Select card apdu) (lawful card bytes apdu Instructions.Select good command refl))
-    carried_well Instructions.ReadBinary = no_event _ (of_lawful (is_of_tree Instructions.ReadBinary) (key_named bytes) (carried_out Instructions.ReadBinary card apdu) (lawful card bytes apdu Instructions.ReadBinary good command refl))
-    carried_well Instructions.UpdateBinary = no_event _ (of_lawful (is_of_tree Instructions.UpdateBinary) (key_named bytes) (carried_out Instructions.UpdateBinary card apdu) (lawful card bytes apdu Instructions.UpdateBinary good command refl))
-    carried_well Instructions.ReadRecord = no_event _ (of_lawful (is_of_tree Instructions.ReadRecord) (key_named bytes) (carried_out Instructions.ReadRecord card apdu) (lawful card bytes apdu Instructions.ReadRecord good command refl))
-    carried_well Instructions.UpdateRecord = no_event _ (of_lawful (is_of_tree Instructions.UpdateRecord) (key_named bytes) (carried_out Instructions.UpdateRecord card apdu) (lawful card bytes apdu Instructions.UpdateRecord good command refl))
-    carried_well Instructions.SearchRecord = no_event _ (of_lawful (is_of_tree Instructions.SearchRecord) (key_named bytes) (carried_out Instructions.SearchRecord card apdu) (lawful card bytes apdu Instructions.SearchRecord good command refl))
-    carried_well Instructions.Increase = no_event _ (of_lawful (is_of_tree Instructions.Increase) (key_named bytes) (carried_out Instructions.Increase card apdu) (lawful card bytes apdu Instructions.Increase good command refl))
-    carried_well Instructions.DeactivateFile = no_event _ (of_lawful (is_of_tree Instructions.DeactivateFile) (key_named bytes) (carried_out Instructions.DeactivateFile card apdu) (lawful card bytes apdu Instructions.DeactivateFile good command refl))
-    carried_well Instructions.ActivateFile = no_event _ (of_lawful (is_of_tree Instructions.ActivateFile) (key_named bytes) (carried_out Instructions.ActivateFile card apdu) (lawful card bytes apdu Instructions.ActivateFile good command refl))
-    carried_well Instructions.VerifyPin = no_event _ (of_lawful (is_of_tree Instructions.VerifyPin) (key_named bytes) (carried_out Instructions.VerifyPin card apdu) (lawful card bytes apdu Instructions.VerifyPin good command refl))
-    carried_well Instructions.ChangePin = no_event _ (of_lawful (is_of_tree Instructions.ChangePin) (key_named bytes) (carried_out Instructions.ChangePin card apdu) (lawful card bytes apdu Instructions.ChangePin good command refl))
-    carried_well Instructions.DisablePin = no_event _ (of_lawful (is_of_tree Instructions.DisablePin) (key_named bytes) (carried_out Instructions.DisablePin card apdu) (lawful card bytes apdu Instructions.DisablePin good command refl))
-    carried_well Instructions.EnablePin = no_event _ (of_lawful (is_of_tree Instructions.EnablePin) (key_named bytes) (carried_out Instructions.EnablePin card apdu) (lawful card bytes apdu Instructions.EnablePin good command refl))
-    carried_well Instructions.UnblockPin = no_event _ (of_lawful (is_of_tree Instructions.UnblockPin) (key_named bytes) (carried_out Instructions.UnblockPin card apdu) (lawful card bytes apdu Instructions.UnblockPin good command refl))
-    carried_well Instructions.ManageChannel = no_event _ (of_lawful (is_of_tree Instructions.ManageChannel) (key_named bytes) (carried_out Instructions.ManageChannel card apdu) (lawful card bytes apdu Instructions.ManageChannel good command refl))
-    carried_well Instructions.CreateFile = no_event _ (of_lawful (is_of_tree Instructions.CreateFile) (key_named bytes) (carried_out Instructions.CreateFile card apdu) (lawful card bytes apdu Instructions.CreateFile good command refl))
-    carried_well Instructions.DeleteFile = no_event _ (of_lawful (is_of_tree Instructions.DeleteFile) (key_named bytes) (carried_out Instructions.DeleteFile card apdu) (lawful card bytes apdu Instructions.DeleteFile good command refl))
-    carried_well Instructions.ResizeFile = no_event _ (of_lawful (is_of_tree Instructions.ResizeFile) (key_named bytes) (carried_out Instructions.ResizeFile card apdu) (lawful card bytes apdu Instructions.ResizeFile good command refl))
-    carried_well Instructions.TerminalProfile = no_event (carried_out Instructions.TerminalProfile card apdu) (profile_well)
-    carried_well Instructions.Fetch = no_event (carried_out Instructions.Fetch card apdu) (fetch_well)
-    carried_well Instructions.TerminalResponse = no_event (carried_out Instructions.TerminalResponse card apdu) (response_well)
-    carried_well Instructions.Envelope = no_event (carried_out Instructions.Envelope card apdu) (envelope_well)
-    carried_well Instructions.InstallApplet = no_event (carried_out Instructions.InstallApplet card apdu) (install_well)
-    carried_well Instructions.DeleteApplet = no_event (carried_out Instructions.DeleteApplet card apdu) (delete_well)
-
-    pub by_found : (found : Result Instruction StatusWord) → IsWell (settled card (and_given found (λ instruction. carried_with true instruction card apdu)))
-    unfolding and_given
-    by_found (Err status) = (good, All-nil IsSoundCard)
-    by_found (Ok instruction) = by_carried (carried_with true instruction card apdu) (carried_well instruction) where
-      by_carried : (result : Result Answered StatusWord) → Well result → IsWell (settled card result)
-      by_carried (Err status) well = (good, All-nil IsSoundCard)
-      by_carried (Ok answered) well = well
-
-  by_read : (knows : Instruction → Bool) (bytes : List ℕ) (read : Option Apdu) → IfSome read (IsCommand bytes)
-      → IsWell (settled card (given read WRONG_LENGTH (λ apdu. and_given (instruction_tried knows card.channels apdu.class apdu.ins) (λ instruction. carried_with true instruction card apdu))))
-  unfolding given
-  by_read knows bytes None is = (good, All-nil IsSoundCard)
-  by_read knows bytes (Some apdu) is = by_found bytes apdu is (instruction_tried knows card.channels apdu.class apdu.ins)
-
-  tried_well : (knows : Instruction → Bool) (bytes : List ℕ) → has_toolkit knows ≡ true → AreBytes bytes → IsWell (settled card (tried knows card bytes))
-  unfolding tried
-  tried_well knows bytes runs are =
-      subst (λ (runs_applets : Bool). IsWell (settled card (given (command_in bytes) WRONG_LENGTH (λ apdu.
-      and_given (instruction_tried knows card.channels apdu.class apdu.ins) (λ instruction. carried_with runs_applets instruction card apdu))))) (sym runs)
-      (by_read knows bytes (command_in bytes) (commands_are bytes are))
+  by_carried : (expected : Option ℕ) (result : Result Answered StatusWord) → Well result → IsWell (settled card (cut_result expected result))
+  unfolding and_given
+  by_carried expected (Err status) well = (good, All-nil IsSoundCard)
+  by_carried expected (Ok answered) well = well
 
   pub answer_well : (knows : Instruction → Bool) (bytes : List ℕ) → has_toolkit knows ≡ true → AreBytes bytes → IsWell (answer_of knows card bytes)
   unfolding answer_of
   answer_well knows bytes runs are =
-      let well : IsWell (settled card (tried knows card bytes)) = tried_well knows bytes runs are in
-      (record { sound = well.0.sound; channels = well.0.channels; shelves = well.0.shelves; boxes = well.0.boxes; kinds = well.0.kinds; session = well.0.session }, well.1)
+      of_running knows card bytes runs (λ result. IsWell (settled card result)) (all_so _ (λ status. (good, All-nil IsSoundCard)))
+      (λ apdu instruction read. by_carried apdu.expected (carried_with true instruction card apdu) (carried_well bytes apdu (command_is bytes apdu are read.read) instruction))
 
   -- ---- what a fault leaves
 

@@ -1,6 +1,7 @@
 mod Fixed
 mod SevenKinds
 mod Rows
+mod Taken
 pub mod Coming
 mod Waking
 mod Breaking

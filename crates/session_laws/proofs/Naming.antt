@@ -1,14 +1,13 @@
 -- By which instruction byte a command of the toolkit is known, where it is carried out.
 use Rattle.std.proofs.Common.{◌≡◌, ℕ, ◌+◌, ◌≤◌, Bool, true, false, List, length, Option, Some, None, Result, Ok, Err, refl, sym, ◌∙◌, ap, subst, arith, option_and_then}
-use Rattle.std.specs.Prelude.{◌==◌, ◌||◌, ◌/◌, MatchResult, IfSome, option_map, if◌then◌else◌}
-use Rattle.std.proofs.lemmas.Bool.{false≢true, ne_eqb}
+use Rattle.std.specs.Prelude.{◌==◌, ◌||◌, ◌/◌, MatchResult, option_map, if◌then◌else◌}
+use Rattle.std.proofs.lemmas.Bool.{false≢true, eq-eqb, eqb-true, ne_eqb}
 use Rattle.uicc_types.specs.Told.{AreBytes}
 use Rattle.uicc_types.specs.declared.answers.StatusWord.{StatusWord}
-use Rattle.uicc_types.specs.declared.answers.TheConstants.StatusWord.{DONE, END_OF_FILE, FILE_DEACTIVATED, WRONG_LENGTH}
-use Rattle.apdu_form.specs.Model.{Apdu, IsCommand, command_in}
-use Rattle.apdu_form.specs.Reading.{commands_are}
+use Rattle.uicc_types.specs.declared.answers.TheConstants.StatusWord.{DONE, END_OF_FILE, FILE_DEACTIVATED}
+use Rattle.apdu_form.specs.Model.{Apdu}
 use Rattle.card_layout.specs.Persistent.{Registration}
-use Rattle.file_model.specs.Chains.{given, and_given}
+use Rattle.file_model.specs.Chains.{and_given}
 use Rattle.file_model.specs.Records.{other_length}
 use Rattle.file_model.specs.Chained.{unless_so, given_so}
 use Rattle.toolkit_commands.specs.Envelopes.{envelope_of}
@@ -19,14 +18,19 @@ use Rattle.toolkit_model.specs.Sessions.{Outstanding}
 use Rattle.toolkit_model.specs.Commands.{unfetched, unanswered, reply_to, bytes_of, pending}
 use Rattle.toolkit_model.specs.Registry.{installed_row}
 use Rattle.toolkit_model.specs.Steps.{Command, Profile, Status, Report, Fetch, Respond, Delete}
-use Rattle.card_model.specs.Answers.{Answered, settled, told_pending, with_pending, toolkit_tried, carried_out, carried_with, tried, answer_of, is_carried_out}
-use Rattle.card_model.specs.Instructions.{instruction_tried, has_toolkit}
-use Rattle.card_model.specs.Naming.{byte_of, instruction_byte}
+use Rattle.card_model.specs.Answers.{Answered, settled, told_pending, with_pending, toolkit_tried, carried_out, carried_with, answer_of, is_carried_out}
+use Rattle.card_model.specs.Cases.{cut_result, command_is}
+use Rattle.card_model.specs.Channels.{family}
+use Rattle.card_model.specs.Instructions.{has_toolkit}
+use Rattle.card_model.specs.Naming.{IsNamed, named_so}
 use Rattle.card_model.specs.States.{CardState, IsGood}
-use Rattle.card_model.specs.Toolkit.{ToolkitOutcome, kind_in, command_fetched, response_taken}
+use Rattle.card_model.specs.Toolkit.{ToolkitOutcome, kind_in, command_fetched, response_taken, toolkit_outcome}
 use Rattle.card_model.specs.declared.instructions.Instruction.{Instruction}
-use Rattle.card_model.specs.declared.instructions.Instruction.TheVariants as Instructions
-use Rattle.session_laws.specs.Moving.{if_row, command_by, if_carried, taken_by, taken}
+use Rattle.card_model.specs.declared.instructions.Instruction.TheVariants.{File, Pin, ManageChannel, Toolkit, Tree}
+use Rattle.card_model.specs.declared.instructions.ToolkitCommand.TheVariants as toolkit
+use Rattle.file_model.specs.declared.commands.FileCommand.TheVariants as file
+use Rattle.session_laws.specs.Moving.{if_row, command_by, if_carried, taken}
+use Rattle.session_laws.proofs.Taken.{of_taken}
 use Rattle.session_laws.specs.Staying.{LeavesUnanswered}
 use Rattle.session_laws.specs.Traces.{ins_of}
 use Rattle.session_laws.proofs.Statuses.{few_fetched}
@@ -35,9 +39,6 @@ use Rattle.session_laws.proofs.Statuses.{few_fetched}
 
 abbrev pub IsRefusal : StatusWord → Type 0
 IsRefusal status = is_carried_out status ≡ false
-
-pub named_so : (knows : Instruction → Bool) (card : CardState) (class ins : ℕ) → MatchResult (instruction_tried knows card.channels class ins) (λ instruction. byte_of instruction ≡ ins) IsRefusal
-named_so knows card class ins = instruction_byte IsRefusal knows card.channels class ins refl refl refl refl
 
 none_of_four : (a b c d : Bool) → a ≡ false → b ≡ false → c ≡ false → d ≡ false → (a || b || c || d) ≡ false
 none_of_four true b c d first second third fourth = absurd (false≢true (sym first))
@@ -87,6 +88,23 @@ response_so card apdu =
 
 -- ---- which command is taken
 
+-- those that the byte names
+abbrev is_fetch : Instruction → Bool
+is_fetch (Toolkit toolkit.Fetch) = true
+is_fetch _ = false
+
+abbrev is_response : Instruction → Bool
+is_response (Toolkit toolkit.TerminalResponse) = true
+is_response _ = false
+
+abbrev TellsBoth : Instruction → ℕ → ℕ → Type 0
+TellsBoth instruction class ins = (is_fetch instruction ≡ (ins == 0x12)) × (is_response instruction ≡ (ins == 0x14))
+
+both_told : (knows : Instruction → Bool) (class ins : ℕ) (instruction : Instruction) → IsNamed knows class ins instruction → TellsBoth instruction class ins
+both_told =
+    named_so TellsBoth
+    ((refl, refl), ((refl, refl), ((refl, refl), ((refl, refl), ((refl, refl), ((refl, refl), ((refl, refl), ((refl, refl), ((refl, refl), ((refl, refl), ((refl, refl), ((refl, refl), ((refl, refl), ((refl, refl), ((refl, refl), ((refl, refl), ((refl, refl), ((refl, refl), ((refl, refl), ((refl, refl), ((refl, refl), ((refl, refl), ((refl, refl), ((refl, refl), ((refl, refl), tt)))))))))))))))))))))))))
+
 abbrev pub IsFetch : Option Command → Type 0
 IsFetch command = (out : Outstanding) × (command ≡ Some (Fetch out))
 
@@ -111,10 +129,10 @@ other_if : (result : Result Answered StatusWord) (command : Option Command) → 
 other_if (Ok answered) command is = is
 other_if (Err status) command is = tt
 
-other_names : (card : CardState) (ins byte : ℕ) (result : Result Answered StatusWord) (command : Option Command) → byte ≡ ins → (byte ≡ 0x12 → ⊥) → (byte ≡ 0x14 → ⊥) → LeavesUnanswered command → NamesIn card ins (if_carried result command) result
-other_names card ins byte result command is no_fetch no_response other = record {
-  fetch = λ same done. absurd (no_fetch (is ∙ same));
-  response = λ same done. absurd (no_response (is ∙ same));
+other_names : (card : CardState) (ins : ℕ) (result : Result Answered StatusWord) (command : Option Command) → false ≡ (ins == 0x12) → false ≡ (ins == 0x14) → LeavesUnanswered command → NamesIn card ins (if_carried result command) result
+other_names card ins result command no_fetch no_response other = record {
+  fetch = λ same done. absurd (false≢true (no_fetch ∙ eq-eqb ins 0x12 same));
+  response = λ same done. absurd (false≢true (no_response ∙ eq-eqb ins 0x14 same));
   other = λ not_fetch not_response. other_if result command other;
 }
 
@@ -152,56 +170,42 @@ response_names card apdu ins byte (Ok outcome) is = record {
 }
 
 module _ (card : CardState) (good : IsGood card) (apdu : Apdu) where
-  abbrev Q : Instruction → Type 0
-  Q instruction = byte_of instruction ≡ apdu.ins → NamesIn card apdu.ins (if_carried (carried_with true instruction card apdu) (command_by instruction card apdu)) (carried_with true instruction card apdu)
+  abbrev result : Instruction → Result Answered StatusWord
+  result instruction = carried_with true instruction card apdu
 
-  carried_names : (instruction : Instruction) → Q instruction
-  unfolding carried_out
-  carried_names Instructions.Select is = other_names card apdu.ins 0xA4 _ None is (λ same. omega (arith, same)) (λ same. omega (arith, same)) tt
-  carried_names Instructions.Status is = other_names card apdu.ins 0xF2 _ (Some Status) is (λ same. omega (arith, same)) (λ same. omega (arith, same)) tt
-  carried_names Instructions.ReadBinary is = other_names card apdu.ins 0xB0 _ None is (λ same. omega (arith, same)) (λ same. omega (arith, same)) tt
-  carried_names Instructions.UpdateBinary is = other_names card apdu.ins 0xD6 _ None is (λ same. omega (arith, same)) (λ same. omega (arith, same)) tt
-  carried_names Instructions.ReadRecord is = other_names card apdu.ins 0xB2 _ None is (λ same. omega (arith, same)) (λ same. omega (arith, same)) tt
-  carried_names Instructions.UpdateRecord is = other_names card apdu.ins 0xDC _ None is (λ same. omega (arith, same)) (λ same. omega (arith, same)) tt
-  carried_names Instructions.SearchRecord is = other_names card apdu.ins 0xA2 _ None is (λ same. omega (arith, same)) (λ same. omega (arith, same)) tt
-  carried_names Instructions.Increase is = other_names card apdu.ins 0x32 _ None is (λ same. omega (arith, same)) (λ same. omega (arith, same)) tt
-  carried_names Instructions.DeactivateFile is = other_names card apdu.ins 0x04 _ None is (λ same. omega (arith, same)) (λ same. omega (arith, same)) tt
-  carried_names Instructions.ActivateFile is = other_names card apdu.ins 0x44 _ None is (λ same. omega (arith, same)) (λ same. omega (arith, same)) tt
-  carried_names Instructions.VerifyPin is = other_names card apdu.ins 0x20 _ None is (λ same. omega (arith, same)) (λ same. omega (arith, same)) tt
-  carried_names Instructions.ChangePin is = other_names card apdu.ins 0x24 _ None is (λ same. omega (arith, same)) (λ same. omega (arith, same)) tt
-  carried_names Instructions.DisablePin is = other_names card apdu.ins 0x26 _ None is (λ same. omega (arith, same)) (λ same. omega (arith, same)) tt
-  carried_names Instructions.EnablePin is = other_names card apdu.ins 0x28 _ None is (λ same. omega (arith, same)) (λ same. omega (arith, same)) tt
-  carried_names Instructions.UnblockPin is = other_names card apdu.ins 0x2C _ None is (λ same. omega (arith, same)) (λ same. omega (arith, same)) tt
-  carried_names Instructions.ManageChannel is = other_names card apdu.ins 0x70 _ None is (λ same. omega (arith, same)) (λ same. omega (arith, same)) tt
-  carried_names Instructions.TerminalProfile is = other_names card apdu.ins 0x10 _ (Some (Profile apdu.body)) is (λ same. omega (arith, same)) (λ same. omega (arith, same)) tt
-  carried_names Instructions.Fetch is = fetch_names card apdu.ins is (command_fetched card apdu) (fetch_so card apdu good)
-  carried_names Instructions.TerminalResponse is = response_names card apdu apdu.ins is (response_taken card apdu) (response_so card apdu)
-  carried_names Instructions.Envelope is = other_names card apdu.ins 0xC2 _ _ is (λ same. omega (arith, same)) (λ same. omega (arith, same)) (report_leaves (envelope_of apdu.body))
-  carried_names Instructions.InstallApplet is =
-      other_names card apdu.ins 0xE6 _ _ is (λ same. omega (arith, same)) (λ same. omega (arith, same)) (installs (installed_row card.persistent (kind_in card apdu.p2) apdu.p2 apdu.p1 apdu.body))
-  carried_names Instructions.DeleteApplet is = other_names card apdu.ins 0xE4 _ (Some (Delete apdu.p2)) is (λ same. omega (arith, same)) (λ same. omega (arith, same)) tt
-  carried_names Instructions.CreateFile is = other_names card apdu.ins 0xE0 _ None is (λ same. omega (arith, same)) (λ same. omega (arith, same)) tt
-  carried_names Instructions.DeleteFile is = other_names card apdu.ins 0xE4 _ None is (λ same. omega (arith, same)) (λ same. omega (arith, same)) tt
-  carried_names Instructions.ResizeFile is = other_names card apdu.ins 0xD4 _ None is (λ same. omega (arith, same)) (λ same. omega (arith, same)) tt
+  carried_names : (instruction : Instruction) → TellsBoth instruction 0 apdu.ins → NamesIn card apdu.ins (if_carried (result instruction) (command_by instruction card apdu)) (result instruction)
+  unfolding carried_out toolkit_outcome
+  carried_names (File file.Select) is = other_names card apdu.ins _ None is.0 is.1 tt
+  carried_names (File file.Status) is = other_names card apdu.ins _ (Some Status) is.0 is.1 tt
+  carried_names (File (file.Contents command)) is = other_names card apdu.ins _ None is.0 is.1 tt
+  carried_names (Pin command) is = other_names card apdu.ins _ None is.0 is.1 tt
+  carried_names ManageChannel is = other_names card apdu.ins _ None is.0 is.1 tt
+  carried_names (Toolkit toolkit.TerminalProfile) is = other_names card apdu.ins _ (Some (Profile apdu.body)) is.0 is.1 tt
+  carried_names (Toolkit toolkit.Fetch) is = fetch_names card apdu.ins (sym (eqb-true apdu.ins 0x12 (sym is.0))) (command_fetched card apdu) (fetch_so card apdu good)
+  carried_names (Toolkit toolkit.TerminalResponse) is = response_names card apdu apdu.ins (sym (eqb-true apdu.ins 0x14 (sym is.1))) (response_taken card apdu) (response_so card apdu)
+  carried_names (Toolkit toolkit.Envelope) is = other_names card apdu.ins _ _ is.0 is.1 (report_leaves (envelope_of apdu.body))
+  carried_names (Toolkit toolkit.InstallApplet) is = other_names card apdu.ins _ _ is.0 is.1 (installs (installed_row card.persistent (kind_in card apdu.p2) apdu.p2 apdu.p1 apdu.body))
+  carried_names (Toolkit toolkit.DeleteApplet) is = other_names card apdu.ins _ (Some (Delete apdu.p2)) is.0 is.1 tt
+  carried_names (Tree command) is = other_names card apdu.ins _ None is.0 is.1 tt
 
-  found_names : (found : Result Instruction StatusWord) → MatchResult found (λ instruction. byte_of instruction ≡ apdu.ins) IsRefusal → NamesIn card apdu.ins (taken_by card apdu found) (and_given found (λ instruction. carried_with true instruction card apdu))
-  unfolding and_given
-  found_names (Err status) is = refused_names card apdu.ins status is
-  found_names (Ok instruction) is = carried_names instruction is
-
-read_names : (knows : Instruction → Bool) (card : CardState) → IsGood card → (bytes : List ℕ) (read : Option Apdu) → IfSome read (IsCommand bytes)
-    → NamesIn card (ins_of bytes) (option_and_then (λ apdu. taken_by card apdu (instruction_tried knows card.channels apdu.class apdu.ins)) read)
-    (given read WRONG_LENGTH (λ apdu. and_given (instruction_tried knows card.channels apdu.class apdu.ins) (λ instruction. carried_with true instruction card apdu)))
-unfolding given
-read_names knows card good bytes None is = refused_names card (ins_of bytes) WRONG_LENGTH refl
-read_names knows card good bytes (Some apdu) is =
-    let found : Result Instruction StatusWord = instruction_tried knows card.channels apdu.class apdu.ins in
-    subst (λ (ins : ℕ). NamesIn card ins (taken_by card apdu found) (and_given found (λ instruction. carried_with true instruction card apdu))) (sym (ap ins_of is.spelling))
-    (found_names card good apdu found (named_so knows card apdu.class apdu.ins))
+cut_names : (card : CardState) (ins : ℕ) (command : Option Command) (expected : Option ℕ) (result : Result Answered StatusWord) → NamesIn card ins command result → NamesIn card ins command (cut_result expected result)
+unfolding and_given
+cut_names card ins command expected (Err status) names = names
+cut_names card ins command expected (Ok answered) names = names
 
 pub answer_names : (knows : Instruction → Bool) (card : CardState) (bytes : List ℕ) → has_toolkit knows ≡ true → IsGood card → AreBytes bytes → Names (ins_of bytes) (taken knows card bytes) (answer_of knows card bytes).status
-unfolding answer_of tried
+unfolding answer_of
 answer_names knows card bytes runs good are =
-    subst (λ (runs_applets : Bool). NamesIn card (ins_of bytes) (taken knows card bytes)
-    (given (command_in bytes) WRONG_LENGTH (λ apdu. and_given (instruction_tried knows card.channels apdu.class apdu.ins) (λ instruction. carried_with runs_applets instruction card apdu)))) (sym runs)
-    (read_names knows card good bytes (command_in bytes) (commands_are bytes are))
+    let refused : (status : StatusWord) → IsRefusal status → NamesIn card (ins_of bytes) None (Err status) = refused_names card (ins_of bytes) in
+    of_taken knows card bytes runs (NamesIn card (ins_of bytes)) (record {
+      length_is = refused _ refl;
+      class_is = refused _ refl;
+      secure_is = refused _ refl;
+      channel_is = refused _ refl;
+      instruction_is = refused _ refl;
+    })
+    (λ apdu instruction read.
+    let result : Result Answered StatusWord = carried_with true instruction card apdu in
+    let command : Option Command = if_carried result (command_by instruction card apdu) in
+    cut_names card (ins_of bytes) command apdu.expected result
+    (subst (λ (ins : ℕ). NamesIn card ins command result) (sym (ap ins_of (command_is bytes apdu are read.read).spelling)) (carried_names card good apdu instruction (both_told knows (family apdu.class) apdu.ins instruction read.named))))

@@ -1,5 +1,5 @@
 -- What a card that runs applets answers to FETCH (ETSI TS 102 221, 11.2.3).
-use Rattle.std.specs.Prelude.{◌≡◌, ℕ, Bool, true, List, Some}
+use Rattle.std.specs.Prelude.{◌≡◌, ◌≤◌, ℕ, Bool, true, List, length, Some}
 use Rattle.uicc_types.specs.Told.{AreBytes}
 use Rattle.uicc_types.specs.declared.answers.TheConstants.StatusWord.{DONE}
 use Rattle.toolkit_model.specs.Commands.{unfetched, unanswered, as_fetched, bytes_of}
@@ -19,10 +19,10 @@ pub record GivesCommand (out : Outstanding) (answered : Answered) : Type 0 where
   pub status : answered.status ≡ DONE
   pub awaits : unanswered answered.state.session ≡ Some (as_fetched out)
 
--- where a card fetches a command, its answer gives it
+-- where a card fetches a command that an answer has room for, as each that can be sent, its answer gives it
 abbrev pub FetchesGiveCommands : Type 0
 FetchesGiveCommands =
-    (knows : Instruction → Bool) (card : CardState) (bytes : List ℕ) (out : Outstanding) → has_toolkit knows ≡ true → taken knows card bytes ≡ Some (Fetch out)
+    (knows : Instruction → Bool) (card : CardState) (bytes : List ℕ) (out : Outstanding) → has_toolkit knows ≡ true → length (bytes_of out) ≤ 256 → taken knows card bytes ≡ Some (Fetch out)
     → GivesCommand out (answer_of knows card bytes)
 
 -- the command that was outstanding is fetched

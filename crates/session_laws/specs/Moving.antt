@@ -18,7 +18,10 @@ use Rattle.card_model.specs.Runs.{IsLeft, boxes_left}
 use Rattle.card_model.specs.States.{CardState, HasBox, restarted}
 use Rattle.card_model.specs.Toolkit.{toolkit_of, kind_in}
 use Rattle.card_model.specs.declared.instructions.Instruction.{Instruction}
-use Rattle.card_model.specs.declared.instructions.Instruction.TheVariants as Instructions
+use Rattle.card_model.specs.declared.instructions.Instruction.TheVariants.{File, Toolkit}
+use Rattle.card_model.specs.declared.instructions.ToolkitCommand.{ToolkitCommand}
+use Rattle.card_model.specs.declared.instructions.ToolkitCommand.TheVariants as toolkit
+use Rattle.file_model.specs.declared.commands.FileCommand.TheVariants as file
 
 -- ---- rows
 
@@ -47,15 +50,18 @@ if_row (Ok row) = Some (Install row)
 if_row (Err fault) = None
 
 -- the command of the toolkit that an instruction with these data is; the others are none
-abbrev pub command_by : Instruction → CardState → Apdu → Option Command
-command_by Instructions.TerminalProfile card apdu = Some (Profile apdu.body)
-command_by Instructions.Status card apdu = Some Status
-command_by Instructions.Envelope card apdu = option_map (λ envelope. Report envelope) (envelope_of apdu.body)
-command_by Instructions.Fetch card apdu = option_map (λ out. Fetch out) (unfetched card.session)
-command_by Instructions.TerminalResponse card apdu =
+abbrev pub command_of : ToolkitCommand → CardState → Apdu → Option Command
+command_of toolkit.TerminalProfile card apdu = Some (Profile apdu.body)
+command_of toolkit.Fetch card apdu = option_map (λ out. Fetch out) (unfetched card.session)
+command_of toolkit.TerminalResponse card apdu =
     option_and_then (λ out. option_map (λ reply. Respond out reply) (reply_to out apdu.body)) (unanswered card.session)
-command_by Instructions.InstallApplet card apdu = if_row (installed_row card.persistent (kind_in card apdu.p2) apdu.p2 apdu.p1 apdu.body)
-command_by Instructions.DeleteApplet card apdu = Some (Delete apdu.p2)
+command_of toolkit.Envelope card apdu = option_map (λ envelope. Report envelope) (envelope_of apdu.body)
+command_of toolkit.InstallApplet card apdu = if_row (installed_row card.persistent (kind_in card apdu.p2) apdu.p2 apdu.p1 apdu.body)
+command_of toolkit.DeleteApplet card apdu = Some (Delete apdu.p2)
+
+abbrev pub command_by : Instruction → CardState → Apdu → Option Command
+command_by (File file.Status) card apdu = Some Status
+command_by (Toolkit command) card apdu = command_of command card apdu
 command_by _ card apdu = None
 
 -- where it is carried out

@@ -8,6 +8,7 @@ ghost use Rattle.session_laws.specs.Taking.{CarriedCommandsAreTaken};
 ghost use Rattle.session_laws.specs.Throughout.{LawsHoldThroughout, LawsHoldThroughoutRuns};
 
 use crate::laws::{cards_go_on, toolkit_laws_hold_of_cards, toolkit_laws_hold_of_runs};
+use file_making::commands_on_trees_are_lawful;
 use file_model::{commands_on_files_are_lawful, pin_commands_are_lawful};
 use toolkit_laws::{responses_reach_who_asked, sessions_stay_in_order};
 
@@ -51,6 +52,7 @@ pub fn answers_tell_what_waits()
 {
     commands_on_files_are_lawful();
     pin_commands_are_lawful();
+    commands_on_trees_are_lawful();
 }
 
 /// Where a card fetches a command, the data of its answer are the bytes of that command, the status is `9000`, and the handset has

@@ -1,17 +1,10 @@
+use Rattle.file_model.specs.declared.commands.PinCommand.TheVariants.{Verify, Change, Disable, Enable, Unblock}
 use Rattle.file_model.proofs.GuardLaws.{verify_guarded, change_guarded, disable_guarded, enable_guarded, unblock_is_guarded}
 use Rattle.file_model.proofs.laws.pins_are_guarded.Goals as goal
 
-pub returns-clause-verify : goal.returns-clause-verify
-returns-clause-verify c = verify_guarded
-
-pub returns-clause-change : goal.returns-clause-change
-returns-clause-change c = change_guarded
-
-pub returns-clause-disable : goal.returns-clause-disable
-returns-clause-disable c = disable_guarded
-
-pub returns-clause-enable : goal.returns-clause-enable
-returns-clause-enable c = enable_guarded
-
-pub returns-clause-unblock : goal.returns-clause-unblock
-returns-clause-unblock c = unblock_is_guarded
+pub returns : goal.returns
+returns c Verify = verify_guarded
+returns c Change = change_guarded
+returns c Disable = disable_guarded
+returns c Enable = enable_guarded
+returns c Unblock = unblock_is_guarded

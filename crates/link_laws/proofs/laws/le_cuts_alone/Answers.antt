@@ -1,11 +1,10 @@
-use Rattle.link_laws.proofs.Answering.{answer_cut}
-use Rattle.link_laws.proofs.Cutting.{carried_with_cut}
-use Rattle.link_laws.proofs.Keeping.{answer_keeps}
+use Rattle.link_laws.proofs.Answering.{answer_cut, answer_keeps}
+use Rattle.link_laws.proofs.Cutting.{carried_with_alike}
 use Rattle.link_laws.proofs.Spelling.{bare_read}
 use Rattle.link_laws.proofs.laws.le_cuts_alone.Goals as goal
 
 pub returns-clause-commands : goal.returns-clause-commands
-returns-clause-commands c = λ runs_applets instruction card command none. carried_with_cut card command runs_applets instruction none
+returns-clause-commands c = λ runs_applets instruction card command none. carried_with_alike card command runs_applets instruction none
 
 pub returns-clause-answers : goal.returns-clause-answers
 returns-clause-answers c = λ knows card bytes bare command read read_bare none. answer_cut knows card command none bytes bare read read_bare
@@ -14,4 +13,4 @@ pub returns-clause-bare : goal.returns-clause-bare
 returns-clause-bare c = bare_read
 
 pub returns-clause-most : goal.returns-clause-most
-returns-clause-most c = λ knows card bytes command good read. answer_keeps card good command knows bytes read
+returns-clause-most c = λ knows card bytes command read. answer_keeps knows card command bytes read

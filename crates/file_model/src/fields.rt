@@ -1,0 +1,26 @@
+//! What a command may have beside its header.
+ghost use Rattle.std.specs.Prelude.{◌≡◌};
+ghost use Rattle.file_model.specs.Outcomes.{has_data, has_le_alone, has_no_data};
+
+use apdu_form::Command;
+
+/// No data; a Le may be there.
+pub fn has_no_data(command: &Command<'_>) -> bool
+    ensures { result ≡ has_no_data command.now }
+{
+    command.body.is_empty()
+}
+
+/// Data; a Le may be there.
+pub fn has_data(command: &Command<'_>) -> bool
+    ensures { result ≡ has_data command.now }
+{
+    !command.body.is_empty()
+}
+
+/// A Le alone.
+pub fn has_le_alone(command: &Command<'_>) -> bool
+    ensures { result ≡ has_le_alone command.now }
+{
+    command.body.is_empty() && command.expected.is_some()
+}
