@@ -1,6 +1,5 @@
 mod Addressing
-pub mod Chaining
-mod Giving
+pub mod Giving
 mod PinLists
 mod Ruling
 mod Stopping

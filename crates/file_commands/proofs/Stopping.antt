@@ -14,8 +14,7 @@ use Rattle.file_model.specs.declared.selections.Selection.{Selection}
 use Rattle.file_model.specs.Chains.{refused_if}
 use Rattle.file_model.specs.Access.{may}
 use Rattle.file_model.specs.Outcomes.{FileOutcome, settled_file}
-use Rattle.file_model.specs.Binaries.{offset_of, updating}
-use Rattle.file_commands.specs.Targets.{update_in}
+use Rattle.file_model.specs.Binaries.{offset_of, updating, update_in}
 
 module _ (state : Persistent) (seen : Verified) (selection : Selection) (apdu : Apdu) (file : Descriptor) where
   abbrev update_tested : Bool → Bool → Result FileOutcome StatusWord

@@ -8,19 +8,14 @@ use Rattle.uicc_types.specs.declared.answers.Answer.{Answer}
 use Rattle.uicc_types.specs.declared.answers.StatusWord.{StatusWord}
 use Rattle.card_layout.specs.Persistent.{Persistent}
 use Rattle.card_layout.specs.Memory.{Memory, held}
+use Rattle.file_model.specs.declared.descriptors.Descriptor.{Descriptor}
 use Rattle.file_model.specs.declared.selections.Selection.{Selection}
 use Rattle.file_model.specs.Chains.{and_given}
+use Rattle.file_model.specs.Files.{descriptors_in, descriptors_of}
 use Rattle.file_model.specs.Outcomes.{FileOutcome, last_of, settled_file}
 use Rattle.card_memory.specs.Performing.{IsOutcome, PassesOne, IsStopped, StaysStill}
 use Rattle.file_commands.specs.Targets.{Gives, IsAnswer, Tells}
 use Rattle.file_commands.specs.Ends.{Tried, GivesTried, Passes}
-
--- ---- tests
-
-pub given_alike : {X Y : Type 0} (r : Result X StatusWord) (f g : X → Result Y StatusWord) → ((x : X) → f x ≡ g x) → and_given r f ≡ and_given r g
-unfolding and_given
-given_alike (Ok x) f g same = same x
-given_alike (Err status) f g same = refl
 
 -- ---- what it gives
 
@@ -85,3 +80,28 @@ passes_alike result old new selection m m' same each = record {
 -- what has bytes stay stays still
 pub stays_still : (old new : Memory) (passed : Persistent → List Persistent) → new.told ≡ old.told → StaysStill old new passed
 stays_still old new passed same = if_some (held old) _ (λ state is none. same)
+
+-- ---- the file that a command works on, and the rest
+
+-- the table tells of files what the state tells that stands
+module _ (old : Memory) (told : (state : Persistent) → held old ≡ Some state → descriptors_in state ≡ descriptors_of old.table) (addressing : List Descriptor → Result Descriptor StatusWord) (rest : Persistent → Descriptor → Result FileOutcome StatusWord)
+    (found : Result Descriptor StatusWord) (is_found : found ≡ addressing (descriptors_of old.table)) where
+  abbrev meant : Persistent → Result FileOutcome StatusWord
+  meant state = and_given (addressing (descriptors_in state)) (rest state)
+
+  from_found : (state : Persistent) → held old ≡ Some state → meant state ≡ and_given found (rest state)
+  from_found state is = ap (λ (files : List Descriptor). and_given (addressing files) (rest state)) (told state is) ∙ ap (λ (r : Result Descriptor StatusWord). and_given r (rest state)) (sym is_found)
+
+  of_file : (file : Descriptor) → found ≡ Ok file → (state : Persistent) → held old ≡ Some state → meant state ≡ rest state file
+  unfolding and_given
+  of_file file is state there = from_found state there ∙ ap (λ (r : Result Descriptor StatusWord). and_given r (rest state)) is
+
+  pub file_gives : (file : Descriptor) → found ≡ Ok file → (result : Tried) (new : Memory) (answer : Answer) → GivesTried result old new answer (λ state. rest state file) → GivesTried result old new answer meant
+  file_gives file is result new answer gives = gives_alike result old new answer meant (λ state. rest state file) (of_file file is) gives
+
+  pub file_passes : (file : Descriptor) → found ≡ Ok file → (result : Tried) (new : Memory) (selection : Selection) → Passes result old new selection (λ state. rest state file) → Passes result old new selection meant
+  file_passes file is result new selection each = passes_alike result old new selection meant (λ state. rest state file) (of_file file is) each
+
+  pub refusal_gives : (status : StatusWord) → found ≡ Err status → (answer : Answer) → GivesTried (Ok (Err status)) old old answer meant
+  unfolding and_given
+  refusal_gives status is answer = if_some (held old) _ (λ state there. (from_found state there ∙ ap (λ (r : Result Descriptor StatusWord). and_given r (rest state)) is, there, refl))

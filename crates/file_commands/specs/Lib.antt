@@ -1,7 +1,6 @@
 pub mod Chained
 pub mod Commands
 pub mod Ends
-pub mod Laws
 pub mod Optional
 pub mod Targets
 pub mod Telling

@@ -2,23 +2,24 @@
 ghost use Rattle.std.specs.Prelude.{◌≡◌, ◌≢◌, ◌+◌, ◌≤◌, [], ◌==◌, ◌||◌, true, if◌then◌else◌, length, take, drop, Err, IfSome, IsOk, OnOk, OnErr};
 ghost use Rattle.file_model.specs.Files.{descriptors_of};
 ghost use Rattle.file_model.specs.Holdings.{bytes_in};
-ghost use Rattle.file_model.specs.Binaries.{binary_read, binary_updated};
-ghost use Rattle.file_model.specs.Outcomes.{has_le_alone, has_data, settled_file};
+ghost use Rattle.file_model.specs.Binaries.{binary_to_read, binary_to_update, read_from, binary_read, update_in, binary_updated};
+ghost use Rattle.file_model.specs.Outcomes.{has_data, settled_file};
 ghost use Rattle.card_memory.specs.Model.{Performs, StaysStill};
 ghost use Rattle.file_commands.specs.Commands.{IsSomeCommand, IsInPlace, IsBinaryFile, IsBinaryTarget};
 ghost use Rattle.file_commands.specs.Ends.{EndsTry, EndsWell, GivesTried, Passes};
-ghost use Rattle.file_commands.specs.Targets.{binary_file, read_from, update_in, IsRefused};
+ghost use Rattle.file_commands.specs.Targets.{IsRefused};
 ghost use Rattle.card_layout.specs.Memory.{IsMounted, Reads, held_by, memory};
 
 use crate::access::is_allowed;
 use crate::laws::is_card_table;
 use crate::settling::settle;
-use crate::targets::{binary_file, has_data, has_le_alone, offset_in, pointer_in, worked_on};
+use crate::targets::{binary_file, offset_in, pointer_in, worked_on};
 use crate::telling::append;
 use access_rules::{Op, Verified};
 use apdu_form::Command;
 use card_layout::Loaded;
 use card_memory::{contents_are_whole, read_bytes, tables_tell_states, write_bytes};
+use file_model::{has_data, has_le_alone};
 use file_tree::{Descriptor, Selection};
 use store_form::{Store, StoreFault};
 use uicc_types::{Answer, AnswerData, StatusWord};
@@ -63,7 +64,7 @@ fn status_of_part(count: u16, length: usize) -> StatusWord
 }
 
 // Reads from the EF that the command works on, and has the answer in `out`, which is empty before.
-#[tactic(auto, unfolding(crate::specs::Targets::read_from, file_model::specs::Binaries::reading, file_model::specs::Chains::refused_if))]
+#[tactic(auto, unfolding(file_model::specs::Binaries::read_from, file_model::specs::Binaries::reading, file_model::specs::Chains::refused_if))]
 fn read_file<S: Store>(
     store: &mut S,
     loaded: &Loaded,
@@ -111,7 +112,7 @@ fn try_read<S: Store>(
     ensures gives { GivesTried result (memory S.Store store.old loaded.now) (memory S.Store store.new loaded.now)
         out.new (λ state. binary_read state seen.now selection.now command.now) }
     ensures refused { (status : StatusWord)
-        → binary_file (has_le_alone command.now) (descriptors_of loaded.now) selection.now command.now ≡ Err status
+        → binary_to_read (descriptors_of loaded.now) selection.now command.now ≡ Err status
         → result ≡ Ok (Err status) }
     ensures ends { EndsTry result (memory S.Store store.old loaded.now) (memory S.Store store.new loaded.now)
         out.old out.new }
@@ -126,7 +127,7 @@ fn try_read<S: Store>(
 }
 
 // Writes into the EF that the command works on, and has the answer in `out`.
-#[tactic(auto, unfolding(crate::specs::Targets::update_in, file_model::specs::Binaries::updating, file_model::specs::Chains::refused_if))]
+#[tactic(auto, unfolding(file_model::specs::Binaries::update_in, file_model::specs::Binaries::updating, file_model::specs::Chains::refused_if))]
 fn update_file<S: Store>(
     store: &mut S,
     loaded: &Loaded,
@@ -177,7 +178,7 @@ fn try_update<S: Store>(
     ensures passes { Passes result (memory S.Store store.old loaded.now) (memory S.Store store.new loaded.now)
         selection.now (λ state. binary_updated state seen.now selection.now command.now) }
     ensures refused { (status : StatusWord)
-        → binary_file (has_data command.now) (descriptors_of loaded.now) selection.now command.now ≡ Err status
+        → binary_to_update (descriptors_of loaded.now) selection.now command.now ≡ Err status
         → result ≡ Ok (Err status) }
     ensures ends { EndsTry result (memory S.Store store.old loaded.now) (memory S.Store store.new loaded.now)
         out.old out.new }
@@ -210,7 +211,7 @@ pub fn read_binary<S: Store>(
     ensures table { loaded.new ≡ loaded.old }
     ensures reads { Reads (memory S.Store store.old loaded.old) (memory S.Store store.new loaded.new) result }
     ensures refused { (status : StatusWord)
-        → binary_file (has_le_alone command.now) (descriptors_of loaded.old) selection.old command.now ≡ Err status
+        → binary_to_read (descriptors_of loaded.old) selection.old command.now ≡ Err status
         → IsOk result × IsRefused status out.new selection.old selection.new }
 {
     out.body.clear();
@@ -240,7 +241,7 @@ pub fn update_binary<S: Store>(
         out.new selection.new }
     ensures table { loaded.new ≡ loaded.old }
     ensures refused { (status : StatusWord)
-        → binary_file (has_data command.now) (descriptors_of loaded.old) selection.old command.now ≡ Err status
+        → binary_to_update (descriptors_of loaded.old) selection.old command.now ≡ Err status
         → IsOk result × IsRefused status out.new selection.old selection.new }
 {
     out.body.clear();

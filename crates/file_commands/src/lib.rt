@@ -11,7 +11,7 @@ mod telling;
 
 pub use access::is_allowed;
 pub use binaries::{read_binary, update_binary};
-pub use laws::{binaries_go_in_parts, is_card_table};
+pub use laws::is_card_table;
 pub use selecting::{select, status};
 pub use settling::settle;
-pub use targets::{addressed, has_data, has_le_alone, is_deactivated, worked_on};
+pub use targets::{addressed, is_deactivated, worked_on};

@@ -6,7 +6,7 @@ ghost use Rattle.file_model.specs.Files.{descriptors_of};
 ghost use Rattle.file_model.specs.Fcp.{fcp};
 ghost use Rattle.file_model.specs.Selections.{IsSelection, selection_of, chosen};
 ghost use Rattle.file_model.specs.Selecting.{has_select_parameters, has_select_length, has_status_parameters, selecting, telling, file_selected, status_told};
-ghost use Rattle.file_model.specs.Outcomes.{has_no_data, is_deactivated, settled_file, cut_to};
+ghost use Rattle.file_model.specs.Outcomes.{is_deactivated, settled_file};
 ghost use Rattle.card_memory.specs.Model.{Performs, IsTold};
 ghost use Rattle.file_tree.specs.Tables.{IsCardTable, IsNumbered};
 ghost use Rattle.file_commands.specs.Commands.{IsSomeCommand, IsInPlace};
@@ -17,12 +17,13 @@ ghost use Rattle.card_layout.specs.Memory.{Reads, memory};
 use crate::laws::is_card_table;
 use crate::settling::settle;
 use crate::targets::is_deactivated;
-use crate::telling::{cut, parameters_of};
+use crate::telling::put_parameters;
 use access_rules::Verified;
 use apdu_form::Command;
 use card_layout::Loaded;
 use card_layout::kinds::DF;
 use card_memory::tables_tell_states;
+use file_model::has_no_data;
 use file_tree::{
     Descriptor, Selection, Wanted, above, chosen_by_identifier, chosen_by_path,
     files_may_be_selected, first_file, short_identifiers_fit,
@@ -46,12 +47,6 @@ fn has_select_length(command: &Command<'_>) -> bool
         0x04 => 1 <= length && length <= 16,
         _ => 2 <= length && length % 2 == 0,
     }
-}
-
-fn has_no_data(command: &Command<'_>) -> bool
-    ensures { result ≡ has_no_data command.now }
-{
-    command.body.is_empty()
 }
 
 fn has_status_parameters(command: &Command<'_>) -> bool
@@ -100,33 +95,17 @@ fn selection_of(file: &Descriptor) -> Selection
     }
 }
 
-// Has the file control parameters in an answer that is empty before, where they are asked for, in so many bytes as are expected.
-fn tell(
-    loaded: &Loaded,
-    file: &Descriptor,
-    is_asked: bool,
-    expected: Option<u16>,
-    body: &mut AnswerData,
-)
+// Has the file control parameters in an answer that is empty before, where they are asked for.
+fn tell(loaded: &Loaded, file: &Descriptor, is_asked: bool, body: &mut AnswerData)
     requires table { IsCardTable loaded.now }
     requires numbered { IsNumbered (descriptors_of loaded.now) file.now }
     requires empty { body.old ≡ [] }
-    ensures { body.new ≡ cut_to expected (if is_asked then fcp (pins_of loaded.now) file.now else []) }
+    ensures { body.new ≡ (if is_asked then fcp (pins_of loaded.now) file.now else []) }
 {
     if is_asked {
-        tell_parameters(loaded, file, expected, body);
+        short_identifiers_fit(loaded);
+        put_parameters(body, loaded, file);
     }
-}
-
-// Has the file control parameters in an answer. This stands in a function of its own, so that an answer without them makes no
-// room for them.
-fn tell_parameters(loaded: &Loaded, file: &Descriptor, expected: Option<u16>, body: &mut AnswerData)
-    requires table { IsCardTable loaded.now }
-    requires numbered { IsNumbered (descriptors_of loaded.now) file.now }
-    ensures { body.new ≡ cut_to expected (fcp (pins_of loaded.now) file.now) }
-{
-    short_identifiers_fit(loaded);
-    *body = cut(parameters_of(loaded, file), expected);
 }
 
 // The answer to a SELECT that found this file, in `out`, which is empty before, and what is selected then.
@@ -147,7 +126,7 @@ fn answer_selected(
 {
     files_may_be_selected(loaded);
     let is_asked = command.p2 == 0x04;
-    tell(loaded, file, is_asked, command.expected, &mut out.body);
+    tell(loaded, file, is_asked, &mut out.body);
     out.status = status_of_file(file);
     selection_of(file)
 }
@@ -207,7 +186,7 @@ fn answer_status(
     ensures usual { out.new.status.0 ≢ StatusWord.MEMORY_PROBLEM.0 }
 {
     let is_asked = command.p2 == 0x00;
-    tell(loaded, df, is_asked, command.expected, &mut out.body);
+    tell(loaded, df, is_asked, &mut out.body);
     out.status = StatusWord::DONE;
     *selection
 }

@@ -2,31 +2,16 @@
 ghost use Rattle.std.specs.Prelude.{◌≡◌, ◌≢◌, true, IfOk, IfErr};
 ghost use Rattle.file_model.specs.Files.{descriptors_of};
 ghost use Rattle.file_model.specs.Selections.{IsSelection};
-ghost use Rattle.file_model.specs.Outcomes.{has_le_alone, has_data, addressed, pointer_before, worked_on, is_deactivated};
-ghost use Rattle.file_model.specs.Binaries.{has_short, has_binary_parameters, short_in_p1, offset_of};
+ghost use Rattle.file_model.specs.Outcomes.{addressed, pointer_before, worked_on, is_deactivated};
+ghost use Rattle.file_model.specs.Binaries.{has_short, has_binary_parameters, short_in_p1, offset_of, binary_file};
 ghost use Rattle.file_tree.specs.Tables.{IsCardTable, IsNumbered};
 ghost use Rattle.file_commands.specs.Commands.{IsBinaryTarget};
-ghost use Rattle.file_commands.specs.Targets.{binary_file};
 
 use apdu_form::Command;
 use card_layout::Loaded;
 use card_layout::kinds::{DEACTIVATED, TRANSPARENT};
 use file_tree::{Descriptor, Selection, Wanted, current_ef, first_file};
 use uicc_types::StatusWord;
-
-/// Whether a command has a Le and no data.
-pub fn has_le_alone(command: &Command<'_>) -> bool
-    ensures { result ≡ has_le_alone command.now }
-{
-    command.body.is_empty() && command.expected.is_some()
-}
-
-/// Whether a command has data.
-pub fn has_data(command: &Command<'_>) -> bool
-    ensures { result ≡ has_data command.now }
-{
-    !command.body.is_empty()
-}
 
 fn has_short(command: &Command<'_>) -> bool
     ensures { result ≡ has_short command.now.p1 }
@@ -119,7 +104,7 @@ pub fn addressed(
 
 /// The transparent EF that READ BINARY or UPDATE BINARY works on. Refused are, in this order, wrong P1 and P2, a wrong length,
 /// no such EF, an EF of another structure and one that is out of use.
-#[tactic(auto, unfolding(crate::specs::Targets::binary_file, file_model::specs::Chains::refused_if, file_model::specs::Chains::and_given))]
+#[tactic(auto, unfolding(file_model::specs::Binaries::binary_file, file_model::specs::Chains::refused_if, file_model::specs::Chains::and_given))]
 pub fn binary_file(
     loaded: &Loaded,
     selection: &Selection,

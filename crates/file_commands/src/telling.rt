@@ -6,7 +6,6 @@ ghost use Rattle.access_rules.specs.Objects.{object};
 ghost use Rattle.card_layout.specs.States.{pins_of};
 ghost use Rattle.file_model.specs.Files.{is_df};
 ghost use Rattle.file_model.specs.Fcp.{kind_bytes, rule_object, enabled_bits, pin_object, short_object, df_objects, ef_objects, fcp};
-ghost use Rattle.file_model.specs.Outcomes.{cut_to};
 ghost use Rattle.file_commands.specs.Telling.{key_objects, file_objects, pin_told};
 
 use card_layout::kinds::{self, DF};
@@ -158,29 +157,15 @@ fn put_rest(out: &mut AnswerData, loaded: &Loaded, file: &Descriptor)
     }
 }
 
-/// The file control parameters of a file.
+/// Puts the file control parameters of a file into an answer that is empty before.
 #[tactic(auto, unfolding(file_model::specs::Fcp::fcp))]
-pub fn parameters_of(loaded: &Loaded, file: &Descriptor) -> AnswerData
-    requires { file.now.short ≤ 30 }
-    ensures { result ≡ fcp (pins_of loaded.now) file.now }
+pub fn put_parameters(out: &mut AnswerData, loaded: &Loaded, file: &Descriptor)
+    requires short { file.now.short ≤ 30 }
+    requires empty { out.old ≡ [] }
+    ensures { out.new ≡ fcp (pins_of loaded.now) file.now }
 {
     let mut objects = AnswerData::new();
     put_file(&mut objects, file);
     put_rest(&mut objects, loaded, file);
-    let mut out = AnswerData::new();
-    put(&mut out, 0x62, objects.as_slice());
-    out
-}
-
-/// The first so many bytes of an answer, or all of them where no number is given.
-pub fn cut(told: AnswerData, expected: Option<u16>) -> AnswerData
-    ensures { result ≡ cut_to expected told }
-{
-    match expected {
-        Some(expected) => {
-            let bytes = told.as_slice();
-            AnswerData::from_slice(&bytes[..bytes.len().min(usize::from(expected))])
-        }
-        None => told,
-    }
+    put(out, 0x62, objects.as_slice());
 }
