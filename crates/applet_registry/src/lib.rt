@@ -10,6 +10,6 @@ mod shelves;
 
 pub use events::{deregister, register};
 pub use installing::{delete, install};
-pub use items::menu;
+pub use items::{is_menu, menu};
 pub use laws::commits_are_those_of_sessions;
 pub use toolkit_model::RowFault;

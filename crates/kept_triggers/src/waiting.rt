@@ -81,16 +81,6 @@ impl Waiting {
         }
     }
 
-    /// Takes the first out.
-    pub fn take_first(&mut self) -> (Shelf, Proactive)
-        requires { 0 < length self.old }
-        ensures { self.old ≡ sent result.0 result.1 ∷ self.new }
-    {
-        let first = self.first();
-        self.frames.remove(0);
-        first
-    }
-
     /// Writes the bytes of the first with this number, where there is one, and answers its shelf and its details.
     fn first_spelled(&self, number: u8, bytes: &mut Octets) -> (Shelf, Details)
         requires { 0 < length self.now }

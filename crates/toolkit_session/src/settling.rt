@@ -32,7 +32,6 @@ impl Session {
     /// Whether the card itself has nothing to send.
     #[tactic(auto, unfolding(toolkit_model::specs::Driving::wanted))]
     fn wants_nothing(&self, loaded: &Loaded, index: &Index) -> bool
-        requires few { count_by has_text (rows_of loaded.now) ≤ MENU_LIMIT }
         requires stands { StandsFor index.now (rows_of loaded.now) }
         ensures { result ≡ true → wanted self.now.profile (rows_of loaded.now) self.now.announced ≡ None }
     {

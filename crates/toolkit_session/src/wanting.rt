@@ -8,7 +8,7 @@ ghost use Rattle.trigger_index.specs.Indexes.{StandsFor};
 ghost use Rattle.toolkit_session.specs.Events.{is_heard, is_asked_for, events_in};
 
 use crate::announced::Announced;
-use applet_registry::menu;
+use applet_registry::{is_menu, menu};
 use card_layout::Loaded;
 use card_layout::sizes::MENU_LIMIT;
 use terminal_profile::Profile;
@@ -187,10 +187,9 @@ fn is_list_known(profile: &Profile, announced: &Announced, loaded: &Loaded, inde
 
 /// Whether it was told the menu.
 fn is_menu_known(profile: &Profile, announced: &Announced, loaded: &Loaded) -> bool
-    requires { count_by has_text (rows_of loaded.now) ≤ MENU_LIMIT }
     ensures { result ≡ true → None ≡ menu_wanted profile.now (rows_of loaded.now) announced.now }
 {
-    menu(loaded).is_same(announced.menu())
+    is_menu(loaded, announced.menu())
 }
 
 /// Whether it was told to ask for commands by itself, or need not be.
@@ -214,7 +213,6 @@ pub(crate) fn is_all_known(
     loaded: &Loaded,
     index: &Index,
 ) -> bool
-    requires few { count_by has_text (rows_of loaded.now) ≤ MENU_LIMIT }
     requires stands { StandsFor index.now (rows_of loaded.now) }
     ensures { result ≡ true → wanted (Some profile.now) (rows_of loaded.now) announced.now ≡ None }
 {
