@@ -98,7 +98,8 @@ fn overwrite(memory: &mut [u8], at: usize, bytes: &[u8])
 }
 
 #[tactic(auto, unfolding(uicc_types::specs::Patches::patched))]
-// Puts one byte into `count` places, from `at` on.
+// Puts one byte into `count` places, from `at` on. Faults are rare, and this is out of the way of a call without one.
+#[inline(never)]
 fn fill(memory: &mut [u8], at: usize, count: usize, byte: u8)
     requires { at + count ≤ length memory.old }
     ensures { memory.new ≡ patched at (replicate count byte) memory.old }
@@ -107,6 +108,7 @@ fn fill(memory: &mut [u8], at: usize, count: usize, byte: u8)
 }
 
 // Puts the first of these bytes in, as many as the cut keeps, and its byte in place of each other.
+#[inline(never)]
 fn overwrite_in_part(memory: &mut [u8], at: usize, bytes: &[u8], cut: CutAt)
     requires { at + length bytes.now ≤ length memory.old }
     ensures { memory.new ≡ patched at (cut_bytes cut bytes.now) memory.old }

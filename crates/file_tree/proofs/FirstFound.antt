@@ -12,10 +12,12 @@ use Rattle.card_layout.specs.Blank.{unused_node}
 use Rattle.card_layout.specs.Used.{HasNode}
 use Rattle.file_model.specs.declared.descriptors.Descriptor.{Descriptor}
 use Rattle.file_model.specs.declared.descriptors.Wanted.{Wanted}
-use Rattle.file_model.specs.declared.descriptors.Wanted.TheVariants.{Number, Short}
-use Rattle.file_model.specs.Files.{df_descriptor, ef_descriptor, descriptor_of, descriptor_if, descriptors_of, is_ef, is_wanted, lies_in, file_found}
-use Rattle.file_model.specs.Laws.{FindsAmongEntries, NumbersAreEntries}
-use Rattle.file_tree.specs.Tables.{AsksForNumber, AsksForShort, IsNumbered, is_there_and_wanted}
+use Rattle.file_model.specs.declared.descriptors.Wanted.TheVariants.{Number, Named, Child, ChildDf, Short}
+use Rattle.uicc_types.specs.declared.identifiers.FileId.{FileId}
+use Rattle.file_model.specs.Selections.{chosen_by_identifier, parent_of}
+use Rattle.file_model.specs.Files.{df_descriptor, ef_descriptor, descriptor_of, descriptor_if, descriptors_of, is_df, is_ef, is_wanted, lies_in, file_found}
+use Rattle.file_model.specs.Laws.{FindsAmongEntries, FindsInFiveSearches, NumbersAreEntries}
+use Rattle.file_tree.specs.Tables.{AsksForId, HasNoneBetween, AsksForNumber, AsksForShort, IsNumbered, is_there_and_wanted}
 
 -- where none passes, nothing is found
 pub none_found : {X : Type 0} (p : X → Bool) (xs : List X) (d : X) → ((k : ℕ) → k < length xs → p (get_or xs k d) ≡ false) → find p xs ≡ None
@@ -111,6 +113,64 @@ one_fails nodes wanted n m only fail k low = elim (cases_eq k n) [
   | inl same ↦ subst (λ (i : ℕ). passes wanted i (entry_at nodes i) ≡ false) (sym same) (fail (omega (arith, low, same)))
   | inr other ↦ other_fails wanted n k (entry_at nodes k) only other
 ]
+
+-- ---- by an identifier
+
+id_told : (n : ℕ) (node : Node) → (descriptor_of n node).id.0 ≡ node.id.0
+unfolding descriptor_of
+id_told n node = either (node.kind == df_kind)
+  where
+    either : (b : Bool) → (cond b (df_descriptor n node) (ef_descriptor n node)).id.0 ≡ node.id.0
+    either true = refl
+    either false = refl
+
+-- the file of an entry with another one isn't wanted
+pub id_fails : (wanted : Wanted) (number id : ℕ) (node : Node) → AsksForId wanted id → node.id.0 ≢ id → passes wanted number node ≡ false
+id_fails wanted number id node only other = either node.used
+  where
+    fails : is_wanted wanted (descriptor_of number node) ≡ false
+    fails = only (descriptor_of number node) (λ same. other (sym (id_told number node) ∙ same))
+
+    either : (b : Bool) → (b && is_wanted wanted (descriptor_of number node)) ≡ false
+    either true = fails
+    either false = refl
+
+-- so none passes before one that has it
+pub none_before : (nodes : List Node) (wanted : Wanted) (id n : ℕ) → AsksForId wanted id → HasNoneBetween nodes id 0 n → NonePasses nodes wanted n
+none_before nodes wanted id n only none k low = id_fails wanted k id (entry_at nodes k) only (none k (omega arith) low)
+
+-- and where no entry has it, no such file is found
+pub absent : (loaded : Loaded) (wanted : Wanted) (law : FindsAmongEntries) (id n : ℕ) → AsksForId wanted id → HasNoneBetween loaded.nodes id 0 n → length loaded.nodes ≤ n
+    → file_found (descriptors_of loaded) wanted ≡ None
+absent loaded wanted law id n only none all = no_entry_found loaded wanted law n (none_before loaded.nodes wanted id n only none) all
+
+both_fail : (first second : Bool) → second ≡ false → (first && second) ≡ false
+both_fail true second isnt = isnt
+both_fail false second isnt = refl
+
+named_asks : (number : ℕ) (id : FileId) → AsksForId (Named number id) id.0
+named_asks number id file other = both_fail (file.number == number) (file.id.0 == id.0) (ne_eqb file.id.0 id.0 other)
+
+child_asks : (df : ℕ) (id : FileId) → AsksForId (Child df id) id.0
+child_asks df id file other = both_fail (lies_in df file) (file.id.0 == id.0) (ne_eqb file.id.0 id.0 other)
+
+child_df_asks : (df : ℕ) (id : FileId) → AsksForId (ChildDf df id) id.0
+child_df_asks df id file other = both_fail (lies_in df file && is_df file) (file.id.0 == id.0) (ne_eqb file.id.0 id.0 other)
+
+-- nor is one chosen by it
+pub none_chosen : (loaded : Loaded) (df : ℕ) (id : FileId) (n : ℕ) → FindsAmongEntries → FindsInFiveSearches → HasNoneBetween loaded.nodes id.0 0 n → length loaded.nodes ≤ n
+    → chosen_by_identifier (descriptors_of loaded) df id ≡ None
+none_chosen loaded df id n entries five none all =
+    let files : List Descriptor = descriptors_of loaded in
+    let above : ℕ = parent_of files df in
+    five files df id
+    ∙ rw (
+      absent loaded (Named 0 id) entries id.0 n (named_asks 0 id) none all,
+      absent loaded (Named df id) entries id.0 n (named_asks df id) none all,
+      absent loaded (Child df id) entries id.0 n (child_asks df id) none all,
+      absent loaded (Named above id) entries id.0 n (named_asks above id) none all,
+      absent loaded (ChildDf above id) entries id.0 n (child_df_asks above id) none all,
+    ) refl
 
 -- ---- by a short file identifier
 

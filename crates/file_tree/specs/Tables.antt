@@ -47,6 +47,10 @@ MayBeSelected files = All (λ file. IsSelection files (selection_of file)) files
 abbrev pub HaveShortIds : List Descriptor → Type 0
 HaveShortIds files = All (λ file. file.short ≤ 30) files
 
+-- no entry from the first place up to the second has the identifier
+abbrev pub HasNoneBetween : List Node → ℕ → ℕ → ℕ → Type 0
+HasNoneBetween nodes id from to = (place : ℕ) → from ≤ place → place < to → (slice_index_or nodes place unused_node).id.0 ≢ id
+
 -- the entry of this number
 abbrev pub node_at : Loaded → ℕ → Node
 node_at table number = slice_index_or table.nodes number unused_node

@@ -5,11 +5,12 @@ ghost use Rattle.file_model.specs.declared.descriptors.Wanted.TheVariants.{Child
 ghost use Rattle.file_model.specs.Files.{descriptors_of, file_found};
 ghost use Rattle.file_model.specs.Selections.{parent_of, ids_of, chosen_by_identifier, chosen_by_path, chosen_above, current_ef};
 ghost use Rattle.file_model.specs.Access.{arr_found};
-ghost use Rattle.file_tree.specs.Tables.{IsCardTable, IsNumbered, first_found};
+ghost use Rattle.file_tree.specs.Tables.{HasNoneBetween, IsCardTable, IsNumbered, first_found};
 
 use crate::laws::parents_come_first;
-use crate::searching::{first_file, only_file};
+use crate::searching::{first_by_id, first_file, first_with, has_all_nodes, only_file};
 use card_layout::Loaded;
+use card_layout::sizes::NODE_COUNT;
 use file_model::{Descriptor, Selection, Wanted, files_are_found};
 use uicc_types::FileId;
 
@@ -71,21 +72,6 @@ fn parent_of(loaded: &Loaded, df: u8) -> u8
     }
 }
 
-// What is found at the first of these places at which there is a file.
-fn first_of(loaded: &Loaded, places: &[Wanted]) -> Option<Descriptor>
-    requires { IsCardTable loaded.now }
-    ensures value { result ≡ first_found (descriptors_of loaded.now) places.now }
-    ensures numbered { IfSome result (IsNumbered (descriptors_of loaded.now)) }
-{
-    for place in places {
-        let found = first_file(loaded, *place);
-        if found.is_some() {
-            return found;
-        }
-    }
-    None
-}
-
 /// The file that SELECT by file identifier finds where this is the current DF.
 pub fn chosen_by_identifier(loaded: &Loaded, df: u8, id: FileId) -> Option<Descriptor>
     requires { IsCardTable loaded.now }
@@ -93,6 +79,11 @@ pub fn chosen_by_identifier(loaded: &Loaded, df: u8, id: FileId) -> Option<Descr
     ensures numbered { IfSome result (IsNumbered (descriptors_of loaded.now)) }
 {
     files_are_found();
+    has_all_nodes(loaded);
+    let from = first_with(loaded, id);
+    if usize::from(from) == NODE_COUNT {
+        return None;
+    }
     let main = only_file(loaded, Wanted::Named { number: 0, id }, 0);
     if main.is_some() {
         return main;
@@ -101,27 +92,28 @@ pub fn chosen_by_identifier(loaded: &Loaded, df: u8, id: FileId) -> Option<Descr
     if current.is_some() {
         return current;
     }
-    let child = first_file(loaded, Wanted::Child { df, id });
+    let child = first_by_id(loaded, Wanted::Child { df, id }, id, from);
     if child.is_some() {
         return child;
     }
-    chosen_beside(loaded, df, id)
+    chosen_beside(loaded, df, id, from)
 }
 
-// The DF that this one lies in, or one beside it, by its identifier.
-fn chosen_beside(loaded: &Loaded, df: u8, id: FileId) -> Option<Descriptor>
-    requires { IsCardTable loaded.now }
+// The DF that this one lies in, or one beside it, by its identifier, which no entry before this one has.
+fn chosen_beside(loaded: &Loaded, df: u8, id: FileId, from: u8) -> Option<Descriptor>
+    requires table { IsCardTable loaded.now }
+    requires passed { HasNoneBetween loaded.now.nodes id.0 0 from }
     ensures value { result ≡ first_found (descriptors_of loaded.now)
         (Named (parent_of (descriptors_of loaded.now) df) id ∷ ChildDf
         (parent_of (descriptors_of loaded.now) df) id ∷ []) }
     ensures numbered { IfSome result (IsNumbered (descriptors_of loaded.now)) }
 {
     let above = parent_of(loaded, df);
-    let places = [
-        Wanted::Named { number: above, id },
-        Wanted::ChildDf { df: above, id },
-    ];
-    first_of(loaded, &places)
+    let own = only_file(loaded, Wanted::Named { number: above, id }, above);
+    if own.is_some() {
+        return own;
+    }
+    first_by_id(loaded, Wanted::ChildDf { df: above, id }, id, from)
 }
 
 /// The file at a path from this DF on.

@@ -1,7 +1,7 @@
 //! The one search for a file.
-ghost use Rattle.std.specs.Prelude.{◌≡◌, ◌<◌, length, IfSome};
+ghost use Rattle.std.specs.Prelude.{◌≡◌, ◌+◌, ◌<◌, ◌≤◌, length, false, IfSome};
 ghost use Rattle.file_model.specs.Files.{descriptor_of, descriptors_of, is_wanted, lies_in, file_found};
-ghost use Rattle.file_tree.specs.Tables.{AsksForId, AsksForNumber, AsksForShort, IsCardTable, IsNumbered, is_there_and_wanted, node_at};
+ghost use Rattle.file_tree.specs.Tables.{AsksForId, AsksForNumber, AsksForShort, HasNoneBetween, IsCardTable, IsNumbered, is_there_and_wanted, node_at};
 
 use crate::describing::descriptor_of;
 use card_layout::kinds::{self, DF};
@@ -39,8 +39,8 @@ fn is_wanted(wanted: Wanted, number: u8, node: &Node) -> bool
     }
 }
 
-// Does nothing. A table has 128 entries.
-fn has_all_nodes(loaded: &Loaded)
+/// Does nothing. A table has 128 entries.
+pub fn has_all_nodes(loaded: &Loaded)
     ensures { length loaded.now.nodes ≡ NODE_COUNT }
 {
     let _nodes = loaded.all_nodes();
@@ -97,17 +97,51 @@ fn is_wanted_by_short(wanted: Wanted, short: u8, number: u8, node: &Node) -> boo
     node.used && is_wanted(wanted, number, node)
 }
 
-// The first file that is wanted among all, where only one with this identifier can be.
-fn first_by_id(loaded: &Loaded, wanted: Wanted, id: FileId) -> Option<Descriptor>
+// So many entries are looked at together.
+const RUN: usize = 8;
+
+// Whether one of the entries of a run has the identifier, of which this is the first.
+fn is_in_run(nodes: &[Node], first: usize, id: FileId) -> bool
+    requires { first + RUN ≤ length nodes.now }
+    ensures { result ≡ false → HasNoneBetween nodes.now id.0 first (first + RUN) }
+{
+    nodes[first].id == id
+        || nodes[first + 1].id == id
+        || nodes[first + 2].id == id
+        || nodes[first + 3].id == id
+        || nodes[first + 4].id == id
+        || nodes[first + 5].id == id
+        || nodes[first + 6].id == id
+        || nodes[first + 7].id == id
+}
+
+/// A number below which no entry has the identifier, and 128 where none has. Most entries are passed over here, a run at a
+/// time.
+pub fn first_with(loaded: &Loaded, id: FileId) -> u8
+    ensures before { HasNoneBetween loaded.now.nodes id.0 0 result }
+    ensures within { result ≤ NODE_COUNT }
+{
+    let nodes = loaded.all_nodes();
+    for run in 0..NODE_COUNT / RUN {
+        if is_in_run(nodes, RUN * run, id) {
+            return (RUN * run) as u8;
+        }
+    }
+    NODE_COUNT as u8
+}
+
+/// The first file that is wanted among all, where only one with this identifier can be, and no entry before this one has it.
+pub fn first_by_id(loaded: &Loaded, wanted: Wanted, id: FileId, from: u8) -> Option<Descriptor>
     requires table { IsCardTable loaded.now }
     requires only { AsksForId wanted id.0 }
+    requires passed { HasNoneBetween loaded.now.nodes id.0 0 from }
     ensures value { result ≡ file_found (descriptors_of loaded.now) wanted }
     ensures numbered { IfSome result (IsNumbered (descriptors_of loaded.now)) }
 {
     standing_files_hold();
     files_are_found();
     has_all_nodes(loaded);
-    for number in 0..NODE_COUNT as u8 {
+    for number in from..NODE_COUNT as u8 {
         let node = node_at(loaded, number);
         if is_wanted_by_id(wanted, id, number, node) {
             return Some(descriptor_of(number, node));
@@ -145,9 +179,9 @@ pub fn first_file(loaded: &Loaded, wanted: Wanted) -> Option<Descriptor>
     match wanted {
         Wanted::Number(number) => only_file(loaded, wanted, number),
         Wanted::Named { number, .. } => only_file(loaded, wanted, number),
-        Wanted::Child { id, .. } => first_by_id(loaded, wanted, id),
-        Wanted::ChildDf { id, .. } => first_by_id(loaded, wanted, id),
-        Wanted::ChildEf { id, .. } => first_by_id(loaded, wanted, id),
+        Wanted::Child { id, .. } => first_by_id(loaded, wanted, id, first_with(loaded, id)),
+        Wanted::ChildDf { id, .. } => first_by_id(loaded, wanted, id, first_with(loaded, id)),
+        Wanted::ChildEf { id, .. } => first_by_id(loaded, wanted, id, first_with(loaded, id)),
         Wanted::Short { short, .. } => first_by_short(loaded, wanted, short),
     }
 }

@@ -3,7 +3,7 @@ use Rattle.std.proofs.lemmas.Bool.{and_parts}
 use Rattle.card_layout.specs.declared.entries.Node.{Node}
 use Rattle.file_model.specs.Files.{descriptor_of, descriptors_of}
 use Rattle.file_tree.specs.Tables.{IsNumbered}
-use Rattle.file_tree.proofs.FirstFound.{entry_found, no_entry_found, has_entry, entry_numbered, passes, entry_at}
+use Rattle.file_tree.proofs.FirstFound.{none_before, entry_found, no_entry_found, has_entry, entry_numbered, passes, entry_at}
 use Rattle.file_tree.proofs.searching.first_by_id.Goals as goal
 
 pub descriptor_of-requires : goal.descriptor_of-requires
@@ -30,3 +30,6 @@ returns-then-is_wanted_by_id-clause-numbered c =
 pub returns-clause-value : goal.returns-clause-value
 returns-clause-value c =
     sym (no_entry_found c.args.loaded.now c.args.wanted c.files_are_found.ensures.entries c.loop-number.number c.loop-number.invariant (omega (arith, c.has_all_nodes.ensures, c.loop-number-test.false)))
+
+pub loop-number-init : goal.loop-number-init
+loop-number-init c = none_before c.args.loaded.now.nodes c.args.wanted c.args.id.0 c.args.from c.requires.only c.requires.passed
