@@ -26,8 +26,10 @@ pub fn received_is_prefix()
 /// The same of every channel of the terminal, whatever happened to it: commands in any order, also such that can't be read,
 /// bytes that came back and links that were dropped. What counts is what was given and got since the channel was opened.
 pub fn each_channel_tells()
-    ensures tells { (place : ℕ) (history : List Occurrence) (channel : BipChannel) → channel_at place history ≡ Some channel
+    ensures tells { (place : ℕ) (history : List Occurrence) (channel : BipChannel)
+        → channel_at place history ≡ Some channel
         → Tells channel (given_to place history) (got_from place history) }
-    ensures prefix { (place : ℕ) (history : List Occurrence) (channel : BipChannel) → channel_at place history ≡ Some channel
+    ensures prefix { (place : ℕ) (history : List Occurrence) (channel : BipChannel)
+        → channel_at place history ≡ Some channel
         → IsFront (got_from place history) (given_to place history) }
 {}

@@ -226,7 +226,8 @@ pub fn deregister<S: Store>(
         (without_code_committed shelf.0 code) }
     ensures table { OnOk result (ChangesEvents loaded.old shelf.0 loaded.new) }
     ensures kept { OnErr result (loaded.new ≡ loaded.old) }
-    ensures rows { OnOk result (rows_of loaded.new ≡ (without_code_committed shelf.0 code (rows_alone loaded.old)).rows) }
+    ensures rows { OnOk result (rows_of loaded.new
+        ≡ (without_code_committed shelf.0 code (rows_alone loaded.old)).rows) }
 {
     cards_are_known();
     rows_stand();
@@ -250,7 +251,8 @@ pub fn keep_bytes<S: Store>(
     ensures table { OnOk result
         (loaded.new ≡ with_row_at loaded.old shelf.0 (record (row_at loaded.old shelf.0) { kept = kept.now })) }
     ensures kept { OnErr result (loaded.new ≡ loaded.old) }
-    ensures rows { OnOk result (rows_of loaded.new ≡ (with_kept_committed shelf.0 kept.now (rows_alone loaded.old)).rows) }
+    ensures rows { OnOk result (rows_of loaded.new
+        ≡ (with_kept_committed shelf.0 kept.now (rows_alone loaded.old)).rows) }
 {
     cards_are_known();
     rows_stand();

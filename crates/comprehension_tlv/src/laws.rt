@@ -16,11 +16,14 @@ pub fn one_reading()
 
 /// Reading from the left gives exactly what the grammar has: all of what is spelled, and nothing else.
 pub fn exact_reading()
-    ensures objects { (bytes : List ℕ) (objects : List Object) → IsObjects bytes objects → objects_of bytes ≡ Ok objects }
+    ensures objects { (bytes : List ℕ) (objects : List Object) → IsObjects bytes objects
+        → objects_of bytes ≡ Ok objects }
     ensures no_others { (bytes : List ℕ) (objects : List Object)
         → All (λ byte. byte < 256) bytes → objects_of bytes ≡ Ok objects → IsObjects bytes objects }
-    ensures template { (bytes content : List ℕ) (tag : ℕ) → IsTemplate bytes tag content → template_of bytes ≡ Ok (tag, content) }
-    ensures no_other { (bytes content : List ℕ) (tag : ℕ) → template_of bytes ≡ Ok (tag, content) → IsTemplate bytes tag content }
+    ensures template { (bytes content : List ℕ) (tag : ℕ) → IsTemplate bytes tag content
+        → template_of bytes ≡ Ok (tag, content) }
+    ensures no_other { (bytes content : List ℕ) (tag : ℕ) → template_of bytes ≡ Ok (tag, content)
+        → IsTemplate bytes tag content }
 
     // At the place of a fault no object begins.
     ensures fault { (at : ℕ) (rest : List ℕ) (fault : TlvFault) (first others : List ℕ) (object : Object)
@@ -29,6 +32,8 @@ pub fn exact_reading()
 
 /// What is written is in the grammar, with the objects and the content that were put in.
 pub fn exact_writing()
-    ensures objects { (objects : List Object) → AllByRecursion IsWritableObject objects → IsObjects (spellings objects) objects }
-    ensures template { (tag : ℕ) (content : List ℕ) → length content < 2 ^ 16 → IsTemplate (tagged tag content) tag content }
+    ensures objects { (objects : List Object) → AllByRecursion IsWritableObject objects
+        → IsObjects (spellings objects) objects }
+    ensures template { (tag : ℕ) (content : List ℕ) → length content < 2 ^ 16
+        → IsTemplate (tagged tag content) tag content }
 {}

@@ -17,7 +17,8 @@ pub fn one_history()
 /// The handset comes to an end with each line: whatever the card answers, what is left to do falls with each command, answer,
 /// note and reset.
 pub fn lines_end()
-    ensures { (h : List Happened) (event : Happened) → IsOrderly (event ∷ h) → IsOfLine event → work_left (event ∷ h) < work_left h }
+    ensures { (h : List Happened) (event : Happened) → IsOrderly (event ∷ h) → IsOfLine event
+        → work_left (event ∷ h) < work_left h }
 {}
 
 /// Of the timers that run the one that is due first comes first, and of several at one moment the lowest.

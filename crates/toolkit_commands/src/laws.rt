@@ -60,7 +60,8 @@ pub fn lengths_of_commands()
 
 /// The same of envelopes.
 pub fn exact_envelopes()
-    ensures all { (bytes : List ℕ) (envelope : Envelope) → IsEnvelope bytes envelope → envelope_of bytes ≡ Some envelope }
+    ensures all { (bytes : List ℕ) (envelope : Envelope) → IsEnvelope bytes envelope
+        → envelope_of bytes ≡ Some envelope }
     ensures no_others { (bytes : List ℕ) (envelope : Envelope)
         → All (λ byte. byte < 256) bytes → envelope_of bytes ≡ Some envelope → IsEnvelope bytes envelope }
 {}

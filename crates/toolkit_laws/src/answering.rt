@@ -13,7 +13,8 @@ use toolkit_commands::lengths_of_commands;
 /// applet's next turn is told of the answer that was accepted to that command, unless it woke; and each answer that was
 /// accepted to a command of it is told it once.
 pub fn responses_reach_who_asked()
-    ensures { (commands : List Command) (state : ToolkitState) (shelf : ℕ) → IsInOrder state → AreAccepted commands state
+    ensures { (commands : List Command) (state : ToolkitState) (shelf : ℕ) → IsInOrder state
+        → AreAccepted commands state
         → ReachesWhoAsked shelf (awaited shelf (asks state.session)) (moved_by commands state).log
         (awaited shelf (asks (moved_by commands state).state.session)) }
 {

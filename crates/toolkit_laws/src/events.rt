@@ -12,7 +12,8 @@ use toolkit_commands::lengths_of_commands;
 /// envelopes gave it is, in this order, what it was told of and what is late for it then. The events of a terminal profile and
 /// of STATUS, of which the card also tells by itself, are left out.
 pub fn no_event_is_lost()
-    ensures { (commands : List Command) (state : ToolkitState) (shelf : ℕ) → IsInOrder state → AreAccepted commands state
+    ensures { (commands : List Command) (state : ToolkitState) (shelf : ℕ) → IsInOrder state
+        → AreAccepted commands state
         → LosesNothing shelf state (moved_by commands state) }
 {
     lengths_of_commands();

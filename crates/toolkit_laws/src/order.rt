@@ -15,7 +15,8 @@ ghost use Rattle.toolkit_laws.specs.Begun.{begun};
 /// Each row that is registered for an event stands in the order of its triggers once, and no other; an earlier one has a
 /// smaller priority number, or the same and was registered later.
 pub fn triggers_are_in_order()
-    ensures { (rows : List Registration) (code : ℕ) → AreRows rows → IsTriggerOrder rows code (trigger_order rows code) }
+    ensures { (rows : List Registration) (code : ℕ) → AreRows rows
+        → IsTriggerOrder rows code (trigger_order rows code) }
 {}
 
 /// An event makes the applets run that are idle, each once and in the order of its targets, before any other runs: those that an

@@ -45,7 +45,8 @@ impl Session {
     /// A command of the card's own becomes the outstanding one, and what it tells is announced.
     pub(crate) fn put_own_out(&mut self, command: Proactive)
         requires { CanBeSent command }
-        ensures { self.new ≡ putting_out None command (record self.old { announced = announcing command self.old.announced }) }
+        ensures { self.new ≡ putting_out None command
+            (record self.old { announced = announcing command self.old.announced }) }
     {
         self.put_out(None, &command);
         self.announced.announce(command);

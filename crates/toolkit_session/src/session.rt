@@ -156,7 +156,8 @@ impl Session {
         requires { is_some (unfetched self.old) ≡ true }
         ensures body { IfSome (unfetched self.old) (λ command. out.new.body ≡ bytes_of command) }
         ensures status { out.new.status ≡ StatusWord.DONE }
-        ensures state { IfSome (unfetched self.old) (λ command. self.new ≡ record self.old { out = Some (as_fetched command) }) }
+        ensures state { IfSome (unfetched self.old) (λ command. self.new
+            ≡ record self.old { out = Some (as_fetched command) }) }
     {
         match &mut self.out {
             Some(command) => command.fetch(out),
