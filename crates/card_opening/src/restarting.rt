@@ -24,7 +24,8 @@ fn mount_again<S: Store, B: Applet>(
     requires recovered { S.recovered store.old ≡ true }
     requires shelves { length boxes.now ≡ ROW_COUNT }
     requires kept { MayRestart (memory S.Store store.old loaded.old) (minds_of B.mind boxes.now) }
-    ensures restarts { OnOk result (RestartsMemory (memory S.Store store.old loaded.old) (memory S.Store store.new loaded.new)
+    ensures restarts { OnOk result (RestartsMemory (memory S.Store store.old loaded.old)
+        (memory S.Store store.new loaded.new)
         (minds_of B.mind boxes.now)) }
     ensures table { OnErr result (loaded.new ≡ loaded.old) }
     ensures reads { Reads (memory S.Store store.old loaded.old) (memory S.Store store.new loaded.new) result }
@@ -58,7 +59,8 @@ pub fn restart<S: Store, B: Applet>(
 ) -> Result<(), StoreFault>
     requires shelves { length boxes.old ≡ ROW_COUNT }
     requires kept { MayRestart (memory S.Store store.old loaded.old) (minds_of B.mind boxes.old) }
-    ensures restarts { OnOk result (RestartsMemory (memory S.Store store.old loaded.old) (memory S.Store store.new loaded.new)
+    ensures restarts { OnOk result (RestartsMemory (memory S.Store store.old loaded.old)
+        (memory S.Store store.new loaded.new)
         (minds_of B.mind boxes.old)) }
     ensures woke { OnOk result
         (minds_of B.mind boxes.new ≡ woken_boxes (rows_of loaded.new) (minds_of B.mind boxes.old)) }
