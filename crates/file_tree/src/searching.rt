@@ -54,7 +54,8 @@ fn node_at(loaded: &Loaded, number: u8) -> &Node
     &loaded.all_nodes()[usize::from(number)]
 }
 
-/// The file of an entry whose number every wanted file has, if there is one.
+/// The file of an entry whose number every wanted file has, if there is one. Where it is called, what is wanted is known.
+#[inline(always)]
 pub fn only_file(loaded: &Loaded, wanted: Wanted, number: u8) -> Option<Descriptor>
     requires table { IsCardTable loaded.now }
     requires only { AsksForNumber wanted number }
