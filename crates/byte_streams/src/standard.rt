@@ -112,6 +112,11 @@ impl<O: Write> Sink for OutputSink<O> {
 fn write_out<O: Write>(output: &mut O, part: &[u8]) -> io::Result<()>
     ensures { OnOk result (Appends (O.contents output.old) (O.contents output.new) part.now) }
 {
-    output.write_all(part)?;
+    // Mostly the first call takes all.
+    match output.write(part) {
+        Ok(count) if count == part.len() => {}
+        Ok(count) => output.write_all(&part[count..])?,
+        Err(_) => output.write_all(part)?,
+    }
     output.flush()
 }
