@@ -80,25 +80,18 @@ rows_of_change : (old new : Persistent) → ChangesOneFile old new → new.rows 
 unfolding with_file_changed
 rows_of_change old new step = ap (λ (state : Persistent). state.rows) step.changed
 
-steps_of_files : (state : Persistent) (passed : List Persistent) → EachStep ChangesOneFile state passed → EachStep (ChangesOneThing false) state passed
-steps_of_files state [] steps = tt
-steps_of_files state (next ∷ passed) steps = (inl steps.0, steps_of_files next passed steps.1)
+-- where each step of one kind is one of another
+pub each_too : {X : Type 0} (R S : X → X → Type 0) → ((old new : X) → R old new → S old new) → (state : X) (passed : List X) → EachStep R state passed → EachStep S state passed
+each_too R S too state [] steps = tt
+each_too R S too state (next ∷ passed) steps = (too state next steps.0, each_too R S too next passed steps.1)
 
-rows_of_files : (state : Persistent) (rows : List Registration) (passed : List Persistent) → state.rows ≡ rows → EachStep ChangesOneFile state passed → All (λ (next : Persistent). next.rows ≡ rows) passed
-rows_of_files state rows [] same steps = All-nil (λ (next : Persistent). next.rows ≡ rows)
-rows_of_files state rows (next ∷ passed) same steps =
-    let here : next.rows ≡ rows = rows_of_change state next steps.0 ∙ same in
-    All-cons (λ (each : Persistent). each.rows ≡ rows) next passed here (rows_of_files next rows passed here steps.1)
-
-steps_of_nodes : (state : Persistent) (passed : List Persistent) → EachStep ChangesOneNode state passed → EachStep (ChangesOneThing true) state passed
-steps_of_nodes state [] steps = tt
-steps_of_nodes state (next ∷ passed) steps = (steps.0, steps_of_nodes next passed steps.1)
-
-rows_of_nodes : (state : Persistent) (rows : List Registration) (passed : List Persistent) → state.rows ≡ rows → EachStep ChangesOneNode state passed → All (λ (next : Persistent). next.rows ≡ rows) passed
-rows_of_nodes state rows [] same steps = All-nil (λ (next : Persistent). next.rows ≡ rows)
-rows_of_nodes state rows (next ∷ passed) same steps =
-    let here : next.rows ≡ rows = ap (λ (each : Persistent). each.rows) steps.0.changed ∙ same in
-    All-cons (λ (each : Persistent). each.rows ≡ rows) next passed here (rows_of_nodes next rows passed here steps.1)
+-- where no step changes the rows
+rows_kept : (R : Persistent → Persistent → Type 0) → ((old new : Persistent) → R old new → new.rows ≡ old.rows) → (state : Persistent) (rows : List Registration) (passed : List Persistent) → state.rows ≡ rows
+    → EachStep R state passed → All (λ (next : Persistent). next.rows ≡ rows) passed
+rows_kept R keeps state rows [] same steps = All-nil (λ (next : Persistent). next.rows ≡ rows)
+rows_kept R keeps state rows (next ∷ passed) same steps =
+    let here : next.rows ≡ rows = keeps state next steps.0 ∙ same in
+    All-cons (λ (each : Persistent). each.rows ≡ rows) next passed here (rows_kept R keeps next rows passed here steps.1)
 
 pub last_is : (P : Persistent → Type 0) (state : Persistent) (passed : List Persistent) → P state → All P passed → P (last_of state passed)
 last_is P state [] here all = here
@@ -120,7 +113,7 @@ module _ (card : CardState) (good : IsGood card) where
   pub files_lawful : (channel key : ℕ) (outcome : FileOutcome) → channel < 4 → IsLawfulOutcome card.persistent outcome → IsLawfulAnswer card false key (on_files card channel outcome)
   files_lawful channel key outcome low lawful =
       let last : Persistent = last_of card.persistent outcome.passed in
-      let rows : All (λ (next : Persistent). next.rows ≡ card.persistent.rows) outcome.passed = rows_of_files card.persistent card.persistent.rows outcome.passed refl lawful.steps in
+      let rows : All (λ (next : Persistent). next.rows ≡ card.persistent.rows) outcome.passed = rows_kept ChangesOneFile rows_of_change card.persistent card.persistent.rows outcome.passed refl lawful.steps in
       let same : last.rows ≡ card.persistent.rows = last_is (λ state. state.rows ≡ card.persistent.rows) card.persistent outcome.passed refl rows in
       record {
         good = record {
@@ -132,7 +125,7 @@ module _ (card : CardState) (good : IsGood card) where
           session = subst (λ (list : List Registration). IsOrderly list card.session) (sym same) good.session;
         };
         ends = refl;
-        steps = steps_of_files card.persistent outcome.passed lawful.steps;
+        steps = each_too ChangesOneFile (ChangesOneThing false) (λ old new step. inl step) card.persistent outcome.passed lawful.steps;
         sound = lawful.sound;
         rows = rows;
         boxes = refl;
@@ -146,7 +139,7 @@ module _ (card : CardState) (good : IsGood card) where
 
   pub trees_lawful : (key : ℕ) (outcome : TreeOutcome) → IsLawfulTree card.persistent card.channels outcome → IsLawfulAnswer card true key (on_trees card outcome)
   trees_lawful key outcome lawful =
-      let rows : All (λ (next : Persistent). next.rows ≡ card.persistent.rows) outcome.passed = rows_of_nodes card.persistent card.persistent.rows outcome.passed refl lawful.steps in
+      let rows : All (λ (next : Persistent). next.rows ≡ card.persistent.rows) outcome.passed = rows_kept ChangesOneNode (λ old new step. ap (λ (each : Persistent). each.rows) step.changed) card.persistent card.persistent.rows outcome.passed refl lawful.steps in
       let same : (last_of card.persistent outcome.passed).rows ≡ card.persistent.rows = last_is (λ state. state.rows ≡ card.persistent.rows) card.persistent outcome.passed refl rows in
       record {
         good = record {
@@ -162,7 +155,7 @@ module _ (card : CardState) (good : IsGood card) where
           session = subst (λ (list : List Registration). IsOrderly list card.session) (sym same) good.session;
         };
         ends = refl;
-        steps = steps_of_nodes card.persistent outcome.passed lawful.steps;
+        steps = each_too ChangesOneNode (ChangesOneThing true) (λ old new step. step) card.persistent outcome.passed lawful.steps;
         sound = lawful.sound;
         rows = rows;
         boxes = refl;

@@ -4,8 +4,8 @@ use Rattle.std.specs.Prelude.{◌==◌, ◌&&◌, nat_le, if◌then◌else◌}
 use Rattle.uicc_types.specs.declared.answers.StatusWord.{StatusWord}
 use Rattle.uicc_types.specs.declared.answers.TheConstants.StatusWord.{WRONG_PARAMETERS}
 use Rattle.apdu_form.specs.Model.{Apdu}
-use Rattle.file_model.specs.declared.commands.ContentsCommand.TheVariants.{ReadBinary, UpdateBinary, ReadRecord, UpdateRecord, SearchRecord, Increase, Deactivate, Activate}
-use Rattle.file_model.specs.declared.commands.FileCommand.TheVariants.{Select, Status, Contents}
+use Rattle.file_model.specs.declared.commands.ContentsCommand.TheVariants.{ReadBinary, ReadRecord}
+use Rattle.file_model.specs.declared.commands.FileCommand.TheVariants.{Contents}
 use Rattle.file_model.specs.declared.commands.PinCommand.TheVariants as pin
 use Rattle.file_model.specs.Binaries.{binary_file, updating, update_in, binary_updated}
 use Rattle.file_model.specs.Chains.{and_given}
@@ -26,7 +26,7 @@ use Rattle.card_model.specs.States.{CardState}
 use Rattle.card_model.specs.Toolkit.{profile_taken, response_taken, envelope_taken, applet_installed, applet_deleted, toolkit_outcome}
 use Rattle.card_model.specs.declared.instructions.Instruction.{Instruction}
 use Rattle.card_model.specs.declared.instructions.Instruction.TheVariants.{File, Pin, ManageChannel, Toolkit, Tree}
-use Rattle.card_model.specs.declared.instructions.ToolkitCommand.TheVariants.{TerminalProfile, Fetch, TerminalResponse, Envelope, InstallApplet, DeleteApplet}
+use Rattle.card_model.specs.declared.instructions.ToolkitCommand.TheVariants.{Fetch}
 use Rattle.link_laws.specs.Le.{without_le, looks_at_le}
 
 module _ (card : CardState) (apdu : Apdu) where
@@ -44,31 +44,19 @@ module _ (card : CardState) (apdu : Apdu) where
 
   carried_alike : (instruction : Instruction) → looks_at_le instruction apdu.p1 ≡ false → carried_out instruction card apdu ≡ carried_out instruction card (without_le apdu)
   unfolding carried_out file_outcome contents_outcome file_selected selecting chosen status_told telling binary_file binary_updated update_in updating record_file record_named record_updated number_to_update record_update_in record_updating searched number_to_search search_in searching numbers_matched increased sum_to_write increase_in increasing life_changed life_file bringing pin_verified pin_changed pin_disabled pin_enabled pin_unblocked channel_tried toolkit_outcome profile_taken response_taken envelope_taken applet_installed applet_deleted tree_outcome created deleted resized
-  carried_alike (File Select) none = refl
-  carried_alike (File Status) none = refl
   carried_alike (File (Contents ReadBinary)) none = cc
-  carried_alike (File (Contents UpdateBinary)) none = refl
   carried_alike (File (Contents ReadRecord)) none = cc
-  carried_alike (File (Contents UpdateRecord)) none = refl
-  carried_alike (File (Contents SearchRecord)) none = refl
-  carried_alike (File (Contents Increase)) none = refl
-  carried_alike (File (Contents Deactivate)) none = refl
-  carried_alike (File (Contents Activate)) none = refl
   carried_alike (Pin pin.Verify) none = refl
   carried_alike (Pin pin.Change) none = refl
   carried_alike (Pin pin.Disable) none = refl
   carried_alike (Pin pin.Enable) none = refl
   carried_alike (Pin pin.Unblock) none = refl
   carried_alike ManageChannel none = ap (managed card) (closed_alike (apdu.p1 == 0x00) (apdu.p1 == 0x80 && nat_le 1 apdu.p2 && nat_le apdu.p2 3) none)
-  carried_alike (Toolkit TerminalProfile) none = refl
   carried_alike (Toolkit Fetch) none = cc
-  carried_alike (Toolkit TerminalResponse) none = refl
-  carried_alike (Toolkit Envelope) none = refl
-  carried_alike (Toolkit InstallApplet) none = refl
-  carried_alike (Toolkit DeleteApplet) none = refl
   carried_alike (Tree tree.Create) none = refl
   carried_alike (Tree tree.Delete) none = refl
   carried_alike (Tree tree.Resize) none = refl
+  carried_alike _ none = refl
 
   -- applets that are told of STATUS don't, either
   pub carried_with_alike : (runs_applets : Bool) (instruction : Instruction) → looks_at_le instruction apdu.p1 ≡ false

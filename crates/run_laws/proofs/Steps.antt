@@ -8,7 +8,7 @@ use Rattle.apdu_form.specs.Model.{Apdu, command_in}
 use Rattle.card_layout.specs.Persistent.{Persistent}
 use Rattle.file_model.specs.Chains.{and_given}
 use Rattle.file_model.specs.Commands.{pin_outcome}
-use Rattle.file_model.specs.declared.commands.FileCommand.TheVariants.{Select, Status, Contents}
+use Rattle.file_model.specs.declared.commands.FileCommand.TheVariants.{Status}
 use Rattle.file_model.specs.declared.commands.PinCommand.{PinCommand}
 use Rattle.file_model.specs.declared.selections.Selection.{Selection}
 use Rattle.file_model.specs.Guards.{Guard, OfPin, OfUnblock, guard_of, IsGuarded as IsGuardedBy, GuardsPins}
@@ -142,12 +142,7 @@ module _ (guards : (command : PinCommand) → GuardsPins (guard_of command) (pin
     unfolding carried_out
     carried_with_so false instruction is = carried_so instruction is
     carried_with_so true (File Status) is = status_so _ (none_by apdu.ins is) (file_leaves card.persistent (seen_by card) selection apdu Status)
-    carried_with_so true (File Select) is = no_event (carried_out (File Select) card apdu) (carried_so (File Select) is)
-    carried_with_so true (File (Contents command)) is = no_event (carried_out (File (Contents command)) card apdu) (carried_so (File (Contents command)) is)
-    carried_with_so true (Pin command) is = no_event (carried_out (Pin command) card apdu) (carried_so (Pin command) is)
-    carried_with_so true ManageChannel is = no_event (carried_out ManageChannel card apdu) (carried_so ManageChannel is)
-    carried_with_so true (Toolkit command) is = no_event (carried_out (Toolkit command) card apdu) (carried_so (Toolkit command) is)
-    carried_with_so true (Tree command) is = no_event (carried_out (Tree command) card apdu) (carried_so (Tree command) is)
+    carried_with_so true instruction is = no_event (carried_out instruction card apdu) (carried_so instruction is)
 
   settled_so : (result : Result Answered StatusWord) → Q result → IsGuarded card bytes (settled card result)
   settled_so (Err status) none = refused_guarded card bytes status none

@@ -27,7 +27,8 @@ use Rattle.card_model.specs.Toolkit.{ToolkitOutcome, toolkit_of, coming_to, with
 use Rattle.card_model.specs.declared.instructions.Instruction.{Instruction}
 use Rattle.card_model.proofs.Answering.{not_carried}
 use Rattle.card_model.proofs.Counted.{last_joined}
-use Rattle.card_model.specs.declared.instructions.Instruction.TheVariants.{File, Pin, ManageChannel, Toolkit, Tree}
+use Rattle.card_model.proofs.Lawful.{each_too}
+use Rattle.card_model.specs.declared.instructions.Instruction.TheVariants.{File, Toolkit}
 use Rattle.file_model.specs.declared.commands.FileCommand.TheVariants as file
 use Rattle.session_laws.specs.Lawful.{IsStatus, ChangesOnePart, IsLawfulWithApplets, AnswersAreLawful}
 use Rattle.session_laws.proofs.Going.{IsDone, status_done}
@@ -44,10 +45,6 @@ pub record IsTold (card : CardState) (of_tree : Bool) (key : ℕ) (answered : An
   pub refused : is_carried_out answered.status ≡ false → ChangesAtMostTries key answered.status card answered.state
 
 -- ---- commits
-
-things_too : (of_tree : Bool) (state : Persistent) (commits : List Persistent) → EachStep (ChangesOneThing of_tree) state commits → EachStep (ChangesOnePart of_tree) state commits
-things_too of_tree state [] steps = tt
-things_too of_tree state (next ∷ commits) steps = (inl steps.0, things_too of_tree next commits steps.1)
 
 -- the state is this one with other rows
 abbrev IsWithRows : Persistent → Persistent → Type 0
@@ -70,7 +67,7 @@ refused_told card of_tree key status known = record { ends = refl; steps = tt; s
 lawful_told : (card : CardState) (of_tree : Bool) (key : ℕ) (answered : Answered) → IsLawfulAnswer card of_tree key answered → IsTold card of_tree key answered
 lawful_told card of_tree key answered lawful = record {
   ends = lawful.ends;
-  steps = things_too of_tree card.persistent answered.commits lawful.steps;
+  steps = each_too (ChangesOneThing of_tree) (ChangesOnePart of_tree) (λ old new step. inl step) card.persistent answered.commits lawful.steps;
   short = lawful.short;
   status = inl lawful.status;
   refused = lawful.refused;
@@ -148,12 +145,9 @@ module _ (lawful : CommandsAreLawful) (card : CardState) (good : IsGood card) wh
   carried_tells bytes apdu is (File file.Status) =
       of_status (key_named bytes) apdu (status_told card.persistent (selection_on card (channel_of apdu.class)) apdu) (status_done card.persistent (selection_on card (channel_of apdu.class)) apdu)
       (of_lawful false (key_named bytes) _ (lawful card bytes apdu (File file.Status) good is refl))
-  carried_tells bytes apdu is (File file.Select) = no_event false (key_named bytes) _ (of_lawful false (key_named bytes) _ (lawful card bytes apdu (File file.Select) good is refl))
-  carried_tells bytes apdu is (File (file.Contents command)) = no_event false (key_named bytes) _ (of_lawful false (key_named bytes) _ (lawful card bytes apdu (File (file.Contents command)) good is refl))
-  carried_tells bytes apdu is (Pin command) = no_event false (key_named bytes) _ (of_lawful false (key_named bytes) _ (lawful card bytes apdu (Pin command) good is refl))
-  carried_tells bytes apdu is ManageChannel = no_event false (key_named bytes) _ (of_lawful false (key_named bytes) _ (lawful card bytes apdu ManageChannel good is refl))
   carried_tells bytes apdu is (Toolkit command) = of_toolkit (key_named bytes) _ (outcome_short card good apdu command (seen_by card))
-  carried_tells bytes apdu is (Tree command) = no_event true (key_named bytes) _ (of_lawful true (key_named bytes) _ (lawful card bytes apdu (Tree command) good is refl))
+  carried_tells bytes apdu is instruction =
+      no_event (is_of_tree instruction) (key_named bytes) _ (of_lawful (is_of_tree instruction) (key_named bytes) _ (lawful card bytes apdu instruction good is refl))
 
   tried_tells : (knows : Instruction → Bool) (bytes : List ℕ) → has_toolkit knows ≡ true → AreBytes bytes → Tells (is_of_tree_named bytes) (key_named bytes) (tried knows card bytes)
   tried_tells knows bytes runs are =

@@ -25,7 +25,7 @@ use Rattle.card_model.specs.Instructions.{has_toolkit}
 use Rattle.card_model.specs.States.{CardState, IsGood}
 use Rattle.card_model.specs.Toolkit.{ToolkitOutcome, toolkit_of, coming_to, is_length_of, kind_in, command_fetched, toolkit_outcome}
 use Rattle.card_model.specs.declared.instructions.Instruction.{Instruction}
-use Rattle.card_model.specs.declared.instructions.Instruction.TheVariants.{File, Pin, ManageChannel, Toolkit, Tree}
+use Rattle.card_model.specs.declared.instructions.Instruction.TheVariants.{File, Toolkit}
 use Rattle.card_model.specs.declared.instructions.ToolkitCommand.TheVariants as toolkit
 use Rattle.file_model.specs.declared.commands.FileCommand.TheVariants as file
 use Rattle.session_laws.specs.Fetching.{GivesCommand, FetchesCommand}
@@ -93,18 +93,14 @@ module _ (card : CardState) (apdu : Apdu) where
 
   carried_suits : (instruction : Instruction) → S (command_by instruction card apdu) (cut_result apdu.expected (carried_with true instruction card apdu))
   unfolding carried_out toolkit_outcome
-  carried_suits (File file.Select) = always None (λ answered. tt) _
   carried_suits (File file.Status) = always (Some Status) (λ answered. tt) _
-  carried_suits (File (file.Contents command)) = always None (λ answered. tt) _
-  carried_suits (Pin command) = always None (λ answered. tt) _
-  carried_suits ManageChannel = always None (λ answered. tt) _
   carried_suits (Toolkit toolkit.TerminalProfile) = always (Some (Profile apdu.body)) (λ answered. tt) _
   carried_suits (Toolkit toolkit.Fetch) = of_fetch (option_map (λ out. Fetch out) (unfetched card.session)) (command_fetched card apdu) (fetches_suit card apdu)
   carried_suits (Toolkit toolkit.TerminalResponse) = always _ (responses_suit apdu.body (unanswered card.session)) _
   carried_suits (Toolkit toolkit.Envelope) = always _ (reports_suit (envelope_of apdu.body)) _
   carried_suits (Toolkit toolkit.InstallApplet) = always _ (rows_suit (installed_row card.persistent (kind_in card apdu.p2) apdu.p2 apdu.p1 apdu.body)) _
   carried_suits (Toolkit toolkit.DeleteApplet) = always (Some (Delete apdu.p2)) (λ answered. tt) _
-  carried_suits (Tree command) = always None (λ answered. tt) _
+  carried_suits _ = always None (λ answered. tt) _
 
   by_carried : (command : Option Command) (result : Result Answered StatusWord) → S command (cut_result apdu.expected result) → Suits (if_carried result command) (settled card (cut_result apdu.expected result))
   unfolding and_given

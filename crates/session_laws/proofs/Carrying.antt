@@ -25,7 +25,7 @@ use Rattle.card_model.specs.Instructions.{has_toolkit}
 use Rattle.card_model.specs.States.{CardState, IsGood}
 use Rattle.card_model.specs.Toolkit.{ToolkitOutcome, kind_in, row_status, row_or_status, profile_taken, command_fetched, response_taken, envelope_taken, applet_installed, applet_deleted, toolkit_outcome}
 use Rattle.card_model.specs.declared.instructions.Instruction.{Instruction}
-use Rattle.card_model.specs.declared.instructions.Instruction.TheVariants.{File, Pin, ManageChannel, Toolkit, Tree}
+use Rattle.card_model.specs.declared.instructions.Instruction.TheVariants.{File, Toolkit}
 use Rattle.card_model.specs.declared.instructions.ToolkitCommand.{ToolkitCommand}
 use Rattle.card_model.specs.declared.instructions.ToolkitCommand.TheVariants as toolkit
 use Rattle.file_model.specs.declared.commands.FileCommand.TheVariants as file
@@ -117,13 +117,9 @@ module _ (card : CardState) (apdu : Apdu) where
 
   carried_comes : IsGood card → (instruction : Instruction) → Comes (moves_toolkit instruction) (command_by instruction card apdu) (carried_with true instruction card apdu)
   unfolding carried_out file_outcome
-  carried_comes good (File file.Select) = other_comes _
   carried_comes good (File file.Status) = status_comes (status_told card.persistent (selection_on card (channel_of apdu.class)) apdu) status_is
-  carried_comes good (File (file.Contents command)) = other_comes _
-  carried_comes good (Pin command) = other_comes _
-  carried_comes good ManageChannel = other_comes _
   carried_comes good (Toolkit command) = toolkit_comes (command_of command card apdu) _ (outcome_is good (seen_by card) command)
-  carried_comes good (Tree command) = other_comes _
+  carried_comes good _ = other_comes _
 
 -- ---- the answer
 

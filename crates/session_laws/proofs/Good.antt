@@ -20,10 +20,10 @@ use Rattle.toolkit_model.specs.Commands.{polled}
 use Rattle.toolkit_model.specs.Steps.{Command, Status, moved}
 use Rattle.toolkit_laws.specs.Installing.{InstallationsAreAccepted}
 use Rattle.toolkit_laws.specs.Sound.{AreSoundRows, HasApplet, IsGoodToolkit, LeavesGood, StepsLeaveGood, InstalledRowsAreSound}
-use Rattle.card_model.specs.Answers.{Answered, settled, on_toolkit, toolkit_tried, then_polled, carried_out, carried_with, seen_by, answer_of, passed_of}
+use Rattle.card_model.specs.Answers.{Answered, settled, on_toolkit, toolkit_tried, then_polled, is_status, event_told, carried_out, carried_with, seen_by, answer_of, passed_of}
 use Rattle.card_model.specs.Cases.{cut_result, all_so, command_is}
 use Rattle.card_model.specs.Chained.{Any}
-use Rattle.card_model.specs.Instructions.{has_toolkit}
+use Rattle.card_model.specs.Instructions.{has_toolkit, is_of_tree}
 use Rattle.card_model.specs.Laws.{key_named, IsStatusOf, IsLawfulAnswer, CommandsAreLawful}
 use Rattle.card_model.specs.Runs.{IsLeft, box_left, boxes_left}
 use Rattle.card_model.specs.States.{CardState, AreChannels, HasBox, AreOfSevenKinds, IsGood, row_on}
@@ -31,8 +31,7 @@ use Rattle.card_model.specs.Toolkit.{ToolkitOutcome, toolkit_of, coming_to, with
 use Rattle.card_model.specs.Woken.{woken_is_good}
 use Rattle.card_model.specs.declared.instructions.Instruction.{Instruction}
 use Rattle.card_model.proofs.Lawful.{last_is}
-use Rattle.card_model.specs.declared.instructions.Instruction.TheVariants.{File, Pin, ManageChannel, Toolkit, Tree}
-use Rattle.file_model.specs.declared.commands.FileCommand.TheVariants as file
+use Rattle.card_model.specs.declared.instructions.Instruction.TheVariants.{Toolkit}
 use Rattle.session_laws.specs.Moving.{HasOrder}
 use Rattle.session_laws.proofs.Breaking.{left_at, stays_there, kinds_left}
 use Rattle.session_laws.proofs.Coming.{Comes, ComesTo, comes_by, outcome_comes}
@@ -141,25 +140,16 @@ module _ (installs : InstallationsAreAccepted) (sounds : InstalledRowsAreSound) 
       let later : IsWell (on_toolkit state outcome) = toolkit_well leaves same state well.0 Status outcome comes (tt, tt) in
       (later.0, All-append IsSoundCard answered.commits (states_passed state.persistent outcome) well.1 later.1)
 
-  of_status : (result : Result Answered StatusWord) → Well result → Well (and_given result (λ answered. Ok (then_polled answered)))
+  of_event : (is_event : Bool) (result : Result Answered StatusWord) → Well result → Well (and_given result (λ answered. Ok (event_told is_event answered)))
   unfolding and_given
-  of_status (Err status) well = tt
-  of_status (Ok answered) well = polled_well answered well
+  of_event is_event (Err status) well = tt
+  of_event true (Ok answered) well = polled_well answered well
+  of_event false (Ok answered) well = well
 
-  no_event : (result : Result Answered StatusWord) → Well result → Well (and_given result (λ answered. Ok answered))
-  unfolding and_given
-  no_event (Err status) well = tt
-  no_event (Ok answered) well = well
-
-  carried_well : (bytes : List ℕ) (apdu : Apdu) → IsCommand bytes apdu → (instruction : Instruction) → Well (carried_with true instruction card apdu)
+  carried_well : (bytes : List ℕ) (apdu : Apdu) → IsCommand bytes apdu → (instruction : Instruction) → Well (carried_out instruction card apdu)
   unfolding carried_out
-  carried_well bytes apdu is (File file.Status) = of_status _ (of_lawful false (key_named bytes) _ (lawful card bytes apdu (File file.Status) good is refl))
-  carried_well bytes apdu is (File file.Select) = no_event _ (of_lawful false (key_named bytes) _ (lawful card bytes apdu (File file.Select) good is refl))
-  carried_well bytes apdu is (File (file.Contents command)) = no_event _ (of_lawful false (key_named bytes) _ (lawful card bytes apdu (File (file.Contents command)) good is refl))
-  carried_well bytes apdu is (Pin command) = no_event _ (of_lawful false (key_named bytes) _ (lawful card bytes apdu (Pin command) good is refl))
-  carried_well bytes apdu is ManageChannel = no_event _ (of_lawful false (key_named bytes) _ (lawful card bytes apdu ManageChannel good is refl))
-  carried_well bytes apdu is (Toolkit command) = no_event _ (of_toolkit _ _ (outcome_comes installs sounds card ready apdu command (seen_by card)))
-  carried_well bytes apdu is (Tree command) = no_event _ (of_lawful true (key_named bytes) _ (lawful card bytes apdu (Tree command) good is refl))
+  carried_well bytes apdu is (Toolkit command) = of_toolkit _ _ (outcome_comes installs sounds card ready apdu command (seen_by card))
+  carried_well bytes apdu is instruction = of_lawful (is_of_tree instruction) (key_named bytes) _ (lawful card bytes apdu instruction good is refl)
 
   by_carried : (expected : Option ℕ) (result : Result Answered StatusWord) → Well result → IsWell (settled card (cut_result expected result))
   unfolding and_given
@@ -170,7 +160,7 @@ module _ (installs : InstallationsAreAccepted) (sounds : InstalledRowsAreSound) 
   unfolding answer_of
   answer_well knows bytes runs are =
       of_running knows card bytes runs (λ result. IsWell (settled card result)) (all_so _ (λ status. (good, All-nil IsSoundCard)))
-      (λ apdu instruction read. by_carried apdu.expected (carried_with true instruction card apdu) (carried_well bytes apdu (command_is bytes apdu are read.read) instruction))
+      (λ apdu instruction read. by_carried apdu.expected (carried_with true instruction card apdu) (of_event (is_status instruction) (carried_out instruction card apdu) (carried_well bytes apdu (command_is bytes apdu are read.read) instruction)))
 
   -- ---- what a fault leaves
 

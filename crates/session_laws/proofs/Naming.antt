@@ -26,7 +26,7 @@ use Rattle.card_model.specs.Naming.{IsNamed, named_so}
 use Rattle.card_model.specs.States.{CardState, IsGood}
 use Rattle.card_model.specs.Toolkit.{ToolkitOutcome, kind_in, command_fetched, response_taken, toolkit_outcome}
 use Rattle.card_model.specs.declared.instructions.Instruction.{Instruction}
-use Rattle.card_model.specs.declared.instructions.Instruction.TheVariants.{File, Pin, ManageChannel, Toolkit, Tree}
+use Rattle.card_model.specs.declared.instructions.Instruction.TheVariants.{File, Toolkit}
 use Rattle.card_model.specs.declared.instructions.ToolkitCommand.TheVariants as toolkit
 use Rattle.file_model.specs.declared.commands.FileCommand.TheVariants as file
 use Rattle.session_laws.specs.Moving.{if_row, command_by, if_carried, taken}
@@ -175,18 +175,14 @@ module _ (card : CardState) (good : IsGood card) (apdu : Apdu) where
 
   carried_names : (instruction : Instruction) → TellsBoth instruction 0 apdu.ins → NamesIn card apdu.ins (if_carried (result instruction) (command_by instruction card apdu)) (result instruction)
   unfolding carried_out toolkit_outcome
-  carried_names (File file.Select) is = other_names card apdu.ins _ None is.0 is.1 tt
   carried_names (File file.Status) is = other_names card apdu.ins _ (Some Status) is.0 is.1 tt
-  carried_names (File (file.Contents command)) is = other_names card apdu.ins _ None is.0 is.1 tt
-  carried_names (Pin command) is = other_names card apdu.ins _ None is.0 is.1 tt
-  carried_names ManageChannel is = other_names card apdu.ins _ None is.0 is.1 tt
   carried_names (Toolkit toolkit.TerminalProfile) is = other_names card apdu.ins _ (Some (Profile apdu.body)) is.0 is.1 tt
   carried_names (Toolkit toolkit.Fetch) is = fetch_names card apdu.ins (sym (eqb-true apdu.ins 0x12 (sym is.0))) (command_fetched card apdu) (fetch_so card apdu good)
   carried_names (Toolkit toolkit.TerminalResponse) is = response_names card apdu apdu.ins (sym (eqb-true apdu.ins 0x14 (sym is.1))) (response_taken card apdu) (response_so card apdu)
   carried_names (Toolkit toolkit.Envelope) is = other_names card apdu.ins _ _ is.0 is.1 (report_leaves (envelope_of apdu.body))
   carried_names (Toolkit toolkit.InstallApplet) is = other_names card apdu.ins _ _ is.0 is.1 (installs (installed_row card.persistent (kind_in card apdu.p2) apdu.p2 apdu.p1 apdu.body))
   carried_names (Toolkit toolkit.DeleteApplet) is = other_names card apdu.ins _ (Some (Delete apdu.p2)) is.0 is.1 tt
-  carried_names (Tree command) is = other_names card apdu.ins _ None is.0 is.1 tt
+  carried_names _ is = other_names card apdu.ins _ None is.0 is.1 tt
 
 cut_names : (card : CardState) (ins : ℕ) (command : Option Command) (expected : Option ℕ) (result : Result Answered StatusWord) → NamesIn card ins command result → NamesIn card ins command (cut_result expected result)
 unfolding and_given
