@@ -2,7 +2,6 @@ mod Fullness
 mod Living
 mod Looking
 mod Numbers
-mod Parting
 mod Stopping
 mod Sums
 mod Targeting

@@ -16,13 +16,10 @@ use Rattle.file_model.specs.declared.descriptors.Descriptor.{Descriptor}
 use Rattle.file_model.specs.declared.selections.Selection.{Selection}
 use Rattle.file_model.specs.Chains.{refused_if, and_given}
 use Rattle.file_model.specs.Access.{may}
-use Rattle.file_model.specs.LifeCycles.{bringing}
+use Rattle.file_model.specs.LifeCycles.{bringing, life_in}
 use Rattle.file_model.specs.Outcomes.{FileOutcome, settled_file}
-use Rattle.file_model.specs.Records.{record_updating}
-use Rattle.record_commands.specs.Targets.{number_to_update}
-use Rattle.record_commands.specs.Updating.{record_updated_in, record_written}
-use Rattle.record_commands.specs.Increasing.{sum_to_write, increasing_to, increased_in}
-use Rattle.record_commands.specs.Lives.{life_in}
+use Rattle.file_model.specs.Records.{number_to_update, record_updating, record_update_in, sum_to_write, increasing, increase_in}
+use Rattle.record_commands.specs.Updating.{record_written}
 
 -- what was read alone stands for the same state
 pub reads_held : {T : Type 0} (old new : Memory) (result : Result T StoreFault) → Reads old new result → held new ≡ held old
@@ -52,18 +49,18 @@ module _ (state : Persistent) (seen : Verified) (selection : Selection) (apdu : 
   done_with named = and_given named (λ n. Ok (record_updating state selection apdu file n))
 
   pub update_passed : (number : ℕ) → true ≡ may state UpdateRecord seen file → number_to_update file selection apdu ≡ Ok number
-      → (settled_file selection (record_updated_in state seen selection apdu file)).passed ≡ record_written file number apdu.body state ∷ []
-  unfolding record_updated_in record_updating refused_if and_given
+      → (settled_file selection (record_update_in state seen selection apdu file)).passed ≡ record_written file number apdu.body state ∷ []
+  unfolding record_update_in record_updating refused_if and_given
   update_passed number granted named =
       ap (λ (b : Bool). passed_by selection (refused_if (not b) SECURITY_NOT_SATISFIED (done_with (number_to_update file selection apdu)))) (sym granted)
       ∙ ap (λ (r : Result ℕ StatusWord). passed_by selection (done_with r)) named
 
   abbrev increased_by : Result (List ℕ) StatusWord → Result FileOutcome StatusWord
-  increased_by found = and_given found (λ s. Ok (increasing_to state selection apdu file s))
+  increased_by found = and_given found (λ s. Ok (increasing state selection apdu file s))
 
   pub increase_passed : (sum : List ℕ) → true ≡ may state Increase seen file → sum_to_write state apdu file ≡ Ok sum
-      → (settled_file selection (increased_in state seen selection apdu file)).passed ≡ with_newest_record file.number sum state ∷ []
-  unfolding increased_in increasing_to refused_if and_given
+      → (settled_file selection (increase_in state seen selection apdu file)).passed ≡ with_newest_record file.number sum state ∷ []
+  unfolding increase_in increasing refused_if and_given
   increase_passed sum granted found =
       ap (λ (b : Bool). passed_by selection (refused_if (not b) SECURITY_NOT_SATISFIED (increased_by (sum_to_write state apdu file)))) (sym granted)
       ∙ ap (λ (r : Result (List ℕ) StatusWord). passed_by selection (increased_by r)) found

@@ -1,7 +1,3 @@
-pub mod Chained
-pub mod Increasing
-pub mod Lives
-pub mod Reading
 pub mod Searching
 pub mod Tables
 pub mod Targets

@@ -3,20 +3,19 @@ ghost use Rattle.std.specs.Prelude.{◌≡◌, ◌≢◌, ◌≤◌, ◌+◌, �
 ghost use Rattle.card_layout.specs.Changing.{with_newest_record};
 ghost use Rattle.file_model.specs.Files.{descriptors_of};
 ghost use Rattle.file_model.specs.Selections.{IsSelection};
-ghost use Rattle.file_model.specs.Records.{has_increase_parameters, has_increase_length, short_to_increase, may_be_increased, increased};
-ghost use Rattle.file_model.specs.Outcomes.{cut_to, settled_file};
+ghost use Rattle.file_model.specs.Records.{has_increase_parameters, has_increase_length, short_to_increase, may_be_increased, file_to_increase, sum_to_write, increase_in, increased};
+ghost use Rattle.file_model.specs.Outcomes.{settled_file};
 ghost use Rattle.card_memory.specs.Model.{Performs, StaysStill};
 ghost use Rattle.file_tree.specs.Tables.{IsCardTable};
 ghost use Rattle.file_commands.specs.Commands.{IsInPlace};
 ghost use Rattle.file_commands.specs.Ends.{EndsTry, EndsWell, GivesTried, Passes};
 ghost use Rattle.file_commands.specs.Targets.{IsRefused};
 ghost use Rattle.record_commands.specs.Tables.{KeepsDescriptors};
-ghost use Rattle.record_commands.specs.Targets.{file_to_increase, IsRing, IsTarget};
-ghost use Rattle.record_commands.specs.Increasing.{sum_to_write, increased_in};
+ghost use Rattle.record_commands.specs.Targets.{IsRing, IsTarget};
 ghost use Rattle.card_layout.specs.Memory.{Committed, IsMounted, Reads, held_by, memory};
 
 use crate::adding::sum_of;
-use crate::answers::{append, cut};
+use crate::answers::append;
 use crate::holding::record_of;
 use crate::targets::{Demand, LONGEST_INCREASED, Structure, record_file};
 use access_rules::{Op, Verified};
@@ -75,7 +74,7 @@ fn file_to_increase(
 }
 
 // The sum of the first record and the data. Refused are, in this order, data longer than a record and a sum that doesn't fit.
-#[tactic(auto, unfolding(crate::specs::Increasing::sum_to_write, file_model::specs::Chains::refused_if))]
+#[tactic(auto, unfolding(file_model::specs::Records::sum_to_write, file_model::specs::Chains::refused_if))]
 fn sum_to_write<S: Store>(
     store: &mut S,
     loaded: &Loaded,
@@ -120,17 +119,8 @@ fn write_first<S: Store>(
     write_newest_record(store, loaded, file.number, bytes)
 }
 
-// The sum and then what was added, as far as Le asks for them.
-fn sum_and_amount(mut sum: AnswerData, command: &Command<'_>) -> AnswerData
-    requires { length sum + length command.now.body ≤ 256 }
-    ensures { result ≡ cut_to command.now.expected (sum ++ command.now.body) }
-{
-    append(&mut sum, command.body);
-    cut(sum, command.expected)
-}
-
 // Increases the EF that the command works on, and has the answer in `out`.
-#[tactic(auto, unfolding(crate::specs::Increasing::increased_in, crate::specs::Increasing::increasing_to, file_model::specs::Chains::refused_if, file_model::specs::Chains::and_given))]
+#[tactic(auto, unfolding(file_model::specs::Records::increase_in, file_model::specs::Records::increasing, file_model::specs::Chains::refused_if, file_model::specs::Chains::and_given))]
 fn increase_file<S: Store>(
     store: &mut S,
     loaded: &mut Loaded,
@@ -145,9 +135,9 @@ fn increase_file<S: Store>(
     requires target { IsTarget (descriptors_of loaded.old) selection.now (short_to_increase command.now) file.now }
     requires fits { may_be_increased file.now ≡ true }
     ensures gives { GivesTried result (memory S.Store store.old loaded.old) (memory S.Store store.new loaded.new)
-        out.new (λ state. increased_in state seen.now selection.now command.now file.now) }
+        out.new (λ state. increase_in state seen.now selection.now command.now file.now) }
     ensures passes { Passes result (memory S.Store store.old loaded.old) (memory S.Store store.new loaded.new)
-        selection.now (λ state. increased_in state seen.now selection.now command.now file.now) }
+        selection.now (λ state. increase_in state seen.now selection.now command.now file.now) }
     ensures ends { EndsTry result (memory S.Store store.old loaded.old) (memory S.Store store.new loaded.new)
         out.old out.new }
     ensures files { KeepsDescriptors loaded.old loaded.new }
@@ -159,7 +149,8 @@ fn increase_file<S: Store>(
         Ok(sum) => {
             write_first(store, loaded, file, sum.as_slice())?;
             out.status = StatusWord::DONE;
-            out.body = sum_and_amount(sum, command);
+            out.body = sum;
+            append(&mut out.body, command.body);
             Ok(Ok(worked_on(selection, file, Some(1))))
         }
         Err(status) => Ok(Err(status)),

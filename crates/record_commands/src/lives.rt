@@ -4,13 +4,12 @@ ghost use Rattle.card_layout.specs.Kinds.{activated, deactivated};
 ghost use Rattle.file_model.specs.Files.{descriptors_of};
 ghost use Rattle.file_model.specs.Selections.{IsSelection};
 ghost use Rattle.file_model.specs.Outcomes.{settled_file};
-ghost use Rattle.file_model.specs.LifeCycles.{has_no_parameters, life_changed, file_deactivated, file_activated};
+ghost use Rattle.file_model.specs.LifeCycles.{has_no_parameters, life_file, life_in, life_changed, file_deactivated, file_activated};
 ghost use Rattle.card_memory.specs.Model.{Performs, StaysStill, HasEf};
 ghost use Rattle.file_tree.specs.Tables.{IsCardTable};
 ghost use Rattle.file_commands.specs.Commands.{IsInPlace};
 ghost use Rattle.file_commands.specs.Ends.{EndsTry, EndsWell, GivesTried, Passes};
 ghost use Rattle.file_commands.specs.Targets.{IsRefused};
-ghost use Rattle.record_commands.specs.Lives.{life_file, life_in};
 ghost use Rattle.record_commands.specs.Tables.{KeepsOtherFiles};
 ghost use Rattle.card_layout.specs.Memory.{memory};
 
@@ -19,7 +18,8 @@ use apdu_form::Command;
 use card_layout::Loaded;
 use card_layout::kinds::{ACTIVATED, DEACTIVATED};
 use card_memory::{tables_tell_states, write_life};
-use file_commands::{addressed, has_data, is_allowed, is_card_table, settle};
+use file_commands::{addressed, is_allowed, is_card_table, settle};
+use file_model::has_no_data;
 use file_tree::{Descriptor, Selection};
 use store_form::{Store, StoreFault};
 use uicc_types::{Answer, StatusWord};
@@ -38,7 +38,7 @@ fn has_parameters(command: &Command<'_>) -> bool
 }
 
 // The current EF. Refused are, in this order, P1 and P2 that aren't 0, data, and where there is no current EF.
-#[tactic(auto, unfolding(crate::specs::Lives::life_file, file_model::specs::Chains::refused_if))]
+#[tactic(auto, unfolding(file_model::specs::LifeCycles::life_file, file_model::specs::Chains::refused_if))]
 fn life_file(
     loaded: &Loaded,
     selection: &Selection,
@@ -53,14 +53,14 @@ fn life_file(
     if !has_parameters(command) {
         return Err(StatusWord::WRONG_PARAMETERS);
     }
-    if has_data(command) {
+    if !has_no_data(command) {
         return Err(StatusWord::WRONG_LENGTH);
     }
     addressed(loaded, selection, None)
 }
 
 // Commits the life cycle status if that is allowed and the file has another one, and has the answer in `out`.
-#[tactic(auto, unfolding(crate::specs::Lives::life_in, file_model::specs::LifeCycles::bringing, file_model::specs::Chains::refused_if))]
+#[tactic(auto, unfolding(file_model::specs::LifeCycles::life_in, file_model::specs::LifeCycles::bringing, file_model::specs::Chains::refused_if))]
 fn change_file<S: Store>(
     store: &mut S,
     loaded: &mut Loaded,

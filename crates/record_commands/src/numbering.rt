@@ -1,8 +1,8 @@
 //! Which record a command names (ETSI TS 102 221, 11.1.5 and 11.1.6).
 ghost use Rattle.std.specs.Prelude.{◌≡◌, ◌≢◌, ◌≤◌, IfOk, IfErr, length};
-ghost use Rattle.file_model.specs.Records.{next_record, previous_record, absolute_record, record_named, number_updated, is_record_length, short_in_p2};
+ghost use Rattle.file_model.specs.Records.{next_record, previous_record, absolute_record, record_named, number_updated, is_record_length, short_in_p2, number_to_read, number_to_update};
 ghost use Rattle.file_model.specs.Outcomes.{pointer_before};
-ghost use Rattle.record_commands.specs.Targets.{IsPointer, number_to_read, number_to_update};
+ghost use Rattle.record_commands.specs.Targets.{IsPointer};
 
 use crate::targets::{NEXT, PREVIOUS, is_cyclic, mode_in, pointer_before, short_in};
 use apdu_form::Command;
@@ -79,7 +79,7 @@ fn is_record_length(file: &Descriptor, expected: u16) -> bool
 }
 
 /// The record that READ RECORD reads. Refused are, in this order, where there is none and where another length is asked for.
-#[tactic(auto, unfolding(crate::specs::Targets::number_to_read, file_model::specs::Chains::given, file_model::specs::Chains::refused_if))]
+#[tactic(auto, unfolding(file_model::specs::Records::number_to_read, file_model::specs::Chains::given, file_model::specs::Chains::refused_if))]
 pub fn number_to_read(
     file: &Descriptor,
     selection: &Selection,
@@ -116,7 +116,7 @@ fn number_updated(file: &Descriptor, command: &Command<'_>, pointer: Option<u8>)
 }
 
 /// The record that UPDATE RECORD updates. Refused are, in this order, where there is none and data of another length.
-#[tactic(auto, unfolding(crate::specs::Targets::number_to_update, file_model::specs::Chains::given, file_model::specs::Chains::refused_if))]
+#[tactic(auto, unfolding(file_model::specs::Records::number_to_update, file_model::specs::Chains::given, file_model::specs::Chains::refused_if))]
 pub fn number_to_update(
     file: &Descriptor,
     selection: &Selection,

@@ -2,15 +2,14 @@
 ghost use Rattle.std.specs.Prelude.{◌≡◌, ◌≢◌, IfOk, IfErr, IsOk, Err};
 ghost use Rattle.file_model.specs.Files.{descriptors_of};
 ghost use Rattle.file_model.specs.Selections.{IsSelection};
-ghost use Rattle.file_model.specs.Records.{record_read, short_in_p2};
+ghost use Rattle.file_model.specs.Records.{file_to_read, record_read, record_read_from, short_in_p2};
 ghost use Rattle.file_model.specs.Outcomes.{settled_file};
 ghost use Rattle.card_memory.specs.Model.{Performs};
 ghost use Rattle.file_tree.specs.Tables.{IsCardTable};
 ghost use Rattle.file_commands.specs.Commands.{IsInPlace};
 ghost use Rattle.file_commands.specs.Ends.{EndsTry, EndsWell, GivesTried};
 ghost use Rattle.file_commands.specs.Targets.{IsRefused};
-ghost use Rattle.record_commands.specs.Targets.{file_to_read, IsTarget};
-ghost use Rattle.record_commands.specs.Reading.{record_read_in};
+ghost use Rattle.record_commands.specs.Targets.{IsTarget};
 ghost use Rattle.card_layout.specs.Memory.{IsMounted, Reads, memory};
 
 use crate::holding::record_of;
@@ -20,7 +19,8 @@ use access_rules::{Op, Verified};
 use apdu_form::Command;
 use card_layout::Loaded;
 use card_memory::tables_tell_states;
-use file_commands::{has_le_alone, is_allowed, is_card_table, settle};
+use file_commands::{is_allowed, is_card_table, settle};
+use file_model::has_le_alone;
 use file_tree::{Descriptor, Selection};
 use store_form::{Store, StoreFault};
 use uicc_types::{Answer, StatusWord};
@@ -47,7 +47,7 @@ fn file_to_read(
 }
 
 // Reads from the EF that the command works on, and has the answer in `out`.
-#[tactic(auto, unfolding(crate::specs::Reading::record_read_in, file_model::specs::Records::record_reading, file_model::specs::Chains::refused_if, file_model::specs::Chains::and_given))]
+#[tactic(auto, unfolding(file_model::specs::Records::record_read_from, file_model::specs::Records::record_reading, file_model::specs::Chains::refused_if, file_model::specs::Chains::and_given))]
 fn read_file<S: Store>(
     store: &mut S,
     loaded: &Loaded,
@@ -60,7 +60,7 @@ fn read_file<S: Store>(
     requires mounted { IsMounted (memory S.Store store.old loaded.now) }
     requires target { IsTarget (descriptors_of loaded.now) selection.now (short_in_p2 command.now) file.now }
     ensures gives { GivesTried result (memory S.Store store.old loaded.now) (memory S.Store store.new loaded.now)
-        out.new (λ state. record_read_in state seen.now selection.now command.now file.now) }
+        out.new (λ state. record_read_from state seen.now selection.now command.now file.now) }
     ensures ends { EndsTry result (memory S.Store store.old loaded.now) (memory S.Store store.new loaded.now)
         out.old out.new }
     ensures reads { Reads (memory S.Store store.old loaded.now) (memory S.Store store.new loaded.now) result }

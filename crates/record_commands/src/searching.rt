@@ -3,18 +3,17 @@ ghost use Rattle.std.specs.Prelude.{◌≡◌, ◌≢◌, ◌≤◌, ◌<◌, �
 ghost use Rattle.card_layout.specs.Kinds.{has_records};
 ghost use Rattle.file_model.specs.Files.{descriptors_of};
 ghost use Rattle.file_model.specs.Selections.{IsSelection};
-ghost use Rattle.file_model.specs.Records.{has_within, has_search_parameters, match_pointer, numbers_matched, searched, short_in_p2};
+ghost use Rattle.file_model.specs.Records.{file_to_search, has_within, has_search_parameters, match_pointer, number_to_search, numbers_matched, search_in, searched, short_in_p2};
 ghost use Rattle.file_model.specs.Outcomes.{pointer_before, settled_file, worked_on};
 ghost use Rattle.card_memory.specs.Model.{Performs};
 ghost use Rattle.file_tree.specs.Tables.{IsCardTable, IsNumbered};
 ghost use Rattle.file_commands.specs.Commands.{IsInPlace};
 ghost use Rattle.file_commands.specs.Ends.{EndsTry, EndsWell, GivesTried};
 ghost use Rattle.file_commands.specs.Targets.{IsRefused};
-ghost use Rattle.record_commands.specs.Targets.{file_to_search, IsPointer, IsRecordOf, IsTarget};
-ghost use Rattle.record_commands.specs.Searching.{is_match, left_from, number_left, numbers_left, number_to_search, searched_in, IsRecord};
+ghost use Rattle.record_commands.specs.Targets.{IsPointer, IsRecordOf, IsTarget};
+ghost use Rattle.record_commands.specs.Searching.{is_match, left_from, number_left, numbers_left, IsRecord};
 ghost use Rattle.card_layout.specs.Memory.{IsMounted, Reads, held_by, memory};
 
-use crate::answers::cut;
 use crate::holding::read_into;
 use crate::numbering::absolute_record;
 use crate::targets::{Demand, Structure, mode_in, pointer_before, record_file, short_in};
@@ -22,7 +21,8 @@ use access_rules::{Op, Verified};
 use apdu_form::Command;
 use card_layout::Loaded;
 use card_memory::tables_tell_states;
-use file_commands::{has_data, is_allowed, is_card_table, settle, worked_on};
+use file_commands::{is_allowed, is_card_table, settle, worked_on};
+use file_model::has_data;
 use file_tree::{Descriptor, Selection};
 use memchr::memchr;
 use store_form::{Store, StoreFault};
@@ -100,7 +100,7 @@ fn file_to_search(
 }
 
 // The record that the search begins at. Refused are, in this order, where there is none and more bytes than a record has.
-#[tactic(auto, unfolding(crate::specs::Searching::number_to_search, file_model::specs::Chains::given, file_model::specs::Chains::refused_if))]
+#[tactic(auto, unfolding(file_model::specs::Records::number_to_search, file_model::specs::Chains::given, file_model::specs::Chains::refused_if))]
 fn number_to_search(
     file: &Descriptor,
     selection: &Selection,
@@ -274,7 +274,7 @@ fn status_of(found: &AnswerData) -> StatusWord
 }
 
 // Searches in the EF that the command works on, and has the answer in `out`.
-#[tactic(auto, unfolding(crate::specs::Searching::searched_in, file_model::specs::Records::searching, file_model::specs::Chains::refused_if, file_model::specs::Chains::and_given))]
+#[tactic(auto, unfolding(file_model::specs::Records::search_in, file_model::specs::Records::searching, file_model::specs::Chains::refused_if, file_model::specs::Chains::and_given))]
 fn search_file<S: Store>(
     store: &mut S,
     loaded: &Loaded,
@@ -287,7 +287,7 @@ fn search_file<S: Store>(
     requires mounted { IsMounted (memory S.Store store.old loaded.now) }
     requires target { IsTarget (descriptors_of loaded.now) selection.now (short_in_p2 command.now) file.now }
     ensures gives { GivesTried result (memory S.Store store.old loaded.now) (memory S.Store store.new loaded.now)
-        out.new (λ state. searched_in state seen.now selection.now command.now file.now) }
+        out.new (λ state. search_in state seen.now selection.now command.now file.now) }
     ensures ends { EndsTry result (memory S.Store store.old loaded.now) (memory S.Store store.new loaded.now)
         out.old out.new }
     ensures reads { Reads (memory S.Store store.old loaded.now) (memory S.Store store.new loaded.now) result }
@@ -300,7 +300,7 @@ fn search_file<S: Store>(
             let found = numbers_from(store, loaded, file, command, from)?;
             let next = selection_after(selection, file, command, &found);
             out.status = status_of(&found);
-            out.body = cut(found, command.expected);
+            out.body = found;
             Ok(Ok(next))
         }
         Err(status) => Ok(Err(status)),

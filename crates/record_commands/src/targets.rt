@@ -4,9 +4,9 @@ ghost use Rattle.card_layout.specs.Kinds.{has_records};
 ghost use Rattle.file_model.specs.Files.{descriptors_of};
 ghost use Rattle.file_model.specs.Selections.{IsSelection};
 ghost use Rattle.file_model.specs.Outcomes.{pointer_before, worked_on};
-ghost use Rattle.file_model.specs.Records.{mode_bits, is_cyclic, has_record_parameters, short_in_p2, pointer_after};
+ghost use Rattle.file_model.specs.Records.{mode_bits, is_cyclic, has_record_parameters, short_in_p2, pointer_after, record_file};
 ghost use Rattle.file_tree.specs.Tables.{IsCardTable};
-ghost use Rattle.record_commands.specs.Targets.{fits, record_file, IsTarget};
+ghost use Rattle.record_commands.specs.Targets.{fits, IsTarget};
 
 use crate::laws::records_are_there;
 use apdu_form::Command;
@@ -131,7 +131,7 @@ pub fn has_parameters(command: &Command<'_>) -> bool
 
 /// The EF that a command works on. Refused are, in this order, wrong P1 and P2, a wrong length, no such EF, an EF of another
 /// structure and one that is out of use.
-#[tactic(auto, unfolding(crate::specs::Targets::record_file, file_model::specs::Chains::refused_if, file_model::specs::Chains::and_given))]
+#[tactic(auto, unfolding(file_model::specs::Records::record_file, file_model::specs::Chains::refused_if, file_model::specs::Chains::and_given))]
 pub fn record_file(
     loaded: &Loaded,
     selection: &Selection,
@@ -139,7 +139,7 @@ pub fn record_file(
 ) -> Result<Descriptor, StatusWord>
     requires table { IsCardTable loaded.now }
     requires selected { IsSelection (descriptors_of loaded.now) selection.now }
-    ensures value { result ≡ record_file demand.has_parameters demand.has_length demand.structure
+    ensures value { result ≡ record_file demand.has_parameters demand.has_length (fits demand.structure)
         (descriptors_of loaded.now) selection.now demand.short }
     ensures target { IfOk result (IsTarget (descriptors_of loaded.now) selection.now demand.short) }
     ensures fits { IfOk result (λ file. fits demand.structure file ≡ true) }

@@ -2,7 +2,7 @@
 ghost use Rattle.std.specs.Prelude.{◌≡◌, ◌≢◌, [], IfOk, IfErr, IsOk, OnErr, Err, length};
 ghost use Rattle.file_model.specs.Files.{descriptors_of};
 ghost use Rattle.file_model.specs.Selections.{IsSelection};
-ghost use Rattle.file_model.specs.Records.{record_updated, short_in_p2};
+ghost use Rattle.file_model.specs.Records.{file_to_update, record_update_in, record_updated, short_in_p2};
 ghost use Rattle.file_model.specs.Outcomes.{settled_file};
 ghost use Rattle.card_memory.specs.Model.{Performs, StaysStill};
 ghost use Rattle.file_tree.specs.Tables.{IsCardTable};
@@ -10,8 +10,8 @@ ghost use Rattle.file_commands.specs.Commands.{IsInPlace};
 ghost use Rattle.file_commands.specs.Ends.{EndsTry, EndsWell, GivesTried, Passes};
 ghost use Rattle.file_commands.specs.Targets.{IsRefused};
 ghost use Rattle.record_commands.specs.Tables.{KeepsDescriptors};
-ghost use Rattle.record_commands.specs.Targets.{file_to_update, IsRecordOf, IsTarget};
-ghost use Rattle.record_commands.specs.Updating.{record_updated_in, record_written};
+ghost use Rattle.record_commands.specs.Targets.{IsRecordOf, IsTarget};
+ghost use Rattle.record_commands.specs.Updating.{record_written};
 ghost use Rattle.card_layout.specs.Memory.{Committed, IsMounted, memory};
 
 use crate::numbering::number_to_update;
@@ -23,7 +23,8 @@ use access_rules::{Op, Verified};
 use apdu_form::Command;
 use card_layout::Loaded;
 use card_memory::{tables_tell_states, write_newest_record, write_record};
-use file_commands::{has_data, is_allowed, is_card_table, settle};
+use file_commands::{is_allowed, is_card_table, settle};
+use file_model::has_data;
 use file_tree::{Descriptor, Selection};
 use store_form::{Store, StoreFault};
 use uicc_types::{Answer, StatusWord};
@@ -73,7 +74,7 @@ fn write_one<S: Store>(
 }
 
 // Writes into the EF that the command works on, and has the answer in `out`.
-#[tactic(auto, unfolding(crate::specs::Updating::record_updated_in, file_model::specs::Records::record_updating, file_model::specs::Chains::refused_if, file_model::specs::Chains::and_given))]
+#[tactic(auto, unfolding(file_model::specs::Records::record_update_in, file_model::specs::Records::record_updating, file_model::specs::Chains::refused_if, file_model::specs::Chains::and_given))]
 fn update_file<S: Store>(
     store: &mut S,
     loaded: &mut Loaded,
@@ -87,9 +88,9 @@ fn update_file<S: Store>(
     requires empty { out.old.body ≡ [] }
     requires target { IsTarget (descriptors_of loaded.old) selection.now (short_in_p2 command.now) file.now }
     ensures gives { GivesTried result (memory S.Store store.old loaded.old) (memory S.Store store.new loaded.new)
-        out.new (λ state. record_updated_in state seen.now selection.now command.now file.now) }
+        out.new (λ state. record_update_in state seen.now selection.now command.now file.now) }
     ensures passes { Passes result (memory S.Store store.old loaded.old) (memory S.Store store.new loaded.new)
-        selection.now (λ state. record_updated_in state seen.now selection.now command.now file.now) }
+        selection.now (λ state. record_update_in state seen.now selection.now command.now file.now) }
     ensures ends { EndsTry result (memory S.Store store.old loaded.old) (memory S.Store store.new loaded.new)
         out.old out.new }
     ensures files { KeepsDescriptors loaded.old loaded.new }

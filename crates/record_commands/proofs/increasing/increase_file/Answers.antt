@@ -8,14 +8,14 @@ use Rattle.file_model.specs.Access.{may}
 use Rattle.file_model.specs.Outcomes.{settled_file}
 use Rattle.card_memory.specs.Model.{held_by}
 use Rattle.file_commands.specs.Chained.{left_by}
-use Rattle.record_commands.specs.Increasing.{sum_to_write, increased_in}
+use Rattle.file_model.specs.Records.{sum_to_write, increase_in}
 use Rattle.record_commands.proofs.Stopping.{one_passes, one_changes, reads_held, increase_passed}
 use Rattle.record_commands.proofs.increasing.increase_file.Given.{Over}
 use Rattle.record_commands.proofs.increasing.increase_file.Goals.{In-Ok}
 use Rattle.record_commands.proofs.increasing.increase_file.Goals as goal
 
 passed : (g : Over) (c : In-Ok g) (state : Persistent) → held_by g.S.Store c.args.store.now ≡ Some state
-    → (settled_file c.args.selection.now (increased_in state c.args.seen.now c.args.selection.now c.args.command.now c.args.file.now)).passed ≡ with_newest_record c.args.file.now.number c.in-Ok.sum state ∷ []
+    → (settled_file c.args.selection.now (increase_in state c.args.seen.now c.args.selection.now c.args.command.now c.args.file.now)).passed ≡ with_newest_record c.args.file.now.number c.in-Ok.sum state ∷ []
 passed g c state is =
     let tested : Option Persistent = held_by g.S.Store c.is_allowed.new.store in
     let granted : true ≡ may state Increase c.args.seen.now c.args.file.now = sym c.if-not-branch.false ∙ if_some_at (held_by g.S.Store c.args.store.now) _ state c.in_ok-is_allowed.ensures.value is in

@@ -1,38 +1,22 @@
-use Rattle.std.proofs.Common.{◌≡◌, Some, refl}
-use Rattle.general_laws.specs.Optional.{if_some}
-use Rattle.card_layout.specs.Persistent.{Persistent}
-use Rattle.file_model.specs.Files.{descriptors_of}
-use Rattle.file_model.specs.Records.{increased}
-use Rattle.record_commands.specs.Increasing.{increased_in}
-use Rattle.card_memory.specs.Model.{memory, held_by}
-use Rattle.file_commands.specs.Chained.{gives_alike, passes_alike}
-use Rattle.record_commands.proofs.Parting.{increase_goes_on, increase_ends}
-use Rattle.record_commands.proofs.increasing.try_increase.Given.{Over}
-use Rattle.record_commands.proofs.increasing.try_increase.Goals.{In-Ok}
+use Rattle.file_model.specs.Records.{file_to_increase, increase_in, increased}
+use Rattle.card_memory.specs.Model.{memory}
+use Rattle.file_commands.specs.Chained.{file_gives, file_passes, refusal_gives}
 use Rattle.record_commands.proofs.increasing.try_increase.Goals as goal
 
-meant : (g : Over) (c : In-Ok g) (state : Persistent) → held_by g.S.Store c.args.store.now ≡ Some state
-    → increased state c.args.seen.now c.args.selection.now c.args.command.now ≡ increased_in state c.args.seen.now c.args.selection.now c.args.command.now c.in-Ok.file
-meant g c state is =
-    let told = c.tables_tell_states.ensures (g.S.Store.store_mark c.args.store.now) (g.S.Store.stable c.args.store.now) c.args.loaded.now state c.requires.place.mounted.agrees is in
-    increase_goes_on state c.args.seen.now c.args.selection.now c.args.command.now (descriptors_of c.args.loaded.now) told.files c.file_to_increase.result c.in-Ok.file c.file_to_increase.ensures.value c.in-Ok.is
-
 pub returns-in-Ok-clause-gives : goal.returns-in-Ok-clause-gives
+unfolding increased
 returns-in-Ok-clause-gives g c =
-    gives_alike c.increase_file.result (memory g.S.Store c.args.store.now c.args.loaded.now) (memory g.S.Store c.increase_file.new.store c.increase_file.new.loaded) c.increase_file.new.out
-    (λ state. increased state c.args.seen.now c.args.selection.now c.args.command.now)
-    (λ state. increased_in state c.args.seen.now c.args.selection.now c.args.command.now c.in-Ok.file)
-    (meant g (goal.at.returns-in-Ok-clause-gives g c).In-Ok) c.increase_file.ensures.gives
+    file_gives (memory g.S.Store c.args.store.now c.args.loaded.now) (λ state is. (c.tables_tell_states.ensures (g.S.Store.store_mark c.args.store.now) (g.S.Store.stable c.args.store.now) c.args.loaded.now state c.requires.place.mounted.agrees is).files) (λ files. file_to_increase files c.args.selection.now c.args.command.now) (λ state. increase_in state c.args.seen.now c.args.selection.now c.args.command.now) c.file_to_increase.result c.file_to_increase.ensures.value
+    c.in-Ok.file c.in-Ok.is _ _ _ c.increase_file.ensures.gives
 
 pub returns-in-Ok-clause-passes : goal.returns-in-Ok-clause-passes
+unfolding increased
 returns-in-Ok-clause-passes g c =
-    passes_alike _ _ _ _
-    (λ state. increased state c.args.seen.now c.args.selection.now c.args.command.now)
-    (λ state. increased_in state c.args.seen.now c.args.selection.now c.args.command.now c.in-Ok.file)
-    (meant g (goal.at.returns-in-Ok-clause-passes g c).In-Ok) c.increase_file.ensures.passes
+    file_passes (memory g.S.Store c.args.store.now c.args.loaded.now) (λ state is. (c.tables_tell_states.ensures (g.S.Store.store_mark c.args.store.now) (g.S.Store.stable c.args.store.now) c.args.loaded.now state c.requires.place.mounted.agrees is).files) (λ files. file_to_increase files c.args.selection.now c.args.command.now) (λ state. increase_in state c.args.seen.now c.args.selection.now c.args.command.now) c.file_to_increase.result c.file_to_increase.ensures.value
+    c.in-Ok.file c.in-Ok.is _ _ _ c.increase_file.ensures.passes
 
 pub returns-in-Err-clause-gives : goal.returns-in-Err-clause-gives
+unfolding increased
 returns-in-Err-clause-gives g c =
-    if_some (held_by g.S.Store c.args.store.now) _ (λ state is.
-    let told = c.tables_tell_states.ensures (g.S.Store.store_mark c.args.store.now) (g.S.Store.stable c.args.store.now) c.args.loaded.now state c.requires.place.mounted.agrees is in
-    (increase_ends state c.args.seen.now c.args.selection.now c.args.command.now (descriptors_of c.args.loaded.now) told.files c.file_to_increase.result c.in-Err.status c.file_to_increase.ensures.value c.in-Err.is, is, refl))
+    refusal_gives (memory g.S.Store c.args.store.now c.args.loaded.now) (λ state is. (c.tables_tell_states.ensures (g.S.Store.store_mark c.args.store.now) (g.S.Store.stable c.args.store.now) c.args.loaded.now state c.requires.place.mounted.agrees is).files) (λ files. file_to_increase files c.args.selection.now c.args.command.now) (λ state. increase_in state c.args.seen.now c.args.selection.now c.args.command.now) c.file_to_increase.result c.file_to_increase.ensures.value
+    c.in-Err.status c.in-Err.is c.args.out.now

@@ -8,7 +8,7 @@ use Rattle.file_model.specs.Files.{descriptors_of}
 use Rattle.card_memory.specs.Model.{held_by}
 use Rattle.file_commands.specs.Chained.{left_by}
 use Rattle.file_model.specs.Outcomes.{settled_file}
-use Rattle.record_commands.specs.Lives.{life_in}
+use Rattle.file_model.specs.LifeCycles.{life_in}
 use Rattle.record_commands.proofs.Living.{told_keeps}
 use Rattle.record_commands.proofs.Stopping.{one_passes, one_changes, reads_held, life_passed}
 use Rattle.record_commands.proofs.lives.change_file.Goals as goal

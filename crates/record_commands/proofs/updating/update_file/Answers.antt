@@ -6,14 +6,15 @@ use Rattle.file_model.specs.Access.{may}
 use Rattle.file_model.specs.Outcomes.{settled_file}
 use Rattle.card_memory.specs.Model.{held_by}
 use Rattle.file_commands.specs.Chained.{left_by}
-use Rattle.record_commands.specs.Updating.{record_updated_in, record_written}
+use Rattle.file_model.specs.Records.{record_update_in}
+use Rattle.record_commands.specs.Updating.{record_written}
 use Rattle.record_commands.proofs.Stopping.{one_passes, one_changes, reads_held, update_passed}
 use Rattle.record_commands.proofs.updating.update_file.Given.{Over}
 use Rattle.record_commands.proofs.updating.update_file.Goals.{In-Ok}
 use Rattle.record_commands.proofs.updating.update_file.Goals as goal
 
 passed : (g : Over) (c : In-Ok g) (state : Persistent) → held_by g.S.Store c.args.store.now ≡ Some state
-    → (settled_file c.args.selection.now (record_updated_in state c.args.seen.now c.args.selection.now c.args.command.now c.args.file.now)).passed ≡ record_written c.args.file.now c.in-Ok.number c.args.command.now.body state ∷ []
+    → (settled_file c.args.selection.now (record_update_in state c.args.seen.now c.args.selection.now c.args.command.now c.args.file.now)).passed ≡ record_written c.args.file.now c.in-Ok.number c.args.command.now.body state ∷ []
 passed g c state is =
     let granted : true ≡ may state UpdateRecord c.args.seen.now c.args.file.now = sym c.if-not-branch.false ∙ if_some_at (held_by g.S.Store c.args.store.now) _ state c.in_ok-is_allowed.ensures.value is in
     update_passed state c.args.seen.now c.args.selection.now c.args.command.now c.args.file.now c.in-Ok.number granted (sym c.number_to_update.ensures.value ∙ c.in-Ok.is)
