@@ -18,9 +18,10 @@ use Rattle.toolkit_model.specs.Passing.{passed_rows}
 use Rattle.proactive_handler.specs.Boxes.{kinds_of}
 use Rattle.card_model.specs.Runs.{IsLeft, boxes_left}
 use Rattle.card_model.specs.States.{CardState, row_on, woken, woken_boxes}
-use Rattle.card_model.specs.Toolkit.{ToolkitOutcome, states_passed, with_rows}
-use Rattle.card_model.specs.declared.instructions.Instruction.{Instruction}
-use Rattle.card_model.specs.declared.instructions.Instruction.TheVariants.{DeleteApplet}
+use Rattle.card_model.specs.Toolkit.{ToolkitOutcome, states_passed, with_rows, toolkit_outcome}
+use Rattle.card_model.specs.declared.instructions.Instruction.TheVariants.{Toolkit}
+use Rattle.card_model.specs.declared.instructions.ToolkitCommand.{ToolkitCommand}
+use Rattle.card_model.specs.declared.instructions.ToolkitCommand.TheVariants.{DeleteApplet}
 use Rattle.session_laws.specs.Moving.{HaveFixed, command_by, rows_after}
 use Rattle.session_commands.specs.Carrying.{IsToolkitCutShort, state_at}
 use Rattle.session_commands.specs.Deleting.{HasNoRow, LeavesUnregistered}
@@ -38,12 +39,10 @@ use Rattle.card_memory.specs.Laws.{TablesTellStates}
 use Rattle.file_model.specs.Access.{keys_seen}
 use Rattle.file_model.specs.Chains.{and_given}
 use Rattle.card_model.specs.Answers.{Answered, settled, carried_out, on_toolkit, toolkit_tried, seen_by}
-use Rattle.card_model.specs.Instructions.{is_of_toolkit}
 use Rattle.session_laws.specs.Laws.{CommandsLeaveRows}
 use Rattle.session_laws.specs.Moving.{HasOrder, LeavesRows}
 use Rattle.session_commands.specs.Carrying.{HasToolkit, Carries}
 use Rattle.card_core.specs.Cards.{card_of}
-use Rattle.card_core.specs.Commands.{toolkit_outcome}
 use Rattle.card_core.proofs.Shelves.{deleted_had}
 use Rattle.card_core.proofs.Standing.{if_card}
 use Rattle.card_core.proofs.Carried.{scene_of, is_delete, LeavesBy, by_toolkit, has_toolkit_of, rows_left}
@@ -77,10 +76,10 @@ no_row_there rows gone k row none is same =
 
 -- ---- the card
 
-module _ (entries : RowsAreEntries) (instruction : Instruction) (apdu : Apdu) (old new : CardParts) (card : CardState) (outcome : ToolkitOutcome) (told : IsTold old.table card.persistent) (boxes : card.boxes ≡ old.boxes)
-    (fixed : All (HaveFixed (rows_after (command_by instruction card apdu) card.persistent.rows)) (passed_rows outcome.passed.log))
-    (had : instruction ≡ DeleteApplet → is_none (row_on card.persistent.rows apdu.p2) ≡ false)
-    (kinds : kinds_of new.boxes ≡ kinds_of old.boxes) (others : LeavesUnregistered old.table new.table old.boxes new.boxes) (leaves : LeavesBy instruction apdu new.leaving) where
+module _ (entries : RowsAreEntries) (command : ToolkitCommand) (apdu : Apdu) (old new : CardParts) (card : CardState) (outcome : ToolkitOutcome) (told : IsTold old.table card.persistent) (boxes : card.boxes ≡ old.boxes)
+    (fixed : All (HaveFixed (rows_after (command_by (Toolkit command) card apdu) card.persistent.rows)) (passed_rows outcome.passed.log))
+    (had : command ≡ DeleteApplet → is_none (row_on card.persistent.rows apdu.p2) ≡ false)
+    (kinds : kinds_of new.boxes ≡ kinds_of old.boxes) (others : LeavesUnregistered old.table new.table old.boxes new.boxes) (leaves : LeavesBy command apdu new.leaving) where
   abbrev before : List Registration
   before = card.persistent.rows
 
@@ -88,7 +87,7 @@ module _ (entries : RowsAreEntries) (instruction : Instruction) (apdu : Apdu) (o
   passed = passed_rows outcome.passed.log
 
   abbrev changed : List Registration
-  changed = rows_after (command_by instruction card apdu) before
+  changed = rows_after (command_by (Toolkit command) card apdu) before
 
   -- later states have their rows on the same shelves
   shelves_later : (count : ℕ) → count < length passed → (d : List Registration) (k : ℕ) → is_none (row_on (slice_index_or passed count d) k) ≡ is_none (row_on changed k)
@@ -104,9 +103,9 @@ module _ (entries : RowsAreEntries) (instruction : Instruction) (apdu : Apdu) (o
       shelves_later count (omega (arith, low)) [] k ∙ sym (shelves_later behind there before k) ∙ is
 
   -- a row that is gone is that of the deleted applet
-  gone_is : (behind : ℕ) → behind < length (before ∷ passed) → (k : ℕ) → is_none (row_on before k) ≡ false → is_none (row_on (rows_at before passed behind) k) ≡ true → Loses instruction apdu k
+  gone_is : (behind : ℕ) → behind < length (before ∷ passed) → (k : ℕ) → is_none (row_on before k) ≡ false → is_none (row_on (rows_at before passed behind) k) ≡ true → Loses command apdu k
   gone_is zero low k was is = absurd (true≢false (sym is ∙ was))
-  gone_is (suc behind) low k was is = lost card instruction apdu k (sym (shelves_later behind (omega (arith, low)) before k) ∙ is) was
+  gone_is (suc behind) low k was is = lost card command apdu k (sym (shelves_later behind (omega (arith, low)) before k) ∙ is) was
 
   module _ (count behind : ℕ) (near : (behind ≡ count) ⊎ (behind ≡ count + 1)) (one_more : count < length passed)
       (rows_are : rows_of new.table ≡ slice_index_or (rows_of old.table ∷ passed) count []) (held : held_by new ≡ Some (state_at outcome behind card.persistent)) where
@@ -145,7 +144,7 @@ module _ (entries : RowsAreEntries) (instruction : Instruction) (apdu : Apdu) (o
     -- one that is registered no more is gone
     no_more : (k : ℕ) (row : Registration) → row_on now.rows k ≡ None → row_on before k ≡ Some row → box_kept new.leaving now.rows k (at new.boxes k) ≡ None
     no_more k row is was =
-        let loses : Loses instruction apdu k = gone_is behind reached k (ap is_none was) (none_now k is) in
+        let loses : Loses command apdu k = gone_is behind reached k (ap is_none was) (none_now k is) in
         let none_is : is_none (row_on now.rows apdu.p2) ≡ true = ap (λ (shelf : ℕ). is_none (row_on now.rows shelf)) (sym loses.1) ∙ ap is_none is in
         ⊎_elim {C = box_kept new.leaving now.rows k (at new.boxes k) ≡ None}
         (λ stays. absurd (false≢true (sym stays.1 ∙ ap is_delete loses.0)))
@@ -180,51 +179,51 @@ module _ (entries : RowsAreEntries) (instruction : Instruction) (apdu : Apdu) (o
 
 -- ---- a command that a fault stopped
 
-all_fixed : (card : CardState) (instruction : Instruction) (apdu : Apdu) (outcome : ToolkitOutcome) → LeavesRows (command_by instruction card apdu) card (on_toolkit card outcome)
-    → All (HaveFixed (rows_after (command_by instruction card apdu) card.persistent.rows)) (passed_rows outcome.passed.log)
-all_fixed card instruction apdu outcome leaves =
-    all_unmapped (λ (state : Persistent). HaveFixed (rows_after (command_by instruction card apdu) card.persistent.rows) state.rows) (with_rows card.persistent outcome.next_sequence) (passed_rows outcome.passed.log) leaves.fixed
+all_fixed : (card : CardState) (command : ToolkitCommand) (apdu : Apdu) (outcome : ToolkitOutcome) → LeavesRows (command_by (Toolkit command) card apdu) card (on_toolkit card outcome)
+    → All (HaveFixed (rows_after (command_by (Toolkit command) card apdu) card.persistent.rows)) (passed_rows outcome.passed.log)
+all_fixed card command apdu outcome leaves =
+    all_unmapped (λ (state : Persistent). HaveFixed (rows_after (command_by (Toolkit command) card apdu) card.persistent.rows) state.rows) (with_rows card.persistent outcome.next_sequence) (passed_rows outcome.passed.log) leaves.fixed
 
-deletes_row : (instruction : Instruction) (card : CardState) (apdu : Apdu) (outcome : ToolkitOutcome) → toolkit_outcome instruction card (seen_by card) apdu ≡ Ok outcome → instruction ≡ DeleteApplet → is_none (row_on card.persistent.rows apdu.p2) ≡ false
+deletes_row : (command : ToolkitCommand) (card : CardState) (apdu : Apdu) (outcome : ToolkitOutcome) → toolkit_outcome command card (seen_by card) apdu ≡ Ok outcome → command ≡ DeleteApplet → is_none (row_on card.persistent.rows apdu.p2) ≡ false
 unfolding toolkit_outcome
-deletes_row instruction card apdu outcome came deletes = deleted_had card (seen_by card) apdu outcome (sym (ap (λ (each : Instruction). toolkit_outcome each card (seen_by card) apdu) deletes) ∙ came)
+deletes_row command card apdu outcome came deletes = deleted_had card (seen_by card) apdu outcome (sym (ap (λ (each : ToolkitCommand). toolkit_outcome each card (seen_by card) apdu) deletes) ∙ came)
 
-module _ (entries : RowsAreEntries) (instruction : Instruction) (apdu : Apdu) (old new : CardParts) (kinds : kinds_of new.boxes ≡ kinds_of old.boxes) (others : LeavesUnregistered old.table new.table old.boxes new.boxes)
-    (leaves : LeavesBy instruction apdu new.leaving) (long : length new.boxes ≡ length old.boxes) where
+module _ (entries : RowsAreEntries) (command : ToolkitCommand) (apdu : Apdu) (old new : CardParts) (kinds : kinds_of new.boxes ≡ kinds_of old.boxes) (others : LeavesUnregistered old.table new.table old.boxes new.boxes)
+    (leaves : LeavesBy command apdu new.leaving) (long : length new.boxes ≡ length old.boxes) where
   pub short_left : (card : CardState) (outcome : ToolkitOutcome) → IsTold old.table card.persistent → card.boxes ≡ old.boxes → held_by old ≡ Some card.persistent
-      → All (HaveFixed (rows_after (command_by instruction card apdu) card.persistent.rows)) (passed_rows outcome.passed.log) → (instruction ≡ DeleteApplet → is_none (row_on card.persistent.rows apdu.p2) ≡ false)
+      → All (HaveFixed (rows_after (command_by (Toolkit command) card apdu) card.persistent.rows)) (passed_rows outcome.passed.log) → (command ≡ DeleteApplet → is_none (row_on card.persistent.rows apdu.p2) ≡ false)
       → IsToolkitCutShort outcome (scene_of old) (scene_of new) → IsSomeAnd (card_due new) (IsLeft card (card.persistent ∷ states_passed card.persistent outcome))
   short_left card outcome told boxes held fixed had short =
       ⊎_elim {C = IsSomeAnd (card_due new) (IsLeft card (card.persistent ∷ states_passed card.persistent outcome))}
       (λ before.
-      broken_there entries instruction apdu old new card outcome told boxes fixed had kinds others leaves short.count short.count (inl refl) short.one_more short.rows_are
+      broken_there entries command apdu old new card outcome told boxes fixed had kinds others leaves short.count short.count (inl refl) short.one_more short.rows_are
       (before ∙ ap (option_map (state_at outcome short.count)) held) long)
       (λ behind.
-      broken_there entries instruction apdu old new card outcome told boxes fixed had kinds others leaves short.count (short.count + 1) (inr refl) short.one_more short.rows_are
+      broken_there entries command apdu old new card outcome told boxes fixed had kinds others leaves short.count (short.count + 1) (inr refl) short.one_more short.rows_are
       (behind ∙ ap (option_map (state_at outcome (short.count + 1))) held) long)
       short.stands
 
-  module _ (law : CommandsLeaveRows) (is : is_of_toolkit instruction ≡ true) (X : Type 0) (out : Answer) (fault : StoreFault) (seen : Verified) (seen_is : seen ≡ keys_seen (pins_of old.table) old.verified)
-      (carries : (card : CardState) → HasToolkit (scene_of old) card → Carries {X = X} (toolkit_outcome instruction card seen apdu) out (scene_of old) (scene_of new) (Err fault))
+  module _ (law : CommandsLeaveRows) (X : Type 0) (out : Answer) (fault : StoreFault) (seen : Verified) (seen_is : seen ≡ keys_seen (pins_of old.table) old.verified)
+      (carries : (card : CardState) → HasToolkit (scene_of old) card → Carries {X = X} (toolkit_outcome command card seen apdu) out (scene_of old) (scene_of new) (Err fault))
       (ready : (state : Persistent) → IsTold old.table state → HasOrder (card_with false old state)) where
-    by_tried : (state : Persistent) → IsTold old.table state → held_by old ≡ Some state → (tried : Result ToolkitOutcome StatusWord) → toolkit_outcome instruction (card_with false old state) (seen_by (card_with false old state)) apdu ≡ tried
+    by_tried : (state : Persistent) → IsTold old.table state → held_by old ≡ Some state → (tried : Result ToolkitOutcome StatusWord) → toolkit_outcome command (card_with false old state) (seen_by (card_with false old state)) apdu ≡ tried
         → Carries {X = X} tried out (scene_of old) (scene_of new) (Err fault)
         → IsSomeAnd (card_due new) (IsLeft (card_with false old state) (state ∷ (settled (card_with false old state) (toolkit_tried (card_with false old state) tried)).commits))
     unfolding and_given
     by_tried state told held (Err status) came carried = absurd carried
     by_tried state told held (Ok outcome) came short =
         let card : CardState = card_with false old state in
-        short_left card outcome told refl held (all_fixed card instruction apdu outcome (rows_left law instruction is card apdu outcome (ready state told) came)) (deletes_row instruction card apdu outcome came) short
+        short_left card outcome told refl held (all_fixed card command apdu outcome (rows_left law command card apdu outcome (ready state told) came)) (deletes_row command card apdu outcome came) short
 
     pub toolkit_stopped : TablesTellStates → Agrees old.store_mark old.told old.table → old.is_due ≡ false
-        → IfSome (card_of old) (λ card. IsSomeAnd (card_due new) (IsLeft card (card.persistent ∷ (settled card (carried_out instruction card apdu)).commits)))
+        → IfSome (card_of old) (λ card. IsSomeAnd (card_due new) (IsLeft card (card.persistent ∷ (settled card (carried_out (Toolkit command) card apdu)).commits)))
     toolkit_stopped tell agrees rests =
-        if_card old (λ card. IsSomeAnd (card_due new) (IsLeft card (card.persistent ∷ (settled card (carried_out instruction card apdu)).commits))) rests
+        if_card old (λ card. IsSomeAnd (card_due new) (IsLeft card (card.persistent ∷ (settled card (carried_out (Toolkit command) card apdu)).commits))) rests
         (λ persistent held.
         let card : CardState = card_with false old persistent in
         let told = tell old.store_mark old.told old.table persistent agrees held in
         let sees : seen ≡ seen_by card = seen_is ∙ ap (λ (pins : List Pin). keys_seen pins old.verified) (sym told.pins) in
-        let came : Carries {X = X} (toolkit_outcome instruction card (seen_by card) apdu) out (scene_of old) (scene_of new) (Err fault) =
-        subst (λ (keys : Verified). Carries {X = X} (toolkit_outcome instruction card keys apdu) out (scene_of old) (scene_of new) (Err fault)) sees (carries card (has_toolkit_of old persistent told)) in
-        subst (λ (result : Result Answered StatusWord). IsSomeAnd (card_due new) (IsLeft card (persistent ∷ (settled card result).commits))) (sym (by_toolkit instruction card apdu is))
-        (by_tried persistent told held (toolkit_outcome instruction card (seen_by card) apdu) refl came))
+        let came : Carries {X = X} (toolkit_outcome command card (seen_by card) apdu) out (scene_of old) (scene_of new) (Err fault) =
+        subst (λ (keys : Verified). Carries {X = X} (toolkit_outcome command card keys apdu) out (scene_of old) (scene_of new) (Err fault)) sees (carries card (has_toolkit_of old persistent told)) in
+        subst (λ (result : Result Answered StatusWord). IsSomeAnd (card_due new) (IsLeft card (persistent ∷ (settled card result).commits))) (sym (by_toolkit command card apdu))
+        (by_tried persistent told held (toolkit_outcome command card (seen_by card) apdu) refl came))

@@ -1,7 +1,7 @@
 -- What commits nothing meets no fault.
 use Rattle.std.proofs.Common.{◌≡◌, ◌⊎◌, inl, inr, ℕ, ◌==◌, true, false, List, [], ◌++◌, length, Result, Ok, Err, refl, sym, ◌∙◌, ap, subst, arith}
 use Rattle.std.specs.Prelude.{IsOk}
-use Rattle.std.proofs.lemmas.Bool.{false≢true, true≢false}
+use Rattle.std.proofs.lemmas.Bool.{true≢false}
 use Rattle.std.proofs.lemmas.List.{length-map}
 use Rattle.uicc_types.specs.declared.answers.Answer.{Answer}
 use Rattle.uicc_types.specs.declared.answers.StatusWord.{StatusWord}
@@ -14,24 +14,22 @@ use Rattle.card_layout.specs.States.{pins_of}
 use Rattle.card_memory.specs.Laws.{IsTold}
 use Rattle.file_model.specs.Access.{keys_seen}
 use Rattle.file_model.specs.Chains.{and_given}
+use Rattle.file_model.specs.declared.commands.FileCommand.TheVariants.{Status}
 use Rattle.toolkit_model.specs.Passing.{passed_rows}
-use Rattle.card_model.specs.Answers.{Answered, settled, carried_out, carried_with, is_status, tried, answer_of, answer, toolkit_tried, seen_by}
-use Rattle.card_model.specs.Instructions.{is_known, is_of_toolkit}
+use Rattle.card_model.specs.Answers.{Answered, settled, carried_out, carried_with, answer, toolkit_tried, seen_by}
 use Rattle.card_model.specs.States.{CardState}
-use Rattle.card_model.specs.Toolkit.{ToolkitOutcome, states_passed, with_rows}
-use Rattle.card_model.specs.declared.instructions.Instruction.{Instruction}
-use Rattle.card_model.specs.declared.instructions.Instruction.TheVariants.{Select, Status, ReadBinary, UpdateBinary, ReadRecord, UpdateRecord, SearchRecord, Increase, DeactivateFile, ActivateFile, VerifyPin, ChangePin, DisablePin, EnablePin, UnblockPin, ManageChannel, TerminalProfile, Fetch, TerminalResponse, Envelope, InstallApplet, DeleteApplet, CreateFile, DeleteFile, ResizeFile}
+use Rattle.card_model.specs.Toolkit.{ToolkitOutcome, states_passed, with_rows, toolkit_outcome}
+use Rattle.card_model.specs.declared.instructions.Instruction.TheVariants.{File, Toolkit}
+use Rattle.card_model.specs.declared.instructions.ToolkitCommand.{ToolkitCommand}
 use Rattle.proactive_handler.specs.Steps.{Scene}
 use Rattle.session_commands.specs.Carrying.{HasToolkit, IsToolkitCutShort, Carries, Comes}
-use Rattle.card_core.specs.AnyStore.{MayBe, MayStand, AnswersAs, NeedsNoContents, ReachesApplets}
+use Rattle.card_core.specs.AnyStore.{MayBe, MayStand, AnswersAs}
 use Rattle.card_core.specs.Cards.{card_with}
-use Rattle.card_core.specs.Commands.{is_on_pins, toolkit_outcome}
 use Rattle.card_core.specs.Moves.{polled_on}
 use Rattle.card_core.specs.Parts.{CardParts}
 use Rattle.card_core.proofs.Carried.{by_toolkit, scene_of, has_toolkit_of}
 use Rattle.card_core.proofs.Polled.{polling}
 use Rattle.card_core.proofs.Polling.{IsTelling, IsNotTold, tells_or_not}
-use Rattle.card_core.proofs.Staying.{pins_apart, status_no_pins}
 use Rattle.card_core.proofs.Telling.{card_told, card_stood}
 
 -- ---- a command of the toolkit
@@ -50,15 +48,15 @@ calm_carried card came out old new (Ok done) carries none = refl
 calm_carried card (Err status) out old new (Err fault) carries none = absurd carries
 calm_carried card (Ok outcome) out old new (Err fault) short none = absurd (none_stopped outcome card.persistent old new short none)
 
-pub toolkit_calm : {X : Type 0} (instruction : Instruction) → is_of_toolkit instruction ≡ true → (apdu : Apdu) (old : CardParts) (after : Scene) (seen : Verified) → seen ≡ keys_seen (pins_of old.table) old.verified → (out : Answer) (result : Result X StoreFault)
-    → ((card : CardState) → HasToolkit (scene_of old) card → Carries (toolkit_outcome instruction card seen apdu) out (scene_of old) after result)
-    → (state : Persistent) → IsTold old.table state → (settled (card_with false old state) (carried_out instruction (card_with false old state) apdu)).commits ≡ [] → IsOk result
-toolkit_calm instruction is apdu old after seen seen_is out result carries state told none =
+pub toolkit_calm : {X : Type 0} (command : ToolkitCommand) → (apdu : Apdu) (old : CardParts) (after : Scene) (seen : Verified) → seen ≡ keys_seen (pins_of old.table) old.verified → (out : Answer) (result : Result X StoreFault)
+    → ((card : CardState) → HasToolkit (scene_of old) card → Carries (toolkit_outcome command card seen apdu) out (scene_of old) after result)
+    → (state : Persistent) → IsTold old.table state → (settled (card_with false old state) (carried_out (Toolkit command) (card_with false old state) apdu)).commits ≡ [] → IsOk result
+toolkit_calm command apdu old after seen seen_is out result carries state told none =
     let card : CardState = card_with false old state in
     let sees : seen ≡ seen_by card = seen_is ∙ ap (λ (pins : List Pin). keys_seen pins old.verified) (sym told.pins) in
-    calm_carried card (toolkit_outcome instruction card (seen_by card) apdu) out (scene_of old) after result
-    (subst (λ (keys : Verified). Carries (toolkit_outcome instruction card keys apdu) out (scene_of old) after result) sees (carries card (has_toolkit_of old state told)))
-    (ap (λ (came : Result Answered StatusWord). (settled card came).commits) (sym (by_toolkit instruction card apdu is)) ∙ none)
+    calm_carried card (toolkit_outcome command card (seen_by card) apdu) out (scene_of old) after result
+    (subst (λ (keys : Verified). Carries (toolkit_outcome command card keys apdu) out (scene_of old) after result) sees (carries card (has_toolkit_of old state told)))
+    (ap (λ (came : Result Answered StatusWord). (settled card came).commits) (sym (by_toolkit command card apdu)) ∙ none)
 
 -- ---- STATUS
 
@@ -73,64 +71,23 @@ polled_calm old after result comes state told none =
     calm_comes (polling card) state (scene_of old) after result (comes card (has_toolkit_of old state told)) none
 
 -- Done it commits what telling the applets commits.
-calm_so : {X : Type 0} (result : Result X StoreFault) (card : CardState) (apdu : Apdu) (first : Answer) (mid : CardParts) → (first.status.0 == DONE.0) ≡ true → AnswersAs (settled card (carried_out Status card apdu)) first mid
+calm_so : {X : Type 0} (result : Result X StoreFault) (card : CardState) (apdu : Apdu) (first : Answer) (mid : CardParts) → (first.status.0 == DONE.0) ≡ true → AnswersAs (settled card (carried_out (File Status) card apdu)) first mid
     → ((state : Persistent) → IsTold mid.table state → (polled_on (card_with false mid state)).commits ≡ [] → IsOk result)
-    → IsTelling card apdu (settled card (carried_out Status card apdu)) ⊎ IsNotTold card apdu (settled card (carried_out Status card apdu))
-    → (settled card (carried_with true Status card apdu)).commits ≡ [] → IsOk result
+    → IsTelling card apdu (settled card (carried_out (File Status) card apdu)) ⊎ IsNotTold card apdu (settled card (carried_out (File Status) card apdu))
+    → (settled card (carried_with true (File Status) card apdu)).commits ≡ [] → IsOk result
 calm_so result card apdu first mid done answers calm (inl telling) none =
-    let answered : Answered = settled card (carried_out Status card apdu) in
+    let answered : Answered = settled card (carried_out (File Status) card apdu) in
     let later : (polled_on answered.state).commits ≡ [] =
     ap (λ (commits : List Persistent). commits ++ (polled_on answered.state).commits) (sym telling.commits) ∙ ap (λ (each : Answered). each.commits) (sym telling.carried) ∙ none in
     calm answered.state.persistent answers.left.table (ap (λ (each : CardState). (polled_on each).commits) (sym (card_told mid answered.state answers.left)) ∙ later)
 calm_so result card apdu first mid done answers calm (inr silent) none = absurd (true≢false (sym done ∙ ap (λ (word : StatusWord). word.0 == DONE.0) answers.status ∙ silent.other))
 
-pub status_calm : {X : Type 0} (result : Result X StoreFault) (card : CardState) (apdu : Apdu) (first : Answer) (mid : CardParts) → (first.status.0 == DONE.0) ≡ true → AnswersAs (settled card (carried_out Status card apdu)) first mid
+pub status_calm : {X : Type 0} (result : Result X StoreFault) (card : CardState) (apdu : Apdu) (first : Answer) (mid : CardParts) → (first.status.0 == DONE.0) ≡ true → AnswersAs (settled card (carried_out (File Status) card apdu)) first mid
     → ((state : Persistent) → IsTold mid.table state → (polled_on (card_with false mid state)).commits ≡ [] → IsOk result)
-    → (settled card (carried_with true Status card apdu)).commits ≡ [] → IsOk result
+    → (settled card (carried_with true (File Status) card apdu)).commits ≡ [] → IsOk result
 status_calm result card apdu first mid done answers calm none = calm_so result card apdu first mid done answers calm (tells_or_not card apdu) none
 
--- ---- which commands it is said of
-
-pub pins_reach_none : (instruction : Instruction) → is_on_pins instruction ≡ true → ReachesApplets instruction → ⊥
-pins_reach_none instruction pins (inl tools) = pins_apart instruction pins tools
-pins_reach_none instruction pins (inr status) = status_no_pins instruction status pins
-
-status_needs_none : (instruction : Instruction) → is_status instruction ≡ true → NeedsNoContents instruction
-status_needs_none Select status = absurd (false≢true status)
-status_needs_none Status status = refl
-status_needs_none ReadBinary status = absurd (false≢true status)
-status_needs_none UpdateBinary status = absurd (false≢true status)
-status_needs_none ReadRecord status = absurd (false≢true status)
-status_needs_none UpdateRecord status = absurd (false≢true status)
-status_needs_none SearchRecord status = absurd (false≢true status)
-status_needs_none Increase status = absurd (false≢true status)
-status_needs_none DeactivateFile status = absurd (false≢true status)
-status_needs_none ActivateFile status = absurd (false≢true status)
-status_needs_none VerifyPin status = absurd (false≢true status)
-status_needs_none ChangePin status = absurd (false≢true status)
-status_needs_none DisablePin status = absurd (false≢true status)
-status_needs_none EnablePin status = absurd (false≢true status)
-status_needs_none UnblockPin status = absurd (false≢true status)
-status_needs_none ManageChannel status = absurd (false≢true status)
-status_needs_none TerminalProfile status = absurd (false≢true status)
-status_needs_none Fetch status = absurd (false≢true status)
-status_needs_none TerminalResponse status = absurd (false≢true status)
-status_needs_none Envelope status = absurd (false≢true status)
-status_needs_none InstallApplet status = absurd (false≢true status)
-status_needs_none DeleteApplet status = absurd (false≢true status)
-status_needs_none CreateFile status = absurd (false≢true status)
-status_needs_none DeleteFile status = absurd (false≢true status)
-status_needs_none ResizeFile status = absurd (false≢true status)
-
-pub reaches_needs_none : (instruction : Instruction) → is_of_toolkit instruction ≡ false → ReachesApplets instruction → NeedsNoContents instruction
-reaches_needs_none instruction other (inl tools) = absurd (true≢false (sym tools ∙ other))
-reaches_needs_none instruction other (inr status) = status_needs_none instruction status
-
 -- ---- the whole answer
-
-pub answer_calm : {X : Type 0} (result : Result X StoreFault) (card : CardState) (bytes : List ℕ) → ((settled card (tried is_known card bytes)).commits ≡ [] → IsOk result) → (answer card bytes).commits ≡ [] → IsOk result
-unfolding answer_of
-answer_calm result card bytes calm none = calm none
 
 pub calm_may : {X : Type 0} (result : Result X StoreFault) (old : CardParts) (card : CardState) (bytes : List ℕ) → MayBe old card → ((answer (card_with false old card.persistent) bytes).commits ≡ [] → IsOk result) → (answer card bytes).commits ≡ [] → IsOk result
 calm_may result old card bytes may calm none = calm (ap (λ (each : CardState). (answer each bytes).commits) (sym (card_told old card may)) ∙ none)

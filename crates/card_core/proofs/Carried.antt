@@ -18,12 +18,12 @@ use Rattle.file_model.specs.Access.{keys_seen}
 use Rattle.file_model.specs.Chains.{and_given}
 use Rattle.file_model.specs.Files.{descriptors_of}
 use Rattle.toolkit_model.specs.Model.{AppletState}
-use Rattle.card_model.specs.Answers.{Answered, settled, carried_out, event_told, is_status, on_toolkit, toolkit_tried, seen_by}
-use Rattle.card_model.specs.Instructions.{is_of_toolkit}
+use Rattle.card_model.specs.Answers.{Answered, settled, carried_out, event_told, on_toolkit, toolkit_tried, seen_by}
 use Rattle.card_model.specs.States.{CardState}
-use Rattle.card_model.specs.Toolkit.{ToolkitOutcome}
-use Rattle.card_model.specs.declared.instructions.Instruction.{Instruction}
-use Rattle.card_model.specs.declared.instructions.Instruction.TheVariants.{Select, Status, ReadBinary, UpdateBinary, ReadRecord, UpdateRecord, SearchRecord, Increase, DeactivateFile, ActivateFile, VerifyPin, ChangePin, DisablePin, EnablePin, UnblockPin, ManageChannel, TerminalProfile, Fetch, TerminalResponse, Envelope, InstallApplet, DeleteApplet, CreateFile, DeleteFile, ResizeFile}
+use Rattle.card_model.specs.Toolkit.{ToolkitOutcome, toolkit_outcome}
+use Rattle.card_model.specs.declared.instructions.Instruction.TheVariants.{Toolkit}
+use Rattle.card_model.specs.declared.instructions.ToolkitCommand.{ToolkitCommand}
+use Rattle.card_model.specs.declared.instructions.ToolkitCommand.TheVariants.{TerminalProfile, Fetch, TerminalResponse, Envelope, InstallApplet, DeleteApplet}
 use Rattle.session_laws.specs.Laws.{CommandsLeaveRows}
 use Rattle.session_laws.specs.Moving.{HasOrder, LeavesRows, command_by}
 use Rattle.toolkit_model.specs.Steps.{Command}
@@ -32,7 +32,7 @@ use Rattle.session_commands.specs.Carrying.{HasToolkit, Carries}
 use Rattle.session_commands.specs.Cards.{AnswersSo, answers_so, holds_so, counts_so, at_most_so}
 use Rattle.card_core.specs.AnyStore.{AnswersAs}
 use Rattle.card_core.specs.Cards.{memory_of, held_by, card_with, card_of}
-use Rattle.card_core.specs.Commands.{toolkit_outcome, leaving_by}
+use Rattle.card_core.specs.Commands.{leaving_by}
 use Rattle.card_core.specs.Acting.{CommitsSo}
 use Rattle.card_core.specs.Moves.{Answers, CommitsStates}
 use Rattle.card_core.specs.Parts.{CardParts}
@@ -42,69 +42,25 @@ use Rattle.card_core.proofs.Standing.{if_card, card_then}
 
 -- ---- which command it is
 
-pub by_toolkit : (instruction : Instruction) (card : CardState) (apdu : Apdu) → is_of_toolkit instruction ≡ true
-    → carried_out instruction card apdu ≡ toolkit_tried card (toolkit_outcome instruction card (seen_by card) apdu)
-unfolding carried_out toolkit_outcome
-by_toolkit Select card apdu is = absurd (false≢true is)
-by_toolkit Status card apdu is = absurd (false≢true is)
-by_toolkit ReadBinary card apdu is = absurd (false≢true is)
-by_toolkit UpdateBinary card apdu is = absurd (false≢true is)
-by_toolkit ReadRecord card apdu is = absurd (false≢true is)
-by_toolkit UpdateRecord card apdu is = absurd (false≢true is)
-by_toolkit SearchRecord card apdu is = absurd (false≢true is)
-by_toolkit Increase card apdu is = absurd (false≢true is)
-by_toolkit DeactivateFile card apdu is = absurd (false≢true is)
-by_toolkit ActivateFile card apdu is = absurd (false≢true is)
-by_toolkit VerifyPin card apdu is = absurd (false≢true is)
-by_toolkit ChangePin card apdu is = absurd (false≢true is)
-by_toolkit DisablePin card apdu is = absurd (false≢true is)
-by_toolkit EnablePin card apdu is = absurd (false≢true is)
-by_toolkit UnblockPin card apdu is = absurd (false≢true is)
-by_toolkit ManageChannel card apdu is = absurd (false≢true is)
-by_toolkit TerminalProfile card apdu is = refl
-by_toolkit Fetch card apdu is = refl
-by_toolkit TerminalResponse card apdu is = refl
-by_toolkit Envelope card apdu is = refl
-by_toolkit InstallApplet card apdu is = refl
-by_toolkit DeleteApplet card apdu is = refl
-by_toolkit CreateFile card apdu is = absurd (false≢true is)
-by_toolkit DeleteFile card apdu is = absurd (false≢true is)
-by_toolkit ResizeFile card apdu is = absurd (false≢true is)
+pub by_toolkit : (command : ToolkitCommand) (card : CardState) (apdu : Apdu) → carried_out (Toolkit command) card apdu ≡ toolkit_tried card (toolkit_outcome command card (seen_by card) apdu)
+unfolding carried_out
+by_toolkit command card apdu = refl
 
 -- a DELETE alone lets an applet leave
-abbrev pub is_delete : Instruction → Bool
+abbrev pub is_delete : ToolkitCommand → Bool
 is_delete DeleteApplet = true
 is_delete _ = false
 
-abbrev pub LeavesBy : Instruction → Apdu → Option Shelf → Type 0
-LeavesBy instruction apdu leaving = ((leaving ≡ None) × (is_delete instruction ≡ false)) ⊎ ((instruction ≡ DeleteApplet) × (leaving ≡ Some (record { 0 = apdu.p2 })))
+abbrev pub LeavesBy : ToolkitCommand → Apdu → Option Shelf → Type 0
+LeavesBy command apdu leaving = ((leaving ≡ None) × (is_delete command ≡ false)) ⊎ ((command ≡ DeleteApplet) × (leaving ≡ Some (record { 0 = apdu.p2 })))
 
-pub leaves_by : (instruction : Instruction) (apdu : Apdu) → LeavesBy instruction apdu (leaving_by instruction apdu)
+pub leaves_by : (command : ToolkitCommand) (apdu : Apdu) → LeavesBy command apdu (leaving_by command apdu)
 leaves_by DeleteApplet apdu = inr (refl, refl)
-leaves_by Select apdu = inl (refl, refl)
-leaves_by Status apdu = inl (refl, refl)
-leaves_by ReadBinary apdu = inl (refl, refl)
-leaves_by UpdateBinary apdu = inl (refl, refl)
-leaves_by ReadRecord apdu = inl (refl, refl)
-leaves_by UpdateRecord apdu = inl (refl, refl)
-leaves_by SearchRecord apdu = inl (refl, refl)
-leaves_by Increase apdu = inl (refl, refl)
-leaves_by DeactivateFile apdu = inl (refl, refl)
-leaves_by ActivateFile apdu = inl (refl, refl)
-leaves_by VerifyPin apdu = inl (refl, refl)
-leaves_by ChangePin apdu = inl (refl, refl)
-leaves_by DisablePin apdu = inl (refl, refl)
-leaves_by EnablePin apdu = inl (refl, refl)
-leaves_by UnblockPin apdu = inl (refl, refl)
-leaves_by ManageChannel apdu = inl (refl, refl)
 leaves_by TerminalProfile apdu = inl (refl, refl)
 leaves_by Fetch apdu = inl (refl, refl)
 leaves_by TerminalResponse apdu = inl (refl, refl)
 leaves_by Envelope apdu = inl (refl, refl)
 leaves_by InstallApplet apdu = inl (refl, refl)
-leaves_by CreateFile apdu = inl (refl, refl)
-leaves_by DeleteFile apdu = inl (refl, refl)
-leaves_by ResizeFile apdu = inl (refl, refl)
 
 -- ---- the scene of a card
 
@@ -120,30 +76,30 @@ made_of new card rests held channels verified session boxes = card_then new card
 
 -- ---- a command that was answered
 
-module _ (instruction : Instruction) (is : is_of_toolkit instruction ≡ true) (apdu : Apdu) (old new : CardParts) (seen : Verified) (seen_is : seen ≡ keys_seen (pins_of old.table) old.verified)
+module _ (command : ToolkitCommand) (apdu : Apdu) (old new : CardParts) (seen : Verified) (seen_is : seen ≡ keys_seen (pins_of old.table) old.verified)
     (channels : new.channels ≡ old.channels) (verified : new.verified ≡ old.verified) where
   abbrev tried_on : CardState → Result ToolkitOutcome StatusWord
-  tried_on card = toolkit_outcome instruction card (seen_by card) apdu
+  tried_on card = toolkit_outcome command card (seen_by card) apdu
 
   sees : (state : Persistent) → IsTold old.table state → seen ≡ seen_by (card_with false old state)
   sees state told = seen_is ∙ ap (λ (pins : List Pin). keys_seen pins old.verified) (sym told.pins)
 
   module _ {X : Type 0} (result : X) (out : Answer)
-      (carries : (card : CardState) → HasToolkit (scene_of old) card → Carries (toolkit_outcome instruction card seen apdu) out (scene_of old) (scene_of new) (Ok result)) where
+      (carries : (card : CardState) → HasToolkit (scene_of old) card → Carries (toolkit_outcome command card seen apdu) out (scene_of old) (scene_of new) (Ok result)) where
     carries_on : (state : Persistent) → IsTold old.table state → Carries (tried_on (card_with false old state)) out (scene_of old) (scene_of new) (Ok result)
     carries_on state told =
-        subst (λ (keys : Verified). Carries (toolkit_outcome instruction (card_with false old state) keys apdu) out (scene_of old) (scene_of new) (Ok result)) (sees state told)
+        subst (λ (keys : Verified). Carries (toolkit_outcome command (card_with false old state) keys apdu) out (scene_of old) (scene_of new) (Ok result)) (sees state told)
         (carries (card_with false old state) (has_toolkit_of old state told))
 
     so_on : (state : Persistent) → IsTold old.table state
         → AnswersSo (card_with false old state) (settled (card_with false old state) (toolkit_tried (card_with false old state) (tried_on (card_with false old state)))) out (scene_of new)
     so_on state told = answers_so (card_with false old state) out (scene_of old) (scene_of new) (has_toolkit_of old state told) (tried_on (card_with false old state)) result (carries_on state told)
 
-    pub toolkit_answers : (state : Persistent) → IsTold old.table state → AnswersAs (settled (card_with false old state) (carried_out instruction (card_with false old state) apdu)) out new
+    pub toolkit_answers : (state : Persistent) → IsTold old.table state → AnswersAs (settled (card_with false old state) (carried_out (Toolkit command) (card_with false old state) apdu)) out new
     toolkit_answers state told =
         let card : CardState = card_with false old state in
         let so = so_on state told in
-        subst (λ (came : Result Answered StatusWord). AnswersAs (settled card came) out new) (sym (by_toolkit instruction card apdu is)) (record {
+        subst (λ (came : Result Answered StatusWord). AnswersAs (settled card came) out new) (sym (by_toolkit command card apdu)) (record {
           body = so.body;
           status = so.status;
           left = record {
@@ -156,15 +112,15 @@ module _ (instruction : Instruction) (is : is_of_toolkit instruction ≡ true) (
         })
 
     pub toolkit_settles : TablesTellStates → Agrees old.store_mark old.told old.table → old.is_due ≡ false → new.is_due ≡ false
-        → IfSome (card_of old) (λ card. Answers (settled card (carried_out instruction card apdu)) out (card_of new))
+        → IfSome (card_of old) (λ card. Answers (settled card (carried_out (Toolkit command) card apdu)) out (card_of new))
     toolkit_settles tell agrees rests rests' =
-        if_card old (λ card. Answers (settled card (carried_out instruction card apdu)) out (card_of new)) rests
+        if_card old (λ card. Answers (settled card (carried_out (Toolkit command) card apdu)) out (card_of new)) rests
         (λ persistent held.
         let card : CardState = card_with false old persistent in
         let told = tell old.store_mark old.told old.table persistent agrees held in
         let so = so_on persistent told in
         let holds = holds_so card (scene_of old) (scene_of new) held (tried_on card) out result (carries_on persistent told) in
-        subst (λ (came : Result Answered StatusWord). Answers (settled card came) out (card_of new)) (sym (by_toolkit instruction card apdu is)) (record {
+        subst (λ (came : Result Answered StatusWord). Answers (settled card came) out (card_of new)) (sym (by_toolkit command card apdu)) (record {
           body = so.body;
           status = so.status;
           moved = made_of new (settled card (toolkit_tried card (tried_on card))).state rests' holds (channels ∙ sym so.channels) (verified ∙ sym so.verified) (sym so.toolkit.session_is) (sym so.toolkit.boxes_are);
@@ -172,91 +128,62 @@ module _ (instruction : Instruction) (is : is_of_toolkit instruction ≡ true) (
 
 -- ---- how often it commits
 
-module _ (instruction : Instruction) (is : is_of_toolkit instruction ≡ true) (apdu : Apdu) (old new : CardParts) (seen : Verified) (seen_is : seen ≡ keys_seen (pins_of old.table) old.verified) (tell : TablesTellStates)
+module _ (command : ToolkitCommand) (apdu : Apdu) (old new : CardParts) (seen : Verified) (seen_is : seen ≡ keys_seen (pins_of old.table) old.verified) (tell : TablesTellStates)
     (agrees : Agrees old.store_mark old.told old.table) (rests : old.is_due ≡ false) where
-  counted : {X : Type 0} (out : Answer) (done : X) → ((card : CardState) → HasToolkit (scene_of old) card → Carries {X = X} (toolkit_outcome instruction card seen apdu) out (scene_of old) (scene_of new) (Ok done))
-      → (persistent : Persistent) → IsTold old.table persistent → Counts (settled (card_with false old persistent) (carried_out instruction (card_with false old persistent) apdu)).commits (memory_of old) (memory_of new)
+  counted : {X : Type 0} (out : Answer) (done : X) → ((card : CardState) → HasToolkit (scene_of old) card → Carries {X = X} (toolkit_outcome command card seen apdu) out (scene_of old) (scene_of new) (Ok done))
+      → (persistent : Persistent) → IsTold old.table persistent → Counts (settled (card_with false old persistent) (carried_out (Toolkit command) (card_with false old persistent) apdu)).commits (memory_of old) (memory_of new)
   counted {X} out done carries persistent told =
       let card : CardState = card_with false old persistent in
       let sees : seen ≡ seen_by card = seen_is ∙ ap (λ (pins : List Pin). keys_seen pins old.verified) (sym told.pins) in
-      subst (λ (came : Result Answered StatusWord). Counts (settled card came).commits (memory_of old) (memory_of new)) (sym (by_toolkit instruction card apdu is))
-      (counts_so card out (scene_of old) (scene_of new) (toolkit_outcome instruction card (seen_by card) apdu) done
-      (subst (λ (keys : Verified). Carries {X = X} (toolkit_outcome instruction card keys apdu) out (scene_of old) (scene_of new) (Ok done)) sees (carries card (has_toolkit_of old persistent told))))
+      subst (λ (came : Result Answered StatusWord). Counts (settled card came).commits (memory_of old) (memory_of new)) (sym (by_toolkit command card apdu))
+      (counts_so card out (scene_of old) (scene_of new) (toolkit_outcome command card (seen_by card) apdu) done
+      (subst (λ (keys : Verified). Carries {X = X} (toolkit_outcome command card keys apdu) out (scene_of old) (scene_of new) (Ok done)) sees (carries card (has_toolkit_of old persistent told))))
 
-  stopped_at : (X : Type 0) (out : Answer) (fault : StoreFault) → ((card : CardState) → HasToolkit (scene_of old) card → Carries {X = X} (toolkit_outcome instruction card seen apdu) out (scene_of old) (scene_of new) (Err fault))
-      → (persistent : Persistent) → IsTold old.table persistent → CommitsAtMost (length (settled (card_with false old persistent) (carried_out instruction (card_with false old persistent) apdu)).commits) old.commits new.commits
+  stopped_at : (X : Type 0) (out : Answer) (fault : StoreFault) → ((card : CardState) → HasToolkit (scene_of old) card → Carries {X = X} (toolkit_outcome command card seen apdu) out (scene_of old) (scene_of new) (Err fault))
+      → (persistent : Persistent) → IsTold old.table persistent → CommitsAtMost (length (settled (card_with false old persistent) (carried_out (Toolkit command) (card_with false old persistent) apdu)).commits) old.commits new.commits
   stopped_at X out fault carries persistent told =
       let card : CardState = card_with false old persistent in
       let sees : seen ≡ seen_by card = seen_is ∙ ap (λ (pins : List Pin). keys_seen pins old.verified) (sym told.pins) in
-      subst (λ (came : Result Answered StatusWord). CommitsAtMost (length (settled card came).commits) old.commits new.commits) (sym (by_toolkit instruction card apdu is))
-      (at_most_so card out (scene_of old) (scene_of new) X (toolkit_outcome instruction card (seen_by card) apdu) fault
-      (subst (λ (keys : Verified). Carries {X = X} (toolkit_outcome instruction card keys apdu) out (scene_of old) (scene_of new) (Err fault)) sees (carries card (has_toolkit_of old persistent told))))
+      subst (λ (came : Result Answered StatusWord). CommitsAtMost (length (settled card came).commits) old.commits new.commits) (sym (by_toolkit command card apdu))
+      (at_most_so card out (scene_of old) (scene_of new) X (toolkit_outcome command card (seen_by card) apdu) fault
+      (subst (λ (keys : Verified). Carries {X = X} (toolkit_outcome command card keys apdu) out (scene_of old) (scene_of new) (Err fault)) sees (carries card (has_toolkit_of old persistent told))))
 
   pub toolkit_counts : {X : Type 0} (result : Result X StoreFault) (out : Answer)
-      → ((card : CardState) → HasToolkit (scene_of old) card → Carries (toolkit_outcome instruction card seen apdu) out (scene_of old) (scene_of new) result)
-      → ((state : Persistent) → IsTold old.table state → (settled (card_with false old state) (carried_out instruction (card_with false old state) apdu)).commits ≡ [] → IsOk result)
-      → CommitsStates result old new (λ card. (settled card (carried_out instruction card apdu)).commits)
+      → ((card : CardState) → HasToolkit (scene_of old) card → Carries (toolkit_outcome command card seen apdu) out (scene_of old) (scene_of new) result)
+      → ((state : Persistent) → IsTold old.table state → (settled (card_with false old state) (carried_out (Toolkit command) (card_with false old state) apdu)).commits ≡ [] → IsOk result)
+      → CommitsStates result old new (λ card. (settled card (carried_out (Toolkit command) card apdu)).commits)
   toolkit_counts (Ok done) out carries calm = record {
     commits =
-        if_card old (λ card. new.commits ≡ raised_by (length (settled card (carried_out instruction card apdu)).commits) old.commits) rests (λ persistent held. (counted out done carries persistent (tell old.store_mark old.told old.table persistent agrees held)).commits);
+        if_card old (λ card. new.commits ≡ raised_by (length (settled card (carried_out (Toolkit command) card apdu)).commits) old.commits) rests (λ persistent held. (counted out done carries persistent (tell old.store_mark old.told old.table persistent agrees held)).commits);
     stopped = tt;
-    stable = if_card old (λ card. (settled card (carried_out instruction card apdu)).commits ≡ [] → new.told ≡ old.told) rests (λ persistent held none. (counted out done carries persistent (tell old.store_mark old.told old.table persistent agrees held)).stays none);
+    stable = if_card old (λ card. (settled card (carried_out (Toolkit command) card apdu)).commits ≡ [] → new.told ≡ old.told) rests (λ persistent held none. (counted out done carries persistent (tell old.store_mark old.told old.table persistent agrees held)).stays none);
   }
   toolkit_counts {X} (Err fault) out carries calm = record {
     commits = tt;
     stopped =
-        if_card old (λ card. CommitsAtMost (length (settled card (carried_out instruction card apdu)).commits) old.commits new.commits) rests (λ persistent held. stopped_at X out fault carries persistent (tell old.store_mark old.told old.table persistent agrees held));
+        if_card old (λ card. CommitsAtMost (length (settled card (carried_out (Toolkit command) card apdu)).commits) old.commits new.commits) rests (λ persistent held. stopped_at X out fault carries persistent (tell old.store_mark old.told old.table persistent agrees held));
     stable =
-        if_card old (λ card. (settled card (carried_out instruction card apdu)).commits ≡ [] → new.told ≡ old.told) rests
+        if_card old (λ card. (settled card (carried_out (Toolkit command) card apdu)).commits ≡ [] → new.told ≡ old.told) rests
         (λ persistent held none. absurd (false≢true (calm persistent (tell old.store_mark old.told old.table persistent agrees held) none)));
   }
 
 -- the same where the store tells nothing, of each state that the table tells
-module _ (instruction : Instruction) (is : is_of_toolkit instruction ≡ true) (apdu : Apdu) (old : CardParts) (after : Scene) (seen : Verified) (seen_is : seen ≡ keys_seen (pins_of old.table) old.verified) where
+module _ (command : ToolkitCommand) (apdu : Apdu) (old : CardParts) (after : Scene) (seen : Verified) (seen_is : seen ≡ keys_seen (pins_of old.table) old.verified) where
   pub toolkit_so : {X : Type 0} (result : Result X StoreFault) (out : Answer)
-      → ((card : CardState) → HasToolkit (scene_of old) card → Carries (toolkit_outcome instruction card seen apdu) out (scene_of old) after result)
-      → (state : Persistent) → IsTold old.table state → CommitsSo result old.commits after.memory.commits (settled (card_with false old state) (carried_out instruction (card_with false old state) apdu)).commits
+      → ((card : CardState) → HasToolkit (scene_of old) card → Carries (toolkit_outcome command card seen apdu) out (scene_of old) after result)
+      → (state : Persistent) → IsTold old.table state → CommitsSo result old.commits after.memory.commits (settled (card_with false old state) (carried_out (Toolkit command) (card_with false old state) apdu)).commits
   toolkit_so {X} (Ok done) out carries state told =
       let card : CardState = card_with false old state in
       let sees : seen ≡ seen_by card = seen_is ∙ ap (λ (pins : List Pin). keys_seen pins old.verified) (sym told.pins) in
-      subst (λ (came : Result Answered StatusWord). after.memory.commits ≡ raised_by (length (settled card came).commits) old.commits) (sym (by_toolkit instruction card apdu is))
-      (counts_so card out (scene_of old) after (toolkit_outcome instruction card (seen_by card) apdu) done
-      (subst (λ (keys : Verified). Carries {X = X} (toolkit_outcome instruction card keys apdu) out (scene_of old) after (Ok done)) sees (carries card (has_toolkit_of old state told)))).commits
+      subst (λ (came : Result Answered StatusWord). after.memory.commits ≡ raised_by (length (settled card came).commits) old.commits) (sym (by_toolkit command card apdu))
+      (counts_so card out (scene_of old) after (toolkit_outcome command card (seen_by card) apdu) done
+      (subst (λ (keys : Verified). Carries {X = X} (toolkit_outcome command card keys apdu) out (scene_of old) after (Ok done)) sees (carries card (has_toolkit_of old state told)))).commits
   toolkit_so {X} (Err fault) out carries state told =
       let card : CardState = card_with false old state in
       let sees : seen ≡ seen_by card = seen_is ∙ ap (λ (pins : List Pin). keys_seen pins old.verified) (sym told.pins) in
-      subst (λ (came : Result Answered StatusWord). CommitsAtMost (length (settled card came).commits) old.commits after.memory.commits) (sym (by_toolkit instruction card apdu is))
-      (at_most_so card out (scene_of old) after X (toolkit_outcome instruction card (seen_by card) apdu) fault
-      (subst (λ (keys : Verified). Carries {X = X} (toolkit_outcome instruction card keys apdu) out (scene_of old) after (Err fault)) sees (carries card (has_toolkit_of old state told))))
-
--- ---- a command of the toolkit is no STATUS
-
-pub no_status : (instruction : Instruction) → is_of_toolkit instruction ≡ true → is_status instruction ≡ false
-no_status Status is = absurd (false≢true is)
-no_status Select is = refl
-no_status ReadBinary is = refl
-no_status UpdateBinary is = refl
-no_status ReadRecord is = refl
-no_status UpdateRecord is = refl
-no_status SearchRecord is = refl
-no_status Increase is = refl
-no_status DeactivateFile is = refl
-no_status ActivateFile is = refl
-no_status VerifyPin is = refl
-no_status ChangePin is = refl
-no_status DisablePin is = refl
-no_status EnablePin is = refl
-no_status UnblockPin is = refl
-no_status ManageChannel is = refl
-no_status TerminalProfile is = refl
-no_status Fetch is = refl
-no_status TerminalResponse is = refl
-no_status Envelope is = refl
-no_status InstallApplet is = refl
-no_status DeleteApplet is = refl
-no_status CreateFile is = refl
-no_status DeleteFile is = refl
-no_status ResizeFile is = refl
+      subst (λ (came : Result Answered StatusWord). CommitsAtMost (length (settled card came).commits) old.commits after.memory.commits) (sym (by_toolkit command card apdu))
+      (at_most_so card out (scene_of old) after X (toolkit_outcome command card (seen_by card) apdu) fault
+      (subst (λ (keys : Verified). Carries {X = X} (toolkit_outcome command card keys apdu) out (scene_of old) after (Err fault)) sees (carries card (has_toolkit_of old state told))))
 
 -- ---- what its commits leave of the rows
 
@@ -267,11 +194,11 @@ commits_leave command card outcome event result is silent leaves =
     subst (λ (b : Bool). LeavesRows command card (event_told b (on_toolkit card outcome))) silent
     (subst (λ (came : Result Answered StatusWord). MatchResult (and_given came (λ answered. Ok (event_told event answered))) (λ answered. LeavesRows command card answered) (λ status. ⊤)) is leaves)
 
-pub rows_left : CommandsLeaveRows → (instruction : Instruction) → is_of_toolkit instruction ≡ true → (card : CardState) (apdu : Apdu) (outcome : ToolkitOutcome) → HasOrder card
-    → toolkit_outcome instruction card (seen_by card) apdu ≡ Ok outcome → LeavesRows (command_by instruction card apdu) card (on_toolkit card outcome)
+pub rows_left : CommandsLeaveRows → (command : ToolkitCommand) → (card : CardState) (apdu : Apdu) (outcome : ToolkitOutcome) → HasOrder card
+    → toolkit_outcome command card (seen_by card) apdu ≡ Ok outcome → LeavesRows (command_by (Toolkit command) card apdu) card (on_toolkit card outcome)
 unfolding and_given
-rows_left law instruction is card apdu outcome ready came =
-    commits_leave (command_by instruction card apdu) card outcome (is_status instruction) (carried_out instruction card apdu) (by_toolkit instruction card apdu is ∙ ap (toolkit_tried card) came) (no_status instruction is) (law card instruction apdu ready)
+rows_left law command card apdu outcome ready came =
+    commits_leave (command_by (Toolkit command) card apdu) card outcome false (carried_out (Toolkit command) card apdu) (by_toolkit command card apdu ∙ ap (toolkit_tried card) came) refl (law card (Toolkit command) apdu ready)
 
 -- ---- what is lent
 

@@ -1,7 +1,7 @@
 -- No row comes to a shelf but by an INSTALL.
 use Rattle.std.proofs.Common.{◌≡◌, ◌≢◌, ℕ, zero, suc, ◌==◌, Bool, true, false, List, [], ◌∷◌, map, Option, Some, None, Result, Ok, Err, refl, sym, ◌∙◌, ap, subst, arith}
 use Rattle.std.specs.Prelude.{All, Contains, IfOk, IsSomeAnd, is_none, not, slice_get, slice_index_or, option_and_then, if◌then◌else◌, ◌&&◌}
-use Rattle.std.proofs.lemmas.Bool.{false≢true, true≢false}
+use Rattle.std.proofs.lemmas.Bool.{true≢false}
 use Rattle.std.proofs.lemmas.List.Elements.{All-nil, All-head, All-tail, All-filter, Contains-get_or}
 use Rattle.uicc_types.specs.declared.answers.StatusWord.{StatusWord}
 use Rattle.apdu_form.specs.Model.{Apdu}
@@ -15,11 +15,11 @@ use Rattle.card_layout.specs.Used.{registration_if}
 use Rattle.card_memory.specs.Laws.{IsTold}
 use Rattle.card_memory.specs.Model.{HasRowOn}
 use Rattle.card_model.specs.Answers.{Answered, settled, carried_out, toolkit_tried, seen_by}
-use Rattle.card_model.specs.Instructions.{is_of_toolkit}
 use Rattle.card_model.specs.States.{CardState, row_on}
-use Rattle.card_model.specs.Toolkit.{ToolkitOutcome, kind_in}
-use Rattle.card_model.specs.declared.instructions.Instruction.{Instruction}
-use Rattle.card_model.specs.declared.instructions.Instruction.TheVariants as Instructions
+use Rattle.card_model.specs.Toolkit.{ToolkitOutcome, kind_in, toolkit_outcome}
+use Rattle.card_model.specs.declared.instructions.Instruction.TheVariants.{Toolkit}
+use Rattle.card_model.specs.declared.instructions.ToolkitCommand.{ToolkitCommand}
+use Rattle.card_model.specs.declared.instructions.ToolkitCommand.TheVariants as commands
 use Rattle.file_model.specs.Chains.{and_given}
 use Rattle.session_commands.specs.Deleting.{HasNoRow}
 use Rattle.session_laws.specs.Laws.{CommandsLeaveRows, TellingLeavesRows}
@@ -32,7 +32,6 @@ use Rattle.toolkit_model.specs.Registry.{given, faulty_if, without_row, installe
 use Rattle.toolkit_laws.proofs.Inserted.{with_all}
 use Rattle.session_laws.proofs.Coming.{tests_so}
 use Rattle.card_core.specs.Cards.{card_with}
-use Rattle.card_core.specs.Commands.{toolkit_outcome}
 use Rattle.card_core.specs.Moves.{HasRowsOf, polled_on}
 use Rattle.card_core.specs.Parts.{CardParts}
 use Rattle.card_core.proofs.Broken.{no_row_there}
@@ -95,34 +94,15 @@ module _ (rows : List Registration) (k : ℕ) (none : HasNoRow rows k) where
   still now same = subst (λ (list : List Registration). HasNoRow list k) (sym same) none
 
 -- a shelf without a row has none after a command, unless this is an INSTALL on it
-none_after : (instruction : Instruction) (card : CardState) (apdu : Apdu) (k : ℕ) → is_of_toolkit instruction ≡ true → (instruction ≡ Instructions.InstallApplet → k ≢ apdu.p2) → HasNoRow card.persistent.rows k
-    → HasNoRow (rows_after (command_by instruction card apdu) card.persistent.rows) k
-none_after Instructions.TerminalProfile card apdu k is apart none = none
-none_after Instructions.Fetch card apdu k is apart none = still card.persistent.rows k none _ (fetching card.persistent.rows (unfetched card.session))
-none_after Instructions.TerminalResponse card apdu k is apart none = still card.persistent.rows k none _ (responding card.persistent.rows apdu.body (unanswered card.session))
-none_after Instructions.Envelope card apdu k is apart none = still card.persistent.rows k none _ (reported card.persistent.rows (envelope_of apdu.body))
-none_after Instructions.InstallApplet card apdu k is apart none =
+none_after : (command : ToolkitCommand) (card : CardState) (apdu : Apdu) (k : ℕ) → (command ≡ commands.InstallApplet → k ≢ apdu.p2) → HasNoRow card.persistent.rows k
+    → HasNoRow (rows_after (command_by (Toolkit command) card apdu) card.persistent.rows) k
+none_after commands.TerminalProfile card apdu k apart none = none
+none_after commands.Fetch card apdu k apart none = still card.persistent.rows k none _ (fetching card.persistent.rows (unfetched card.session))
+none_after commands.TerminalResponse card apdu k apart none = still card.persistent.rows k none _ (responding card.persistent.rows apdu.body (unanswered card.session))
+none_after commands.Envelope card apdu k apart none = still card.persistent.rows k none _ (reported card.persistent.rows (envelope_of apdu.body))
+none_after commands.InstallApplet card apdu k apart none =
     by_install card.persistent.rows k none (installed_row card.persistent (kind_in card apdu.p2) apdu.p2 apdu.p1 apdu.body) apdu.p2 (installed_there card.persistent (kind_in card apdu.p2) apdu.p2 apdu.p1 apdu.body) (apart refl)
-none_after Instructions.DeleteApplet card apdu k is apart none = by_delete card.persistent.rows k none apdu.p2
-none_after Instructions.Select card apdu k is apart none = absurd (false≢true is)
-none_after Instructions.Status card apdu k is apart none = absurd (false≢true is)
-none_after Instructions.ReadBinary card apdu k is apart none = absurd (false≢true is)
-none_after Instructions.UpdateBinary card apdu k is apart none = absurd (false≢true is)
-none_after Instructions.ReadRecord card apdu k is apart none = absurd (false≢true is)
-none_after Instructions.UpdateRecord card apdu k is apart none = absurd (false≢true is)
-none_after Instructions.SearchRecord card apdu k is apart none = absurd (false≢true is)
-none_after Instructions.Increase card apdu k is apart none = absurd (false≢true is)
-none_after Instructions.DeactivateFile card apdu k is apart none = absurd (false≢true is)
-none_after Instructions.ActivateFile card apdu k is apart none = absurd (false≢true is)
-none_after Instructions.VerifyPin card apdu k is apart none = absurd (false≢true is)
-none_after Instructions.ChangePin card apdu k is apart none = absurd (false≢true is)
-none_after Instructions.DisablePin card apdu k is apart none = absurd (false≢true is)
-none_after Instructions.EnablePin card apdu k is apart none = absurd (false≢true is)
-none_after Instructions.UnblockPin card apdu k is apart none = absurd (false≢true is)
-none_after Instructions.ManageChannel card apdu k is apart none = absurd (false≢true is)
-none_after Instructions.CreateFile card apdu k is apart none = absurd (false≢true is)
-none_after Instructions.DeleteFile card apdu k is apart none = absurd (false≢true is)
-none_after Instructions.ResizeFile card apdu k is apart none = absurd (false≢true is)
+none_after commands.DeleteApplet card apdu k apart none = by_delete card.persistent.rows k none apdu.p2
 
 -- ---- where a fault stopped it
 
@@ -140,28 +120,28 @@ none_stopped changed state commits rows k fixed (zero, low, same) before after =
 none_stopped changed state commits rows k fixed (suc at, low, same) before after =
     same_shelves changed rows k (fixed_in changed commits fixed rows (at, omega (arith, low), same)) ∙ is_there_none changed k after
 
-toolkit_fixed : CommandsLeaveRows → (instruction : Instruction) → is_of_toolkit instruction ≡ true → (card : CardState) (apdu : Apdu) → HasOrder card
-    → AllFixed (rows_after (command_by instruction card apdu) card.persistent.rows) (settled card (carried_out instruction card apdu)).commits
+toolkit_fixed : CommandsLeaveRows → (command : ToolkitCommand) → (card : CardState) (apdu : Apdu) → HasOrder card
+    → AllFixed (rows_after (command_by (Toolkit command) card apdu) card.persistent.rows) (settled card (carried_out (Toolkit command) card apdu)).commits
 unfolding and_given
-toolkit_fixed law instruction is card apdu ready =
-    subst (λ (came : Result Answered StatusWord). AllFixed (rows_after (command_by instruction card apdu) card.persistent.rows) (settled card came).commits) (sym (by_toolkit instruction card apdu is))
-    (by_outcome (toolkit_outcome instruction card (seen_by card) apdu) refl) where
-      by_outcome : (came : Result ToolkitOutcome StatusWord) → toolkit_outcome instruction card (seen_by card) apdu ≡ came → AllFixed (rows_after (command_by instruction card apdu) card.persistent.rows) (settled card (toolkit_tried card came)).commits
-      by_outcome (Ok outcome) came = (rows_left law instruction is card apdu outcome ready came).fixed
-      by_outcome (Err status) came = All-nil (λ (state : Persistent). HaveFixed (rows_after (command_by instruction card apdu) card.persistent.rows) state.rows)
+toolkit_fixed law command card apdu ready =
+    subst (λ (came : Result Answered StatusWord). AllFixed (rows_after (command_by (Toolkit command) card apdu) card.persistent.rows) (settled card came).commits) (sym (by_toolkit command card apdu))
+    (by_outcome (toolkit_outcome command card (seen_by card) apdu) refl) where
+      by_outcome : (came : Result ToolkitOutcome StatusWord) → toolkit_outcome command card (seen_by card) apdu ≡ came → AllFixed (rows_after (command_by (Toolkit command) card apdu) card.persistent.rows) (settled card (toolkit_tried card came)).commits
+      by_outcome (Ok outcome) came = (rows_left law command card apdu outcome ready came).fixed
+      by_outcome (Err status) came = All-nil (λ (state : Persistent). HaveFixed (rows_after (command_by (Toolkit command) card apdu) card.persistent.rows) state.rows)
 
 module _ (entries : RowsAreEntries) (old mid : CardParts) (state : Persistent) (told : IsTold old.table state) (ready : HasOrder (card_with false old state)) (k : ℕ) (lacks : HasRowOn old.table k → ⊥) where
   none_before : HasNoRow state.rows k
   none_before = subst (λ (rows : List Registration). HasNoRow rows k) (sym told.rows) (has_none (rows_of old.table) k (none_on entries old.table k lacks))
 
   -- a command of the toolkit
-  pub none_comes : CommandsLeaveRows → (instruction : Instruction) → is_of_toolkit instruction ≡ true → (apdu : Apdu) → (instruction ≡ Instructions.InstallApplet → k ≢ apdu.p2)
-      → HasRowsOf (state ∷ (settled (card_with false old state) (carried_out instruction (card_with false old state) apdu)).commits) mid → HasRowOn mid.table k → ⊥
-  none_comes law instruction is apdu apart stopped =
+  pub none_comes : CommandsLeaveRows → (command : ToolkitCommand) → (apdu : Apdu) → (command ≡ commands.InstallApplet → k ≢ apdu.p2)
+      → HasRowsOf (state ∷ (settled (card_with false old state) (carried_out (Toolkit command) (card_with false old state) apdu)).commits) mid → HasRowOn mid.table k → ⊥
+  none_comes law command apdu apart stopped =
       let card : CardState = card_with false old state in
       none_there entries mid.table k
-      (none_stopped (rows_after (command_by instruction card apdu) state.rows) state (settled card (carried_out instruction card apdu)).commits (rows_of mid.table) k (toolkit_fixed law instruction is card apdu ready) stopped none_before
-      (none_after instruction card apdu k is apart none_before))
+      (none_stopped (rows_after (command_by (Toolkit command) card apdu) state.rows) state (settled card (carried_out (Toolkit command) card apdu)).commits (rows_of mid.table) k (toolkit_fixed law command card apdu ready) stopped none_before
+      (none_after command card apdu k apart none_before))
 
   -- STATUS, of which applets are told
   pub none_polled : TellingLeavesRows → HasRowsOf (state ∷ (polled_on (card_with false old state)).commits) mid → HasRowOn mid.table k → ⊥

@@ -7,25 +7,22 @@ use Rattle.general_laws.specs.Optional.{on_ok, on_err}
 use Rattle.uicc_types.specs.Counts.{raised_by}
 use Rattle.uicc_types.specs.declared.answers.Answer.{Answer}
 use Rattle.uicc_types.specs.declared.answers.StatusWord.{StatusWord}
-use Rattle.uicc_types.specs.declared.answers.TheConstants.StatusWord.{DONE, WRONG_LENGTH}
+use Rattle.uicc_types.specs.declared.answers.TheConstants.StatusWord.{DONE}
 use Rattle.store_form.specs.declared.store.StoreFault.{StoreFault}
-use Rattle.apdu_form.specs.Model.{Apdu, command_in}
+use Rattle.apdu_form.specs.Model.{Apdu}
 use Rattle.card_layout.specs.Persistent.{Persistent}
 use Rattle.card_memory.specs.Performing.{CommitsAtMost}
-use Rattle.file_model.specs.Chains.{given, and_given}
-use Rattle.card_model.specs.Answers.{Answered, settled, carried_with, carried_out, is_status, tried, answer_of, answer}
-use Rattle.card_model.specs.Instructions.{instruction_tried, is_known}
+use Rattle.card_model.specs.Answers.{Answered, settled, carried_with, carried_out, tried, answer_of, answer}
+use Rattle.card_model.specs.Instructions.{is_known}
 use Rattle.card_model.specs.States.{CardState}
-use Rattle.card_model.specs.declared.instructions.Instruction.{Instruction}
-use Rattle.card_model.specs.declared.instructions.Instruction.TheVariants.{Status}
+use Rattle.card_model.specs.declared.instructions.Instruction.TheVariants.{File}
+use Rattle.file_model.specs.declared.commands.FileCommand.TheVariants.{Status}
 use Rattle.card_core.specs.Cards.{card_with, card_of}
 use Rattle.card_core.specs.Moves.{Answers, CommitsStates, polled_on}
 use Rattle.card_core.specs.Parts.{CardParts}
 use Rattle.card_core.proofs.Polling.{IsTelling, IsNotTold, tells_or_not}
 use Rattle.card_core.proofs.Standing.{if_card, use_card}
-use Rattle.card_core.specs.Commands.{by_instruction}
 use Rattle.card_core.proofs.AtMost.{all_commits, no_commits}
-use Rattle.card_core.proofs.Tries.{plain}
 
 -- ---- what passes alike
 
@@ -67,43 +64,6 @@ module _ {X : Type 0} (result : Result X StoreFault) (old new : CardParts) (rest
     stable = if_card old (λ card. passed card ≡ [] → new.told ≡ old.told) rests (λ persistent held is. told);
   }
 
-  -- ---- the instruction
-
-  pub plain_counts : (apdu : Apdu) (instruction : Instruction) → is_status instruction ≡ false
-      → CommitsStates result old new (λ card. (settled card (carried_out instruction card apdu)).commits) → CommitsStates result old new (λ card. (settled card (carried_with true instruction card apdu)).commits)
-  plain_counts apdu instruction silent counts =
-      counts_alike (λ card. (settled card (carried_out instruction card apdu)).commits) (λ card. (settled card (carried_with true instruction card apdu)).commits)
-      (λ persistent. ap (λ (came : Result Answered StatusWord). (settled (card_with false old persistent) came).commits) (sym (plain instruction (card_with false old persistent) apdu silent))) counts
-
-  pub take_counts : (apdu : Apdu) (instruction : Instruction) → Ok instruction ≡ instruction_tried is_known old.channels apdu.class apdu.ins
-      → CommitsStates result old new (λ card. (settled card (carried_with true instruction card apdu)).commits) → CommitsStates result old new (λ card. (settled card (by_instruction apdu card)).commits)
-  unfolding and_given
-  take_counts apdu instruction is counts =
-      counts_alike (λ card. (settled card (carried_with true instruction card apdu)).commits) (λ card. (settled card (by_instruction apdu card)).commits)
-      (λ persistent. ap (λ found. (settled (card_with false old persistent) (and_given found (λ chosen. carried_with true chosen (card_with false old persistent) apdu))).commits) is) counts
-
-  -- ---- the form
-
-  pub carry_counts : (bytes : List ℕ) (apdu : Apdu) → Some apdu ≡ command_in bytes
-      → CommitsStates result old new (λ card. (settled card (by_instruction apdu card)).commits) → CommitsStates result old new (λ card. (settled card (tried is_known card bytes)).commits)
-  unfolding tried given
-  carry_counts bytes apdu is counts =
-      counts_alike (λ card. (settled card (by_instruction apdu card)).commits) (λ card. (settled card (tried is_known card bytes)).commits)
-      (λ persistent. ap (λ found. (settled (card_with false old persistent) (given found WRONG_LENGTH (λ command. by_instruction command (card_with false old persistent)))).commits) is) counts
-
--- ---- what is refused
-
-pub take_none : (parts : CardParts) (apdu : Apdu) (status : StatusWord) → Err status ≡ instruction_tried is_known parts.channels apdu.class apdu.ins
-    → (persistent : Persistent) → (settled (card_with false parts persistent) (by_instruction apdu (card_with false parts persistent))).commits ≡ []
-unfolding and_given
-take_none parts apdu status is persistent =
-    sym (ap (λ found. (settled (card_with false parts persistent) (and_given found (λ chosen. carried_with true chosen (card_with false parts persistent) apdu))).commits) is)
-
-pub carry_none : (parts : CardParts) (bytes : List ℕ) → None ≡ command_in bytes → (persistent : Persistent) → (settled (card_with false parts persistent) (tried is_known (card_with false parts persistent) bytes)).commits ≡ []
-unfolding tried given
-carry_none parts bytes is persistent =
-    sym (ap (λ (found : Option Apdu). (settled (card_with false parts persistent) (given found WRONG_LENGTH (λ command. by_instruction command (card_with false parts persistent)))).commits) is)
-
 -- ---- STATUS, of which the applets are told
 
 if_both : {X : Type 0} (o : Option X) (P Q R : X → Type 0) → ((x : X) → P x → Q x → R x) → IfSome o P → IfSome o Q → IfSome o R
@@ -120,10 +80,10 @@ if_any (Some x) P each = each x
 
 module _ (apdu : Apdu) where
   abbrev first_of : CardState → Answered
-  first_of card = settled card (carried_out Status card apdu)
+  first_of card = settled card (carried_out (File Status) card apdu)
 
   abbrev whole_of : CardState → Answered
-  whole_of card = settled card (carried_with true Status card apdu)
+  whole_of card = settled card (carried_with true (File Status) card apdu)
 
   -- once it was told, the whole commits what telling the applets does
   told_commits : (card : CardState) (first : Answer) → (first.status.0 == DONE.0) ≡ true → first.status ≡ (first_of card).status

@@ -29,3 +29,5 @@ mod Comes
 mod Keeping
 mod Restored
 mod Taking
+mod Named
+mod Levels

@@ -14,12 +14,12 @@ use Rattle.card_model.specs.Instructions.{is_of_toolkit}
 use Rattle.card_model.specs.Runs.{IsLeft, boxes_left}
 use Rattle.card_model.specs.States.{CardState, row_on, woken, woken_boxes}
 use Rattle.card_model.specs.declared.instructions.Instruction.{Instruction}
-use Rattle.card_model.specs.declared.instructions.Instruction.TheVariants.{Select, Status, ReadBinary, UpdateBinary, ReadRecord, UpdateRecord, SearchRecord, Increase, DeactivateFile, ActivateFile, VerifyPin, ChangePin, DisablePin, EnablePin, UnblockPin, ManageChannel, TerminalProfile, Fetch, TerminalResponse, Envelope, InstallApplet, DeleteApplet, CreateFile, DeleteFile, ResizeFile}
+use Rattle.card_model.specs.declared.instructions.Instruction.TheVariants.{File, Pin as OnPins, ManageChannel, Toolkit, Tree}
+use Rattle.file_model.specs.declared.commands.FileCommand.TheVariants.{Select, Status, Contents}
 use Rattle.session_laws.specs.Laws.{CommandsLeaveRows}
 use Rattle.session_laws.specs.Moving.{HaveFixed, HasOrder, LeavesRows, command_by, rows_after}
 use Rattle.toolkit_model.specs.Steps.{Command}
 use Rattle.card_core.specs.Cards.{held_by, boxes_kept, card_with, card_of, card_due}
-use Rattle.card_core.specs.Commands.{is_on_files, is_on_pins}
 use Rattle.card_core.specs.Parts.{CardParts}
 use Rattle.card_core.proofs.Boxes.{at, IsLeftSo, boxes_left_so}
 use Rattle.card_core.proofs.Shelves.{same_shelves}
@@ -27,31 +27,13 @@ use Rattle.card_core.proofs.Shelves.{same_shelves}
 -- ---- the rows
 
 unchanged : (instruction : Instruction) (card : CardState) (apdu : Apdu) → is_of_toolkit instruction ≡ false → rows_after (command_by instruction card apdu) card.persistent.rows ≡ card.persistent.rows
-unchanged Select card apdu beside = refl
-unchanged Status card apdu beside = refl
-unchanged ReadBinary card apdu beside = refl
-unchanged UpdateBinary card apdu beside = refl
-unchanged ReadRecord card apdu beside = refl
-unchanged UpdateRecord card apdu beside = refl
-unchanged SearchRecord card apdu beside = refl
-unchanged Increase card apdu beside = refl
-unchanged DeactivateFile card apdu beside = refl
-unchanged ActivateFile card apdu beside = refl
-unchanged VerifyPin card apdu beside = refl
-unchanged ChangePin card apdu beside = refl
-unchanged DisablePin card apdu beside = refl
-unchanged EnablePin card apdu beside = refl
-unchanged UnblockPin card apdu beside = refl
+unchanged (File Select) card apdu beside = refl
+unchanged (File Status) card apdu beside = refl
+unchanged (File (Contents command)) card apdu beside = refl
+unchanged (OnPins command) card apdu beside = refl
 unchanged ManageChannel card apdu beside = refl
-unchanged TerminalProfile card apdu beside = absurd (true≢false beside)
-unchanged Fetch card apdu beside = absurd (true≢false beside)
-unchanged TerminalResponse card apdu beside = absurd (true≢false beside)
-unchanged Envelope card apdu beside = absurd (true≢false beside)
-unchanged InstallApplet card apdu beside = absurd (true≢false beside)
-unchanged DeleteApplet card apdu beside = absurd (true≢false beside)
-unchanged CreateFile card apdu beside = refl
-unchanged DeleteFile card apdu beside = refl
-unchanged ResizeFile card apdu beside = refl
+unchanged (Toolkit command) card apdu beside = absurd (true≢false beside)
+unchanged (Tree command) card apdu beside = refl
 
 abbrev Fixed : CardState → List Persistent → Type 0
 Fixed card commits = All (λ state. HaveFixed card.persistent.rows state.rows) commits
@@ -109,62 +91,6 @@ fault_left law instruction apdu beside before new stays boxes order one =
     still_left new card (settled card (carried_out instruction card apdu)).commits stays (boxes card is)
     (settled_fixed card (command_by instruction card apdu) (is_status instruction) (carried_out instruction card apdu) (unchanged instruction card apdu beside) (law card instruction apdu ready)) (held_by new) holds)
     order one
-
--- ---- which commands they are
-
-pub files_beside : (instruction : Instruction) → is_on_files instruction ≡ true → is_of_toolkit instruction ≡ false
-files_beside Select is = refl
-files_beside Status is = refl
-files_beside ReadBinary is = refl
-files_beside UpdateBinary is = refl
-files_beside ReadRecord is = refl
-files_beside UpdateRecord is = refl
-files_beside SearchRecord is = refl
-files_beside Increase is = refl
-files_beside DeactivateFile is = refl
-files_beside ActivateFile is = refl
-files_beside VerifyPin is = absurd (false≢true is)
-files_beside ChangePin is = absurd (false≢true is)
-files_beside DisablePin is = absurd (false≢true is)
-files_beside EnablePin is = absurd (false≢true is)
-files_beside UnblockPin is = absurd (false≢true is)
-files_beside ManageChannel is = absurd (false≢true is)
-files_beside TerminalProfile is = absurd (false≢true is)
-files_beside Fetch is = absurd (false≢true is)
-files_beside TerminalResponse is = absurd (false≢true is)
-files_beside Envelope is = absurd (false≢true is)
-files_beside InstallApplet is = absurd (false≢true is)
-files_beside DeleteApplet is = absurd (false≢true is)
-files_beside CreateFile is = absurd (false≢true is)
-files_beside DeleteFile is = absurd (false≢true is)
-files_beside ResizeFile is = absurd (false≢true is)
-
-pub pins_beside : (instruction : Instruction) → is_on_pins instruction ≡ true → is_of_toolkit instruction ≡ false
-pins_beside Select is = absurd (false≢true is)
-pins_beside Status is = absurd (false≢true is)
-pins_beside ReadBinary is = absurd (false≢true is)
-pins_beside UpdateBinary is = absurd (false≢true is)
-pins_beside ReadRecord is = absurd (false≢true is)
-pins_beside UpdateRecord is = absurd (false≢true is)
-pins_beside SearchRecord is = absurd (false≢true is)
-pins_beside Increase is = absurd (false≢true is)
-pins_beside DeactivateFile is = absurd (false≢true is)
-pins_beside ActivateFile is = absurd (false≢true is)
-pins_beside VerifyPin is = refl
-pins_beside ChangePin is = refl
-pins_beside DisablePin is = refl
-pins_beside EnablePin is = refl
-pins_beside UnblockPin is = refl
-pins_beside ManageChannel is = absurd (false≢true is)
-pins_beside TerminalProfile is = absurd (false≢true is)
-pins_beside Fetch is = absurd (false≢true is)
-pins_beside TerminalResponse is = absurd (false≢true is)
-pins_beside Envelope is = absurd (false≢true is)
-pins_beside InstallApplet is = absurd (false≢true is)
-pins_beside DeleteApplet is = absurd (false≢true is)
-pins_beside CreateFile is = absurd (false≢true is)
-pins_beside DeleteFile is = absurd (false≢true is)
-pins_beside ResizeFile is = absurd (false≢true is)
 
 -- ---- the boxes of a card
 

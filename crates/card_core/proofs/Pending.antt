@@ -1,5 +1,5 @@
 -- What an answer tells of a command that is to be fetched.
-use Rattle.std.proofs.Common.{◌≡◌, ◌==◌, ◌+◌, ℕ, Bool, true, false, List, ◌∷◌, Option, Some, None, option_map, refl, sym, ◌∙◌, ap}
+use Rattle.std.proofs.Common.{◌≡◌, ◌==◌, ◌+◌, ℕ, Bool, true, false, List, ◌∷◌, Option, Some, None, option_map, refl, sym, ◌∙◌, ap, subst}
 use Rattle.std.specs.Prelude.{IfSome, IsSomeAnd, is_some, unwrap_or, if◌then◌else◌, Result, Ok, Err, MatchResult}
 use Rattle.std.proofs.lemmas.Bool.{false≢true}
 use Rattle.std.proofs.lemmas.Option.{IfSome_then}
@@ -17,10 +17,13 @@ use Rattle.card_model.specs.Instructions.{instruction_tried, is_known}
 use Rattle.card_model.specs.Runs.{IsLeft}
 use Rattle.card_model.specs.States.{CardState}
 use Rattle.card_model.specs.declared.instructions.Instruction.{Instruction}
-use Rattle.card_core.specs.AnyStore.{command_named, AnswersAs, AnswersStanding, IsDenied}
+use Rattle.card_core.specs.AnyStore.{command_named, AnswersAs, AnswersStanding, IsRefusedWith}
+use Rattle.card_core.specs.Acting.{ActsAs, in_bytes, in_whole}
 use Rattle.card_core.specs.Cards.{held_by, card_with, card_of}
 use Rattle.card_core.specs.Moves.{Answers}
 use Rattle.card_core.specs.Parts.{CardParts}
+use Rattle.store_form.specs.declared.store.StoreFault.{StoreFault}
+use Rattle.card_core.proofs.Named.{denied_as, acts_then}
 
 -- ---- another status than 9000 stays
 
@@ -110,26 +113,40 @@ module _ (bytes : List ℕ) (new : CardParts) (mid out : Answer) (body : out.bod
         left = record { table = is.left.table; channels = is.left.channels; verified = is.left.verified; session = is.left.session; boxes = is.left.boxes };
       }
 
-  pub pending_denied : (old : CardParts) (word : StatusWord) → IsDenied word mid old new → IsDenied (told_pending (pending old.session) word) out old new
-  pending_denied old word is = record {
-    refused = record {
-      body = body ∙ is.refused.body;
-      status_is = status ∙ ap (told_pending (pending new.session)) is.refused.status_is
-          ∙ ap (λ (session : SessionState). told_pending (pending session) word) is.session;
-    };
-    table = is.table;
-    channels = is.channels;
-    verified = is.verified;
-    session = is.session;
-    boxes = is.boxes;
-    is_on = is.is_on;
-    is_due = is.is_due;
-    index = is.index;
-    leaving = is.leaving;
-    told = is.told;
-    mark = is.mark;
-    commits = is.commits;
+  pending_refused : (word : StatusWord) → IsRefusedWith word mid → IsRefusedWith (told_pending (pending new.session) word) out
+  pending_refused word is = record { body = body ∙ is.body; status_is = status ∙ ap (told_pending (pending new.session)) is.status_is }
+
+  pub whole_acts : {X : Type 0} (done : X) (old : CardParts) → ActsAs (Ok done) old new mid (in_bytes old bytes) → ActsAs (Ok done) old new out (in_whole old bytes)
+  unfolding answer_of
+  whole_acts {X} done old does = record {
+    refused = λ word refused.
+        let gives = does.refused word refused in (
+          refl,
+          record { body = body ∙ gives.1.body; status_is = status ∙ ap (told_pending (pending new.session)) gives.1.status_is ∙ told_other (pending new.session) word (named_other old.channels bytes word refused) },
+          gives.2,
+        );
+    acts = λ instruction apdu read named.
+        acts_then {X = X} (Ok done) old new instruction apdu mid out (λ card. settled card (tried is_known card bytes)) (λ card. answer card bytes) (λ word. word) (told_pending (pending old.session)) (λ state. refl)
+        (λ state gives. pending_answers (card_with false old state) gives) (λ state gives. pending_stands (card_with false old state) gives)
+        (λ word gives. (
+          refl,
+          denied_as word (told_pending (pending old.session) word) mid out old new gives.1
+              (subst (λ (session : SessionState). IsRefusedWith (told_pending (pending session) word) out) gives.1.session (pending_refused word gives.1.refused)),
+        ))
+        (does.acts instruction apdu read named);
+    table = tt;
   }
+
+pub stopped_whole : {X : Type 0} (fault : StoreFault) (old new : CardParts) (bytes : List ℕ) (out : Answer) → ActsAs {X = X} (Err fault) old new out (in_bytes old bytes) → ActsAs {X = X} (Err fault) old new out (in_whole old bytes)
+unfolding answer_of
+stopped_whole {X} fault old new bytes out does = record {
+  refused = does.refused;
+  acts = λ instruction apdu read named.
+      acts_then {X = X} (Err fault) old new instruction apdu out out (λ card. settled card (tried is_known card bytes)) (λ card. answer card bytes) (λ word. word) (told_pending (pending old.session)) (λ state. refl)
+      (λ state gives. tt) (λ state gives. tt) (λ word gives. absurd (false≢true gives.0))
+      (does.acts instruction apdu read named);
+  table = does.table;
+}
 
 -- what a command commits is what its answer does
 pub pending_left : (before : Option CardState) (bytes : List ℕ) (due : Option CardState)

@@ -17,11 +17,10 @@ use Rattle.file_model.specs.Chains.{and_given}
 use Rattle.proactive_handler.specs.Boxes.{kinds_of}
 use Rattle.toolkit_model.specs.Commands.{polled}
 use Rattle.toolkit_model.specs.Passing.{passed_rows}
-use Rattle.card_model.specs.Instructions.{is_of_toolkit}
 use Rattle.card_model.specs.Runs.{IsLeft}
 use Rattle.card_model.specs.States.{CardState, HasBox}
 use Rattle.card_model.specs.Toolkit.{ToolkitOutcome, toolkit_of, coming_to, states_passed, with_rows}
-use Rattle.card_model.specs.declared.instructions.Instruction.TheVariants.{Status}
+use Rattle.card_model.specs.declared.instructions.ToolkitCommand.TheVariants.{TerminalProfile}
 use Rattle.session_laws.specs.Laws.{TellingLeavesRows}
 use Rattle.session_laws.specs.Moving.{HaveFixed, HasOrder}
 use Rattle.session_commands.specs.Cards.{AnswersSo, answers_so, holds_so, counts_so, at_most_so}
@@ -40,7 +39,7 @@ use Rattle.card_core.proofs.Served.{some_told, in_order, boxes_after, silent_the
 use Rattle.card_core.proofs.Standing.{if_card}
 use Rattle.uicc_types.specs.Counts.{raised_by}
 use Rattle.proactive_handler.specs.Counting.{Counts}
-use Rattle.card_core.proofs.Carried.{scene_of, has_toolkit_of, made_of}
+use Rattle.card_core.proofs.Carried.{scene_of, has_toolkit_of, made_of, is_delete}
 
 outcome_or : ToolkitOutcome → Result ToolkitOutcome StatusWord → ToolkitOutcome
 outcome_or other (Ok outcome) = outcome
@@ -108,9 +107,9 @@ polled_stopped entries tell telling old new kinds others stays long agrees rests
     let card : CardState = card_with false old persistent in
     let told = tell old.store_mark old.told old.table persistent agrees held in
     let leaves = telling card (ready persistent told) in
-    short_left entries Status nothing old new kinds others (inl (stays, refl)) long card (polling card) told refl held
+    short_left entries TerminalProfile nothing old new kinds others (inl (stays, refl)) long card (polling card) told refl held
     (all_unmapped (λ (state : Persistent). HaveFixed persistent.rows state.rows) (with_rows persistent (polling card).next_sequence) (passed_rows (polling card).passed.log) leaves.fixed)
-    (λ deletes. absurd (false≢true (ap is_of_toolkit deletes))) (short card (has_toolkit_of old persistent told)))
+    (λ deletes. absurd (false≢true (ap is_delete deletes))) (short card (has_toolkit_of old persistent told)))
 
 -- ---- how often it commits
 
@@ -179,7 +178,7 @@ polled_set tell sound telling old new running set kinds result comes size long h
       let told : IsTold old.table state = some.1 in
       let card : CardState = card_with false old state in
       let boxed : All (HasBox old.boxes) state.rows = subst (All (HasBox old.boxes)) (sym told.rows) (set.boxes (silent_then old.told new.told same silent)) in
-      boxes_after Status nothing old new (inl kinds) state told boxed (said (polling card)) (Ok (polling card)) result
+      boxes_after TerminalProfile nothing old new (inl kinds) state told boxed (said (polling card)) (Ok (polling card)) result
       (λ outcome is. each_boxed card outcome is ((telling card (in_order sound old running state told)).boxes boxed))
       (came old new (polling card) result (comes card (has_toolkit_of old state told)));
 } where

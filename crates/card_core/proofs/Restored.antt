@@ -1,8 +1,8 @@
 -- A card whose table is put back where a fault stopped a command.
-use Rattle.std.proofs.Common.{◌≡◌, ◌≢◌, inl, ⊎_elim, ℕ, Bool, true, false, List, [], ◌∷◌, map, Option, None, refl, sym, ◌∙◌, ap, subst}
+use Rattle.std.proofs.Common.{◌≡◌, ◌≢◌, inl, ℕ, Bool, true, false, List, [], ◌∷◌, map, Option, None, refl, sym, ◌∙◌, ap, subst}
 use Rattle.std.specs.Prelude.{All, is_some, nat_lt, if◌then◌else◌}
 use Rattle.std.specs.List.{range_with_len}
-use Rattle.std.proofs.lemmas.Bool.{false≢true, true≢false}
+use Rattle.std.proofs.lemmas.Bool.{true≢false}
 use Rattle.std.proofs.lemmas.List.Elements.{All-nil, All-cons}
 use Rattle.apdu_form.specs.Model.{Apdu}
 use Rattle.card_layout.specs.declared.entries.Loaded.{Loaded}
@@ -14,12 +14,11 @@ use Rattle.card_layout.specs.Places.{row_count}
 use Rattle.card_layout.specs.Standing.{Agrees}
 use Rattle.card_layout.specs.States.{rows_of}
 use Rattle.card_memory.specs.Model.{HasRowOn}
-use Rattle.card_model.specs.Instructions.{is_of_toolkit}
 use Rattle.card_model.specs.States.{HasBox}
-use Rattle.card_model.specs.declared.instructions.Instruction.{Instruction}
-use Rattle.card_model.specs.declared.instructions.Instruction.TheVariants.{InstallApplet, Status}
+use Rattle.card_model.specs.declared.instructions.ToolkitCommand.{ToolkitCommand}
+use Rattle.card_model.specs.declared.instructions.ToolkitCommand.TheVariants.{InstallApplet}
 use Rattle.proactive_handler.specs.Boxes.{kinds_of}
-use Rattle.card_core.specs.AnyStore.{MovesToolkit}
+use Rattle.card_core.specs.AnyStore.{MovesToolkit, MovesStatus}
 use Rattle.card_core.specs.Cards.{card_due, IsSet}
 use Rattle.card_core.specs.Parts.{CardParts}
 use Rattle.card_core.specs.Registered.{IsUsedOrBlank}
@@ -71,10 +70,6 @@ silent_agrees mark told table agrees = record { content = agrees.content; state 
 pub nothing : Apdu
 nothing = record { class = 0; ins = 0; p1 = 0; p2 = 0; body = []; expected = None }
 
--- STATUS takes no box away
-pub status_kinds : (old mid : CardParts) (apdu : Apdu) → MovesToolkit Status apdu old mid → kinds_of mid.boxes ≡ kinds_of old.boxes
-status_kinds old mid apdu moves = ⊎_elim {C = kinds_of mid.boxes ≡ kinds_of old.boxes} (λ same. same) (λ deletes. absurd (false≢true (ap is_of_toolkit deletes.0))) moves.kinds
-
 module _ (old mid : CardParts) (table : Loaded) (same : table ≡ old.table) where
   pub set_restored : IsSet old → IsSet mid → Agrees old.store_mark old.told old.table → mid.store_mark ≡ old.store_mark → is_some mid.told ≡ is_some old.told → kinds_of mid.boxes ≡ kinds_of old.boxes → IsSet (record mid { table = table })
   set_restored set later agrees mark told kinds = record {
@@ -85,9 +80,9 @@ module _ (old mid : CardParts) (table : Loaded) (same : table ≡ old.table) whe
     boxes = λ silent. still_boxed InstallApplet nothing old (record mid { table = table }) (inl kinds) (subst (λ (each : Loaded). All (HasBox old.boxes) (rows_of each)) (sym same) (set.boxes (silent_then old.told mid.told told silent)));
   }
 
-  pub moves_restored : (instruction : Instruction) (apdu : Apdu) → MovesToolkit instruction apdu old mid → kinds_of mid.boxes ≡ kinds_of old.boxes
-      → ((shelf : ℕ) → (instruction ≡ InstallApplet → shelf ≢ apdu.p2) → (HasRowOn old.table shelf → ⊥) → HasRowOn mid.table shelf → ⊥) → MovesToolkit instruction apdu old (record mid { table = table })
-  moves_restored instruction apdu moves kinds comes = record {
+  pub moves_restored : (command : ToolkitCommand) (apdu : Apdu) → MovesToolkit command apdu old mid → kinds_of mid.boxes ≡ kinds_of old.boxes
+      → ((shelf : ℕ) → (command ≡ InstallApplet → shelf ≢ apdu.p2) → (HasRowOn old.table shelf → ⊥) → HasRowOn mid.table shelf → ⊥) → MovesToolkit command apdu old (record mid { table = table })
+  moves_restored command apdu moves kinds comes = record {
     table = same ∙ ap (λ (now : Loaded). record old.table { rows = now.rows; next = now.next }) (sym same);
     next = λ other. ap (λ (now : Loaded). now.next) same;
     rows_stay = λ other apart has. subst (λ (now : Loaded). HasRowOn now other) (sym same) has;
@@ -95,4 +90,14 @@ module _ (old mid : CardParts) (table : Loaded) (same : table ≡ old.table) whe
     verified = moves.verified;
     kinds = inl kinds;
     others = λ shelf apart was is. moves.others shelf apart was (comes shelf apart was);
+  }
+
+  pub status_restored : MovesStatus old mid → ((shelf : ℕ) → (HasRowOn old.table shelf → ⊥) → HasRowOn mid.table shelf → ⊥) → MovesStatus old (record mid { table = table })
+  status_restored moves comes = record {
+    table = same ∙ ap (λ (now : Loaded). record old.table { rows = now.rows }) (sym same);
+    rows_stay = λ other has. subst (λ (now : Loaded). HasRowOn now other) (sym same) has;
+    channels = moves.channels;
+    verified = moves.verified;
+    kinds = moves.kinds;
+    others = λ shelf was is. moves.others shelf was (comes shelf was);
   }

@@ -24,8 +24,8 @@ use Rattle.toolkit_model.specs.Passing.{passed_rows}
 use Rattle.toolkit_laws.specs.Orderly.{IsInOrder}
 use Rattle.proactive_handler.specs.Boxes.{kinds_of}
 use Rattle.card_model.specs.States.{CardState, HasBox}
-use Rattle.card_model.specs.Toolkit.{ToolkitOutcome, states_passed, with_rows}
-use Rattle.card_model.specs.declared.instructions.Instruction.{Instruction}
+use Rattle.card_model.specs.Toolkit.{ToolkitOutcome, states_passed, with_rows, toolkit_outcome}
+use Rattle.card_model.specs.declared.instructions.ToolkitCommand.{ToolkitCommand}
 use Rattle.session_laws.specs.Moving.{HasOrder}
 use Rattle.proactive_handler.specs.Steps.{Scene}
 use Rattle.session_commands.specs.Deleting.{HasNoRow}
@@ -42,10 +42,8 @@ use Rattle.card_layout.specs.Persistent.{Pin}
 use Rattle.card_layout.specs.States.{pins_of}
 use Rattle.file_model.specs.Access.{keys_seen}
 use Rattle.card_model.specs.Answers.{seen_by}
-use Rattle.card_model.specs.Instructions.{is_of_toolkit}
 use Rattle.session_laws.specs.Laws.{CommandsLeaveRows}
 use Rattle.session_commands.specs.Carrying.{HasToolkit}
-use Rattle.card_core.specs.Commands.{toolkit_outcome}
 use Rattle.card_core.proofs.Carried.{scene_of, has_toolkit_of, rows_left}
 
 -- ---- the order
@@ -83,7 +81,7 @@ last_all P first (x ∷ xs) here all = last_all P x xs (All-head P x xs all) (Al
 abbrev Boxed : CardParts → Persistent → Type 0
 Boxed parts state = All (HasBox parts.boxes) state.rows
 
-module _ (instruction : Instruction) (apdu : Apdu) (old new : CardParts) (kinds : KindsKept instruction apdu new.table old.boxes new.boxes) where
+module _ (command : ToolkitCommand) (apdu : Apdu) (old new : CardParts) (kinds : KindsKept command apdu new.table old.boxes new.boxes) where
   still_one : (row : Registration) → (HasNoRow (rows_of new.table) apdu.p2 → row.shelf ≢ apdu.p2) → HasBox old.boxes row → HasBox new.boxes row
   still_one row apart has =
       has_kind (at new.boxes row.shelf) (at old.boxes row.shelf) row.kind
@@ -142,14 +140,14 @@ silent_then (Some bytes) after same silent = absurd (false≢true (sym (ap is_so
 
 -- ---- once a command of the toolkit came to its end, or a fault stopped it
 
-module _ (tell : TablesTellStates) (sound : TablesHaveRows) (law : CommandsLeaveRows) (instruction : Instruction) (is : is_of_toolkit instruction ≡ true) (apdu : Apdu) (old new : CardParts) (running : IsRunning old) (set : IsSet old)
-    (kinds : KindsKept instruction apdu new.table old.boxes new.boxes) (seen : Verified) (seen_is : seen ≡ keys_seen (pins_of old.table) old.verified) where
-  commits_boxed : (state : Persistent) → IsTold old.table state → Boxed old state → (outcome : ToolkitOutcome) → toolkit_outcome instruction (card_with false old state) (seen_by (card_with false old state)) apdu ≡ Ok outcome
+module _ (tell : TablesTellStates) (sound : TablesHaveRows) (law : CommandsLeaveRows) (command : ToolkitCommand) (apdu : Apdu) (old new : CardParts) (running : IsRunning old) (set : IsSet old)
+    (kinds : KindsKept command apdu new.table old.boxes new.boxes) (seen : Verified) (seen_is : seen ≡ keys_seen (pins_of old.table) old.verified) where
+  commits_boxed : (state : Persistent) → IsTold old.table state → Boxed old state → (outcome : ToolkitOutcome) → toolkit_outcome command (card_with false old state) (seen_by (card_with false old state)) apdu ≡ Ok outcome
       → All (Boxed old) (states_passed state outcome)
-  commits_boxed state told boxed outcome came = (rows_left law instruction is (card_with false old state) apdu outcome (in_order sound old running state told) came).boxes boxed
+  commits_boxed state told boxed outcome came = (rows_left law command (card_with false old state) apdu outcome (in_order sound old running state told) came).boxes boxed
 
   pub silent_boxes : {X : Type 0} (out : Answer) (result : Result X StoreFault)
-      → ((card : CardState) → HasToolkit (scene_of old) card → Carries (toolkit_outcome instruction card seen apdu) out (scene_of old) (scene_of new) result)
+      → ((card : CardState) → HasToolkit (scene_of old) card → Carries (toolkit_outcome command card seen apdu) out (scene_of old) (scene_of new) result)
       → is_some new.told ≡ is_some old.told → new.told ≡ None → All (HasBox new.boxes) (rows_of new.table)
   silent_boxes out result carries same silent =
       let some = some_told tell old.store_mark old.told old.table running.mounted.agrees in
@@ -158,11 +156,11 @@ module _ (tell : TablesTellStates) (sound : TablesHaveRows) (law : CommandsLeave
       let card : CardState = card_with false old state in
       let sees : seen ≡ seen_by card = seen_is ∙ ap (λ (pins : List Pin). keys_seen pins old.verified) (sym told.pins) in
       let boxed : Boxed old state = subst (All (HasBox old.boxes)) (sym told.rows) (set.boxes (silent_then old.told new.told same silent)) in
-      boxes_after instruction apdu old new kinds state told boxed out (toolkit_outcome instruction card (seen_by card) apdu) result (commits_boxed state told boxed)
-      (subst (λ (keys : Verified). Carries (toolkit_outcome instruction card keys apdu) out (scene_of old) (scene_of new) result) sees (carries card (has_toolkit_of old state told)))
+      boxes_after command apdu old new kinds state told boxed out (toolkit_outcome command card (seen_by card) apdu) result (commits_boxed state told boxed)
+      (subst (λ (keys : Verified). Carries (toolkit_outcome command card keys apdu) out (scene_of old) (scene_of new) result) sees (carries card (has_toolkit_of old state told)))
 
   pub set_served : {X : Type 0} (out : Answer) (result : Result X StoreFault)
-      → ((card : CardState) → HasToolkit (scene_of old) card → Carries (toolkit_outcome instruction card seen apdu) out (scene_of old) (scene_of new) result)
+      → ((card : CardState) → HasToolkit (scene_of old) card → Carries (toolkit_outcome command card seen apdu) out (scene_of old) (scene_of new) result)
       → new.byte_count ≡ old.byte_count → length new.boxes ≡ length old.boxes → HoldsCard new.store_mark new.told → (new.told ≡ None → Agrees new.store_mark None new.table) → is_some new.told ≡ is_some old.told → IsSet new
   set_served out result carries size long card kept same = record {
     size = size ∙ set.size;

@@ -1,8 +1,7 @@
 -- From what a command on files, on PINs or on channels comes to, to what the card comes to.
-use Rattle.std.proofs.Common.{◌≡◌, ℕ, true, false, List, [], ◌∷◌, length, Option, Some, None, refl, sym, ◌∙◌, ap, subst}
-use Rattle.std.specs.Prelude.{◌==◌, IfSome, IsSomeAnd, Contains, Result, Ok, Err, if◌then◌else◌, unwrap_or, slice_set}
+use Rattle.std.proofs.Common.{◌≡◌, ℕ, false, List, [], ◌∷◌, length, Option, Some, None, refl, sym, ◌∙◌, ap, subst}
+use Rattle.std.specs.Prelude.{IfSome, IsSomeAnd, Contains, Result, Ok, Err, unwrap_or, slice_set}
 use Rattle.std.specs.Option.{option_to_list}
-use Rattle.std.proofs.lemmas.Bool.{false≢true}
 use Rattle.std.proofs.lemmas.List.{set-get_or, length-map}
 use Rattle.general_laws.specs.Optional.{if_some_at}
 use Rattle.general_laws.specs.Numbered.{nil_mapped}
@@ -20,54 +19,31 @@ use Rattle.card_layout.specs.Standing.{Agrees}
 use Rattle.card_layout.specs.States.{pins_of}
 use Rattle.file_model.specs.Access.{keys_seen}
 use Rattle.file_model.specs.Outcomes.{FileOutcome, PinOutcome, settled_file, settled_pin, last_of}
-use Rattle.file_model.specs.Pins.{pin_verified, pin_changed, pin_disabled, pin_enabled, pin_unblocked, pin_tried as pin_told, pin_outcome}
+use Rattle.file_model.specs.declared.commands.FileCommand.{FileCommand}
+use Rattle.file_model.specs.declared.commands.PinCommand.{PinCommand}
+use Rattle.file_model.specs.Commands.{file_outcome, pin_outcome, pin_settled}
 use Rattle.file_model.specs.declared.selections.Selection.{Selection}
 use Rattle.file_model.specs.declared.selections.TheConstants.Selection.{AT_START}
 use Rattle.card_model.specs.States.{CardState}
 use Rattle.card_model.specs.Channels.{channel_of, selected_on, channel_tried}
 use Rattle.card_model.specs.Answers.{Answered, settled, carried_out, with_pins, file_tried, pin_tried, managed, selection_on, seen_by}
-use Rattle.card_model.specs.declared.instructions.Instruction.{Instruction}
-use Rattle.card_model.specs.declared.instructions.Instruction.TheVariants.{Select, Status, ReadBinary, UpdateBinary, ReadRecord, UpdateRecord, SearchRecord, Increase, DeactivateFile, ActivateFile, VerifyPin, ChangePin, DisablePin, EnablePin, UnblockPin, ManageChannel, TerminalProfile, Fetch, TerminalResponse, Envelope, InstallApplet, DeleteApplet, CreateFile, DeleteFile, ResizeFile}
+use Rattle.card_model.specs.declared.instructions.Instruction.TheVariants.{File, Pin as OnPins, ManageChannel}
 use Rattle.card_memory.specs.Laws.{TablesTellStates}
 use Rattle.card_memory.specs.Performing.{IsOutcome, Performs, IsPinOutcome, PerformsPin, PassesOne, StaysStill, with_each, CommitsAtMost}
 use Rattle.card_model.proofs.Lawful.{last_with_pins}
 use Rattle.card_core.specs.Parts.{CardParts}
 use Rattle.card_core.specs.Cards.{memory_of, held_by, card_with, card_of}
-use Rattle.card_core.specs.Commands.{is_on_files, is_on_pins, HasPinByte, file_outcome, channels_managed}
+use Rattle.card_core.specs.Commands.{channels_managed}
 use Rattle.card_core.specs.Moves.{Answers, CommitsStates}
 use Rattle.card_core.proofs.AtMost.{no_commits}
 use Rattle.card_core.proofs.Standing.{if_card, card_then}
 
 -- ---- commands on files
 
-pub carried : (instruction : Instruction) (card : CardState) (apdu : Apdu) → is_on_files instruction ≡ true
-    → carried_out instruction card apdu ≡ file_tried card apdu (file_outcome instruction card.persistent (seen_by card) (selection_on card (channel_of apdu.class)) apdu)
-unfolding carried_out file_outcome
-carried Select card apdu is = refl
-carried Status card apdu is = refl
-carried ReadBinary card apdu is = refl
-carried UpdateBinary card apdu is = refl
-carried ReadRecord card apdu is = refl
-carried UpdateRecord card apdu is = refl
-carried SearchRecord card apdu is = refl
-carried Increase card apdu is = refl
-carried DeactivateFile card apdu is = refl
-carried ActivateFile card apdu is = refl
-carried VerifyPin card apdu is = absurd (false≢true is)
-carried ChangePin card apdu is = absurd (false≢true is)
-carried DisablePin card apdu is = absurd (false≢true is)
-carried EnablePin card apdu is = absurd (false≢true is)
-carried UnblockPin card apdu is = absurd (false≢true is)
-carried ManageChannel card apdu is = absurd (false≢true is)
-carried TerminalProfile card apdu is = absurd (false≢true is)
-carried Fetch card apdu is = absurd (false≢true is)
-carried TerminalResponse card apdu is = absurd (false≢true is)
-carried Envelope card apdu is = absurd (false≢true is)
-carried InstallApplet card apdu is = absurd (false≢true is)
-carried DeleteApplet card apdu is = absurd (false≢true is)
-carried CreateFile card apdu is = absurd (false≢true is)
-carried DeleteFile card apdu is = absurd (false≢true is)
-carried ResizeFile card apdu is = absurd (false≢true is)
+pub carried : (command : FileCommand) (card : CardState) (apdu : Apdu)
+    → carried_out (File command) card apdu ≡ file_tried card apdu (file_outcome command card.persistent (seen_by card) (selection_on card (channel_of apdu.class)) apdu)
+unfolding carried_out
+carried command card apdu = refl
 
 pub commits_are : (card : CardState) (apdu : Apdu) (selection : Selection) (tried : Result FileOutcome StatusWord) → (settled card (file_tried card apdu tried)).commits ≡ (settled_file selection tried).passed
 unfolding Rattle.file_model.specs.Chains.and_given
@@ -97,119 +73,85 @@ file_answers before old new persistent apdu selection next out (Err status) ther
       (channels ∙ ap (λ (selected : Selection). slice_set old.channels (channel_of apdu.class) (Some selected)) is.selected ∙ put_back old.channels (channel_of apdu.class) selection there) verified session boxes;
 }
 
-module _ (instruction : Instruction) (is : is_on_files instruction ≡ true) (tell : TablesTellStates) (old new : CardParts) (rests : old.is_due ≡ false) (agrees : Agrees old.store_mark old.told old.table)
+module _ (command : FileCommand) (tell : TablesTellStates) (old new : CardParts) (rests : old.is_due ≡ false) (agrees : Agrees old.store_mark old.told old.table)
     (apdu : Apdu) (selection : Selection) (there : selected_on old.channels (channel_of apdu.class) ≡ Some selection) (seen : Verified) (seen_is : seen ≡ keys_seen (pins_of old.table) old.verified) where
   -- it is tried on what the card has
   tried_is : (persistent : Persistent) → held_by old ≡ Some persistent
-      → file_outcome instruction persistent seen selection apdu
-      ≡ file_outcome instruction persistent (seen_by (card_with false old persistent)) (selection_on (card_with false old persistent) (channel_of apdu.class)) apdu
+      → file_outcome command persistent seen selection apdu
+      ≡ file_outcome command persistent (seen_by (card_with false old persistent)) (selection_on (card_with false old persistent) (channel_of apdu.class)) apdu
   tried_is persistent held =
       let pins : persistent.pins ≡ pins_of old.table = (tell old.store_mark old.told old.table persistent agrees held).pins in
-      ap (λ (keys : Verified). file_outcome instruction persistent keys selection apdu) (seen_is ∙ ap (λ (known : List Pin). keys_seen known old.verified) (sym pins))
-      ∙ ap (λ (found : Option Selection). file_outcome instruction persistent (keys_seen persistent.pins old.verified) (unwrap_or found AT_START) apdu) (sym there)
+      ap (λ (keys : Verified). file_outcome command persistent keys selection apdu) (seen_is ∙ ap (λ (known : List Pin). keys_seen known old.verified) (sym pins))
+      ∙ ap (λ (found : Option Selection). file_outcome command persistent (keys_seen persistent.pins old.verified) (unwrap_or found AT_START) apdu) (sym there)
 
   pub files_settle : (before : Memory) (next : Selection) (out : Answer)
-      → IfSome (held_by old) (λ state. IsOutcome state (settled_file selection (file_outcome instruction state seen selection apdu)) out next before (memory_of new))
+      → IfSome (held_by old) (λ state. IsOutcome state (settled_file selection (file_outcome command state seen selection apdu)) out next before (memory_of new))
       → new.is_due ≡ false → new.channels ≡ slice_set old.channels (channel_of apdu.class) (Some next) → new.verified ≡ old.verified → new.session ≡ old.session → new.boxes ≡ old.boxes
-      → IfSome (card_of old) (λ card. Answers (settled card (carried_out instruction card apdu)) out (card_of new))
+      → IfSome (card_of old) (λ card. Answers (settled card (carried_out (File command) card apdu)) out (card_of new))
   files_settle before next out performs rests' channels verified session boxes =
-      if_card old (λ card. Answers (settled card (carried_out instruction card apdu)) out (card_of new)) rests
+      if_card old (λ card. Answers (settled card (carried_out (File command) card apdu)) out (card_of new)) rests
       (λ persistent held.
       let card : CardState = card_with false old persistent in
-      let outcome : IsOutcome persistent (settled_file selection (file_outcome instruction persistent seen selection apdu)) out next before (memory_of new) =
-      if_some_at (held_by old) (λ state. IsOutcome state (settled_file selection (file_outcome instruction state seen selection apdu)) out next before (memory_of new)) persistent performs held in
-      subst (λ (came : Result Answered StatusWord). Answers (settled card came) out (card_of new)) (sym (carried instruction card apdu is))
+      let outcome : IsOutcome persistent (settled_file selection (file_outcome command persistent seen selection apdu)) out next before (memory_of new) =
+      if_some_at (held_by old) (λ state. IsOutcome state (settled_file selection (file_outcome command state seen selection apdu)) out next before (memory_of new)) persistent performs held in
+      subst (λ (came : Result Answered StatusWord). Answers (settled card came) out (card_of new)) (sym (carried command card apdu))
       (subst (λ (tried : Result FileOutcome StatusWord). Answers (settled card (file_tried card apdu tried)) out (card_of new)) (tried_is persistent held)
-      (file_answers before old new persistent apdu selection next out (file_outcome instruction persistent seen selection apdu) there outcome rests' channels verified session boxes)))
+      (file_answers before old new persistent apdu selection next out (file_outcome command persistent seen selection apdu) there outcome rests' channels verified session boxes)))
 
   -- it passes what the card commits
   pub files_pass : (persistent : Persistent) → held_by old ≡ Some persistent
-      → (settled_file selection (file_outcome instruction persistent seen selection apdu)).passed ≡ (settled (card_with false old persistent) (carried_out instruction (card_with false old persistent) apdu)).commits
+      → (settled_file selection (file_outcome command persistent seen selection apdu)).passed ≡ (settled (card_with false old persistent) (carried_out (File command) (card_with false old persistent) apdu)).commits
   files_pass persistent held =
       let card : CardState = card_with false old persistent in
-      sym (commits_are card apdu selection (file_outcome instruction persistent seen selection apdu))
+      sym (commits_are card apdu selection (file_outcome command persistent seen selection apdu))
       ∙ ap (λ (tried : Result FileOutcome StatusWord). (settled card (file_tried card apdu tried)).commits) (tried_is persistent held)
-      ∙ ap (λ (came : Result Answered StatusWord). (settled card came).commits) (sym (carried instruction card apdu is))
+      ∙ ap (λ (came : Result Answered StatusWord). (settled card came).commits) (sym (carried command card apdu))
 
   pub files_fault : (held_now : Option Persistent)
-      → PassesOne (held_by old) held_now (λ state. (settled_file selection (file_outcome instruction state seen selection apdu)).passed)
-      → IfSome (card_of old) (λ card. IsSomeAnd held_now (Contains (card.persistent ∷ (settled card (carried_out instruction card apdu)).commits)))
+      → PassesOne (held_by old) held_now (λ state. (settled_file selection (file_outcome command state seen selection apdu)).passed)
+      → IfSome (card_of old) (λ card. IsSomeAnd held_now (Contains (card.persistent ∷ (settled card (carried_out (File command) card apdu)).commits)))
   files_fault held_now passes =
-      if_card old (λ card. IsSomeAnd held_now (Contains (card.persistent ∷ (settled card (carried_out instruction card apdu)).commits))) rests
+      if_card old (λ card. IsSomeAnd held_now (Contains (card.persistent ∷ (settled card (carried_out (File command) card apdu)).commits))) rests
       (λ persistent held.
-      let one : IsSomeAnd held_now (Contains (persistent ∷ (settled_file selection (file_outcome instruction persistent seen selection apdu)).passed)) =
-      if_some_at (held_by old) (λ state. IsSomeAnd held_now (Contains (state ∷ (settled_file selection (file_outcome instruction state seen selection apdu)).passed))) persistent passes held in
+      let one : IsSomeAnd held_now (Contains (persistent ∷ (settled_file selection (file_outcome command persistent seen selection apdu)).passed)) =
+      if_some_at (held_by old) (λ state. IsSomeAnd held_now (Contains (state ∷ (settled_file selection (file_outcome command state seen selection apdu)).passed))) persistent passes held in
       subst (λ (commits : List Persistent). IsSomeAnd held_now (Contains (persistent ∷ commits))) (files_pass persistent held) one)
 
   module _ (table : Loaded) where
     pub files_commit : (next : Selection) (out : Answer)
-        → IfSome (held_by old) (λ state. IsOutcome state (settled_file selection (file_outcome instruction state seen selection apdu)) out next (record (memory_of old) { table = table }) (memory_of new))
-        → IfSome (card_of old) (λ card. new.commits ≡ raised_by (length (settled card (carried_out instruction card apdu)).commits) old.commits)
+        → IfSome (held_by old) (λ state. IsOutcome state (settled_file selection (file_outcome command state seen selection apdu)) out next (record (memory_of old) { table = table }) (memory_of new))
+        → IfSome (card_of old) (λ card. new.commits ≡ raised_by (length (settled card (carried_out (File command) card apdu)).commits) old.commits)
     files_commit next out performs =
-        if_card old (λ card. new.commits ≡ raised_by (length (settled card (carried_out instruction card apdu)).commits) old.commits) rests
+        if_card old (λ card. new.commits ≡ raised_by (length (settled card (carried_out (File command) card apdu)).commits) old.commits) rests
         (λ persistent held.
         subst (λ (passed : List Persistent). new.commits ≡ raised_by (length passed) old.commits) (files_pass persistent held)
-        (if_some_at (held_by old) (λ state. IsOutcome state (settled_file selection (file_outcome instruction state seen selection apdu)) out next (record (memory_of old) { table = table }) (memory_of new)) persistent performs held).commits)
+        (if_some_at (held_by old) (λ state. IsOutcome state (settled_file selection (file_outcome command state seen selection apdu)) out next (record (memory_of old) { table = table }) (memory_of new)) persistent performs held).commits)
 
-    pub files_stay : StaysStill (record (memory_of old) { table = table }) (memory_of new) (λ state. (settled_file selection (file_outcome instruction state seen selection apdu)).passed)
-        → IfSome (card_of old) (λ card. (settled card (carried_out instruction card apdu)).commits ≡ [] → new.told ≡ old.told)
+    pub files_stay : StaysStill (record (memory_of old) { table = table }) (memory_of new) (λ state. (settled_file selection (file_outcome command state seen selection apdu)).passed)
+        → IfSome (card_of old) (λ card. (settled card (carried_out (File command) card apdu)).commits ≡ [] → new.told ≡ old.told)
     files_stay still =
-        if_card old (λ card. (settled card (carried_out instruction card apdu)).commits ≡ [] → new.told ≡ old.told) rests
+        if_card old (λ card. (settled card (carried_out (File command) card apdu)).commits ≡ [] → new.told ≡ old.told) rests
         (λ persistent held none.
-        if_some_at (held_by old) (λ state. (settled_file selection (file_outcome instruction state seen selection apdu)).passed ≡ [] → new.told ≡ old.told) persistent still held (files_pass persistent held ∙ none))
+        if_some_at (held_by old) (λ state. (settled_file selection (file_outcome command state seen selection apdu)).passed ≡ [] → new.told ≡ old.told) persistent still held (files_pass persistent held ∙ none))
 
     pub files_counts : (result : Result Unit StoreFault) (next : Selection) (out : Answer)
-        → Performs result (record (memory_of old) { table = table }) (memory_of new) out next (λ state. settled_file selection (file_outcome instruction state seen selection apdu))
-        → StaysStill (record (memory_of old) { table = table }) (memory_of new) (λ state. (settled_file selection (file_outcome instruction state seen selection apdu)).passed)
-        → CommitsStates result old new (λ card. (settled card (carried_out instruction card apdu)).commits)
+        → Performs result (record (memory_of old) { table = table }) (memory_of new) out next (λ state. settled_file selection (file_outcome command state seen selection apdu))
+        → StaysStill (record (memory_of old) { table = table }) (memory_of new) (λ state. (settled_file selection (file_outcome command state seen selection apdu)).passed)
+        → CommitsStates result old new (λ card. (settled card (carried_out (File command) card apdu)).commits)
     files_counts (Ok done) next out performs still = record { commits = files_commit next out performs; stopped = tt; stable = files_stay still }
     files_counts (Err fault) next out performs still = record {
       commits = tt;
       stopped =
-          if_card old (λ card. CommitsAtMost (length (settled card (carried_out instruction card apdu)).commits) old.commits new.commits) rests
-          (λ persistent held. no_commits (length (settled (card_with false old persistent) (carried_out instruction (card_with false old persistent) apdu)).commits) old.commits new.commits performs.commits);
+          if_card old (λ card. CommitsAtMost (length (settled card (carried_out (File command) card apdu)).commits) old.commits new.commits) rests
+          (λ persistent held. no_commits (length (settled (card_with false old persistent) (carried_out (File command) (card_with false old persistent) apdu)).commits) old.commits new.commits performs.commits);
       stable = files_stay still;
     }
 
 -- ---- commands on PINs
 
-by_byte : List Pin → Verified → Apdu → ℕ → Result PinOutcome StatusWord
-by_byte pins verified apdu ins =
-    if ins == 0x20 then pin_verified pins verified apdu
-    else if ins == 0x24 then pin_changed pins verified apdu
-    else if ins == 0x26 then pin_disabled pins verified apdu
-    else if ins == 0x28 then pin_enabled pins verified apdu
-    else pin_unblocked pins verified apdu
-
--- the instruction byte tells the command
-pub carried_on_pins : (instruction : Instruction) (card : CardState) (apdu : Apdu) → is_on_pins instruction ≡ true → HasPinByte apdu.ins instruction
-    → carried_out instruction card apdu ≡ pin_tried card (pin_told card.persistent.pins card.verified apdu)
-unfolding carried_out by_byte
-carried_on_pins Select card apdu is byte = absurd (false≢true is)
-carried_on_pins Status card apdu is byte = absurd (false≢true is)
-carried_on_pins ReadBinary card apdu is byte = absurd (false≢true is)
-carried_on_pins UpdateBinary card apdu is byte = absurd (false≢true is)
-carried_on_pins ReadRecord card apdu is byte = absurd (false≢true is)
-carried_on_pins UpdateRecord card apdu is byte = absurd (false≢true is)
-carried_on_pins SearchRecord card apdu is byte = absurd (false≢true is)
-carried_on_pins Increase card apdu is byte = absurd (false≢true is)
-carried_on_pins DeactivateFile card apdu is byte = absurd (false≢true is)
-carried_on_pins ActivateFile card apdu is byte = absurd (false≢true is)
-carried_on_pins VerifyPin card apdu is byte = ap (λ came. pin_tried card came) (sym (ap (by_byte card.persistent.pins card.verified apdu) byte))
-carried_on_pins ChangePin card apdu is byte = ap (λ came. pin_tried card came) (sym (ap (by_byte card.persistent.pins card.verified apdu) byte))
-carried_on_pins DisablePin card apdu is byte = ap (λ came. pin_tried card came) (sym (ap (by_byte card.persistent.pins card.verified apdu) byte))
-carried_on_pins EnablePin card apdu is byte = ap (λ came. pin_tried card came) (sym (ap (by_byte card.persistent.pins card.verified apdu) byte))
-carried_on_pins UnblockPin card apdu is byte = ap (λ came. pin_tried card came) (sym (ap (by_byte card.persistent.pins card.verified apdu) byte))
-carried_on_pins ManageChannel card apdu is byte = absurd (false≢true is)
-carried_on_pins TerminalProfile card apdu is byte = absurd (false≢true is)
-carried_on_pins Fetch card apdu is byte = absurd (false≢true is)
-carried_on_pins TerminalResponse card apdu is byte = absurd (false≢true is)
-carried_on_pins Envelope card apdu is byte = absurd (false≢true is)
-carried_on_pins InstallApplet card apdu is byte = absurd (false≢true is)
-carried_on_pins DeleteApplet card apdu is byte = absurd (false≢true is)
-carried_on_pins CreateFile card apdu is byte = absurd (false≢true is)
-carried_on_pins DeleteFile card apdu is byte = absurd (false≢true is)
-carried_on_pins ResizeFile card apdu is byte = absurd (false≢true is)
+pub carried_on_pins : (command : PinCommand) (card : CardState) (apdu : Apdu) → carried_out (OnPins command) card apdu ≡ pin_tried card (pin_outcome command card.persistent.pins card.verified apdu)
+unfolding carried_out
+carried_on_pins command card apdu = refl
 
 last_with : (state : Persistent) (passed : List (List Pin)) → last_of state (with_each state passed) ≡ with_pins state (last_of state.pins passed)
 last_with state passed = last_with_pins state state.pins passed
@@ -236,70 +178,70 @@ unfolding Rattle.file_model.specs.Chains.and_given
 pin_commits card verified (Ok outcome) = refl
 pin_commits card verified (Err status) = refl
 
-module _ (instruction : Instruction) (is : is_on_pins instruction ≡ true) (old : CardParts) (rests : old.is_due ≡ false) (apdu : Apdu) (byte : HasPinByte apdu.ins instruction) where
+module _ (command : PinCommand) (old : CardParts) (rests : old.is_due ≡ false) (apdu : Apdu) where
   pub pins_settle : (before : Memory) (new : CardParts) (out : Answer)
-      → IfSome (held_by old) (λ state. IsPinOutcome state (pin_outcome state.pins old.verified apdu) out new.verified before (memory_of new))
+      → IfSome (held_by old) (λ state. IsPinOutcome state (pin_settled command state.pins old.verified apdu) out new.verified before (memory_of new))
       → new.is_due ≡ false → new.channels ≡ old.channels → new.session ≡ old.session → new.boxes ≡ old.boxes
-      → IfSome (card_of old) (λ card. Answers (settled card (carried_out instruction card apdu)) out (card_of new))
-  unfolding pin_outcome
+      → IfSome (card_of old) (λ card. Answers (settled card (carried_out (OnPins command) card apdu)) out (card_of new))
+  unfolding pin_settled
   pins_settle before new out performs rests' channels session boxes =
-      if_card old (λ card. Answers (settled card (carried_out instruction card apdu)) out (card_of new)) rests
+      if_card old (λ card. Answers (settled card (carried_out (OnPins command) card apdu)) out (card_of new)) rests
       (λ persistent held.
       let card : CardState = card_with false old persistent in
-      let outcome : IsPinOutcome persistent (pin_outcome persistent.pins old.verified apdu) out new.verified before (memory_of new) =
-      if_some_at (held_by old) (λ state. IsPinOutcome state (pin_outcome state.pins old.verified apdu) out new.verified before (memory_of new)) persistent performs held in
-      subst (λ (came : Result Answered StatusWord). Answers (settled card came) out (card_of new)) (sym (carried_on_pins instruction card apdu is byte))
-      (pin_answers before old new persistent out (pin_told persistent.pins old.verified apdu) outcome rests' channels session boxes))
+      let outcome : IsPinOutcome persistent (pin_settled command persistent.pins old.verified apdu) out new.verified before (memory_of new) =
+      if_some_at (held_by old) (λ state. IsPinOutcome state (pin_settled command state.pins old.verified apdu) out new.verified before (memory_of new)) persistent performs held in
+      subst (λ (came : Result Answered StatusWord). Answers (settled card came) out (card_of new)) (sym (carried_on_pins command card apdu))
+      (pin_answers before old new persistent out (pin_outcome command persistent.pins old.verified apdu) outcome rests' channels session boxes))
 
   -- they pass what the card commits
   pub pins_pass : (persistent : Persistent)
-      → with_each persistent (pin_outcome persistent.pins old.verified apdu).passed ≡ (settled (card_with false old persistent) (carried_out instruction (card_with false old persistent) apdu)).commits
-  unfolding pin_outcome
+      → with_each persistent (pin_settled command persistent.pins old.verified apdu).passed ≡ (settled (card_with false old persistent) (carried_out (OnPins command) (card_with false old persistent) apdu)).commits
+  unfolding pin_settled
   pins_pass persistent =
       let card : CardState = card_with false old persistent in
-      pin_commits card old.verified (pin_told persistent.pins old.verified apdu)
-      ∙ ap (λ (came : Result Answered StatusWord). (settled card came).commits) (sym (carried_on_pins instruction card apdu is byte))
+      pin_commits card old.verified (pin_outcome command persistent.pins old.verified apdu)
+      ∙ ap (λ (came : Result Answered StatusWord). (settled card came).commits) (sym (carried_on_pins command card apdu))
 
   pub pins_fault : (held_now : Option Persistent)
-      → PassesOne (held_by old) held_now (λ state. with_each state (pin_outcome state.pins old.verified apdu).passed)
-      → IfSome (card_of old) (λ card. IsSomeAnd held_now (Contains (card.persistent ∷ (settled card (carried_out instruction card apdu)).commits)))
+      → PassesOne (held_by old) held_now (λ state. with_each state (pin_settled command state.pins old.verified apdu).passed)
+      → IfSome (card_of old) (λ card. IsSomeAnd held_now (Contains (card.persistent ∷ (settled card (carried_out (OnPins command) card apdu)).commits)))
   pins_fault held_now passes =
-      if_card old (λ card. IsSomeAnd held_now (Contains (card.persistent ∷ (settled card (carried_out instruction card apdu)).commits))) rests
+      if_card old (λ card. IsSomeAnd held_now (Contains (card.persistent ∷ (settled card (carried_out (OnPins command) card apdu)).commits))) rests
       (λ persistent held.
-      let one : IsSomeAnd held_now (Contains (persistent ∷ with_each persistent (pin_outcome persistent.pins old.verified apdu).passed)) =
-      if_some_at (held_by old) (λ state. IsSomeAnd held_now (Contains (state ∷ with_each state (pin_outcome state.pins old.verified apdu).passed))) persistent passes held in
+      let one : IsSomeAnd held_now (Contains (persistent ∷ with_each persistent (pin_settled command persistent.pins old.verified apdu).passed)) =
+      if_some_at (held_by old) (λ state. IsSomeAnd held_now (Contains (state ∷ with_each state (pin_settled command state.pins old.verified apdu).passed))) persistent passes held in
       subst (λ (commits : List Persistent). IsSomeAnd held_now (Contains (persistent ∷ commits))) (pins_pass persistent) one)
 
   module _ (new : CardParts) (table now : Loaded) where
     pub pins_commit : (out : Answer)
-        → IfSome (held_by old) (λ state. IsPinOutcome state (pin_outcome state.pins old.verified apdu) out new.verified (record (memory_of old) { table = table }) (record (memory_of new) { table = now }))
-        → IfSome (card_of old) (λ card. new.commits ≡ raised_by (length (settled card (carried_out instruction card apdu)).commits) old.commits)
+        → IfSome (held_by old) (λ state. IsPinOutcome state (pin_settled command state.pins old.verified apdu) out new.verified (record (memory_of old) { table = table }) (record (memory_of new) { table = now }))
+        → IfSome (card_of old) (λ card. new.commits ≡ raised_by (length (settled card (carried_out (OnPins command) card apdu)).commits) old.commits)
     pins_commit out performs =
-        if_card old (λ card. new.commits ≡ raised_by (length (settled card (carried_out instruction card apdu)).commits) old.commits) rests
+        if_card old (λ card. new.commits ≡ raised_by (length (settled card (carried_out (OnPins command) card apdu)).commits) old.commits) rests
         (λ persistent held.
-        (if_some_at (held_by old) (λ state. IsPinOutcome state (pin_outcome state.pins old.verified apdu) out new.verified (record (memory_of old) { table = table }) (record (memory_of new) { table = now })) persistent performs held).commits
-        ∙ ap (λ (count : ℕ). raised_by count old.commits) (sym (length-map (pin_outcome persistent.pins old.verified apdu).passed (with_pins persistent)) ∙ ap (λ (passed : List Persistent). length passed) (pins_pass persistent)))
+        (if_some_at (held_by old) (λ state. IsPinOutcome state (pin_settled command state.pins old.verified apdu) out new.verified (record (memory_of old) { table = table }) (record (memory_of new) { table = now })) persistent performs held).commits
+        ∙ ap (λ (count : ℕ). raised_by count old.commits) (sym (length-map (pin_settled command persistent.pins old.verified apdu).passed (with_pins persistent)) ∙ ap (λ (passed : List Persistent). length passed) (pins_pass persistent)))
 
-    pub pins_stay : TablesTellStates → Agrees old.store_mark old.told old.table → table ≡ old.table → ((pin_outcome (pins_of table) old.verified apdu).passed ≡ [] → new.told ≡ old.told)
-        → IfSome (card_of old) (λ card. (settled card (carried_out instruction card apdu)).commits ≡ [] → new.told ≡ old.told)
+    pub pins_stay : TablesTellStates → Agrees old.store_mark old.told old.table → table ≡ old.table → ((pin_settled command (pins_of table) old.verified apdu).passed ≡ [] → new.told ≡ old.told)
+        → IfSome (card_of old) (λ card. (settled card (carried_out (OnPins command) card apdu)).commits ≡ [] → new.told ≡ old.told)
     pins_stay tell agrees same still =
-        if_card old (λ card. (settled card (carried_out instruction card apdu)).commits ≡ [] → new.told ≡ old.told) rests
+        if_card old (λ card. (settled card (carried_out (OnPins command) card apdu)).commits ≡ [] → new.told ≡ old.told) rests
         (λ persistent held none.
         let pins : persistent.pins ≡ pins_of table = (tell old.store_mark old.told old.table persistent agrees held).pins ∙ ap pins_of (sym same) in
-        still (ap (λ (known : List Pin). (pin_outcome known old.verified apdu).passed) (sym pins) ∙ nil_mapped (with_pins persistent) (pin_outcome persistent.pins old.verified apdu).passed (pins_pass persistent ∙ none)))
+        still (ap (λ (known : List Pin). (pin_settled command known old.verified apdu).passed) (sym pins) ∙ nil_mapped (with_pins persistent) (pin_settled command persistent.pins old.verified apdu).passed (pins_pass persistent ∙ none)))
 
-    pub pins_at_most : IfSome (held_by old) (λ state. CommitsAtMost (length (pin_outcome state.pins old.verified apdu).passed) old.commits new.commits)
-        → IfSome (card_of old) (λ card. CommitsAtMost (length (settled card (carried_out instruction card apdu)).commits) old.commits new.commits)
+    pub pins_at_most : IfSome (held_by old) (λ state. CommitsAtMost (length (pin_settled command state.pins old.verified apdu).passed) old.commits new.commits)
+        → IfSome (card_of old) (λ card. CommitsAtMost (length (settled card (carried_out (OnPins command) card apdu)).commits) old.commits new.commits)
     pins_at_most most =
-        if_card old (λ card. CommitsAtMost (length (settled card (carried_out instruction card apdu)).commits) old.commits new.commits) rests
+        if_card old (λ card. CommitsAtMost (length (settled card (carried_out (OnPins command) card apdu)).commits) old.commits new.commits) rests
         (λ persistent held.
         subst (λ (count : ℕ). CommitsAtMost count old.commits new.commits)
-        (sym (length-map (pin_outcome persistent.pins old.verified apdu).passed (with_pins persistent)) ∙ ap (λ (passed : List Persistent). length passed) (pins_pass persistent))
-        (if_some_at (held_by old) (λ state. CommitsAtMost (length (pin_outcome state.pins old.verified apdu).passed) old.commits new.commits) persistent most held))
+        (sym (length-map (pin_settled command persistent.pins old.verified apdu).passed (with_pins persistent)) ∙ ap (λ (passed : List Persistent). length passed) (pins_pass persistent))
+        (if_some_at (held_by old) (λ state. CommitsAtMost (length (pin_settled command state.pins old.verified apdu).passed) old.commits new.commits) persistent most held))
 
     pub pins_counts : TablesTellStates → Agrees old.store_mark old.told old.table → table ≡ old.table → (result : Result Unit StoreFault) (out : Answer)
-        → PerformsPin result (record (memory_of old) { table = table }) (record (memory_of new) { table = now }) out new.verified (λ state. pin_outcome state.pins old.verified apdu)
-        → ((pin_outcome (pins_of table) old.verified apdu).passed ≡ [] → new.told ≡ old.told) → CommitsStates result old new (λ card. (settled card (carried_out instruction card apdu)).commits)
+        → PerformsPin result (record (memory_of old) { table = table }) (record (memory_of new) { table = now }) out new.verified (λ state. pin_settled command state.pins old.verified apdu)
+        → ((pin_settled command (pins_of table) old.verified apdu).passed ≡ [] → new.told ≡ old.told) → CommitsStates result old new (λ card. (settled card (carried_out (OnPins command) card apdu)).commits)
     pins_counts tell agrees same (Ok done) out performs still = record { commits = pins_commit out performs; stopped = tt; stable = pins_stay tell agrees same still }
     pins_counts tell agrees same (Err fault) out performs still = record { commits = tt; stopped = pins_at_most performs.commits; stable = pins_stay tell agrees same still }
 

@@ -24,8 +24,9 @@ use Rattle.toolkit_model.specs.Registry.{given, faulty_if, without_row, installe
 use Rattle.card_model.specs.States.{CardState, row_on}
 use Rattle.card_model.specs.Chained.{Any, past}
 use Rattle.card_model.specs.Toolkit.{ToolkitOutcome, applet_deleted, row_or_status, kind_in}
-use Rattle.card_model.specs.declared.instructions.Instruction.{Instruction}
-use Rattle.card_model.specs.declared.instructions.Instruction.TheVariants as Instructions
+use Rattle.card_model.specs.declared.instructions.Instruction.TheVariants.{Toolkit}
+use Rattle.card_model.specs.declared.instructions.ToolkitCommand.{ToolkitCommand}
+use Rattle.card_model.specs.declared.instructions.ToolkitCommand.TheVariants as commands
 use Rattle.session_laws.specs.Moving.{fixed, HaveFixed, if_row, command_by, rows_after}
 use Rattle.toolkit_model.specs.declared.faults.RowFault.{RowFault}
 use Rattle.toolkit_model.specs.declared.faults.RowFault.TheVariants.{NoRow, NotIdle}
@@ -116,8 +117,8 @@ deleted_stays rows gone shelf apart some =
 -- ---- commands
 
 -- the one command that takes a row away
-abbrev pub Loses : Instruction → Apdu → ℕ → Type 0
-Loses instruction apdu shelf = (instruction ≡ Instructions.DeleteApplet) × (shelf ≡ apdu.p2)
+abbrev pub Loses : ToolkitCommand → Apdu → ℕ → Type 0
+Loses command apdu shelf = (command ≡ commands.DeleteApplet) × (shelf ≡ apdu.p2)
 
 module _ (rows : List Registration) where
   pub reported : (found : Option Envelope) → rows_after (option_map (λ envelope. Report envelope) found) rows ≡ rows
@@ -142,35 +143,16 @@ module _ (rows : List Registration) where
   kept : (P : Type 0) (now : List Registration) (shelf : ℕ) → now ≡ rows → is_none (row_on now shelf) ≡ true → is_none (row_on rows shelf) ≡ false → P
   kept P now shelf same none some = absurd (true≢false (sym none ∙ ap (λ (list : List Registration). is_none (row_on list shelf)) same ∙ some))
 
-pub lost : (card : CardState) (instruction : Instruction) (apdu : Apdu) (shelf : ℕ) → is_none (row_on (rows_after (command_by instruction card apdu) card.persistent.rows) shelf) ≡ true
-    → is_none (row_on card.persistent.rows shelf) ≡ false → Loses instruction apdu shelf
-lost card Instructions.Select apdu shelf none some = kept card.persistent.rows _ _ shelf refl none some
-lost card Instructions.Status apdu shelf none some = kept card.persistent.rows _ _ shelf refl none some
-lost card Instructions.ReadBinary apdu shelf none some = kept card.persistent.rows _ _ shelf refl none some
-lost card Instructions.UpdateBinary apdu shelf none some = kept card.persistent.rows _ _ shelf refl none some
-lost card Instructions.ReadRecord apdu shelf none some = kept card.persistent.rows _ _ shelf refl none some
-lost card Instructions.UpdateRecord apdu shelf none some = kept card.persistent.rows _ _ shelf refl none some
-lost card Instructions.SearchRecord apdu shelf none some = kept card.persistent.rows _ _ shelf refl none some
-lost card Instructions.Increase apdu shelf none some = kept card.persistent.rows _ _ shelf refl none some
-lost card Instructions.DeactivateFile apdu shelf none some = kept card.persistent.rows _ _ shelf refl none some
-lost card Instructions.ActivateFile apdu shelf none some = kept card.persistent.rows _ _ shelf refl none some
-lost card Instructions.VerifyPin apdu shelf none some = kept card.persistent.rows _ _ shelf refl none some
-lost card Instructions.ChangePin apdu shelf none some = kept card.persistent.rows _ _ shelf refl none some
-lost card Instructions.DisablePin apdu shelf none some = kept card.persistent.rows _ _ shelf refl none some
-lost card Instructions.EnablePin apdu shelf none some = kept card.persistent.rows _ _ shelf refl none some
-lost card Instructions.UnblockPin apdu shelf none some = kept card.persistent.rows _ _ shelf refl none some
-lost card Instructions.ManageChannel apdu shelf none some = kept card.persistent.rows _ _ shelf refl none some
-lost card Instructions.TerminalProfile apdu shelf none some = kept card.persistent.rows _ _ shelf refl none some
-lost card Instructions.Fetch apdu shelf none some = kept card.persistent.rows _ _ shelf (fetching card.persistent.rows (unfetched card.session)) none some
-lost card Instructions.TerminalResponse apdu shelf none some = kept card.persistent.rows _ _ shelf (responding card.persistent.rows apdu.body (unanswered card.session)) none some
-lost card Instructions.Envelope apdu shelf none some = kept card.persistent.rows _ _ shelf (reported card.persistent.rows (envelope_of apdu.body)) none some
-lost card Instructions.InstallApplet apdu shelf none some =
+pub lost : (card : CardState) (command : ToolkitCommand) (apdu : Apdu) (shelf : ℕ) → is_none (row_on (rows_after (command_by (Toolkit command) card apdu) card.persistent.rows) shelf) ≡ true
+    → is_none (row_on card.persistent.rows shelf) ≡ false → Loses command apdu shelf
+lost card commands.TerminalProfile apdu shelf none some = kept card.persistent.rows _ _ shelf refl none some
+lost card commands.Fetch apdu shelf none some = kept card.persistent.rows _ _ shelf (fetching card.persistent.rows (unfetched card.session)) none some
+lost card commands.TerminalResponse apdu shelf none some = kept card.persistent.rows _ _ shelf (responding card.persistent.rows apdu.body (unanswered card.session)) none some
+lost card commands.Envelope apdu shelf none some = kept card.persistent.rows _ _ shelf (reported card.persistent.rows (envelope_of apdu.body)) none some
+lost card commands.InstallApplet apdu shelf none some =
     absurd (true≢false (sym none ∙ installing card.persistent.rows (installed_row card.persistent (kind_in card apdu.p2) apdu.p2 apdu.p1 apdu.body) shelf some))
-lost card Instructions.DeleteApplet apdu shelf none some =
-    ⊎_elim {C = Loses Instructions.DeleteApplet apdu shelf} (λ same. (refl, same)) (λ apart. absurd (true≢false (sym none ∙ deleted_stays card.persistent.rows apdu.p2 shelf apart some))) (cases_eq shelf apdu.p2)
-lost card Instructions.CreateFile apdu shelf none some = kept card.persistent.rows _ _ shelf refl none some
-lost card Instructions.DeleteFile apdu shelf none some = kept card.persistent.rows _ _ shelf refl none some
-lost card Instructions.ResizeFile apdu shelf none some = kept card.persistent.rows _ _ shelf refl none some
+lost card commands.DeleteApplet apdu shelf none some =
+    ⊎_elim {C = Loses commands.DeleteApplet apdu shelf} (λ same. (refl, same)) (λ apart. absurd (true≢false (sym none ∙ deleted_stays card.persistent.rows apdu.p2 shelf apart some))) (cases_eq shelf apdu.p2)
 
 -- ---- DELETE finds a row
 

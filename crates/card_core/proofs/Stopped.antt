@@ -1,5 +1,5 @@
 -- What a fault leaves of the rows in the table.
-use Rattle.std.proofs.Common.{◌≡◌, ℕ, ◌<◌, true, false, List, [], ◌∷◌, length, Result, Ok, Err, refl, sym, ◌∙◌, ap, subst, arith}
+use Rattle.std.proofs.Common.{◌≡◌, ℕ, ◌<◌, false, List, [], ◌∷◌, length, Result, Ok, Err, refl, sym, ◌∙◌, ap, subst, arith}
 use Rattle.std.specs.Prelude.{map, Contains, IsOk, OnErr}
 use Rattle.std.proofs.lemmas.Bool.{false≢true}
 use Rattle.std.proofs.lemmas.List.Elements.{Contains-get_or}
@@ -15,14 +15,13 @@ use Rattle.file_model.specs.Access.{keys_seen}
 use Rattle.file_model.specs.Chains.{and_given}
 use Rattle.toolkit_model.specs.Passing.{passed_rows}
 use Rattle.card_model.specs.Answers.{Answered, settled, carried_out, toolkit_tried, seen_by}
-use Rattle.card_model.specs.Instructions.{is_of_toolkit}
 use Rattle.card_model.specs.States.{CardState}
-use Rattle.card_model.specs.Toolkit.{ToolkitOutcome, states_passed, with_rows}
-use Rattle.card_model.specs.declared.instructions.Instruction.{Instruction}
+use Rattle.card_model.specs.Toolkit.{ToolkitOutcome, states_passed, with_rows, toolkit_outcome}
+use Rattle.card_model.specs.declared.instructions.Instruction.TheVariants.{Toolkit}
+use Rattle.card_model.specs.declared.instructions.ToolkitCommand.{ToolkitCommand}
 use Rattle.proactive_handler.specs.Steps.{Scene}
 use Rattle.session_commands.specs.Carrying.{HasToolkit, IsToolkitCutShort, Carries}
 use Rattle.card_core.specs.Cards.{card_with}
-use Rattle.card_core.specs.Commands.{toolkit_outcome}
 use Rattle.card_core.specs.Moves.{polled_on}
 use Rattle.card_core.specs.Parts.{CardParts}
 use Rattle.card_core.proofs.Carried.{by_toolkit, scene_of, has_toolkit_of}
@@ -51,15 +50,15 @@ unfolding and_given
 stopped_carried X card (Err status) out old after fault same carries = absurd carries
 stopped_carried X card (Ok outcome) out old after fault same short = stopped_rows outcome card.persistent old after same short
 
-pub toolkit_rows : (X : Type 0) (instruction : Instruction) → is_of_toolkit instruction ≡ true → (apdu : Apdu) (old : CardParts) (after : Scene) (seen : Verified) → seen ≡ keys_seen (pins_of old.table) old.verified → (out : Answer) (fault : StoreFault)
-    → ((card : CardState) → HasToolkit (scene_of old) card → Carries {X = X} (toolkit_outcome instruction card seen apdu) out (scene_of old) after (Err fault))
-    → (state : Persistent) → IsTold old.table state → AreOf (state ∷ (settled (card_with false old state) (carried_out instruction (card_with false old state) apdu)).commits) after
-toolkit_rows X instruction is apdu old after seen seen_is out fault carries state told =
+pub toolkit_rows : (X : Type 0) (command : ToolkitCommand) → (apdu : Apdu) (old : CardParts) (after : Scene) (seen : Verified) → seen ≡ keys_seen (pins_of old.table) old.verified → (out : Answer) (fault : StoreFault)
+    → ((card : CardState) → HasToolkit (scene_of old) card → Carries {X = X} (toolkit_outcome command card seen apdu) out (scene_of old) after (Err fault))
+    → (state : Persistent) → IsTold old.table state → AreOf (state ∷ (settled (card_with false old state) (carried_out (Toolkit command) (card_with false old state) apdu)).commits) after
+toolkit_rows X command apdu old after seen seen_is out fault carries state told =
     let card : CardState = card_with false old state in
     let sees : seen ≡ seen_by card = seen_is ∙ ap (λ (pins : List Pin). keys_seen pins old.verified) (sym told.pins) in
-    subst (λ (came : Result Answered StatusWord). AreOf (state ∷ (settled card came).commits) after) (sym (by_toolkit instruction card apdu is))
-    (stopped_carried X card (toolkit_outcome instruction card (seen_by card) apdu) out (scene_of old) after fault (sym told.rows)
-    (subst (λ (keys : Verified). Carries {X = X} (toolkit_outcome instruction card keys apdu) out (scene_of old) after (Err fault)) sees (carries card (has_toolkit_of old state told))))
+    subst (λ (came : Result Answered StatusWord). AreOf (state ∷ (settled card came).commits) after) (sym (by_toolkit command card apdu))
+    (stopped_carried X card (toolkit_outcome command card (seen_by card) apdu) out (scene_of old) after fault (sym told.rows)
+    (subst (λ (keys : Verified). Carries {X = X} (toolkit_outcome command card keys apdu) out (scene_of old) after (Err fault)) sees (carries card (has_toolkit_of old state told))))
 
 -- ---- STATUS
 

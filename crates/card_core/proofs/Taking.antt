@@ -1,8 +1,7 @@
 -- What is said of a command whose form is known, of each command that it is; and how often it commits, over any store.
-use Rattle.std.proofs.Common.{◌≡◌, ◌⊎◌, inl, inr, ℕ, ◌==◌, true, false, List, [], ◌++◌, Some, Result, Ok, Err, refl, sym, ◌∙◌, ap, subst}
-use Rattle.std.specs.Prelude.{IsOk, MatchResult}
+use Rattle.std.proofs.Common.{◌≡◌, ◌⊎◌, inl, inr, ℕ, ◌==◌, true, false, List, [], ◌++◌, Result, Ok, Err, refl, sym, ◌∙◌, ap, subst}
+use Rattle.std.specs.Prelude.{MatchResult}
 use Rattle.std.proofs.lemmas.Bool.{true≢false}
-use Rattle.std.proofs.lemmas.Option.{same_Some}
 use Rattle.uicc_types.specs.declared.answers.Answer.{Answer}
 use Rattle.uicc_types.specs.declared.answers.StatusWord.{StatusWord}
 use Rattle.uicc_types.specs.declared.answers.TheConstants.StatusWord.{DONE}
@@ -14,38 +13,22 @@ use Rattle.file_model.specs.Chains.{and_given}
 use Rattle.file_model.specs.declared.selections.Selection.{Selection}
 use Rattle.file_model.specs.Outcomes.{FileOutcome, settled_file}
 use Rattle.file_model.specs.Selecting.{file_selected, selecting, status_told, telling}
-use Rattle.card_model.specs.Answers.{Answered, settled, carried_out, carried_with, is_status, tried, answer_of, answer, managed, selection_on}
+use Rattle.card_model.specs.Answers.{Answered, settled, carried_out, carried_with, answer, managed, selection_on}
 use Rattle.card_model.specs.Chained.{Any, past, past_given}
 use Rattle.card_model.specs.Channels.{ChannelOutcome, channel_of}
-use Rattle.card_model.specs.Instructions.{instruction_tried, is_known}
 use Rattle.card_model.specs.States.{CardState}
-use Rattle.card_model.specs.declared.instructions.Instruction.{Instruction}
-use Rattle.card_model.specs.declared.instructions.Instruction.TheVariants.{Select, Status, ReadBinary, UpdateBinary, ReadRecord, UpdateRecord, SearchRecord, Increase, DeactivateFile, ActivateFile, VerifyPin, ChangePin, DisablePin, EnablePin, UnblockPin, ManageChannel, TerminalProfile, Fetch, TerminalResponse, Envelope, InstallApplet, DeleteApplet, CreateFile, DeleteFile, ResizeFile}
+use Rattle.card_model.specs.declared.instructions.Instruction.TheVariants.{File, ManageChannel}
+use Rattle.file_model.specs.declared.commands.FileCommand.TheVariants.{Select, Status}
 use Rattle.card_core.specs.Acting.{CommitsSo}
-use Rattle.card_core.specs.AnyStore.{MayBe, MayStand, AnswersAs, LeavesFiles, RefusesByTable, IsDenied, MovesItsOwn}
+use Rattle.card_core.specs.AnyStore.{MayBe, MayStand, AnswersAs}
 use Rattle.card_core.specs.Cards.{card_with}
-use Rattle.card_core.specs.Commands.{file_outcome}
+use Rattle.file_model.specs.Commands.{file_outcome}
 use Rattle.card_core.specs.Moves.{polled_on}
 use Rattle.card_core.specs.Parts.{CardParts}
 use Rattle.card_core.proofs.AtMost.{none_so, so_from}
 use Rattle.card_core.proofs.Polling.{IsTelling, IsNotTold, tells_or_not}
 use Rattle.card_core.proofs.Settling.{carried, commits_are}
 use Rattle.card_core.proofs.Telling.{card_told, card_stood}
-use Rattle.card_core.proofs.Tries.{plain}
-
-module _ (command : Apdu) (old new : CardParts) where
-  abbrev IsNamed : Instruction → Type 0
-  IsNamed instruction = instruction_tried is_known old.channels command.class command.ins ≡ Ok instruction
-
-  pub denied_so : {X : Type 0} (result : Result X StoreFault) (out : Answer)
-      → ((instruction : Instruction) (status : StatusWord) → IsNamed instruction → RefusesByTable instruction old command status → IsOk result × IsDenied status out old new)
-      → (instruction : Instruction) (apdu : Apdu) (status : StatusWord) → Some command ≡ Some apdu → IsNamed instruction → RefusesByTable instruction old apdu status → IsOk result × IsDenied status out old new
-  denied_so result out denied instruction apdu status read named refused =
-      denied instruction status named (subst (λ (each : Apdu). RefusesByTable instruction old each status) (sym (same_Some command apdu read)) refused)
-
-  pub moves_so : ((instruction : Instruction) → IsNamed instruction → MovesItsOwn instruction command old new)
-      → (instruction : Instruction) (apdu : Apdu) → Some command ≡ Some apdu → IsNamed instruction → MovesItsOwn instruction apdu old new
-  moves_so moves instruction apdu read named = subst (λ (each : Apdu). MovesItsOwn instruction each old new) (same_Some command apdu read) (moves instruction named)
 
 -- ---- how often it commits
 
@@ -69,17 +52,17 @@ told_none state selection apdu =
     settled_none selection (status_told state selection apdu)
     (past none_passed _ _ _ (past none_passed _ _ _ (past_given none_passed _ _ _ (λ file. refl))))
 
-pub select_none : (card : CardState) (apdu : Apdu) → (settled card (carried_out Select card apdu)).commits ≡ []
+pub select_none : (card : CardState) (apdu : Apdu) → (settled card (carried_out (File Select) card apdu)).commits ≡ []
 unfolding file_outcome
 select_none card apdu =
-    ap (λ (came : Result Answered StatusWord). (settled card came).commits) (carried Select card apdu refl)
+    ap (λ (came : Result Answered StatusWord). (settled card came).commits) (carried Select card apdu)
     ∙ commits_are card apdu (selection_on card (channel_of apdu.class)) (file_selected card.persistent (selection_on card (channel_of apdu.class)) apdu)
     ∙ selected_none card.persistent (selection_on card (channel_of apdu.class)) apdu
 
-pub status_none : (card : CardState) (apdu : Apdu) → (settled card (carried_out Status card apdu)).commits ≡ []
+pub status_none : (card : CardState) (apdu : Apdu) → (settled card (carried_out (File Status) card apdu)).commits ≡ []
 unfolding file_outcome
 status_none card apdu =
-    ap (λ (came : Result Answered StatusWord). (settled card came).commits) (carried Status card apdu refl)
+    ap (λ (came : Result Answered StatusWord). (settled card came).commits) (carried Status card apdu)
     ∙ commits_are card apdu (selection_on card (channel_of apdu.class)) (status_told card.persistent (selection_on card (channel_of apdu.class)) apdu)
     ∙ told_none card.persistent (selection_on card (channel_of apdu.class)) apdu
 
@@ -92,78 +75,35 @@ pub manage_none : (card : CardState) (apdu : Apdu) → (settled card (carried_ou
 unfolding carried_out
 manage_none card apdu = managed_none card _
 
--- SELECT commits nothing
-pub silent_so : {X : Type 0} (result : Result X StoreFault) (old new : CardParts) (instruction : Instruction) (apdu : Apdu) (state : Persistent) → LeavesFiles instruction → is_status instruction ≡ false → new.commits ≡ old.commits
-    → CommitsSo result old.commits new.commits (settled (card_with false old state) (carried_with true instruction (card_with false old state) apdu)).commits
-silent_so result old new Select apdu state leaves silent same =
-    none_so result old.commits new.commits _
-    (ap (λ (came : Result Answered StatusWord). (settled (card_with false old state) came).commits) (plain Select (card_with false old state) apdu silent) ∙ select_none (card_with false old state) apdu) same
-silent_so result old new Status apdu state leaves silent same = absurd (true≢false silent)
-silent_so result old new ReadBinary apdu state leaves silent same = absurd leaves
-silent_so result old new UpdateBinary apdu state leaves silent same = absurd leaves
-silent_so result old new ReadRecord apdu state leaves silent same = absurd leaves
-silent_so result old new UpdateRecord apdu state leaves silent same = absurd leaves
-silent_so result old new SearchRecord apdu state leaves silent same = absurd leaves
-silent_so result old new Increase apdu state leaves silent same = absurd leaves
-silent_so result old new DeactivateFile apdu state leaves silent same = absurd leaves
-silent_so result old new ActivateFile apdu state leaves silent same = absurd leaves
-silent_so result old new VerifyPin apdu state leaves silent same = absurd leaves
-silent_so result old new ChangePin apdu state leaves silent same = absurd leaves
-silent_so result old new DisablePin apdu state leaves silent same = absurd leaves
-silent_so result old new EnablePin apdu state leaves silent same = absurd leaves
-silent_so result old new UnblockPin apdu state leaves silent same = absurd leaves
-silent_so result old new ManageChannel apdu state leaves silent same = absurd leaves
-silent_so result old new TerminalProfile apdu state leaves silent same = absurd leaves
-silent_so result old new Fetch apdu state leaves silent same = absurd leaves
-silent_so result old new TerminalResponse apdu state leaves silent same = absurd leaves
-silent_so result old new Envelope apdu state leaves silent same = absurd leaves
-silent_so result old new InstallApplet apdu state leaves silent same = absurd leaves
-silent_so result old new DeleteApplet apdu state leaves silent same = absurd leaves
-silent_so result old new CreateFile apdu state leaves silent same = absurd leaves
-silent_so result old new DeleteFile apdu state leaves silent same = absurd leaves
-silent_so result old new ResizeFile apdu state leaves silent same = absurd leaves
-
--- what is carried out without an event
-pub plain_so : {X : Type 0} (result : Result X StoreFault) (old new : CardParts) (instruction : Instruction) (apdu : Apdu) (state : Persistent) → is_status instruction ≡ false
-    → CommitsSo result old.commits new.commits (settled (card_with false old state) (carried_out instruction (card_with false old state) apdu)).commits
-    → CommitsSo result old.commits new.commits (settled (card_with false old state) (carried_with true instruction (card_with false old state) apdu)).commits
-plain_so result old new instruction apdu state silent so =
-    subst (λ (came : Result Answered StatusWord). CommitsSo result old.commits new.commits (settled (card_with false old state) came).commits) (sym (plain instruction (card_with false old state) apdu silent)) so
-
--- the answer commits what was tried
-pub answer_so : {X : Type 0} (result : Result X StoreFault) (old new : CardParts) (card : CardState) (bytes : List ℕ) → CommitsSo result old.commits new.commits (settled card (tried is_known card bytes)).commits → CommitsSo result old.commits new.commits (answer card bytes).commits
-unfolding answer_of
-answer_so result old new card bytes so = so
-
 -- the applets were told of STATUS
-told_status_so : {X : Type 0} (result : Result X StoreFault) (old mid new : CardParts) (card : CardState) (apdu : Apdu) (first : Answer) → (first.status.0 == DONE.0) ≡ true → AnswersAs (settled card (carried_out Status card apdu)) first mid → mid.commits ≡ old.commits
+told_status_so : {X : Type 0} (result : Result X StoreFault) (old mid new : CardParts) (card : CardState) (apdu : Apdu) (first : Answer) → (first.status.0 == DONE.0) ≡ true → AnswersAs (settled card (carried_out (File Status) card apdu)) first mid → mid.commits ≡ old.commits
     → ((state : Persistent) → IsTold mid.table state → CommitsSo result mid.commits new.commits (polled_on (card_with false mid state)).commits)
-    → IsTelling card apdu (settled card (carried_out Status card apdu)) ⊎ IsNotTold card apdu (settled card (carried_out Status card apdu))
-    → CommitsSo result old.commits new.commits (settled card (carried_with true Status card apdu)).commits
+    → IsTelling card apdu (settled card (carried_out (File Status) card apdu)) ⊎ IsNotTold card apdu (settled card (carried_out (File Status) card apdu))
+    → CommitsSo result old.commits new.commits (settled card (carried_with true (File Status) card apdu)).commits
 told_status_so result old mid new card apdu first done answers same polled (inl telling) =
-    let answered : Answered = settled card (carried_out Status card apdu) in
-    let whole : (settled card (carried_with true Status card apdu)).commits ≡ (polled_on answered.state).commits =
+    let answered : Answered = settled card (carried_out (File Status) card apdu) in
+    let whole : (settled card (carried_with true (File Status) card apdu)).commits ≡ (polled_on answered.state).commits =
     ap (λ (each : Answered). each.commits) telling.carried ∙ ap (λ (commits : List Persistent). commits ++ (polled_on answered.state).commits) telling.commits in
     so_from result old.commits mid.commits new.commits _ same
     (subst (λ (states : List Persistent). CommitsSo result mid.commits new.commits states) (ap (λ (each : CardState). (polled_on each).commits) (sym (card_told mid answered.state answers.left)) ∙ sym whole)
     (polled answered.state.persistent answers.left.table))
 told_status_so result old mid new card apdu first done answers same polled (inr silent) = absurd (true≢false (sym done ∙ ap (λ (word : StatusWord). word.0 == DONE.0) answers.status ∙ silent.other))
 
-pub status_commits : {X : Type 0} (result : Result X StoreFault) (old mid new : CardParts) (card : CardState) (apdu : Apdu) (first : Answer) → (first.status.0 == DONE.0) ≡ true → AnswersAs (settled card (carried_out Status card apdu)) first mid → mid.commits ≡ old.commits
+pub status_commits : {X : Type 0} (result : Result X StoreFault) (old mid new : CardParts) (card : CardState) (apdu : Apdu) (first : Answer) → (first.status.0 == DONE.0) ≡ true → AnswersAs (settled card (carried_out (File Status) card apdu)) first mid → mid.commits ≡ old.commits
     → ((state : Persistent) → IsTold mid.table state → CommitsSo result mid.commits new.commits (polled_on (card_with false mid state)).commits)
-    → CommitsSo result old.commits new.commits (settled card (carried_with true Status card apdu)).commits
+    → CommitsSo result old.commits new.commits (settled card (carried_with true (File Status) card apdu)).commits
 status_commits result old mid new card apdu first done answers same polled = told_status_so result old mid new card apdu first done answers same polled (tells_or_not card apdu)
 
 -- they were not
-other_status_so : {X : Type 0} (result : Result X StoreFault) (old mid : CardParts) (card : CardState) (apdu : Apdu) (first : Answer) → (first.status.0 == DONE.0) ≡ false → AnswersAs (settled card (carried_out Status card apdu)) first mid → mid.commits ≡ old.commits
-    → IsTelling card apdu (settled card (carried_out Status card apdu)) ⊎ IsNotTold card apdu (settled card (carried_out Status card apdu))
-    → CommitsSo result old.commits mid.commits (settled card (carried_with true Status card apdu)).commits
+other_status_so : {X : Type 0} (result : Result X StoreFault) (old mid : CardParts) (card : CardState) (apdu : Apdu) (first : Answer) → (first.status.0 == DONE.0) ≡ false → AnswersAs (settled card (carried_out (File Status) card apdu)) first mid → mid.commits ≡ old.commits
+    → IsTelling card apdu (settled card (carried_out (File Status) card apdu)) ⊎ IsNotTold card apdu (settled card (carried_out (File Status) card apdu))
+    → CommitsSo result old.commits mid.commits (settled card (carried_with true (File Status) card apdu)).commits
 other_status_so result old mid card apdu first other answers same (inl telling) = absurd (true≢false (sym (ap (λ (word : StatusWord). word.0 == DONE.0) (answers.status ∙ telling.status)) ∙ other))
 other_status_so result old mid card apdu first other answers same (inr silent) =
     none_so result old.commits mid.commits _ (ap (λ (each : Answered). each.commits) silent.carried ∙ status_none card apdu) same
 
-pub status_commits_other : {X : Type 0} (result : Result X StoreFault) (old mid : CardParts) (card : CardState) (apdu : Apdu) (first : Answer) → (first.status.0 == DONE.0) ≡ false → AnswersAs (settled card (carried_out Status card apdu)) first mid → mid.commits ≡ old.commits
-    → CommitsSo result old.commits mid.commits (settled card (carried_with true Status card apdu)).commits
+pub status_commits_other : {X : Type 0} (result : Result X StoreFault) (old mid : CardParts) (card : CardState) (apdu : Apdu) (first : Answer) → (first.status.0 == DONE.0) ≡ false → AnswersAs (settled card (carried_out (File Status) card apdu)) first mid → mid.commits ≡ old.commits
+    → CommitsSo result old.commits mid.commits (settled card (carried_with true (File Status) card apdu)).commits
 status_commits_other result old mid card apdu first other answers same = other_status_so result old mid card apdu first other answers same (tells_or_not card apdu)
 
 -- ---- of a card that it may be

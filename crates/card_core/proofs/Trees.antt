@@ -1,8 +1,8 @@
 -- Commands that make, delete and resize files: from what the call over the store says to what the card comes to.
-use Rattle.std.proofs.Common.{◌≡◌, ℕ, Bool, true, false, List, [], ◌∷◌, length, Option, Some, None, refl, sym, ◌∙◌, ap, subst, inl, inr}
-use Rattle.std.specs.Prelude.{◌||◌, IfSome, IsSomeAnd, Contains, is_some, unwrap_or, Result, Ok, Err, OnErr}
+use Rattle.std.proofs.Common.{◌≡◌, ℕ, false, List, [], ◌∷◌, length, Option, Some, None, refl, sym, ◌∙◌, ap, subst}
+use Rattle.std.specs.Prelude.{IfSome, IsSomeAnd, Contains, is_some, Result, Ok, Err, OnErr}
 use Rattle.std.specs.Result.{result_ok}
-use Rattle.std.proofs.lemmas.Bool.{false≢true, true≢false}
+use Rattle.std.proofs.lemmas.Bool.{false≢true}
 use Rattle.std.proofs.lemmas.Option.{same_Some}
 use Rattle.general_laws.specs.Optional.{if_some_at}
 use Rattle.uicc_types.specs.Counts.{raised_by}
@@ -17,28 +17,25 @@ use Rattle.card_layout.specs.Persistent.{Pin, Persistent}
 use Rattle.card_layout.specs.Standing.{Stands, stands_for, standing, Agrees}
 use Rattle.card_layout.specs.States.{pins_of}
 use Rattle.file_model.specs.Access.{keys_seen}
-use Rattle.file_model.specs.Files.{descriptors_of}
 use Rattle.file_model.specs.Outcomes.{last_of}
-use Rattle.file_model.specs.declared.descriptors.Descriptor.{Descriptor}
 use Rattle.file_model.specs.declared.selections.Selection.{Selection}
-use Rattle.file_model.specs.declared.selections.TheConstants.Selection.{AT_START}
+use Rattle.file_making.specs.declared.commands.TreeCommand.{TreeCommand}
+use Rattle.file_making.specs.declared.commands.TreeCommand.TheVariants.{Create, Delete, Resize}
+use Rattle.file_making.specs.Commands.{tree_outcome}
 use Rattle.file_making.specs.Creating.{created}
 use Rattle.file_making.specs.Deleting.{deleted}
 use Rattle.file_making.specs.Outcomes.{TreeOutcome}
 use Rattle.file_making.specs.Resizing.{resized}
 use Rattle.file_admin.specs.Outcomes.{IsTreeOutcome, PerformsTree, IsTreeAnswer, AnswersTree, CommitsTree, IfNothingPasses, passed_by}
 use Rattle.card_model.specs.States.{CardState}
-use Rattle.card_model.specs.Answers.{Answered, settled, carried_out, tree_tried, seen_by, is_status}
-use Rattle.card_model.specs.Channels.{channel_of, selected_on}
-use Rattle.card_model.specs.Instructions.{is_of_toolkit, is_of_tree}
-use Rattle.card_model.specs.declared.instructions.Instruction.{Instruction}
-use Rattle.card_model.specs.declared.instructions.Instruction.TheVariants.{Select, Status, ReadBinary, UpdateBinary, ReadRecord, UpdateRecord, SearchRecord, Increase, DeactivateFile, ActivateFile, VerifyPin, ChangePin, DisablePin, EnablePin, UnblockPin, ManageChannel, TerminalProfile, Fetch, TerminalResponse, Envelope, InstallApplet, DeleteApplet, CreateFile, DeleteFile, ResizeFile}
+use Rattle.card_model.specs.Answers.{Answered, settled, carried_out, tree_tried, seen_by}
+use Rattle.card_model.specs.Channels.{channel_of}
+use Rattle.card_model.specs.declared.instructions.Instruction.TheVariants.{Tree}
 use Rattle.card_memory.specs.Laws.{IsTold, TablesTellStates}
 use Rattle.card_memory.specs.Performing.{PassesOne}
 use Rattle.record_commands.specs.Tables.{HasOtherFiles}
-use Rattle.card_core.specs.AnyStore.{IsOfMemory, AnswersStanding, MovesTree, NeedsNoContents, ReachesApplets, RefusesFile, RefusesByTable, is_on_contents}
+use Rattle.card_core.specs.AnyStore.{IsOfMemory, AnswersStanding, MovesTree}
 use Rattle.card_core.specs.Cards.{memory_of, held_by, card_with, card_of}
-use Rattle.card_core.specs.Commands.{is_on_files, is_on_pins, tree_outcome}
 use Rattle.card_core.specs.Acting.{CommitsSo}
 use Rattle.card_core.specs.Moves.{Answers, CommitsStates}
 use Rattle.card_memory.specs.Performing.{CommitsAtMost}
@@ -46,116 +43,12 @@ use Rattle.card_core.proofs.AtMost.{no_commits}
 use Rattle.card_core.specs.Parts.{CardParts}
 use Rattle.card_core.proofs.Standing.{if_card, card_then}
 
--- ---- which commands they are
-
--- one of them is none of another kind
-pub record IsBeside (instruction : Instruction) : Type 0 where
-  pub files : is_on_files instruction ≡ false
-  pub pins : is_on_pins instruction ≡ false
-  pub toolkit : is_of_toolkit instruction ≡ false
-  pub status : is_status instruction ≡ false
-
-pub tree_beside : (instruction : Instruction) → is_of_tree instruction ≡ true → IsBeside instruction
-tree_beside Select is = absurd (false≢true is)
-tree_beside Status is = absurd (false≢true is)
-tree_beside ReadBinary is = absurd (false≢true is)
-tree_beside UpdateBinary is = absurd (false≢true is)
-tree_beside ReadRecord is = absurd (false≢true is)
-tree_beside UpdateRecord is = absurd (false≢true is)
-tree_beside SearchRecord is = absurd (false≢true is)
-tree_beside Increase is = absurd (false≢true is)
-tree_beside DeactivateFile is = absurd (false≢true is)
-tree_beside ActivateFile is = absurd (false≢true is)
-tree_beside VerifyPin is = absurd (false≢true is)
-tree_beside ChangePin is = absurd (false≢true is)
-tree_beside DisablePin is = absurd (false≢true is)
-tree_beside EnablePin is = absurd (false≢true is)
-tree_beside UnblockPin is = absurd (false≢true is)
-tree_beside ManageChannel is = absurd (false≢true is)
-tree_beside TerminalProfile is = absurd (false≢true is)
-tree_beside Fetch is = absurd (false≢true is)
-tree_beside TerminalResponse is = absurd (false≢true is)
-tree_beside Envelope is = absurd (false≢true is)
-tree_beside InstallApplet is = absurd (false≢true is)
-tree_beside DeleteApplet is = absurd (false≢true is)
-tree_beside CreateFile is = record { files = refl; pins = refl; toolkit = refl; status = refl }
-tree_beside DeleteFile is = record { files = refl; pins = refl; toolkit = refl; status = refl }
-tree_beside ResizeFile is = record { files = refl; pins = refl; toolkit = refl; status = refl }
-
-no_file : (instruction : Instruction) (files : List Descriptor) (selection : Selection) (apdu : Apdu) (status : StatusWord) → is_of_tree instruction ≡ true → RefusesFile instruction files selection apdu status → ⊥
-no_file Select files selection apdu status is refused = false≢true is
-no_file Status files selection apdu status is refused = false≢true is
-no_file ReadBinary files selection apdu status is refused = false≢true is
-no_file UpdateBinary files selection apdu status is refused = false≢true is
-no_file ReadRecord files selection apdu status is refused = false≢true is
-no_file UpdateRecord files selection apdu status is refused = false≢true is
-no_file SearchRecord files selection apdu status is refused = false≢true is
-no_file Increase files selection apdu status is refused = false≢true is
-no_file DeactivateFile files selection apdu status is refused = false≢true is
-no_file ActivateFile files selection apdu status is refused = false≢true is
-no_file VerifyPin files selection apdu status is refused = false≢true is
-no_file ChangePin files selection apdu status is refused = false≢true is
-no_file DisablePin files selection apdu status is refused = false≢true is
-no_file EnablePin files selection apdu status is refused = false≢true is
-no_file UnblockPin files selection apdu status is refused = false≢true is
-no_file ManageChannel files selection apdu status is refused = false≢true is
-no_file TerminalProfile files selection apdu status is refused = false≢true is
-no_file Fetch files selection apdu status is refused = false≢true is
-no_file TerminalResponse files selection apdu status is refused = false≢true is
-no_file Envelope files selection apdu status is refused = false≢true is
-no_file InstallApplet files selection apdu status is refused = false≢true is
-no_file DeleteApplet files selection apdu status is refused = false≢true is
-no_file CreateFile files selection apdu status is refused = refused
-no_file DeleteFile files selection apdu status is refused = refused
-no_file ResizeFile files selection apdu status is refused = refused
-
--- the table alone refuses none of them so, and no applet is told of one
-pub tree_not_refused : (instruction : Instruction) (parts : CardParts) (apdu : Apdu) (status : StatusWord) → is_of_tree instruction ≡ true → RefusesByTable instruction parts apdu status → ⊥
-tree_not_refused instruction parts apdu status is (inl refused) = no_file instruction (descriptors_of parts.table) (unwrap_or (selected_on parts.channels (channel_of apdu.class)) AT_START) apdu status is refused
-tree_not_refused instruction parts apdu status is (inr refused) = false≢true (sym (tree_beside instruction is).pins ∙ refused.0)
-
-pub tree_reaches_none : (instruction : Instruction) → is_of_tree instruction ≡ true → ReachesApplets instruction → ⊥
-tree_reaches_none instruction is (inl tools) = false≢true (sym (tree_beside instruction is).toolkit ∙ tools)
-tree_reaches_none instruction is (inr status) = false≢true (sym (tree_beside instruction is).status ∙ status)
-
-or_else : (one other : Bool) → other ≡ true → (one || other) ≡ false → ⊥
-or_else true other is none = true≢false none
-or_else false other is none = true≢false (sym is ∙ none)
-
--- their answers hang on where files lie
-pub tree_needs : (instruction : Instruction) → is_of_tree instruction ≡ true → NeedsNoContents instruction → ⊥
-tree_needs instruction is needs = or_else (is_on_contents instruction) (is_of_tree instruction) is needs
-
 -- ---- what it is tried on
 
-pub carried_tree : (instruction : Instruction) (card : CardState) (apdu : Apdu) → is_of_tree instruction ≡ true
-    → carried_out instruction card apdu ≡ tree_tried card (tree_outcome instruction card.persistent (seen_by card) card.channels apdu)
-unfolding carried_out tree_outcome
-carried_tree Select card apdu is = absurd (false≢true is)
-carried_tree Status card apdu is = absurd (false≢true is)
-carried_tree ReadBinary card apdu is = absurd (false≢true is)
-carried_tree UpdateBinary card apdu is = absurd (false≢true is)
-carried_tree ReadRecord card apdu is = absurd (false≢true is)
-carried_tree UpdateRecord card apdu is = absurd (false≢true is)
-carried_tree SearchRecord card apdu is = absurd (false≢true is)
-carried_tree Increase card apdu is = absurd (false≢true is)
-carried_tree DeactivateFile card apdu is = absurd (false≢true is)
-carried_tree ActivateFile card apdu is = absurd (false≢true is)
-carried_tree VerifyPin card apdu is = absurd (false≢true is)
-carried_tree ChangePin card apdu is = absurd (false≢true is)
-carried_tree DisablePin card apdu is = absurd (false≢true is)
-carried_tree EnablePin card apdu is = absurd (false≢true is)
-carried_tree UnblockPin card apdu is = absurd (false≢true is)
-carried_tree ManageChannel card apdu is = absurd (false≢true is)
-carried_tree TerminalProfile card apdu is = absurd (false≢true is)
-carried_tree Fetch card apdu is = absurd (false≢true is)
-carried_tree TerminalResponse card apdu is = absurd (false≢true is)
-carried_tree Envelope card apdu is = absurd (false≢true is)
-carried_tree InstallApplet card apdu is = absurd (false≢true is)
-carried_tree DeleteApplet card apdu is = absurd (false≢true is)
-carried_tree CreateFile card apdu is = refl
-carried_tree DeleteFile card apdu is = refl
-carried_tree ResizeFile card apdu is = refl
+pub carried_tree : (command : TreeCommand) (card : CardState) (apdu : Apdu)
+    → carried_out (Tree command) card apdu ≡ tree_tried card (tree_outcome command card.persistent (seen_by card) card.channels (channel_of apdu.class) apdu)
+unfolding carried_out
+carried_tree command card apdu = refl
 
 commits_are : (card : CardState) (came : Result TreeOutcome StatusWord) → passed_by card.channels came ≡ (settled card (tree_tried card came)).commits
 unfolding Rattle.file_model.specs.Chains.and_given
@@ -183,92 +76,92 @@ unfolding standing
 agreed_state mark None table agrees persistent held = absurd (false≢true (ap is_some held))
 agreed_state mark (Some bytes) table agrees persistent held = same_Some agrees.state persistent (sym (ap (λ found. result_ok found) (ap (stands_for mark) agrees.told_is ∙ agrees.stands.decoded)) ∙ held)
 
-module _ (instruction : Instruction) (is : is_of_tree instruction ≡ true) (tell : TablesTellStates) (old : CardParts) (rests : old.is_due ≡ false) (agrees : Agrees old.store_mark old.told old.table)
+module _ (command : TreeCommand) (tell : TablesTellStates) (old : CardParts) (rests : old.is_due ≡ false) (agrees : Agrees old.store_mark old.told old.table)
     (apdu : Apdu) (seen : Verified) (seen_is : seen ≡ keys_seen (pins_of old.table) old.verified) where
   sees : (persistent : Persistent) → held_by old ≡ Some persistent → seen ≡ seen_by (card_with false old persistent)
   sees persistent held = seen_is ∙ ap (λ (known : List Pin). keys_seen known old.verified) (sym (tell old.store_mark old.told old.table persistent agrees held).pins)
 
   pub trees_settle : (before : Memory) (new : CardParts) (out : Answer)
-      → IfSome (held_by old) (λ state. IsTreeOutcome state (tree_outcome instruction state seen old.channels apdu) old.channels out new.channels before (memory_of new))
+      → IfSome (held_by old) (λ state. IsTreeOutcome state (tree_outcome command state seen old.channels (channel_of apdu.class) apdu) old.channels out new.channels before (memory_of new))
       → new.is_due ≡ false → new.verified ≡ old.verified → new.session ≡ old.session → new.boxes ≡ old.boxes
-      → IfSome (card_of old) (λ card. Answers (settled card (carried_out instruction card apdu)) out (card_of new))
+      → IfSome (card_of old) (λ card. Answers (settled card (carried_out (Tree command) card apdu)) out (card_of new))
   trees_settle before new out performs rests' verified session boxes =
-      if_card old (λ card. Answers (settled card (carried_out instruction card apdu)) out (card_of new)) rests
+      if_card old (λ card. Answers (settled card (carried_out (Tree command) card apdu)) out (card_of new)) rests
       (λ persistent held.
       let card : CardState = card_with false old persistent in
-      let outcome : IsTreeOutcome persistent (tree_outcome instruction persistent seen old.channels apdu) old.channels out new.channels before (memory_of new) =
-      if_some_at (held_by old) (λ state. IsTreeOutcome state (tree_outcome instruction state seen old.channels apdu) old.channels out new.channels before (memory_of new)) persistent performs held in
-      subst (λ (came : Result Answered StatusWord). Answers (settled card came) out (card_of new)) (sym (carried_tree instruction card apdu is))
-      (subst (λ (keys : Verified). Answers (settled card (tree_tried card (tree_outcome instruction persistent keys old.channels apdu))) out (card_of new)) (sees persistent held)
-      (tree_answers before old new persistent out (tree_outcome instruction persistent seen old.channels apdu) outcome rests' verified session boxes)))
+      let outcome : IsTreeOutcome persistent (tree_outcome command persistent seen old.channels (channel_of apdu.class) apdu) old.channels out new.channels before (memory_of new) =
+      if_some_at (held_by old) (λ state. IsTreeOutcome state (tree_outcome command state seen old.channels (channel_of apdu.class) apdu) old.channels out new.channels before (memory_of new)) persistent performs held in
+      subst (λ (came : Result Answered StatusWord). Answers (settled card came) out (card_of new)) (sym (carried_tree command card apdu))
+      (subst (λ (keys : Verified). Answers (settled card (tree_tried card (tree_outcome command persistent keys old.channels (channel_of apdu.class) apdu))) out (card_of new)) (sees persistent held)
+      (tree_answers before old new persistent out (tree_outcome command persistent seen old.channels (channel_of apdu.class) apdu) outcome rests' verified session boxes)))
 
   -- it passes what the card commits
   pub trees_pass : (persistent : Persistent) → held_by old ≡ Some persistent
-      → passed_by old.channels (tree_outcome instruction persistent seen old.channels apdu) ≡ (settled (card_with false old persistent) (carried_out instruction (card_with false old persistent) apdu)).commits
+      → passed_by old.channels (tree_outcome command persistent seen old.channels (channel_of apdu.class) apdu) ≡ (settled (card_with false old persistent) (carried_out (Tree command) (card_with false old persistent) apdu)).commits
   trees_pass persistent held =
       let card : CardState = card_with false old persistent in
-      ap (λ (keys : Verified). passed_by old.channels (tree_outcome instruction persistent keys old.channels apdu)) (sees persistent held)
-      ∙ commits_are card (tree_outcome instruction persistent (seen_by card) old.channels apdu)
-      ∙ ap (λ (came : Result Answered StatusWord). (settled card came).commits) (sym (carried_tree instruction card apdu is))
+      ap (λ (keys : Verified). passed_by old.channels (tree_outcome command persistent keys old.channels (channel_of apdu.class) apdu)) (sees persistent held)
+      ∙ commits_are card (tree_outcome command persistent (seen_by card) old.channels (channel_of apdu.class) apdu)
+      ∙ ap (λ (came : Result Answered StatusWord). (settled card came).commits) (sym (carried_tree command card apdu))
 
   pub trees_fault : (held_now : Option Persistent)
-      → PassesOne (held_by old) held_now (λ state. passed_by old.channels (tree_outcome instruction state seen old.channels apdu))
-      → IfSome (card_of old) (λ card. IsSomeAnd held_now (Contains (card.persistent ∷ (settled card (carried_out instruction card apdu)).commits)))
+      → PassesOne (held_by old) held_now (λ state. passed_by old.channels (tree_outcome command state seen old.channels (channel_of apdu.class) apdu))
+      → IfSome (card_of old) (λ card. IsSomeAnd held_now (Contains (card.persistent ∷ (settled card (carried_out (Tree command) card apdu)).commits)))
   trees_fault held_now passes =
-      if_card old (λ card. IsSomeAnd held_now (Contains (card.persistent ∷ (settled card (carried_out instruction card apdu)).commits))) rests
+      if_card old (λ card. IsSomeAnd held_now (Contains (card.persistent ∷ (settled card (carried_out (Tree command) card apdu)).commits))) rests
       (λ persistent held.
-      let one : IsSomeAnd held_now (Contains (persistent ∷ passed_by old.channels (tree_outcome instruction persistent seen old.channels apdu))) =
-      if_some_at (held_by old) (λ state. IsSomeAnd held_now (Contains (state ∷ passed_by old.channels (tree_outcome instruction state seen old.channels apdu)))) persistent passes held in
+      let one : IsSomeAnd held_now (Contains (persistent ∷ passed_by old.channels (tree_outcome command persistent seen old.channels (channel_of apdu.class) apdu))) =
+      if_some_at (held_by old) (λ state. IsSomeAnd held_now (Contains (state ∷ passed_by old.channels (tree_outcome command state seen old.channels (channel_of apdu.class) apdu)))) persistent passes held in
       subst (λ (commits : List Persistent). IsSomeAnd held_now (Contains (persistent ∷ commits))) (trees_pass persistent held) one)
 
   pub trees_commit : (new : CardParts) (table : Loaded) (out : Answer)
-      → IfSome (held_by old) (λ state. IsTreeOutcome state (tree_outcome instruction state seen old.channels apdu) old.channels out new.channels (record (memory_of old) { table = table }) (memory_of new))
-      → IfSome (card_of old) (λ card. new.commits ≡ raised_by (length (settled card (carried_out instruction card apdu)).commits) old.commits)
+      → IfSome (held_by old) (λ state. IsTreeOutcome state (tree_outcome command state seen old.channels (channel_of apdu.class) apdu) old.channels out new.channels (record (memory_of old) { table = table }) (memory_of new))
+      → IfSome (card_of old) (λ card. new.commits ≡ raised_by (length (settled card (carried_out (Tree command) card apdu)).commits) old.commits)
   trees_commit new table out performs =
-      if_card old (λ card. new.commits ≡ raised_by (length (settled card (carried_out instruction card apdu)).commits) old.commits) rests
+      if_card old (λ card. new.commits ≡ raised_by (length (settled card (carried_out (Tree command) card apdu)).commits) old.commits) rests
       (λ persistent held.
       subst (λ (passed : List Persistent). new.commits ≡ raised_by (length passed) old.commits) (trees_pass persistent held)
-      (if_some_at (held_by old) (λ state. IsTreeOutcome state (tree_outcome instruction state seen old.channels apdu) old.channels out new.channels (record (memory_of old) { table = table }) (memory_of new)) persistent performs held).commits)
+      (if_some_at (held_by old) (λ state. IsTreeOutcome state (tree_outcome command state seen old.channels (channel_of apdu.class) apdu) old.channels out new.channels (record (memory_of old) { table = table }) (memory_of new)) persistent performs held).commits)
 
-  pub trees_stay : (now : Option (List ℕ)) (table : Loaded) → table ≡ old.table → IfNothingPasses table old.channels (λ state. tree_outcome instruction state seen old.channels apdu) (now ≡ old.told)
-      → IfSome (card_of old) (λ card. (settled card (carried_out instruction card apdu)).commits ≡ [] → now ≡ old.told)
+  pub trees_stay : (now : Option (List ℕ)) (table : Loaded) → table ≡ old.table → IfNothingPasses table old.channels (λ state. tree_outcome command state seen old.channels (channel_of apdu.class) apdu) (now ≡ old.told)
+      → IfSome (card_of old) (λ card. (settled card (carried_out (Tree command) card apdu)).commits ≡ [] → now ≡ old.told)
   trees_stay now table same still =
-      if_card old (λ card. (settled card (carried_out instruction card apdu)).commits ≡ [] → now ≡ old.told) rests
+      if_card old (λ card. (settled card (carried_out (Tree command) card apdu)).commits ≡ [] → now ≡ old.told) rests
       (λ persistent held none.
       still old.store_mark agrees.content agrees.state (subst (λ (each : Loaded). Stands old.store_mark agrees.content each agrees.state) (sym same) agrees.stands)
-      (ap (λ (state : Persistent). passed_by old.channels (tree_outcome instruction state seen old.channels apdu)) (agreed_state old.store_mark old.told old.table agrees persistent held) ∙ trees_pass persistent held ∙ none))
+      (ap (λ (state : Persistent). passed_by old.channels (tree_outcome command state seen old.channels (channel_of apdu.class) apdu)) (agreed_state old.store_mark old.told old.table agrees persistent held) ∙ trees_pass persistent held ∙ none))
 
   pub trees_counts : (new : CardParts) (table : Loaded) → table ≡ old.table → (result : Result Unit StoreFault) (out : Answer)
-      → PerformsTree result (record (memory_of old) { table = table }) (memory_of new) out old.channels new.channels (λ state. tree_outcome instruction state seen old.channels apdu)
-      → IfNothingPasses table old.channels (λ state. tree_outcome instruction state seen old.channels apdu) (new.told ≡ old.told) → OnErr result (new.commits ≡ old.commits)
-      → CommitsStates result old new (λ card. (settled card (carried_out instruction card apdu)).commits)
+      → PerformsTree result (record (memory_of old) { table = table }) (memory_of new) out old.channels new.channels (λ state. tree_outcome command state seen old.channels (channel_of apdu.class) apdu)
+      → IfNothingPasses table old.channels (λ state. tree_outcome command state seen old.channels (channel_of apdu.class) apdu) (new.told ≡ old.told) → OnErr result (new.commits ≡ old.commits)
+      → CommitsStates result old new (λ card. (settled card (carried_out (Tree command) card apdu)).commits)
   trees_counts new table same (Ok done) out performs still none = record { commits = trees_commit new table out performs; stopped = tt; stable = trees_stay new.told table same still }
   trees_counts new table same (Err fault) out performs still none = record {
     commits = tt;
     stopped =
-        if_card old (λ card. CommitsAtMost (length (settled card (carried_out instruction card apdu)).commits) old.commits new.commits) rests
-        (λ persistent held. no_commits (length (settled (card_with false old persistent) (carried_out instruction (card_with false old persistent) apdu)).commits) old.commits new.commits none);
+        if_card old (λ card. CommitsAtMost (length (settled card (carried_out (Tree command) card apdu)).commits) old.commits new.commits) rests
+        (λ persistent held. no_commits (length (settled (card_with false old persistent) (carried_out (Tree command) (card_with false old persistent) apdu)).commits) old.commits new.commits none);
     stable = trees_stay new.told table same still;
   }
 
 -- ---- what it is tried with
 
-module _ (Told : (Persistent → Result TreeOutcome StatusWord) → Type 0) (instruction : Instruction) (before : List (Option Selection)) (seen keys : Verified) (apdu : Apdu) (same : keys ≡ seen) where
-  told_alike : (kind : Instruction) → instruction ≡ kind → Told (λ state. tree_outcome kind state keys before apdu) → Told (λ state. tree_outcome instruction state seen before apdu)
+module _ (Told : (Persistent → Result TreeOutcome StatusWord) → Type 0) (command : TreeCommand) (before : List (Option Selection)) (seen keys : Verified) (apdu : Apdu) (same : keys ≡ seen) where
+  told_alike : (kind : TreeCommand) → command ≡ kind → Told (λ state. tree_outcome kind state keys before (channel_of apdu.class) apdu) → Told (λ state. tree_outcome command state seen before (channel_of apdu.class) apdu)
   told_alike kind is told =
-      subst (λ (each : Instruction). Told (λ state. tree_outcome each state seen before apdu)) (sym is) (subst (λ (each : Verified). Told (λ state. tree_outcome kind state each before apdu)) same told)
+      subst (λ (each : TreeCommand). Told (λ state. tree_outcome each state seen before (channel_of apdu.class) apdu)) (sym is) (subst (λ (each : Verified). Told (λ state. tree_outcome kind state each before (channel_of apdu.class) apdu)) same told)
 
-  pub told_created : instruction ≡ CreateFile → Told (λ state. created state keys before (channel_of apdu.class) apdu) → Told (λ state. tree_outcome instruction state seen before apdu)
+  pub told_created : command ≡ Create → Told (λ state. created state keys before (channel_of apdu.class) apdu) → Told (λ state. tree_outcome command state seen before (channel_of apdu.class) apdu)
   unfolding tree_outcome
-  told_created is told = told_alike CreateFile is told
+  told_created is told = told_alike Create is told
 
-  pub told_deleted : instruction ≡ DeleteFile → Told (λ state. deleted state keys before (channel_of apdu.class) apdu) → Told (λ state. tree_outcome instruction state seen before apdu)
+  pub told_deleted : command ≡ Delete → Told (λ state. deleted state keys before (channel_of apdu.class) apdu) → Told (λ state. tree_outcome command state seen before (channel_of apdu.class) apdu)
   unfolding tree_outcome
-  told_deleted is told = told_alike DeleteFile is told
+  told_deleted is told = told_alike Delete is told
 
-  pub told_resized : instruction ≡ ResizeFile → Told (λ state. resized state keys before (channel_of apdu.class) apdu) → Told (λ state. tree_outcome instruction state seen before apdu)
+  pub told_resized : command ≡ Resize → Told (λ state. resized state keys before (channel_of apdu.class) apdu) → Told (λ state. tree_outcome command state seen before (channel_of apdu.class) apdu)
   unfolding tree_outcome
-  told_resized is told = told_alike ResizeFile is told
+  told_resized is told = told_alike Resize is told
 
 -- ---- over a memory of the table
 
@@ -308,45 +201,45 @@ tree_stands old new store_mark state out (Err status) is body verified session b
   };
 }
 
-pub trees_stand : (instruction : Instruction) → is_of_tree instruction ≡ true → TablesTellStates → (old new : CardParts) (state : Persistent) (apdu : Apdu) (out : Answer) (table : Loaded) → table ≡ old.table → IsOfMemory old.table state
-    → AnswersTree table new.table out.status old.channels new.channels (λ each. tree_outcome instruction each (keys_seen (pins_of table) old.verified) old.channels apdu) → out.body ≡ []
+pub trees_stand : (command : TreeCommand) → TablesTellStates → (old new : CardParts) (state : Persistent) (apdu : Apdu) (out : Answer) (table : Loaded) → table ≡ old.table → IsOfMemory old.table state
+    → AnswersTree table new.table out.status old.channels new.channels (λ each. tree_outcome command each (keys_seen (pins_of table) old.verified) old.channels (channel_of apdu.class) apdu) → out.body ≡ []
     → new.verified ≡ old.verified → new.session ≡ old.session → new.boxes ≡ old.boxes
-    → AnswersStanding (settled (card_with false old state) (carried_out instruction (card_with false old state) apdu)) out new
-trees_stand instruction is tell old new state apdu out table same over answers body verified session boxes =
+    → AnswersStanding (settled (card_with false old state) (carried_out (Tree command) (card_with false old state) apdu)) out new
+trees_stand command tell old new state apdu out table same over answers body verified session boxes =
     let card : CardState = card_with false old state in
     let keys : keys_seen (pins_of table) old.verified ≡ seen_by card = keys_over tell old state table same over in
-    subst (λ (came : Result Answered StatusWord). AnswersStanding (settled card came) out new) (sym (carried_tree instruction card apdu is))
-    (subst (λ (seen : Verified). AnswersStanding (settled card (tree_tried card (tree_outcome instruction state seen old.channels apdu))) out new) keys
-    (tree_stands old new over.store_mark state out (tree_outcome instruction state (keys_seen (pins_of table) old.verified) old.channels apdu)
+    subst (λ (came : Result Answered StatusWord). AnswersStanding (settled card came) out new) (sym (carried_tree command card apdu))
+    (subst (λ (seen : Verified). AnswersStanding (settled card (tree_tried card (tree_outcome command state seen old.channels (channel_of apdu.class) apdu))) out new) keys
+    (tree_stands old new over.store_mark state out (tree_outcome command state (keys_seen (pins_of table) old.verified) old.channels (channel_of apdu.class) apdu)
     (answers over.store_mark over.content state (subst (λ (each : Loaded). Stands over.store_mark over.content each state) (sym same) over.stands)) body verified session boxes))
 
 -- What is said of those that pass no state holds of one that commits nothing.
-pub trees_calm : {Holds : Type 0} (instruction : Instruction) → is_of_tree instruction ≡ true → TablesTellStates → (old : CardParts) (state : Persistent) (apdu : Apdu) (table : Loaded) → table ≡ old.table → IsOfMemory old.table state
-    → IfNothingPasses table old.channels (λ each. tree_outcome instruction each (keys_seen (pins_of table) old.verified) old.channels apdu) Holds
-    → (settled (card_with false old state) (carried_out instruction (card_with false old state) apdu)).commits ≡ [] → Holds
-trees_calm instruction is tell old state apdu table same over still none =
+pub trees_calm : {Holds : Type 0} (command : TreeCommand) → TablesTellStates → (old : CardParts) (state : Persistent) (apdu : Apdu) (table : Loaded) → table ≡ old.table → IsOfMemory old.table state
+    → IfNothingPasses table old.channels (λ each. tree_outcome command each (keys_seen (pins_of table) old.verified) old.channels (channel_of apdu.class) apdu) Holds
+    → (settled (card_with false old state) (carried_out (Tree command) (card_with false old state) apdu)).commits ≡ [] → Holds
+trees_calm command tell old state apdu table same over still none =
     let card : CardState = card_with false old state in
     let keys : keys_seen (pins_of table) old.verified ≡ seen_by card = keys_over tell old state table same over in
     still over.store_mark over.content state (subst (λ (each : Loaded). Stands over.store_mark over.content each state) (sym same) over.stands)
-    (ap (λ (seen : Verified). passed_by old.channels (tree_outcome instruction state seen old.channels apdu)) keys
-    ∙ commits_are card (tree_outcome instruction state (seen_by card) old.channels apdu)
-    ∙ ap (λ (came : Result Answered StatusWord). (settled card came).commits) (sym (carried_tree instruction card apdu is))
+    (ap (λ (seen : Verified). passed_by old.channels (tree_outcome command state seen old.channels (channel_of apdu.class) apdu)) keys
+    ∙ commits_are card (tree_outcome command state (seen_by card) old.channels (channel_of apdu.class) apdu)
+    ∙ ap (λ (came : Result Answered StatusWord). (settled card came).commits) (sym (carried_tree command card apdu))
     ∙ none)
 
 -- it commits what it passes
-pub trees_so : {X : Type 0} (result : Result X StoreFault) (instruction : Instruction) → is_of_tree instruction ≡ true → TablesTellStates → (old : CardParts) (now : Memory) (state : Persistent) (apdu : Apdu) (table : Loaded) → table ≡ old.table → IsOfMemory old.table state
-    → CommitsTree result (record (memory_of old) { table = table }) now old.channels (λ each. tree_outcome instruction each (keys_seen (pins_of table) old.verified) old.channels apdu)
-    → CommitsSo result old.commits now.commits (settled (card_with false old state) (carried_out instruction (card_with false old state) apdu)).commits
-trees_so (Ok done) instruction is tell old now state apdu table same over commits =
+pub trees_so : {X : Type 0} (result : Result X StoreFault) (command : TreeCommand) → TablesTellStates → (old : CardParts) (now : Memory) (state : Persistent) (apdu : Apdu) (table : Loaded) → table ≡ old.table → IsOfMemory old.table state
+    → CommitsTree result (record (memory_of old) { table = table }) now old.channels (λ each. tree_outcome command each (keys_seen (pins_of table) old.verified) old.channels (channel_of apdu.class) apdu)
+    → CommitsSo result old.commits now.commits (settled (card_with false old state) (carried_out (Tree command) (card_with false old state) apdu)).commits
+trees_so (Ok done) command tell old now state apdu table same over commits =
     let card : CardState = card_with false old state in
     let keys : keys_seen (pins_of table) old.verified ≡ seen_by card = keys_over tell old state table same over in
     commits over.store_mark over.content state (subst (λ (each : Loaded). Stands over.store_mark over.content each state) (sym same) over.stands)
     ∙ ap (λ (states : List Persistent). raised_by (length states) old.commits)
-    (ap (λ (seen : Verified). passed_by old.channels (tree_outcome instruction state seen old.channels apdu)) keys
-    ∙ commits_are card (tree_outcome instruction state (seen_by card) old.channels apdu)
-    ∙ ap (λ (came : Result Answered StatusWord). (settled card came).commits) (sym (carried_tree instruction card apdu is)))
-trees_so (Err fault) instruction is tell old now state apdu table same over none =
-    no_commits (length (settled (card_with false old state) (carried_out instruction (card_with false old state) apdu)).commits) old.commits now.commits none
+    (ap (λ (seen : Verified). passed_by old.channels (tree_outcome command state seen old.channels (channel_of apdu.class) apdu)) keys
+    ∙ commits_are card (tree_outcome command state (seen_by card) old.channels (channel_of apdu.class) apdu)
+    ∙ ap (λ (came : Result Answered StatusWord). (settled card came).commits) (sym (carried_tree command card apdu)))
+trees_so (Err fault) command tell old now state apdu table same over none =
+    no_commits (length (settled (card_with false old state) (carried_out (Tree command) (card_with false old state) apdu)).commits) old.commits now.commits none
 
 -- ---- what it leaves as it was
 

@@ -1,28 +1,22 @@
 -- What the commands do over any store, be its bytes told or not, where nothing is due: by kinds, and as a whole.
-use Rattle.std.specs.Prelude.{◌≡◌, ◌⊎◌, ℕ, List, [], ◌∷◌, length, true, false, Option, Some, unwrap_or, Result, Ok, Err, IsOk, OnOk, OnErr}
+use Rattle.std.specs.Prelude.{◌≡◌, ◌⊎◌, ℕ, List, [], ◌∷◌, length, true, false, Option, Some, Result, Ok, Err, IsOk, OnOk, OnErr}
 use Rattle.uicc_types.specs.Counts.{raised_by}
 use Rattle.uicc_types.specs.declared.answers.Answer.{Answer}
 use Rattle.uicc_types.specs.declared.answers.StatusWord.{StatusWord}
 use Rattle.store_form.specs.declared.store.StoreFault.{StoreFault}
 use Rattle.apdu_form.specs.Model.{Apdu, command_in}
 use Rattle.card_layout.specs.Persistent.{Persistent}
-use Rattle.card_layout.specs.States.{pins_of}
 use Rattle.card_memory.specs.Laws.{IsTold}
 use Rattle.card_memory.specs.Performing.{CommitsAtMost}
-use Rattle.file_model.specs.declared.selections.TheConstants.Selection.{AT_START}
-use Rattle.file_model.specs.Files.{descriptors_of}
-use Rattle.file_model.specs.Pins.{pin_tried}
 use Rattle.toolkit_model.specs.Commands.{pending}
-use Rattle.card_model.specs.Answers.{Answered, settled, carried_out, carried_with, tried, answer, told_pending}
-use Rattle.card_model.specs.Channels.{channel_of, selected_on}
+use Rattle.card_model.specs.Answers.{Answered, settled, carried_out, tried, answer, told_pending}
 use Rattle.card_model.specs.Instructions.{instruction_tried, is_known, is_of_tree}
 use Rattle.card_model.specs.States.{CardState, basic_channel_alone}
 use Rattle.card_model.specs.declared.instructions.Instruction.{Instruction}
-use Rattle.card_model.specs.declared.instructions.Instruction.TheVariants.{Status, Fetch}
 use Rattle.proactive_handler.specs.Boxes.{kinds_of}
-use Rattle.card_core.specs.AnyStore.{BeginsAnew, command_named, IsRefusedWith, MayBe, AnswersAs, IsOfMemory, MayStand, AnswersStanding, LeavesMemory, LeavesFiles, NeedsNoContents, ReachesApplets, RefusesFile, RefusesByTable, IsDenied, MovesFiles, MovesTree, MovesPins, MovesStatus, MovesToolkit, MovesItsOwn, ActsAnew}
+use Rattle.card_core.specs.AnyStore.{BeginsAnew, command_named, IsRefusedWith, MayBe, AnswersAs, IsOfMemory, MayStand, AnswersStanding, LeavesMemory, NeedsNoContents, CommitsByTable, ReachesApplets, RefusesByTable, IsDenied, MovesStatus, MovesItsOwn, ActsAnew}
 use Rattle.card_core.specs.Cards.{card_with}
-use Rattle.card_core.specs.Commands.{is_on_pins, HasPinByte}
+use Rattle.card_core.specs.Commands.{by_instruction}
 use Rattle.card_core.specs.Moves.{polled_on, HasRowsOf, IsServed, OnServed}
 use Rattle.card_core.specs.Parts.{CardParts}
 use Rattle.card_core.specs.declared.faults.CardFault.{CardFault}
@@ -42,101 +36,50 @@ CommitsServed result out old new states =
     OnServed result out (new.commits ≡ raised_by (length states) old.commits)
     × CommitsAtMost (length states) old.commits new.commits
 
--- ---- commands by kinds
+-- ---- a command whose instruction is known
 
--- a command on files is refused on what its channel has selected, before access is tested
-abbrev pub RefusesSelected : Instruction → CardParts → Apdu → StatusWord → Type 0
-RefusesSelected instruction parts apdu status =
-    RefusesFile instruction (descriptors_of parts.table) (unwrap_or (selected_on parts.channels (channel_of apdu.class)) AT_START) apdu status
-
--- A command on files.
-pub record ActsOnFiles {X : Type 0} (result : Result X StoreFault) (instruction : Instruction) (apdu : Apdu) (old new : CardParts) (out : Answer) : Type 0 where
-  -- SELECT and STATUS meet no fault, and are answered as the table tells
-  pub answers : (state : Persistent) → LeavesFiles instruction → IsTold old.table state
-      → IsOk result × AnswersAs (settled_over old state (λ card. carried_out instruction card apdu)) out new
-  -- and commit nothing
-  pub commits : (state : Persistent) → LeavesFiles instruction → IsTold old.table state → new.commits ≡ old.commits
-  -- so are the others where they are refused before access is tested
-  pub denied : (status : StatusWord) → RefusesSelected instruction old apdu status
-      → IsOk result × IsDenied status out old new
-  pub moves : MovesFiles (channel_of apdu.class) old new
-  -- a fault leaves the table
-  pub table : OnErr result (new.table ≡ old.table)
-  -- STATUS leaves the table and what is selected
-  pub still : instruction ≡ Status → (new.table ≡ old.table) × (new.channels ≡ old.channels)
-
--- A command on files of which no applet is told.
-pub record ActsSilently {X : Type 0} (result : Result X StoreFault) (instruction : Instruction) (apdu : Apdu) (old new : CardParts) (out : Answer) : Type 0 where
-  -- one that needs nothing of what files hold meets no fault, and is answered as the table tells
+-- What a command does that names this instruction, where nothing is due; what it comes to on a card, and how the status of a refusal
+-- is told, are given.
+pub record ActsOn {X : Type 0} (result : Result X StoreFault) (instruction : Instruction) (apdu : Apdu) (old new : CardParts) (out : Answer) (comes : CardState → Answered) (told : StatusWord → StatusWord) : Type 0 where
+  -- where it needs nothing of what files hold, it is answered as the table tells
   pub answers : (state : Persistent) → NeedsNoContents instruction → IsTold old.table state
-      → IsOk result × AnswersAs (settled_over old state (λ card. carried_with true instruction card apdu)) out new
-  -- and commits as often as that tells
-  pub commits : (state : Persistent) → NeedsNoContents instruction → IsTold old.table state
-      → CommitsSo result old.commits new.commits (settled_over old state (λ card. carried_with true instruction card apdu)).commits
-  -- so are the others where they are refused before access is tested
-  pub denied : (status : StatusWord) → RefusesSelected instruction old apdu status
-      → IsOk result × IsDenied status out old new
+      → OnOk result (AnswersAs (comes (card_with false old state)) out new)
+  -- SELECT, MANAGE CHANNEL and FETCH meet no fault
+  pub done : LeavesMemory instruction → IsOk result
+  -- where it makes, deletes or resizes a file, it is answered as over each memory with these entries
+  pub trees : (state : Persistent) → is_of_tree instruction ≡ true → IsOfMemory old.table state
+      → OnOk result (AnswersStanding (comes (card_with false old state)) out new)
+  -- what the table tells, or a memory with these entries, it commits as often; a command on PINs aside
+  pub commits : (state : Persistent) → CommitsByTable instruction → IsTold old.table state
+      → CommitsSo result old.commits new.commits (comes (card_with false old state)).commits
+  pub commits_trees : (state : Persistent) → is_of_tree instruction ≡ true → IsOfMemory old.table state
+      → CommitsSo result old.commits new.commits (comes (card_with false old state)).commits
+  -- one that reaches applets and commits nothing meets no fault
+  pub calm : (state : Persistent) → ReachesApplets instruction → IsTold old.table state
+      → (comes (card_with false old state)).commits ≡ [] → IsOk result
+  -- nor does one that makes, deletes or resizes a file and changes nothing
+  pub calm_trees : (state : Persistent) → is_of_tree instruction ≡ true → IsOfMemory old.table state
+      → (comes (card_with false old state)).commits ≡ [] → IsOk result
+  -- nor one that the table refuses, which is answered so, and all stays
+  pub denied : (status : StatusWord) → RefusesByTable instruction old apdu status
+      → IsOk result × IsDenied (told status) out old new
+  -- it leaves what isn't its own to move, also at a fault
   pub moves : MovesItsOwn instruction apdu old new
-  -- a fault leaves the table
-  pub table : OnErr result (new.table ≡ old.table)
 
--- A command that makes, deletes or resizes a file.
-pub record ActsOnTree {X : Type 0} (result : Result X StoreFault) (instruction : Instruction) (apdu : Apdu) (old new : CardParts) (out : Answer) : Type 0 where
-  -- it is answered as over each memory with these entries
-  pub answers : (state : Persistent) → IsOfMemory old.table state
-      → OnOk result (AnswersStanding (settled_over old state (λ card. carried_out instruction card apdu)) out new)
-  -- and commits as often as that tells
-  pub commits : (state : Persistent) → IsOfMemory old.table state
-      → CommitsSo result old.commits new.commits (settled_over old state (λ card. carried_out instruction card apdu)).commits
-  -- one that changes nothing there meets no fault
-  pub calm : (state : Persistent) → IsOfMemory old.table state
-      → (settled_over old state (λ card. carried_out instruction card apdu)).commits ≡ [] → IsOk result
-  pub moves : MovesTree old new
-  -- a fault leaves the table, and what is selected
-  pub table : OnErr result (new.table ≡ old.table)
-  pub channels : OnErr result (new.channels ≡ old.channels)
+-- the same of one that is carried out as it is, without an event
+abbrev pub ActsAlone : {X : Type 0} → Result X StoreFault → Instruction → Apdu → CardParts → CardParts → Answer → Type 0
+ActsAlone result instruction apdu old new out =
+    ActsOn result instruction apdu old new out (λ card. settled card (carried_out instruction card apdu)) (λ status. status)
 
--- A command on PINs.
-pub record ActsOnPins {X : Type 0} (result : Result X StoreFault) (apdu : Apdu) (old new : CardParts) (out : Answer) : Type 0 where
-  -- it is answered as the table tells
-  pub answers : (instruction : Instruction) (state : Persistent) → is_on_pins instruction ≡ true
-      → HasPinByte apdu.ins instruction → IsTold old.table state
-      → OnOk result (AnswersAs (settled_over old state (λ card. carried_out instruction card apdu)) out new)
-  -- one that is refused before a value is compared meets no fault, and all stays
-  pub denied : (status : StatusWord) → pin_tried (pins_of old.table) old.verified apdu ≡ Err status
-      → IsOk result × IsDenied status out old new
-  pub moves : MovesPins old new
-  -- a fault leaves the table
-  pub table : OnErr result (new.table ≡ old.table)
-
--- A command of the toolkit.
-pub record ActsOnToolkit {X : Type 0} (result : Result X StoreFault) (instruction : Instruction) (apdu : Apdu) (old new : CardParts) (out : Answer) : Type 0 where
-  -- it is answered as the table tells
-  pub answers : (state : Persistent) → IsTold old.table state
-      → OnOk result (AnswersAs (settled_over old state (λ card. carried_out instruction card apdu)) out new)
-  -- and commits as often as that tells
-  pub commits : (state : Persistent) → IsTold old.table state
-      → CommitsSo result old.commits new.commits (settled_over old state (λ card. carried_out instruction card apdu)).commits
-  -- FETCH meets no fault, nor does one that commits nothing
-  pub done : instruction ≡ Fetch → IsOk result
-  pub calm : (state : Persistent) → IsTold old.table state
-      → (settled_over old state (λ card. carried_out instruction card apdu)).commits ≡ [] → IsOk result
-  pub moves : MovesToolkit instruction apdu old new
-
--- STATUS, of which the applets are told.
-pub record ActsOnStatus {X : Type 0} (result : Result X StoreFault) (apdu : Apdu) (old new : CardParts) (out : Answer) : Type 0 where
-  -- it is answered as the table tells
-  pub answers : (state : Persistent) → IsTold old.table state
-      → OnOk result (AnswersAs (settled_over old state (λ card. carried_with true Status card apdu)) out new)
-  -- and commits as often as that tells
-  pub commits : (state : Persistent) → IsTold old.table state
-      → CommitsSo result old.commits new.commits (settled_over old state (λ card. carried_with true Status card apdu)).commits
-  -- where nothing is committed it meets no fault
-  pub calm : (state : Persistent) → IsTold old.table state
-      → (settled_over old state (λ card. carried_with true Status card apdu)).commits ≡ [] → IsOk result
-  pub moves : MovesStatus old new
-  -- a fault leaves the table
-  pub table : OnErr result (new.table ≡ old.table)
+-- What STATUS does before applets are told of it: it meets no fault, commits nothing, and leaves the table, what is selected, the
+-- verified keys and the boxes.
+pub record ChangesNothing {X : Type 0} (result : Result X StoreFault) (old new : CardParts) : Type 0 where
+  pub done : IsOk result
+  pub commits : new.commits ≡ old.commits
+  pub table : new.table ≡ old.table
+  pub channels : new.channels ≡ old.channels
+  pub verified : new.verified ≡ old.verified
+  pub boxes : new.boxes ≡ old.boxes
 
 -- The applets that are registered for STATUS are told of it.
 pub record TellsApplets {X : Type 0} (result : Result X StoreFault) (old new : CardParts) : Type 0 where
@@ -149,7 +92,7 @@ pub record TellsApplets {X : Type 0} (result : Result X StoreFault) (old new : C
   -- where nothing is committed it meets no fault
   pub calm : (state : Persistent) → IsTold old.table state → (polled_on (card_with false old state)).commits ≡ []
       → IsOk result
-  pub moves : (command : Apdu) → MovesToolkit Status command old new
+  pub moves : MovesStatus old new
 
 -- A fault stopped the toolkit: the rows of the table are those before it, or of one of the states that were to be committed, and the
 -- boxes keep their kinds.
@@ -160,11 +103,11 @@ pub record StopsToolkit (old new : CardParts) (commits : CardState → List Pers
 -- ---- a command as it is taken
 
 -- The command that it is, if it has the form of one; the instruction that it names, or the status that refuses it for its form,
--- class, channel or instruction byte; what it comes to on a card where it names one; and how the status of a refusal is told.
+-- class, channel or instruction byte; what it comes to on a card; and how the status of a refusal is told.
 pub record Taken : Type 0 where
   pub command : Option Apdu
   pub named : Result Instruction StatusWord
-  pub comes : Instruction → CardState → Answered
+  pub comes : CardState → Answered
   pub told : StatusWord → StatusWord
 
 -- one whose form is known
@@ -172,7 +115,7 @@ abbrev pub in_form : CardParts → Apdu → Taken
 in_form parts apdu = record {
   command = Some apdu;
   named = instruction_tried is_known parts.channels apdu.class apdu.ins;
-  comes = λ instruction card. settled card (carried_with true instruction card apdu);
+  comes = λ card. settled card (by_instruction apdu card);
   told = λ status. status;
 }
 
@@ -181,7 +124,7 @@ abbrev pub in_bytes : CardParts → List ℕ → Taken
 in_bytes parts bytes = record {
   command = command_in bytes;
   named = command_named parts.channels bytes;
-  comes = λ instruction card. settled card (tried is_known card bytes);
+  comes = λ card. settled card (tried is_known card bytes);
   told = λ status. status;
 }
 
@@ -190,7 +133,7 @@ abbrev pub in_whole : CardParts → List ℕ → Taken
 in_whole parts bytes = record {
   command = command_in bytes;
   named = command_named parts.channels bytes;
-  comes = λ instruction card. answer card bytes;
+  comes = λ card. answer card bytes;
   told = told_pending (pending parts.session);
 }
 
@@ -198,37 +141,9 @@ in_whole parts bytes = record {
 pub record ActsAs {X : Type 0} (result : Result X StoreFault) (old new : CardParts) (out : Answer) (taken : Taken) : Type 0 where
   -- what its form, its class, its channel or its instruction byte refuses is answered so, and all stays
   pub refused : (status : StatusWord) → taken.named ≡ Err status → IsOk result × IsRefusedWith status out × (new ≡ old)
-  -- where it needs nothing of what files hold, it is answered as the table tells; SELECT, MANAGE CHANNEL and FETCH meet no fault
-  pub answers : (instruction : Instruction) (state : Persistent) → taken.named ≡ Ok instruction
-      → NeedsNoContents instruction → IsTold old.table state
-      → OnOk result (AnswersAs (taken.comes instruction (card_with false old state)) out new)
-      × (LeavesMemory instruction → IsOk result)
-  -- where it makes, deletes or resizes a file, it is answered as over each memory with these entries
-  pub trees : (instruction : Instruction) (state : Persistent) → taken.named ≡ Ok instruction
-      → is_of_tree instruction ≡ true → IsOfMemory old.table state
-      → OnOk result (AnswersStanding (taken.comes instruction (card_with false old state)) out new)
-  -- what the table tells, or a memory with these entries, it commits as often; a command on PINs aside
-  pub commits : (instruction : Instruction) (state : Persistent) → taken.named ≡ Ok instruction
-      → NeedsNoContents instruction → is_on_pins instruction ≡ false → IsTold old.table state
-      → CommitsSo result old.commits new.commits (taken.comes instruction (card_with false old state)).commits
-  pub commits_trees : (instruction : Instruction) (state : Persistent) → taken.named ≡ Ok instruction
-      → is_of_tree instruction ≡ true → IsOfMemory old.table state
-      → CommitsSo result old.commits new.commits (taken.comes instruction (card_with false old state)).commits
-  -- one that reaches applets and commits nothing meets no fault
-  pub calm : (instruction : Instruction) (state : Persistent) → taken.named ≡ Ok instruction
-      → ReachesApplets instruction → IsTold old.table state
-      → (taken.comes instruction (card_with false old state)).commits ≡ [] → IsOk result
-  -- nor does one that makes, deletes or resizes a file and changes nothing
-  pub calm_trees : (instruction : Instruction) (state : Persistent) → taken.named ≡ Ok instruction
-      → is_of_tree instruction ≡ true → IsOfMemory old.table state
-      → (taken.comes instruction (card_with false old state)).commits ≡ [] → IsOk result
-  -- nor one that the table refuses, which is answered so, and all stays
-  pub denied : (instruction : Instruction) (apdu : Apdu) (status : StatusWord) → taken.command ≡ Some apdu
-      → taken.named ≡ Ok instruction
-      → RefusesByTable instruction old apdu status → IsOk result × IsDenied (taken.told status) out old new
-  -- it leaves what isn't its own to move, also at a fault
-  pub moves : (instruction : Instruction) (apdu : Apdu) → taken.command ≡ Some apdu → taken.named ≡ Ok instruction
-      → MovesItsOwn instruction apdu old new
+  -- what names an instruction does what that does
+  pub acts : (instruction : Instruction) (apdu : Apdu) → taken.command ≡ Some apdu → taken.named ≡ Ok instruction
+      → ActsOn result instruction apdu old new out taken.comes taken.told
   -- a fault leaves the table
   pub table : OnErr result (new.table ≡ old.table)
 
@@ -249,7 +164,7 @@ pub record ActsAtOnce {X : Type 0} (result : Result X CardFault) (old new : Card
       → OnServed result out (AnswersStanding (answer card bytes) out new)
   -- and commits as often as such a card does; a command on PINs aside
   pub commits : (card : CardState) (instruction : Instruction) → MayBe old card
-      → command_named old.channels bytes ≡ Ok instruction → NeedsNoContents instruction → is_on_pins instruction ≡ false
+      → command_named old.channels bytes ≡ Ok instruction → CommitsByTable instruction
       → CommitsServed result out old new (answer card bytes).commits
   pub commits_trees : (card : CardState) (instruction : Instruction) → MayStand old card
       → command_named old.channels bytes ≡ Ok instruction → is_of_tree instruction ≡ true

@@ -1,5 +1,5 @@
 -- What is said of a card over any store, be its bytes told or not.
-use Rattle.std.specs.Prelude.{◌≡◌, ◌≢◌, ◌⊎◌, ◌||◌, Bool, true, false, ℕ, List, [], Option, Some, None, IfSome, unwrap_or, Result, Ok, Err}
+use Rattle.std.specs.Prelude.{◌≡◌, ◌≢◌, true, false, ℕ, List, [], Option, Some, None, IfSome, unwrap_or, Result, Ok, Err}
 use Rattle.uicc_types.specs.declared.answers.Answer.{Answer}
 use Rattle.uicc_types.specs.declared.answers.StatusWord.{StatusWord}
 use Rattle.uicc_types.specs.declared.answers.TheConstants.StatusWord.{WRONG_LENGTH}
@@ -10,27 +10,27 @@ use Rattle.card_layout.specs.Standing.{Stands}
 use Rattle.card_layout.specs.States.{pins_of, rows_of}
 use Rattle.card_memory.specs.Laws.{IsTold}
 use Rattle.card_memory.specs.Model.{HasRowOn}
+use Rattle.file_model.specs.declared.commands.FileCommand.{FileCommand}
+use Rattle.file_model.specs.declared.commands.FileCommand.TheVariants.{Select, Status, Contents}
 use Rattle.file_model.specs.declared.descriptors.Descriptor.{Descriptor}
 use Rattle.file_model.specs.declared.selections.Selection.{Selection}
 use Rattle.file_model.specs.declared.selections.TheConstants.Selection.{AT_START}
 use Rattle.file_model.specs.Chains.{given}
+use Rattle.file_model.specs.Commands.{file_addressed, pin_outcome}
 use Rattle.file_model.specs.Files.{descriptors_of}
-use Rattle.file_model.specs.Outcomes.{has_data, has_le_alone}
-use Rattle.file_model.specs.Pins.{pin_tried}
-use Rattle.file_commands.specs.Targets.{binary_file}
-use Rattle.record_commands.specs.Lives.{life_file}
 use Rattle.record_commands.specs.Tables.{HasOtherFiles}
-use Rattle.record_commands.specs.Targets.{file_to_read, file_to_update, file_to_search, file_to_increase}
 use Rattle.toolkit_model.specs.Commands.{pending}
 use Rattle.toolkit_model.specs.Model.{fresh_session}
 use Rattle.toolkit_model.specs.Running.{mind_on}
-use Rattle.card_model.specs.Answers.{Answered, answer, told_pending, is_status}
+use Rattle.card_model.specs.Answers.{Answered, answer, told_pending}
 use Rattle.card_model.specs.Channels.{channel_of, selected_on}
-use Rattle.card_model.specs.Instructions.{instruction_tried, is_known, is_of_toolkit, is_of_tree}
+use Rattle.card_model.specs.Instructions.{instruction_tried, is_known, is_of_tree}
 use Rattle.card_model.specs.States.{CardState, basic_channel_alone, nothing_verified, woken_boxes}
 use Rattle.card_model.specs.declared.instructions.Instruction.{Instruction}
-use Rattle.card_model.specs.declared.instructions.Instruction.TheVariants.{Select, Status, ReadBinary, UpdateBinary, ReadRecord, UpdateRecord, SearchRecord, Increase, DeactivateFile, ActivateFile, ManageChannel, Fetch, InstallApplet, DeleteApplet}
-use Rattle.card_core.specs.Commands.{is_on_files, is_on_pins, KindsKept}
+use Rattle.card_model.specs.declared.instructions.Instruction.TheVariants.{File, Pin, ManageChannel, Toolkit, Tree}
+use Rattle.card_model.specs.declared.instructions.ToolkitCommand.{ToolkitCommand}
+use Rattle.card_model.specs.declared.instructions.ToolkitCommand.TheVariants.{Fetch, InstallApplet, DeleteApplet}
+use Rattle.card_core.specs.Commands.{KindsKept}
 use Rattle.card_core.specs.Cards.{boxes_kept}
 use Rattle.card_core.specs.Parts.{CardParts}
 use Rattle.card_opening.specs.Starts.{IsReadAgain}
@@ -102,59 +102,41 @@ pub record AnswersStanding (answered : Answered) (out : Answer) (parts : CardPar
 
 -- SELECT, MANAGE CHANNEL and FETCH leave the memory alone.
 abbrev pub LeavesMemory : Instruction → Type 0
-LeavesMemory Select = Unit {0}
+LeavesMemory (File Select) = Unit {0}
 LeavesMemory ManageChannel = Unit {0}
-LeavesMemory Fetch = Unit {0}
+LeavesMemory (Toolkit command) = command ≡ Fetch
 LeavesMemory _ = ⊥
 
 -- a command of the toolkit, or STATUS, of which applets are told
 abbrev pub ReachesApplets : Instruction → Type 0
-ReachesApplets instruction = (is_of_toolkit instruction ≡ true) ⊎ (is_status instruction ≡ true)
+ReachesApplets (File Status) = Unit {0}
+ReachesApplets (Toolkit command) = Unit {0}
+ReachesApplets _ = ⊥
 
--- SELECT and STATUS leave the files alone.
-abbrev pub LeavesFiles : Instruction → Type 0
-LeavesFiles Select = Unit {0}
-LeavesFiles Status = Unit {0}
-LeavesFiles _ = ⊥
-
--- whether a command works on what a file holds
-abbrev pub is_on_contents : Instruction → Bool
-is_on_contents ReadBinary = true
-is_on_contents UpdateBinary = true
-is_on_contents ReadRecord = true
-is_on_contents UpdateRecord = true
-is_on_contents SearchRecord = true
-is_on_contents Increase = true
-is_on_contents DeactivateFile = true
-is_on_contents ActivateFile = true
-is_on_contents _ = false
-
--- The answers of the others, but for those that make, delete and resize files, hang on nothing that files hold, nor on where they
--- lie.
+-- All but those on what a file holds, and those that make, delete and resize files: their answers hang on nothing that files hold,
+-- nor on where they lie.
 abbrev pub NeedsNoContents : Instruction → Type 0
-NeedsNoContents instruction = (is_on_contents instruction || is_of_tree instruction) ≡ false
+NeedsNoContents (File (Contents command)) = ⊥
+NeedsNoContents (Tree command) = ⊥
+NeedsNoContents _ = Unit {0}
+
+-- how often these commit the table tells: all of them but those on PINs
+abbrev pub CommitsByTable : Instruction → Type 0
+CommitsByTable (Pin command) = ⊥
+CommitsByTable instruction = NeedsNoContents instruction
 
 -- ---- refusals that hang on nothing that files hold
 
--- before access is tested
-abbrev pub RefusesFile : Instruction → List Descriptor → Selection → Apdu → StatusWord → Type 0
-RefusesFile ReadBinary files selection apdu status = binary_file (has_le_alone apdu) files selection apdu ≡ Err status
-RefusesFile UpdateBinary files selection apdu status = binary_file (has_data apdu) files selection apdu ≡ Err status
-RefusesFile ReadRecord files selection apdu status = file_to_read files selection apdu ≡ Err status
-RefusesFile UpdateRecord files selection apdu status = file_to_update files selection apdu ≡ Err status
-RefusesFile SearchRecord files selection apdu status = file_to_search files selection apdu ≡ Err status
-RefusesFile Increase files selection apdu status = file_to_increase files selection apdu ≡ Err status
-RefusesFile DeactivateFile files selection apdu status = life_file files selection apdu ≡ Err status
-RefusesFile ActivateFile files selection apdu status = life_file files selection apdu ≡ Err status
+-- a command on files is refused before access is tested, over what is selected
+abbrev pub RefusesFile : FileCommand → List Descriptor → Selection → Apdu → StatusWord → Type 0
+RefusesFile (Contents command) files selection apdu status = file_addressed command files selection apdu ≡ Err status
 RefusesFile _ files selection apdu status = ⊥
-
-abbrev pub RefusesPin : Instruction → CardParts → Apdu → StatusWord → Type 0
-RefusesPin instruction parts apdu status = (is_on_pins instruction ≡ true) × (pin_tried (pins_of parts.table) parts.verified apdu ≡ Err status)
 
 -- the table refuses the command with this status, on what its channel has selected
 abbrev pub RefusesByTable : Instruction → CardParts → Apdu → StatusWord → Type 0
-RefusesByTable instruction parts apdu status =
-    RefusesFile instruction (descriptors_of parts.table) (unwrap_or (selected_on parts.channels (channel_of apdu.class)) AT_START) apdu status ⊎ RefusesPin instruction parts apdu status
+RefusesByTable (File command) parts apdu status = RefusesFile command (descriptors_of parts.table) (unwrap_or (selected_on parts.channels (channel_of apdu.class)) AT_START) apdu status
+RefusesByTable (Pin command) parts apdu status = pin_outcome command (pins_of parts.table) parts.verified apdu ≡ Err status
+RefusesByTable _ parts apdu status = ⊥
 
 -- Refused with this status without data; the table with its index, what is selected, the verified keys, the session and the boxes
 -- stay, and whether there is power and whether a recovery is due. Of the store the bytes and the mark stay; that nothing is
@@ -206,21 +188,21 @@ pub record MovesChannels (old new : CardParts) : Type 0 where
   pub boxes : new.boxes ≡ old.boxes
 
 -- on each shelf that had no row and has none the applet is as it was, unless it was to be installed
-abbrev pub LeavesOtherUnregistered : Instruction → Apdu → CardParts → CardParts → Type 0
-LeavesOtherUnregistered instruction apdu old new =
-    (shelf : ℕ) → (instruction ≡ InstallApplet → shelf ≢ apdu.p2) → (HasRowOn old.table shelf → ⊥) → (HasRowOn new.table shelf → ⊥) → mind_on new.boxes shelf ≡ mind_on old.boxes shelf
+abbrev pub LeavesOtherUnregistered : ToolkitCommand → Apdu → CardParts → CardParts → Type 0
+LeavesOtherUnregistered command apdu old new =
+    (shelf : ℕ) → (command ≡ InstallApplet → shelf ≢ apdu.p2) → (HasRowOn old.table shelf → ⊥) → (HasRowOn new.table shelf → ⊥) → mind_on new.boxes shelf ≡ mind_on old.boxes shelf
 
 -- Of the table, the rows alone may be others, and the next sequence number where an applet is installed. No row goes but that of an
 -- applet that is deleted. On a shelf that had no row and has none the applet is as it was, unless it was to be installed. Boxes keep
 -- their kinds, but for that of a deleted applet, for which there is no row then.
-pub record MovesToolkit (instruction : Instruction) (apdu : Apdu) (old new : CardParts) : Type 0 where
+pub record MovesToolkit (command : ToolkitCommand) (apdu : Apdu) (old new : CardParts) : Type 0 where
   pub table : new.table ≡ record old.table { rows = new.table.rows; next = new.table.next }
-  pub next : (instruction ≡ InstallApplet → ⊥) → new.table.next ≡ old.table.next
-  pub rows_stay : (other : ℕ) → (instruction ≡ DeleteApplet → other ≢ apdu.p2) → HasRowOn old.table other → HasRowOn new.table other
+  pub next : (command ≡ InstallApplet → ⊥) → new.table.next ≡ old.table.next
+  pub rows_stay : (other : ℕ) → (command ≡ DeleteApplet → other ≢ apdu.p2) → HasRowOn old.table other → HasRowOn new.table other
   pub channels : new.channels ≡ old.channels
   pub verified : new.verified ≡ old.verified
-  pub kinds : KindsKept instruction apdu new.table old.boxes new.boxes
-  pub others : LeavesOtherUnregistered instruction apdu old new
+  pub kinds : KindsKept command apdu new.table old.boxes new.boxes
+  pub others : LeavesOtherUnregistered command apdu old new
 
 -- STATUS, of which applets are told: of the table the rows alone may be others, and none goes; what is selected stays
 pub record MovesStatus (old new : CardParts) : Type 0 where
@@ -232,13 +214,13 @@ pub record MovesStatus (old new : CardParts) : Type 0 where
   pub others : LeavesUnregistered old.table new.table old.boxes new.boxes
 
 -- each kind of command moves its own
-pub record MovesItsOwn (instruction : Instruction) (apdu : Apdu) (old new : CardParts) : Type 0 where
-  pub files : is_on_files instruction ≡ true → is_status instruction ≡ false → MovesFiles (channel_of apdu.class) old new
-  pub tree : is_of_tree instruction ≡ true → MovesTree old new
-  pub status : is_status instruction ≡ true → MovesStatus old new
-  pub pins : is_on_pins instruction ≡ true → MovesPins old new
-  pub channels : instruction ≡ ManageChannel → MovesChannels old new
-  pub toolkit : is_of_toolkit instruction ≡ true → MovesToolkit instruction apdu old new
+abbrev pub MovesItsOwn : Instruction → Apdu → CardParts → CardParts → Type 0
+MovesItsOwn (File Status) apdu old new = MovesStatus old new
+MovesItsOwn (File command) apdu old new = MovesFiles (channel_of apdu.class) old new
+MovesItsOwn (Pin command) apdu old new = MovesPins old new
+MovesItsOwn ManageChannel apdu old new = MovesChannels old new
+MovesItsOwn (Toolkit command) apdu old new = MovesToolkit command apdu old new
+MovesItsOwn (Tree command) apdu old new = MovesTree old new
 
 -- ---- a command to a card of which no recovery is due, once it was answered without a fault
 

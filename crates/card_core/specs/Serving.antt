@@ -11,12 +11,15 @@ use Rattle.card_layout.specs.Standing.{Agrees}
 use Rattle.card_layout.specs.States.{pins_of, rows_of}
 use Rattle.card_memory.specs.Laws.{IsTold}
 use Rattle.card_memory.specs.Model.{HasRowOn}
-use Rattle.card_model.specs.declared.instructions.Instruction.{Instruction}
-use Rattle.card_model.specs.declared.instructions.Instruction.TheVariants.{InstallApplet, DeleteApplet}
+use Rattle.card_model.specs.declared.instructions.Instruction.TheVariants.{File}
+use Rattle.card_model.specs.declared.instructions.ToolkitCommand.{ToolkitCommand}
+use Rattle.card_model.specs.declared.instructions.ToolkitCommand.TheVariants.{InstallApplet, DeleteApplet}
 use Rattle.file_admin.specs.Outcomes.{AnswersTree, CommitsTree}
 use Rattle.file_commands.specs.Targets.{IsAnswer, IsRefused}
 use Rattle.file_making.specs.Outcomes.{TreeOutcome}
 use Rattle.file_model.specs.Access.{keys_seen}
+use Rattle.file_model.specs.Commands.{file_outcome}
+use Rattle.file_model.specs.declared.commands.FileCommand.{FileCommand}
 use Rattle.file_model.specs.declared.selections.Selection.{Selection}
 use Rattle.file_model.specs.Files.{descriptors_of}
 use Rattle.file_model.specs.Outcomes.{settled_file}
@@ -24,16 +27,16 @@ use Rattle.proactive_handler.specs.Boxes.{kinds_of}
 use Rattle.proactive_handler.specs.Steps.{Scene}
 use Rattle.session_commands.specs.Deleting.{LeavesUnregistered}
 use Rattle.trigger_index.specs.Indexes.{StandsFor}
-use Rattle.card_core.specs.AnyStore.{LeavesFiles, RefusesFile}
-use Rattle.card_core.specs.Commands.{KindsKept, file_outcome}
+use Rattle.card_core.specs.AnyStore.{NeedsNoContents, RefusesFile}
+use Rattle.card_core.specs.Commands.{KindsKept}
 
 -- What the table tells of a command on files, over what is selected. It meets no fault then.
-pub record TellsOfFiles (result : Result Unit StoreFault) (instruction : Instruction) (apdu : Apdu) (verified : Verified) (old new : Memory) (before after : Selection) (out : Answer) : Type 0 where
+pub record TellsOfFiles (result : Result Unit StoreFault) (command : FileCommand) (apdu : Apdu) (verified : Verified) (old new : Memory) (before after : Selection) (out : Answer) : Type 0 where
   -- SELECT and STATUS are answered so, and commit nothing
-  pub answers : (state : Persistent) → LeavesFiles instruction → IsTold old.table state
-      → IsOk result × IsAnswer (settled_file before (file_outcome instruction state (keys_seen (pins_of old.table) verified) before apdu)) out after × (new.table ≡ old.table) × (new.commits ≡ old.commits)
+  pub answers : (state : Persistent) → NeedsNoContents (File command) → IsTold old.table state
+      → IsOk result × IsAnswer (settled_file before (file_outcome command state (keys_seen (pins_of old.table) verified) before apdu)) out after × (new.table ≡ old.table) × (new.commits ≡ old.commits)
   -- and what is refused before access is tested
-  pub denied : (status : StatusWord) → RefusesFile instruction (descriptors_of old.table) before apdu status
+  pub denied : (status : StatusWord) → RefusesFile command (descriptors_of old.table) before apdu status
       → IsOk result × IsRefused status out before after × (new.table ≡ old.table)
 
 -- What a memory of the table tells of a command that makes, deletes or resizes a file.
@@ -44,20 +47,20 @@ pub record TellsOfTree (result : Result Unit StoreFault) (before after : Memory)
   pub commits : CommitsTree result before after old meaning
 
 -- What a command of the toolkit keeps, also where a fault stops it.
-pub record KeepsToolkit {X : Type 0} (instruction : Instruction) (apdu : Apdu) (old new : Scene) (result : Result X StoreFault) : Type 0 where
+pub record KeepsToolkit {X : Type 0} (command : ToolkitCommand) (apdu : Apdu) (old new : Scene) (result : Result X StoreFault) : Type 0 where
   -- boxes keep their kinds, but for that of an applet that is deleted; after a fault each keeps its kind
-  pub kinds : KindsKept instruction apdu new.memory.table old.minds new.minds
+  pub kinds : KindsKept command apdu new.memory.table old.minds new.minds
   pub boxes : OnErr result (kinds_of new.minds ≡ kinds_of old.minds)
   -- where no row was and none is, the applet is as it was
   pub others : LeavesUnregistered old.memory.table new.memory.table old.minds new.minds
   -- who was registered still is, but for an applet that is deleted
-  pub rows_stay : (other : ℕ) → (instruction ≡ DeleteApplet → other ≢ apdu.p2) → HasRowOn old.memory.table other
+  pub rows_stay : (other : ℕ) → (command ≡ DeleteApplet → other ≢ apdu.p2) → HasRowOn old.memory.table other
       → HasRowOn new.memory.table other
   -- after Ok the index is that of the rows
   pub indexed : OnOk result (StandsFor new.index (rows_of new.memory.table))
   -- the rows alone change in the table, and the next sequence number in an INSTALL
   pub table : new.memory.table ≡ record old.memory.table { rows = new.memory.table.rows; next = new.memory.table.next }
-  pub next : (instruction ≡ InstallApplet → ⊥) → new.memory.table.next ≡ old.memory.table.next
+  pub next : (command ≡ InstallApplet → ⊥) → new.memory.table.next ≡ old.memory.table.next
   -- after a fault the table has its form
   pub kept : OnErr result (Agrees new.memory.mark None new.memory.table)
   pub keeps : Keeps old.memory new.memory result

@@ -12,16 +12,15 @@ ghost use Rattle.file_model.specs.Files.{descriptors_of};
 ghost use Rattle.file_model.specs.Selections.{IsSelection};
 ghost use Rattle.file_model.specs.Outcomes.{settled_file};
 ghost use Rattle.file_model.specs.Chains.{and_given};
-ghost use Rattle.file_model.specs.Pins.{pin_tried};
 ghost use Rattle.file_model.specs.declared.selections.TheConstants.Selection.{AT_START};
-ghost use Rattle.card_model.specs.Answers.{settled, carried_out, carried_with, is_status, tried, answer, passed, told_pending};
+ghost use Rattle.card_model.specs.Answers.{settled, carried_out, carried_with, tried, answer, passed, told_pending, cut_to};
 ghost use Rattle.toolkit_model.specs.Commands.{pending};
 ghost use Rattle.card_model.specs.Channels.{channel_of, selected_on, is_open};
-ghost use Rattle.card_model.specs.Instructions.{instruction_tried, is_known, is_of_toolkit, is_of_tree};
-ghost use Rattle.card_core.specs.Commands.{is_on_files, is_on_pins, HasPinByte, file_outcome, tree_by, by_instruction};
+ghost use Rattle.card_model.specs.Instructions.{instruction_tried, is_known};
+ghost use Rattle.file_model.specs.Commands.{contents_outcome, file_addressed, file_outcome};
+ghost use Rattle.card_core.specs.Commands.{tree_by, by_instruction};
 ghost use Rattle.file_admin.specs.Outcomes.{PerformsTree, IfNothingPasses, EndsTree};
 ghost use Rattle.file_making.specs.Lawful.{AreSelected};
-ghost use Rattle.card_core.specs.AnyStore.{RefusesFile, is_on_contents};
 ghost use Rattle.card_core.specs.Serving.{TellsOfFiles, TellsOfTree};
 ghost use Rattle.card_memory.specs.Laws.{IsTold};
 ghost use Rattle.card_memory.specs.Performing.{Performs, StaysStill};
@@ -31,7 +30,7 @@ ghost use Rattle.card_layout.specs.Memory.{IsMounted, memory};
 
 use crate::CardOver;
 use crate::channels::manage;
-use crate::instructions::{instruction_of, is_of_toolkit, is_of_tree, is_on_contents, is_on_pins};
+use crate::instructions::instruction_of;
 use crate::keys::keys_seen;
 use crate::laws::{keys_are_own, tables_have_rows, the_mf_is_there};
 use crate::sessions::told_pending;
@@ -41,10 +40,11 @@ use apdu_form::{Command, WrongLength, read_command};
 use applet_trait::Applet;
 use card_layout::{Loaded, states_are_of_entries};
 use card_memory::tables_tell_states;
-use card_model::Instruction;
+use card_model::{Instruction, ToolkitCommand};
 use file_admin::{channel_of, create_file, delete_file, resize_file};
 use file_commands::{read_binary, select, status, update_binary};
-use file_model::Selection;
+use file_making::TreeCommand;
+use file_model::{ContentsCommand, FileCommand, PinCommand, Selection};
 use file_tree::Channels;
 use pin_rules::pin_command;
 use record_commands::{activate, deactivate, increase, read_record, search_record, update_record};
@@ -54,109 +54,104 @@ use store_form::{Store, StoreFault};
 use uicc_types::{Answer, AnswerData, StatusWord};
 
 // A command on what a file holds, which its access rule may forbid, over what is selected on its channel.
-#[tactic(auto, using(file_commands::specs::Chained::stays_still), unfolding(crate::specs::Commands::file_outcome))]
+#[tactic(auto, using(file_commands::specs::Chained::stays_still), unfolding(file_model::specs::Commands::contents_outcome, file_model::specs::Commands::file_addressed))]
 fn on_contents<S: Store>(
-    instruction: Instruction,
+    command: ContentsCommand,
     store: &mut S,
     loaded: &mut Loaded,
     selection: &mut Selection,
     seen: &Verified,
-    command: &Command<'_>,
+    apdu: &Command<'_>,
     out: &mut Answer,
 ) -> Result<(), StoreFault>
-    requires on_contents { is_on_contents instruction ≡ true }
     requires place { IsInPlace (memory S.Store store.old loaded.old) selection.old }
-    requires command { IsSomeCommand command.now }
+    requires apdu { IsSomeCommand apdu.now }
     ensures performs { Performs result (memory S.Store store.old loaded.old) (memory S.Store store.new loaded.new)
         out.new selection.new (λ state. settled_file selection.old
-        (file_outcome instruction state seen.now selection.old command.now)) }
+        (contents_outcome command state seen.now selection.old apdu.now)) }
     ensures still { StaysStill (memory S.Store store.old loaded.old) (memory S.Store store.new loaded.new) (λ state.
-        (settled_file selection.old (file_outcome instruction state seen.now selection.old command.now)).passed) }
+        (settled_file selection.old (contents_outcome command state seen.now selection.old apdu.now)).passed) }
     ensures denied { (status : StatusWord)
-        → RefusesFile instruction (descriptors_of loaded.old) selection.old command.now status
+        → file_addressed command (descriptors_of loaded.old) selection.old apdu.now ≡ Err status
         → IsOk result × IsRefused status out.new selection.old selection.new × (loaded.new ≡ loaded.old) }
     ensures files { KeepsOtherFiles loaded.old loaded.new }
     ensures ends { EndsWell result (memory S.Store store.old loaded.old) (memory S.Store store.new loaded.new)
         out.new selection.new }
 {
-    match instruction {
-        Instruction::ReadBinary => read_binary(store, loaded, selection, seen, command, out),
-        Instruction::UpdateBinary => update_binary(store, loaded, selection, seen, command, out),
-        Instruction::ReadRecord => read_record(store, loaded, selection, seen, command, out),
-        Instruction::UpdateRecord => update_record(store, loaded, selection, seen, command, out),
-        Instruction::SearchRecord => search_record(store, loaded, selection, seen, command, out),
-        Instruction::Increase => increase(store, loaded, selection, seen, command, out),
-        Instruction::DeactivateFile => deactivate(store, loaded, selection, seen, command, out),
-        Instruction::ActivateFile => activate(store, loaded, selection, seen, command, out),
-        _ => unreachable!(),
+    match command {
+        ContentsCommand::ReadBinary => read_binary(store, loaded, selection, seen, apdu, out),
+        ContentsCommand::UpdateBinary => update_binary(store, loaded, selection, seen, apdu, out),
+        ContentsCommand::ReadRecord => read_record(store, loaded, selection, seen, apdu, out),
+        ContentsCommand::UpdateRecord => update_record(store, loaded, selection, seen, apdu, out),
+        ContentsCommand::SearchRecord => search_record(store, loaded, selection, seen, apdu, out),
+        ContentsCommand::Increase => increase(store, loaded, selection, seen, apdu, out),
+        ContentsCommand::Deactivate => deactivate(store, loaded, selection, seen, apdu, out),
+        ContentsCommand::Activate => activate(store, loaded, selection, seen, apdu, out),
     }
 }
 
 // A command on files, over what is selected on its channel. The keys are looked at where access is tested.
-#[tactic(auto, using(file_commands::specs::Chained::stays_still), unfolding(crate::specs::Commands::file_outcome))]
+#[tactic(auto, using(file_commands::specs::Chained::stays_still), unfolding(file_model::specs::Commands::file_outcome))]
 fn on_files<S: Store>(
-    instruction: Instruction,
+    command: FileCommand,
     store: &mut S,
     loaded: &mut Loaded,
     selection: &mut Selection,
     verified: &Verified,
-    command: &Command<'_>,
+    apdu: &Command<'_>,
     out: &mut Answer,
 ) -> Result<(), StoreFault>
-    requires on_files { is_on_files instruction ≡ true }
     requires place { IsInPlace (memory S.Store store.old loaded.old) selection.old }
-    requires command { IsSomeCommand command.now }
+    requires apdu { IsSomeCommand apdu.now }
     ensures performs { Performs result (memory S.Store store.old loaded.old) (memory S.Store store.new loaded.new)
         out.new selection.new (λ state. settled_file selection.old
-        (file_outcome instruction state (keys_seen (pins_of loaded.old) verified.now) selection.old command.now)) }
+        (file_outcome command state (keys_seen (pins_of loaded.old) verified.now) selection.old apdu.now)) }
     ensures still { StaysStill (memory S.Store store.old loaded.old) (memory S.Store store.new loaded.new)
         (λ state. (settled_file selection.old
-        (file_outcome instruction state (keys_seen (pins_of loaded.old) verified.now)
-        selection.old command.now)).passed) }
-    ensures tells { TellsOfFiles result instruction command.now verified.now
+        (file_outcome command state (keys_seen (pins_of loaded.old) verified.now)
+        selection.old apdu.now)).passed) }
+    ensures tells { TellsOfFiles result command apdu.now verified.now
         (memory S.Store store.old loaded.old) (memory S.Store store.new loaded.new)
         selection.old selection.new out.new }
     ensures files { KeepsOtherFiles loaded.old loaded.new }
     ensures ends { EndsWell result (memory S.Store store.old loaded.old) (memory S.Store store.new loaded.new)
         out.new selection.new }
 {
-    if is_on_contents(instruction) {
-        // This call is a law, and does nothing.
-        keys_are_own();
-        let seen = keys_seen(loaded, verified);
-        return on_contents(instruction, store, loaded, selection, &seen, command, out);
-    }
-    match instruction {
-        Instruction::Select => select(store, loaded, selection, verified, command, out),
-        Instruction::Status => status(store, loaded, selection, verified, command, out),
-        _ => unreachable!(),
+    match command {
+        FileCommand::Select => select(store, loaded, selection, verified, apdu, out),
+        FileCommand::Status => status(store, loaded, selection, verified, apdu, out),
+        FileCommand::Contents(command) => {
+            // This call is a law, and does nothing.
+            keys_are_own();
+            let seen = keys_seen(loaded, verified);
+            on_contents(command, store, loaded, selection, &seen, apdu, out)
+        }
     }
 }
 
 // A command that makes, deletes or resizes a file, over what is selected on each channel. The keys are looked at where access is
 // tested.
-#[tactic(auto, unfolding(crate::specs::Commands::tree_outcome))]
+#[tactic(auto, unfolding(file_making::specs::Commands::tree_outcome))]
 fn on_tree<S: Store>(
-    instruction: Instruction,
+    command: TreeCommand,
     store: &mut S,
     loaded: &mut Loaded,
     channels: &mut Channels,
     verified: &Verified,
-    command: &Command<'_>,
+    apdu: &Command<'_>,
     out: &mut Answer,
 ) -> Result<(), StoreFault>
-    requires of_tree { is_of_tree instruction ≡ true }
     requires mounted { IsMounted (memory S.Store store.old loaded.old) }
     requires selected { AreSelected (descriptors_of loaded.old) channels.old }
-    requires open { is_open channels.old (channel_of command.now.class) ≡ true }
+    requires open { is_open channels.old (channel_of apdu.now.class) ≡ true }
     ensures performs { PerformsTree result (memory S.Store store.old loaded.old) (memory S.Store store.new loaded.new)
         out.new channels.old channels.new
-        (tree_by instruction command.now (keys_seen (pins_of loaded.old) verified.now) channels.old) }
+        (tree_by command apdu.now (keys_seen (pins_of loaded.old) verified.now) channels.old) }
     ensures tells { TellsOfTree result (memory S.Store store.old loaded.old) (memory S.Store store.new loaded.new)
         channels.old channels.new out.new.status
-        (tree_by instruction command.now (keys_seen (pins_of loaded.old) verified.now) channels.old) }
+        (tree_by command apdu.now (keys_seen (pins_of loaded.old) verified.now) channels.old) }
     ensures still { IfNothingPasses loaded.old channels.old
-        (tree_by instruction command.now (keys_seen (pins_of loaded.old) verified.now) channels.old)
+        (tree_by command apdu.now (keys_seen (pins_of loaded.old) verified.now) channels.old)
         (IsOk result × (store.new ≡ store.old) × (loaded.new ≡ loaded.old)) }
     ensures ends { EndsTree result (memory S.Store store.old loaded.old) (memory S.Store store.new loaded.new)
         out.new channels.old channels.new }
@@ -164,53 +159,68 @@ fn on_tree<S: Store>(
     // This call is a law, and does nothing.
     keys_are_own();
     let seen = keys_seen(loaded, verified);
-    match instruction {
-        Instruction::CreateFile => create_file(store, loaded, channels, &seen, command, out),
-        Instruction::DeleteFile => delete_file(store, loaded, channels, &seen, command, out),
-        Instruction::ResizeFile => resize_file(store, loaded, channels, &seen, command, out),
-        _ => unreachable!(),
+    match command {
+        TreeCommand::Create => create_file(store, loaded, channels, &seen, apdu, out),
+        TreeCommand::Delete => delete_file(store, loaded, channels, &seen, apdu, out),
+        TreeCommand::Resize => resize_file(store, loaded, channels, &seen, apdu, out),
+    }
+}
+
+// Le bounds the data of the answer (ISO 7816-4, 5.1).
+fn cut(expected: Option<u16>, out: &mut Answer)
+    ensures body { out.new.body ≡ cut_to expected out.old.body }
+    ensures status { out.new.status ≡ out.old.status }
+{
+    if let Some(expected) = expected {
+        let most = usize::from(expected);
+        let told = out.body.as_slice();
+        if most < told.len() {
+            out.body = AnswerData::from_slice(&told[..most]);
+        }
     }
 }
 
 impl<S: Store, B: Applet> CardOver<S, B> {
     ghost use Rattle.card_core.specs.Cards.{parts_of};
-    ghost use Rattle.card_core.specs.AnyStore.{command_named, AnswersAs};
-    ghost use Rattle.card_core.specs.Acting.{settled_over, ActsOnFiles, ActsSilently, ActsOnTree, ActsOnPins, ActsOnToolkit};
-    ghost use Rattle.card_core.specs.Acting.{ActsOnStatus, TellsApplets, StopsToolkit, in_form, in_bytes, in_whole, ActsAs};
+    ghost use Rattle.card_core.specs.AnyStore.{command_named};
+    ghost use Rattle.card_core.specs.Acting.{ActsOn, ActsAlone, ChangesNothing, TellsApplets, StopsToolkit, in_form, in_bytes, in_whole, ActsAs};
     ghost use Rattle.card_core.specs.Moves.{IsSettled, IsPolled, IsAnswered, polled_on};
     ghost use Rattle.card_core.specs.Underway.{IsUnderway, IsOnChannel, GoesOn};
 
     // A command on files, over what is selected on its channel. The other channels stay as they are.
     fn carry_out_on_files(
         &mut self,
-        instruction: Instruction,
-        command: &Command<'_>,
+        command: FileCommand,
+        apdu: &Command<'_>,
         out: &mut Answer,
     ) -> Result<(), StoreFault>
-        requires on_files { is_on_files instruction ≡ true }
         requires underway { IsUnderway (parts_of S.Store B.Applet self.old) }
-        requires command { IsOnChannel (parts_of S.Store B.Applet self.old) command.now }
+        requires apdu { IsOnChannel (parts_of S.Store B.Applet self.old) apdu.now }
         ensures settled { IsSettled result (parts_of S.Store B.Applet self.old) (parts_of S.Store B.Applet self.new)
-            out.new (λ card. carried_out instruction card command.now) }
-        ensures acts { ActsOnFiles result instruction command.now (parts_of S.Store B.Applet self.old)
+            out.new (λ card. carried_out (Instruction.File command) card apdu.now) }
+        ensures acts { ActsAlone result (Instruction.File command) apdu.now (parts_of S.Store B.Applet self.old)
             (parts_of S.Store B.Applet self.new) out.new }
+        ensures still { command ≡ FileCommand.Status → ChangesNothing result (parts_of S.Store B.Applet self.old)
+            (parts_of S.Store B.Applet self.new) }
+        ensures table { OnErr result ((parts_of S.Store B.Applet self.new).table
+            ≡ (parts_of S.Store B.Applet self.old).table) }
         ensures goes_on { GoesOn result (parts_of S.Store B.Applet self.old) (parts_of S.Store B.Applet self.new) }
     {
         // These calls are laws, and do nothing.
         tables_tell_states();
         tables_have_rows();
         cards_go_on();
-        let channel = channel_of(command.class);
+        let channel = channel_of(apdu.class);
         let Some(mut selection) = self.channels.selected(channel) else {
             unreachable!()
         };
         match on_files(
-            instruction,
+            command,
             &mut self.store,
             &mut self.loaded,
             &mut selection,
             &self.verified,
-            command,
+            apdu,
             out,
         ) {
             Ok(()) => {
@@ -221,40 +231,21 @@ impl<S: Store, B: Applet> CardOver<S, B> {
         }
     }
 
-    // A command on files of which no applet is told.
-    fn carry_out_without_event(
-        &mut self,
-        instruction: Instruction,
-        command: &Command<'_>,
-        out: &mut Answer,
-    ) -> Result<(), StoreFault>
-        requires on_files { is_on_files instruction ≡ true }
-        requires silent { is_status instruction ≡ false }
-        requires underway { IsUnderway (parts_of S.Store B.Applet self.old) }
-        requires command { IsOnChannel (parts_of S.Store B.Applet self.old) command.now }
-        ensures settled { IsSettled result (parts_of S.Store B.Applet self.old) (parts_of S.Store B.Applet self.new)
-            out.new (λ card. carried_with true instruction card command.now) }
-        ensures acts { ActsSilently result instruction command.now (parts_of S.Store B.Applet self.old)
-            (parts_of S.Store B.Applet self.new) out.new }
-        ensures goes_on { GoesOn result (parts_of S.Store B.Applet self.old) (parts_of S.Store B.Applet self.new) }
-    {
-        self.carry_out_on_files(instruction, command, out)
-    }
-
     // A command that makes, deletes or resizes a file. Where a fault stops it, the table and what is selected are left as they were.
     fn carry_out_on_tree(
         &mut self,
-        instruction: Instruction,
-        command: &Command<'_>,
+        command: TreeCommand,
+        apdu: &Command<'_>,
         out: &mut Answer,
     ) -> Result<(), StoreFault>
-        requires of_tree { is_of_tree instruction ≡ true }
         requires underway { IsUnderway (parts_of S.Store B.Applet self.old) }
-        requires open { is_open self.old.channels (channel_of command.now.class) ≡ true }
+        requires open { is_open self.old.channels (channel_of apdu.now.class) ≡ true }
         ensures settled { IsSettled result (parts_of S.Store B.Applet self.old) (parts_of S.Store B.Applet self.new)
-            out.new (λ card. carried_out instruction card command.now) }
-        ensures acts { ActsOnTree result instruction command.now (parts_of S.Store B.Applet self.old)
+            out.new (λ card. carried_out (Instruction.Tree command) card apdu.now) }
+        ensures acts { ActsAlone result (Instruction.Tree command) apdu.now (parts_of S.Store B.Applet self.old)
             (parts_of S.Store B.Applet self.new) out.new }
+        ensures table { OnErr result ((parts_of S.Store B.Applet self.new).table
+            ≡ (parts_of S.Store B.Applet self.old).table) }
         ensures goes_on { GoesOn result (parts_of S.Store B.Applet self.old) (parts_of S.Store B.Applet self.new) }
     {
         // These calls are laws, and do nothing.
@@ -262,12 +253,12 @@ impl<S: Store, B: Applet> CardOver<S, B> {
         tables_have_rows();
         cards_go_on();
         match on_tree(
-            instruction,
+            command,
             &mut self.store,
             &mut self.loaded,
             &mut self.channels,
             &self.verified,
-            command,
+            apdu,
             out,
         ) {
             Ok(()) => Ok(()),
@@ -279,18 +270,17 @@ impl<S: Store, B: Applet> CardOver<S, B> {
     // table where a fault stops it, whatever was committed.
     fn carry_out_on_pins(
         &mut self,
-        command: &Command<'_>,
+        command: PinCommand,
+        apdu: &Command<'_>,
         out: &mut Answer,
     ) -> Result<(), StoreFault>
         requires underway { IsUnderway (parts_of S.Store B.Applet self.old) }
-        ensures settled { (instruction : Instruction) → is_on_pins instruction ≡ true
-            → HasPinByte command.now.ins instruction
-            → IsSettled result (parts_of S.Store B.Applet self.old) (parts_of S.Store B.Applet self.new)
-            out.new (λ card. carried_out instruction card command.now) }
-        ensures acts { ActsOnPins result command.now (parts_of S.Store B.Applet self.old)
+        ensures settled { IsSettled result (parts_of S.Store B.Applet self.old) (parts_of S.Store B.Applet self.new)
+            out.new (λ card. carried_out (Instruction.Pin command) card apdu.now) }
+        ensures acts { ActsAlone result (Instruction.Pin command) apdu.now (parts_of S.Store B.Applet self.old)
             (parts_of S.Store B.Applet self.new) out.new }
-        ensures usual { OnOk result (out.new.status.0 ≢ StatusWord.MEMORY_PROBLEM.0) }
-        ensures empty { OnErr result (out.new.body ≡ []) }
+        ensures table { OnErr result ((parts_of S.Store B.Applet self.new).table
+            ≡ (parts_of S.Store B.Applet self.old).table) }
         ensures goes_on { GoesOn result (parts_of S.Store B.Applet self.old) (parts_of S.Store B.Applet self.new) }
     {
         // These calls are laws, and do nothing.
@@ -299,10 +289,11 @@ impl<S: Store, B: Applet> CardOver<S, B> {
         cards_go_on();
         let before = self.loaded.pins;
         match pin_command(
+            command,
             &mut self.store,
             &mut self.loaded,
             &mut self.verified,
-            command,
+            apdu,
             out,
         ) {
             Ok(()) => Ok(()),
@@ -314,23 +305,20 @@ impl<S: Store, B: Applet> CardOver<S, B> {
     }
 
     // MANAGE CHANNEL, in which the store has no part.
-    fn manage_channel(&mut self, command: &Command<'_>, out: &mut Answer) -> Result<(), StoreFault>
+    fn manage_channel(&mut self, apdu: &Command<'_>, out: &mut Answer) -> Result<(), StoreFault>
         requires underway { IsUnderway (parts_of S.Store B.Applet self.old) }
-        requires open { is_open self.old.channels (channel_of command.now.class) ≡ true }
+        requires open { is_open self.old.channels (channel_of apdu.now.class) ≡ true }
         requires empty { out.old.body ≡ [] }
         ensures settled { IsSettled result (parts_of S.Store B.Applet self.old) (parts_of S.Store B.Applet self.new)
-            out.new (λ card. carried_out Instruction.ManageChannel card command.now) }
-        ensures answers { (state : Persistent) → IsTold (parts_of S.Store B.Applet self.old).table state
-            → AnswersAs (settled_over (parts_of S.Store B.Applet self.old) state
-            (λ card. carried_out Instruction.ManageChannel card command.now))
-            out.new (parts_of S.Store B.Applet self.new) }
+            out.new (λ card. carried_out Instruction.ManageChannel card apdu.now) }
+        ensures acts { ActsAlone result Instruction.ManageChannel apdu.now (parts_of S.Store B.Applet self.old)
+            (parts_of S.Store B.Applet self.new) out.new }
         ensures ok { IsOk result }
-        ensures others { self.new ≡ record self.old { channels = self.new.channels } }
         ensures goes_on { GoesOn result (parts_of S.Store B.Applet self.old) (parts_of S.Store B.Applet self.new) }
     {
         // This call is a law, and does nothing.
         the_mf_is_there();
-        match manage(&mut self.channels, command) {
+        match manage(&mut self.channels, apdu) {
             Ok(Some(number)) => {
                 out.body = AnswerData::from_slice(&[number]);
                 out.status = StatusWord::DONE;
@@ -345,20 +333,19 @@ impl<S: Store, B: Applet> CardOver<S, B> {
     // its box goes once its row is known to be gone.
     fn serve_toolkit(
         &mut self,
-        instruction: Instruction,
-        command: &Command<'_>,
+        command: ToolkitCommand,
+        apdu: &Command<'_>,
         out: &mut Answer,
     ) -> Result<(), StoreFault>
-        requires of_toolkit { is_of_toolkit instruction ≡ true }
         requires underway { IsUnderway (parts_of S.Store B.Applet self.old) }
-        requires command { IsSomeCommand command.now }
+        requires apdu { IsSomeCommand apdu.now }
         ensures settled { IsSettled result (parts_of S.Store B.Applet self.old) (parts_of S.Store B.Applet self.new)
-            out.new (λ card. carried_out instruction card command.now) }
-        ensures acts { ActsOnToolkit result instruction command.now (parts_of S.Store B.Applet self.old)
+            out.new (λ card. carried_out (Instruction.Toolkit command) card apdu.now) }
+        ensures acts { ActsAlone result (Instruction.Toolkit command) apdu.now (parts_of S.Store B.Applet self.old)
             (parts_of S.Store B.Applet self.new) out.new }
         ensures stopped { OnErr result (StopsToolkit (parts_of S.Store B.Applet self.old)
             (parts_of S.Store B.Applet self.new)
-            (λ card. (settled card (carried_out instruction card command.now)).commits)) }
+            (λ card. (settled card (carried_out (Instruction.Toolkit command) card apdu.now)).commits)) }
         ensures before { self.new.before ≡ self.old.before }
         ensures goes_on { GoesOn result (parts_of S.Store B.Applet self.old) (parts_of S.Store B.Applet self.new) }
     {
@@ -368,19 +355,19 @@ impl<S: Store, B: Applet> CardOver<S, B> {
         cards_go_on();
         states_are_of_entries();
         match by_toolkit(
-            instruction,
+            command,
             &mut self.store,
             &mut self.loaded,
             &mut self.index,
             &mut self.boxes,
             &mut self.session,
             &self.verified,
-            command,
+            apdu,
             out,
         ) {
             Ok(()) => Ok(()),
             Err(fault) => {
-                self.leaving = leaving(instruction, command);
+                self.leaving = leaving(command, apdu);
                 Err(fault)
             }
         }
@@ -389,16 +376,15 @@ impl<S: Store, B: Applet> CardOver<S, B> {
     // A command of the toolkit. One that a fault stops leaves the table as it was, whatever was committed.
     fn carry_out_by_toolkit(
         &mut self,
-        instruction: Instruction,
-        command: &Command<'_>,
+        command: ToolkitCommand,
+        apdu: &Command<'_>,
         out: &mut Answer,
     ) -> Result<(), StoreFault>
-        requires of_toolkit { is_of_toolkit instruction ≡ true }
         requires underway { IsUnderway (parts_of S.Store B.Applet self.old) }
-        requires command { IsSomeCommand command.now }
+        requires apdu { IsSomeCommand apdu.now }
         ensures settled { IsSettled result (parts_of S.Store B.Applet self.old) (parts_of S.Store B.Applet self.new)
-            out.new (λ card. carried_out instruction card command.now) }
-        ensures acts { ActsOnToolkit result instruction command.now (parts_of S.Store B.Applet self.old)
+            out.new (λ card. carried_out (Instruction.Toolkit command) card apdu.now) }
+        ensures acts { ActsAlone result (Instruction.Toolkit command) apdu.now (parts_of S.Store B.Applet self.old)
             (parts_of S.Store B.Applet self.new) out.new }
         ensures table { OnErr result ((parts_of S.Store B.Applet self.new).table
             ≡ (parts_of S.Store B.Applet self.old).table) }
@@ -410,11 +396,11 @@ impl<S: Store, B: Applet> CardOver<S, B> {
         cards_go_on();
         states_are_of_entries();
         // FETCH meets no fault.
-        if instruction == Instruction::Fetch {
-            return self.serve_toolkit(instruction, command, out);
+        if command == ToolkitCommand::Fetch {
+            return self.serve_toolkit(command, apdu, out);
         }
         self.before.note(&self.loaded);
-        match self.serve_toolkit(instruction, command, out) {
+        match self.serve_toolkit(command, apdu, out) {
             Ok(()) => Ok(()),
             Err(fault) => {
                 self.before.put_back(&mut self.loaded);
@@ -481,16 +467,20 @@ impl<S: Store, B: Applet> CardOver<S, B> {
     }
 
     // STATUS. Where it is done the applets are told of it.
-    fn tell_status(&mut self, command: &Command<'_>, out: &mut Answer) -> Result<(), StoreFault>
+    fn tell_status(&mut self, apdu: &Command<'_>, out: &mut Answer) -> Result<(), StoreFault>
         requires underway { IsUnderway (parts_of S.Store B.Applet self.old) }
-        requires command { IsOnChannel (parts_of S.Store B.Applet self.old) command.now }
+        requires apdu { IsOnChannel (parts_of S.Store B.Applet self.old) apdu.now }
         ensures settled { IsSettled result (parts_of S.Store B.Applet self.old) (parts_of S.Store B.Applet self.new)
-            out.new (λ card. carried_with true Instruction.Status card command.now) }
-        ensures acts { ActsOnStatus result command.now (parts_of S.Store B.Applet self.old)
-            (parts_of S.Store B.Applet self.new) out.new }
+            out.new (λ card. carried_with true (Instruction.File FileCommand.Status) card apdu.now) }
+        ensures acts { ActsOn result (Instruction.File FileCommand.Status) apdu.now
+            (parts_of S.Store B.Applet self.old) (parts_of S.Store B.Applet self.new) out.new
+            (λ card. settled card (carried_with true (Instruction.File FileCommand.Status) card apdu.now))
+            (λ status. status) }
+        ensures table { OnErr result ((parts_of S.Store B.Applet self.new).table
+            ≡ (parts_of S.Store B.Applet self.old).table) }
         ensures goes_on { GoesOn result (parts_of S.Store B.Applet self.old) (parts_of S.Store B.Applet self.new) }
     {
-        match self.carry_out_on_files(Instruction::Status, command, out) {
+        match self.carry_out_on_files(FileCommand::Status, apdu, out) {
             Ok(()) if out.status.0 == StatusWord::DONE.0 => self.tell_applets(out),
             Ok(()) => Ok(()),
             Err(fault) => Err(fault),
@@ -498,30 +488,31 @@ impl<S: Store, B: Applet> CardOver<S, B> {
     }
 
     // A command whose form is known: the class, the channel and the instruction come first, and then the command's own refusals.
-    fn take(&mut self, command: &Command<'_>, out: &mut Answer) -> Result<(), StoreFault>
+    fn take(&mut self, apdu: &Command<'_>, out: &mut Answer) -> Result<(), StoreFault>
         requires underway { IsUnderway (parts_of S.Store B.Applet self.old) }
-        requires command { IsSomeCommand command.now }
+        requires apdu { IsSomeCommand apdu.now }
         requires empty { out.old.body ≡ [] }
         ensures settled { IsSettled result (parts_of S.Store B.Applet self.old) (parts_of S.Store B.Applet self.new)
-            out.new (λ card. by_instruction command.now card) }
+            out.new (λ card. by_instruction apdu.now card) }
         ensures untouched { (status : StatusWord)
-            → instruction_tried is_known self.old.channels command.now.class command.now.ins ≡ Err status
+            → instruction_tried is_known self.old.channels apdu.now.class apdu.now.ins ≡ Err status
             → self.new ≡ self.old }
         ensures acts { ActsAs result (parts_of S.Store B.Applet self.old) (parts_of S.Store B.Applet self.new) out.new
-            (in_form (parts_of S.Store B.Applet self.old) command.now) }
+            (in_form (parts_of S.Store B.Applet self.old) apdu.now) }
         ensures goes_on { GoesOn result (parts_of S.Store B.Applet self.old) (parts_of S.Store B.Applet self.new) }
     {
-        match instruction_of(&self.channels, command.class, command.ins) {
-            Ok(Instruction::ManageChannel) => self.manage_channel(command, out),
-            Ok(Instruction::Status) => self.tell_status(command, out),
-            Ok(instruction) if is_on_pins(instruction) => self.carry_out_on_pins(command, out),
-            Ok(instruction) if is_of_toolkit(instruction) => {
-                self.carry_out_by_toolkit(instruction, command, out)
+        match instruction_of(&self.channels, apdu.class, apdu.ins) {
+            Ok(Instruction::File(FileCommand::Status)) => self.tell_status(apdu, out),
+            Ok(Instruction::File(FileCommand::Select)) => {
+                self.carry_out_on_files(FileCommand::Select, apdu, out)
             }
-            Ok(instruction) if is_of_tree(instruction) => {
-                self.carry_out_on_tree(instruction, command, out)
+            Ok(Instruction::File(FileCommand::Contents(command))) => {
+                self.carry_out_on_files(FileCommand::Contents(command), apdu, out)
             }
-            Ok(instruction) => self.carry_out_without_event(instruction, command, out),
+            Ok(Instruction::Pin(command)) => self.carry_out_on_pins(command, apdu, out),
+            Ok(Instruction::ManageChannel) => self.manage_channel(apdu, out),
+            Ok(Instruction::Toolkit(command)) => self.carry_out_by_toolkit(command, apdu, out),
+            Ok(Instruction::Tree(command)) => self.carry_out_on_tree(command, apdu, out),
             Err(status) => {
                 out.status = status;
                 Ok(())
@@ -542,13 +533,20 @@ impl<S: Store, B: Applet> CardOver<S, B> {
         ensures goes_on { GoesOn result (parts_of S.Store B.Applet self.old) (parts_of S.Store B.Applet self.new) }
     {
         match read_command(bytes) {
-            Ok(command) => self.take(&command, out),
+            Ok(apdu) => match self.take(&apdu, out) {
+                Ok(()) => {
+                    cut(apdu.expected, out);
+                    Ok(())
+                }
+                Err(fault) => Err(fault),
+            },
             Err(WrongLength) => {
                 out.status = StatusWord::WRONG_LENGTH;
                 Ok(())
             }
         }
     }
+
     /// Carries out a command, or refuses it, and tells of a command that is to be fetched. No recovery is due, and the answer has no
     /// data yet.
     pub(crate) fn carry_out(&mut self, bytes: &[u8], out: &mut Answer) -> Result<(), StoreFault>

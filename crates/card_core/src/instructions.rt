@@ -1,12 +1,20 @@
 //! The table of instructions: how a command is told by its class and instruction bytes.
-ghost use Rattle.std.specs.Prelude.{◌≡◌, ◌≢◌, true, false, Err, Some, OnOk, IfOk, IfSome, option_map};
+ghost use Rattle.std.specs.Prelude.{◌≡◌, ◌≢◌, true, false, Err, Some, OnOk, option_map};
 ghost use Rattle.card_model.specs.Channels.{is_class, asks_secure_messaging, channel_of, is_open};
-ghost use Rattle.card_model.specs.Instructions.{instruction_tried, is_known, is_of_toolkit, is_of_tree, has_ins, row_of};
-ghost use Rattle.card_core.specs.AnyStore.{is_on_contents};
-ghost use Rattle.card_core.specs.Commands.{is_on_pins, HasPinByte};
+ghost use Rattle.card_model.specs.Instructions.{instruction_tried, is_known, has_ins, row_of};
 
-use card_model::Instruction;
+use card_model::Instruction::{self, File, ManageChannel, Pin, Toolkit, Tree};
+use card_model::ToolkitCommand::{
+    DeleteApplet, Envelope, Fetch, InstallApplet, TerminalProfile, TerminalResponse,
+};
 use file_admin::{channel_of, family, names_channel};
+use file_making::TreeCommand::{Create, Delete, Resize};
+use file_model::ContentsCommand::{
+    Activate, Deactivate, Increase, ReadBinary, ReadRecord, SearchRecord, UpdateBinary,
+    UpdateRecord,
+};
+use file_model::FileCommand::{Contents, Select, Status};
+use file_model::PinCommand::{Change, Disable, Enable, Unblock, Verify};
 use file_tree::Channels;
 use uicc_types::StatusWord;
 
@@ -46,34 +54,33 @@ impl Row {
     // The row of an instruction byte in a class (ETSI TS 102 221, 10.1.2), of each command that the card has.
     fn of(class: u8, ins: u8) -> Option<Row>
         ensures shown { option_map (row_shown ins) result ≡ row_of is_known class ins }
-        ensures pins { IfSome result (λ row. HasPinByte ins row.instruction) }
     {
         match (class, ins) {
-            (0x00, 0xA4) => each_channel(class, Instruction::Select),
-            (0x80, 0xF2) => each_channel(class, Instruction::Status),
-            (0x00, 0xB0) => each_channel(class, Instruction::ReadBinary),
-            (0x00, 0xD6) => each_channel(class, Instruction::UpdateBinary),
-            (0x00, 0xB2) => each_channel(class, Instruction::ReadRecord),
-            (0x00, 0xDC) => each_channel(class, Instruction::UpdateRecord),
-            (0x00, 0xA2) => each_channel(class, Instruction::SearchRecord),
-            (0x80, 0x32) => each_channel(class, Instruction::Increase),
-            (0x00, 0x04) => each_channel(class, Instruction::DeactivateFile),
-            (0x00, 0x44) => each_channel(class, Instruction::ActivateFile),
-            (0x00, 0x20) => each_channel(class, Instruction::VerifyPin),
-            (0x00, 0x24) => each_channel(class, Instruction::ChangePin),
-            (0x00, 0x26) => each_channel(class, Instruction::DisablePin),
-            (0x00, 0x28) => each_channel(class, Instruction::EnablePin),
-            (0x00, 0x2C) => each_channel(class, Instruction::UnblockPin),
-            (0x00, 0x70) => each_channel(class, Instruction::ManageChannel),
-            (0x80, 0x10) => basic_channel(class, Instruction::TerminalProfile),
-            (0x80, 0x12) => basic_channel(class, Instruction::Fetch),
-            (0x80, 0x14) => basic_channel(class, Instruction::TerminalResponse),
-            (0x80, 0xC2) => basic_channel(class, Instruction::Envelope),
-            (0xF0, 0xE6) => each_channel(class, Instruction::InstallApplet),
-            (0xF0, 0xE4) => each_channel(class, Instruction::DeleteApplet),
-            (0x00, 0xE0) => each_channel(class, Instruction::CreateFile),
-            (0x00, 0xE4) => each_channel(class, Instruction::DeleteFile),
-            (0x80, 0xD4) => each_channel(class, Instruction::ResizeFile),
+            (0x00, 0xA4) => each_channel(class, File(Select)),
+            (0x80, 0xF2) => each_channel(class, File(Status)),
+            (0x00, 0xB0) => each_channel(class, File(Contents(ReadBinary))),
+            (0x00, 0xD6) => each_channel(class, File(Contents(UpdateBinary))),
+            (0x00, 0xB2) => each_channel(class, File(Contents(ReadRecord))),
+            (0x00, 0xDC) => each_channel(class, File(Contents(UpdateRecord))),
+            (0x00, 0xA2) => each_channel(class, File(Contents(SearchRecord))),
+            (0x80, 0x32) => each_channel(class, File(Contents(Increase))),
+            (0x00, 0x04) => each_channel(class, File(Contents(Deactivate))),
+            (0x00, 0x44) => each_channel(class, File(Contents(Activate))),
+            (0x00, 0x20) => each_channel(class, Pin(Verify)),
+            (0x00, 0x24) => each_channel(class, Pin(Change)),
+            (0x00, 0x26) => each_channel(class, Pin(Disable)),
+            (0x00, 0x28) => each_channel(class, Pin(Enable)),
+            (0x00, 0x2C) => each_channel(class, Pin(Unblock)),
+            (0x00, 0x70) => each_channel(class, ManageChannel),
+            (0x80, 0x10) => basic_channel(class, Toolkit(TerminalProfile)),
+            (0x80, 0x12) => basic_channel(class, Toolkit(Fetch)),
+            (0x80, 0x14) => basic_channel(class, Toolkit(TerminalResponse)),
+            (0x80, 0xC2) => basic_channel(class, Toolkit(Envelope)),
+            (0xF0, 0xE6) => each_channel(class, Toolkit(InstallApplet)),
+            (0xF0, 0xE4) => each_channel(class, Toolkit(DeleteApplet)),
+            (0x00, 0xE0) => each_channel(class, Tree(Create)),
+            (0x00, 0xE4) => each_channel(class, Tree(Delete)),
+            (0x80, 0xD4) => each_channel(class, Tree(Resize)),
             _ => None,
         }
     }
@@ -131,7 +138,6 @@ pub fn instruction_of(channels: &Channels, class: u8, ins: u8) -> Result<Instruc
     ensures tried { result ≡ instruction_tried is_known channels.now class ins }
     ensures open { OnOk result (is_open channels.now (channel_of class) ≡ true) }
     ensures usual { result ≢ Err StatusWord.MEMORY_PROBLEM }
-    ensures pins { IfOk result (HasPinByte ins) }
 {
     if !is_class(class) {
         return Err(StatusWord::NO_SUCH_CLASS);
@@ -153,60 +159,4 @@ pub fn instruction_of(channels: &Channels, class: u8, ins: u8) -> Result<Instruc
         return Err(StatusWord::NO_SUCH_CHANNEL);
     }
     Ok(row.instruction)
-}
-
-/// Whether it is one between the toolkit and the handset, or one that installs or deletes an applet.
-pub fn is_of_toolkit(instruction: Instruction) -> bool
-    ensures { result ≡ is_of_toolkit instruction }
-{
-    matches!(
-        instruction,
-        Instruction::TerminalProfile
-            | Instruction::Fetch
-            | Instruction::TerminalResponse
-            | Instruction::Envelope
-            | Instruction::InstallApplet
-            | Instruction::DeleteApplet
-    )
-}
-
-/// Whether it is one that makes, deletes or resizes a file.
-pub fn is_of_tree(instruction: Instruction) -> bool
-    ensures { result ≡ is_of_tree instruction }
-{
-    matches!(
-        instruction,
-        Instruction::CreateFile | Instruction::DeleteFile | Instruction::ResizeFile
-    )
-}
-
-/// Whether it is one of the five commands on PINs.
-pub fn is_on_pins(instruction: Instruction) -> bool
-    ensures { result ≡ is_on_pins instruction }
-{
-    matches!(
-        instruction,
-        Instruction::VerifyPin
-            | Instruction::ChangePin
-            | Instruction::DisablePin
-            | Instruction::EnablePin
-            | Instruction::UnblockPin
-    )
-}
-
-/// Whether it works on what a file holds.
-pub fn is_on_contents(instruction: Instruction) -> bool
-    ensures { result ≡ is_on_contents instruction }
-{
-    matches!(
-        instruction,
-        Instruction::ReadBinary
-            | Instruction::UpdateBinary
-            | Instruction::ReadRecord
-            | Instruction::UpdateRecord
-            | Instruction::SearchRecord
-            | Instruction::Increase
-            | Instruction::DeactivateFile
-            | Instruction::ActivateFile
-    )
 }

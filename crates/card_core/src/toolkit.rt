@@ -1,16 +1,16 @@
 //! The commands of the toolkit.
-ghost use Rattle.std.specs.Prelude.{◌≡◌, ◌≤◌, length, slice_set, true, None, IsOk, is_some};
+ghost use Rattle.std.specs.Prelude.{◌≡◌, ◌≤◌, length, slice_set, None, IsOk, is_some};
 ghost use Rattle.card_layout.specs.Memory.{memory};
 ghost use Rattle.card_layout.specs.States.{pins_of, rows_of};
 ghost use Rattle.file_model.specs.Access.{keys_seen};
 ghost use Rattle.proactive_handler.specs.Boxes.{minds_of};
 ghost use Rattle.proactive_handler.specs.Steps.{scene};
-ghost use Rattle.card_model.specs.Instructions.{is_of_toolkit};
 ghost use Rattle.card_model.specs.States.{row_on};
+ghost use Rattle.card_model.specs.Toolkit.{toolkit_outcome};
 ghost use Rattle.session_commands.specs.Bounds.{IsBetweenCommands, EndsToolkitWell};
 ghost use Rattle.session_commands.specs.Carrying.{CarriesOut};
 ghost use Rattle.card_core.specs.Cards.{boxes_kept};
-ghost use Rattle.card_core.specs.Commands.{toolkit_outcome, leaving_by};
+ghost use Rattle.card_core.specs.Commands.{leaving_by};
 ghost use Rattle.card_core.specs.Serving.{KeepsToolkit};
 
 use crate::keys::keys_seen;
@@ -19,7 +19,7 @@ use access_rules::Verified;
 use apdu_form::Command;
 use applet_trait::Applet;
 use card_layout::Loaded;
-use card_model::Instruction;
+use card_model::ToolkitCommand;
 use session_commands::{delete, fetch, install, take_envelope, take_profile, take_response};
 use store_form::{Store, StoreFault};
 use toolkit_session::Session;
@@ -27,28 +27,27 @@ use trigger_index::Index;
 use uicc_types::{Answer, Shelf, StatusWord};
 
 /// A command of the toolkit, over a card's memory and its boxes. The keys are looked at where one is needed.
-#[tactic(auto, unfolding(crate::specs::Commands::toolkit_outcome))]
+#[tactic(auto, unfolding(card_model::specs::Toolkit::toolkit_outcome))]
 pub(crate) fn by_toolkit<S: Store, B: Applet>(
-    instruction: Instruction,
+    command: ToolkitCommand,
     store: &mut S,
     loaded: &mut Loaded,
     index: &mut Index,
     cast: &mut [Option<B>],
     session: &mut Session,
     verified: &Verified,
-    command: &Command<'_>,
+    apdu: &Command<'_>,
     out: &mut Answer,
 ) -> Result<(), StoreFault>
-    requires of_toolkit { is_of_toolkit instruction ≡ true }
     requires rests { IsBetweenCommands
         (scene (memory S.Store store.old loaded.old) index.old session.old (minds_of B.mind cast.old)) cast.old }
-    requires short { length command.now.body ≤ 255 }
+    requires short { length apdu.now.body ≤ 255 }
     ensures carries { CarriesOut
-        (λ card. toolkit_outcome instruction card (keys_seen (pins_of loaded.old) verified.now) command.now) out.new
+        (λ card. toolkit_outcome command card (keys_seen (pins_of loaded.old) verified.now) apdu.now) out.new
         (scene (memory S.Store store.old loaded.old) index.old session.old (minds_of B.mind cast.old))
         (scene (memory S.Store store.new loaded.new) index.new session.new (minds_of B.mind cast.new)) result }
-    ensures done { instruction ≡ Instruction.Fetch → IsOk result }
-    ensures keeps { KeepsToolkit instruction command.now
+    ensures done { command ≡ ToolkitCommand.Fetch → IsOk result }
+    ensures keeps { KeepsToolkit command apdu.now
         (scene (memory S.Store store.old loaded.old) index.old session.old (minds_of B.mind cast.old))
         (scene (memory S.Store store.new loaded.new) index.new session.new (minds_of B.mind cast.new)) result }
     ensures ends { EndsToolkitWell out.new
@@ -56,33 +55,32 @@ pub(crate) fn by_toolkit<S: Store, B: Applet>(
 {
     // This call is a law, and does nothing.
     keys_are_own();
-    match instruction {
-        Instruction::TerminalProfile => {
-            take_profile(store, loaded, index, cast, session, command, out)
+    match command {
+        ToolkitCommand::TerminalProfile => {
+            take_profile(store, loaded, index, cast, session, apdu, out)
         }
-        Instruction::Fetch => fetch(store, loaded, index, cast, session, command, out),
-        Instruction::TerminalResponse => {
-            take_response(store, loaded, index, cast, session, command, out)
+        ToolkitCommand::Fetch => fetch(store, loaded, index, cast, session, apdu, out),
+        ToolkitCommand::TerminalResponse => {
+            take_response(store, loaded, index, cast, session, apdu, out)
         }
-        Instruction::Envelope => take_envelope(store, loaded, index, cast, session, command, out),
-        Instruction::InstallApplet => {
+        ToolkitCommand::Envelope => take_envelope(store, loaded, index, cast, session, apdu, out),
+        ToolkitCommand::InstallApplet => {
             let seen = keys_seen(loaded, verified);
-            install(store, loaded, index, cast, session, &seen, command, out)
+            install(store, loaded, index, cast, session, &seen, apdu, out)
         }
-        Instruction::DeleteApplet => {
+        ToolkitCommand::DeleteApplet => {
             let seen = keys_seen(loaded, verified);
-            delete(store, loaded, index, cast, session, &seen, command, out)
+            delete(store, loaded, index, cast, session, &seen, apdu, out)
         }
-        _ => unreachable!(),
     }
 }
 
 /// The shelf of the applet that leaves where a fault stops this command.
-pub(crate) fn leaving(instruction: Instruction, command: &Command<'_>) -> Option<Shelf>
-    ensures { result ≡ leaving_by instruction command.now }
+pub(crate) fn leaving(command: ToolkitCommand, apdu: &Command<'_>) -> Option<Shelf>
+    ensures { result ≡ leaving_by command apdu.now }
 {
-    match instruction {
-        Instruction::DeleteApplet => Some(Shelf(command.p2)),
+    match command {
+        ToolkitCommand::DeleteApplet => Some(Shelf(apdu.p2)),
         _ => None,
     }
 }

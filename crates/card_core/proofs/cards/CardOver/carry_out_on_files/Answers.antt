@@ -1,5 +1,5 @@
 use Rattle.std.proofs.Common.{◌≡◌, ℕ, List, Option, Some, refl, sym, ◌∙◌, ap, subst, rules}
-use Rattle.std.specs.Prelude.{slice_set, unwrap_or}
+use Rattle.std.specs.Prelude.{slice_set, unwrap_or, Ok, Err}
 use Rattle.std.proofs.lemmas.Bool.{false≢true}
 use Rattle.apdu_form.specs.Model.{Apdu}
 use Rattle.card_layout.specs.declared.entries.Loaded.{Loaded}
@@ -12,37 +12,39 @@ use Rattle.file_model.specs.declared.selections.Selection.{Selection}
 use Rattle.file_model.specs.declared.selections.TheConstants.Selection.{AT_START}
 use Rattle.card_model.specs.Channels.{channel_of, selected_on}
 use Rattle.card_memory.specs.Laws.{IsTold}
-use Rattle.card_core.specs.AnyStore.{RefusesFile, LeavesFiles}
+use Rattle.card_core.specs.AnyStore.{RefusesFile, NeedsNoContents}
 use Rattle.card_core.specs.Cards.{parts_of, card_of}
 use Rattle.file_making.specs.Lawful.{AreSelected}
-use Rattle.card_core.specs.Commands.{file_outcome}
+use Rattle.file_model.specs.Commands.{file_outcome}
+use Rattle.file_model.specs.declared.commands.FileCommand.{FileCommand}
 use Rattle.record_commands.specs.Tables.{HasOtherFiles}
 use Rattle.card_core.proofs.Denied.{refused_stays}
 use Rattle.card_core.proofs.Kept.{kept_selected, rows_beside_files, set_after}
 use Rattle.card_core.proofs.Restarts.{toolkit_kept}
 use Rattle.card_core.proofs.Selecting.{set_selected}
 use Rattle.card_core.proofs.Settling.{files_settle, files_fault, put_back, files_counts}
-use Rattle.card_core.proofs.Lost.{fault_left, files_beside, card_boxes}
+use Rattle.card_core.proofs.Lost.{fault_left, card_boxes}
 use Rattle.card_core.proofs.Served.{cards_in_order, some_told}
 use Rattle.card_core.proofs.Staying.{files_moved, files_kept, status_keeps}
 use Rattle.card_core.proofs.Telling.{files_told}
 use Rattle.file_model.specs.Outcomes.{settled_file}
-use Rattle.card_model.specs.declared.instructions.Instruction.{Instruction}
+use Rattle.card_model.specs.declared.instructions.Instruction.TheVariants.{File}
+use Rattle.card_core.proofs.Levels.{files_act}
 use Rattle.card_opening.proofs.Started.{holds_card}
 use Rattle.card_core.proofs.cards.CardOver.carry_out_on_files.Goals as goal
 
 pub returns-in-Ok-clause-settled : goal.returns-in-Ok-clause-settled
 returns-in-Ok-clause-settled g c = record {
   settles =
-      let channel : c.channel_of-channel.result ≡ channel_of c.args.command.now.class = c.channel_of-channel.ensures ∙ ap (λ (apdu : Apdu). channel_of apdu.class) c.command.view_is in
-      files_settle c.args.instruction c.requires.on_files c.tables_tell_states.ensures _ _ c.requires.underway.rests c.requires.underway.running.mounted.agrees c.args.command.now c.in-Some.selection
+      let channel : c.channel_of-channel.result ≡ channel_of c.args.apdu.now.class = c.channel_of-channel.ensures ∙ ap (λ (apdu : Apdu). channel_of apdu.class) c.apdu.view_is in
+      files_settle c.args.command c.tables_tell_states.ensures _ _ c.requires.underway.rests c.requires.underway.running.mounted.agrees c.args.apdu.now c.in-Some.selection
       (ap (selected_on c.args.self.now.channels) (sym channel) ∙ sym c.selected.ensures ∙ c.in-Some.is)
       (keys_seen (pins_of c.deref_mut.result.now) c.args.self.now.verified) (ap (λ (table : Loaded). keys_seen (pins_of table) c.args.self.now.verified) c.deref_mut.ensures.value)
       _ c.on_files.new.selection c.on_files.new.out c.in-Ok.ensures.performs c.requires.underway.rests
       (c.set.ensures ∙ ap (λ (at : ℕ). slice_set c.args.self.now.channels at (Some c.on_files.new.selection)) channel) refl refl refl;
   counts =
-      let channel : c.channel_of-channel.result ≡ channel_of c.args.command.now.class = c.channel_of-channel.ensures ∙ ap (λ (apdu : Apdu). channel_of apdu.class) c.command.view_is in
-      files_counts c.args.instruction c.requires.on_files c.tables_tell_states.ensures (parts_of g.S.Store g.B.Applet c.args.self.now) _ c.requires.underway.rests c.requires.underway.running.mounted.agrees c.args.command.now c.in-Some.selection
+      let channel : c.channel_of-channel.result ≡ channel_of c.args.apdu.now.class = c.channel_of-channel.ensures ∙ ap (λ (apdu : Apdu). channel_of apdu.class) c.apdu.view_is in
+      files_counts c.args.command c.tables_tell_states.ensures (parts_of g.S.Store g.B.Applet c.args.self.now) _ c.requires.underway.rests c.requires.underway.running.mounted.agrees c.args.apdu.now c.in-Some.selection
       (ap (selected_on c.args.self.now.channels) (sym channel) ∙ sym c.selected.ensures ∙ c.in-Some.is)
       (keys_seen (pins_of c.deref_mut.result.now) c.args.self.now.verified) (ap (λ (table : Loaded). keys_seen (pins_of table) c.args.self.now.verified) c.deref_mut.ensures.value)
       c.deref_mut.result.now _ c.on_files.new.selection c.on_files.new.out c.in-Ok.ensures.performs c.on_files.ensures.still;
@@ -74,16 +76,16 @@ pub returns-in-Err-clause-settled : goal.returns-in-Err-clause-settled
 returns-in-Err-clause-settled g c = record {
   settles =
       let old = parts_of g.S.Store g.B.Applet c.args.self.now in
-      let channel : c.channel_of-channel.result ≡ channel_of c.args.command.now.class = c.channel_of-channel.ensures ∙ ap (λ (apdu : Apdu). channel_of apdu.class) c.command.view_is in
-      fault_left c.cards_go_on.ensures.rows c.args.instruction c.args.command.now (files_beside c.args.instruction c.requires.on_files) (card_of old) _ c.requires.underway.running.stays (card_boxes old c.requires.underway.rests)
+      let channel : c.channel_of-channel.result ≡ channel_of c.args.apdu.now.class = c.channel_of-channel.ensures ∙ ap (λ (apdu : Apdu). channel_of apdu.class) c.apdu.view_is in
+      fault_left c.cards_go_on.ensures.rows (File c.args.command) c.args.apdu.now refl (card_of old) _ c.requires.underway.running.stays (card_boxes old c.requires.underway.rests)
       (cards_in_order c.tables_tell_states.ensures c.tables_have_rows.ensures old c.requires.underway.running c.requires.underway.rests)
-      (files_fault c.args.instruction c.requires.on_files c.tables_tell_states.ensures (parts_of g.S.Store g.B.Applet c.args.self.now) (parts_of g.S.Store g.B.Applet c.args.self.now) c.requires.underway.rests c.requires.underway.running.mounted.agrees c.args.command.now c.in-Some.selection
+      (files_fault c.args.command c.tables_tell_states.ensures (parts_of g.S.Store g.B.Applet c.args.self.now) (parts_of g.S.Store g.B.Applet c.args.self.now) c.requires.underway.rests c.requires.underway.running.mounted.agrees c.args.apdu.now c.in-Some.selection
       (ap (selected_on c.args.self.now.channels) (sym channel) ∙ sym c.selected.ensures ∙ c.in-Some.is)
       (keys_seen (pins_of c.deref_mut.result.now) c.args.self.now.verified) (ap (λ (table : Loaded). keys_seen (pins_of table) c.args.self.now.verified) c.deref_mut.ensures.value)
       (standing (g.S.Store.store_mark c.on_files.new.store) (g.S.Store.stable c.on_files.new.store)) c.in-Err.ensures.performs.passes);
   counts =
-      let channel : c.channel_of-channel.result ≡ channel_of c.args.command.now.class = c.channel_of-channel.ensures ∙ ap (λ (apdu : Apdu). channel_of apdu.class) c.command.view_is in
-      files_counts c.args.instruction c.requires.on_files c.tables_tell_states.ensures (parts_of g.S.Store g.B.Applet c.args.self.now) _ c.requires.underway.rests c.requires.underway.running.mounted.agrees c.args.command.now c.in-Some.selection
+      let channel : c.channel_of-channel.result ≡ channel_of c.args.apdu.now.class = c.channel_of-channel.ensures ∙ ap (λ (apdu : Apdu). channel_of apdu.class) c.apdu.view_is in
+      files_counts c.args.command c.tables_tell_states.ensures (parts_of g.S.Store g.B.Applet c.args.self.now) _ c.requires.underway.rests c.requires.underway.running.mounted.agrees c.args.apdu.now c.in-Some.selection
       (ap (selected_on c.args.self.now.channels) (sym channel) ∙ sym c.selected.ensures ∙ c.in-Some.is)
       (keys_seen (pins_of c.deref_mut.result.now) c.args.self.now.verified) (ap (λ (table : Loaded). keys_seen (pins_of table) c.args.self.now.verified) c.deref_mut.ensures.value)
       c.deref_mut.result.now _ c.on_files.new.selection c.on_files.new.out c.in-Err.ensures.performs c.on_files.ensures.still;
@@ -91,81 +93,90 @@ returns-in-Err-clause-settled g c = record {
   empty = search rules;
 }
 
+pub returns-in-Ok-clause-still : goal.returns-in-Ok-clause-still
+returns-in-Ok-clause-still g c = λ is.
+    let channel : c.channel_of-channel.result ≡ channel_of c.args.apdu.now.class = c.channel_of-channel.ensures ∙ ap (λ (apdu : Apdu). channel_of apdu.class) c.apdu.view_is in
+    let there : selected_on c.args.self.now.channels (channel_of c.args.apdu.now.class) ≡ Some c.in-Some.selection = ap (selected_on c.args.self.now.channels) (sym channel) ∙ sym c.selected.ensures ∙ c.in-Some.is in
+    let some = some_told c.tables_tell_states.ensures (g.S.Store.store_mark c.args.self.now.store) (g.S.Store.stable c.args.self.now.store) c.args.self.now.loaded.value c.requires.underway.running.mounted.agrees in
+    let seen = keys_seen (pins_of c.deref_mut.result.now) c.args.self.now.verified in
+    let gives = c.in-Ok.ensures.tells.answers some.0 (subst (λ (command : FileCommand). NeedsNoContents (File command)) (sym is) tt) (subst (λ (table : Loaded). IsTold table some.0) (sym c.deref_mut.ensures.value) some.1) in
+    let keeps = subst (λ (each : FileCommand). (settled_file c.in-Some.selection (file_outcome each some.0 seen c.in-Some.selection c.args.apdu.now)).selection ≡ c.in-Some.selection) (sym is)
+    (status_keeps some.0 seen c.in-Some.selection c.args.apdu.now) in
+    record {
+      done = refl;
+      commits = gives.3;
+      table = gives.2 ∙ c.deref_mut.ensures.value;
+      channels =
+          c.set.ensures ∙ ap (λ (at : ℕ). slice_set c.args.self.now.channels at (Some c.on_files.new.selection)) channel
+          ∙ ap (λ (next : Selection). slice_set c.args.self.now.channels (channel_of c.args.apdu.now.class) (Some next)) (gives.1.selected ∙ keeps)
+          ∙ put_back c.args.self.now.channels (channel_of c.args.apdu.now.class) c.in-Some.selection there;
+      verified = refl;
+      boxes = refl;
+    }
+
 pub returns-in-Ok-clause-acts : goal.returns-in-Ok-clause-acts
-returns-in-Ok-clause-acts g c = record {
-  answers = λ state leaves told.
-      let channel : c.channel_of-channel.result ≡ channel_of c.args.command.now.class = c.channel_of-channel.ensures ∙ ap (λ (apdu : Apdu). channel_of apdu.class) c.command.view_is in
-      let there : selected_on c.args.self.now.channels (channel_of c.args.command.now.class) ≡ Some c.in-Some.selection = ap (selected_on c.args.self.now.channels) (sym channel) ∙ sym c.selected.ensures ∙ c.in-Some.is in
-      let gives = c.in-Ok.ensures.tells.answers state leaves (subst (λ (table : Loaded). IsTold table state) (sym c.deref_mut.ensures.value) told) in (
-        refl,
-        files_told c.args.instruction c.requires.on_files (parts_of g.S.Store g.B.Applet c.args.self.now) _ state c.args.command.now c.in-Some.selection c.on_files.new.selection c.on_files.new.out there
-            (keys_seen (pins_of c.deref_mut.result.now) c.args.self.now.verified) (ap (λ (table : Loaded). keys_seen (pins_of table) c.args.self.now.verified) c.deref_mut.ensures.value) told (gives.2 ∙ c.deref_mut.ensures.value) gives.1
-            (c.set.ensures ∙ ap (λ (at : ℕ). slice_set c.args.self.now.channels at (Some c.on_files.new.selection)) channel) refl refl refl,
-      );
-  commits = λ state leaves told. (c.in-Ok.ensures.tells.answers state leaves (subst (λ (table : Loaded). IsTold table state) (sym c.deref_mut.ensures.value) told)).3;
-  denied = λ status refused.
-      let channel : c.channel_of-channel.result ≡ channel_of c.args.command.now.class = c.channel_of-channel.ensures ∙ ap (λ (apdu : Apdu). channel_of apdu.class) c.command.view_is in
-      let there : selected_on c.args.self.now.channels (channel_of c.args.command.now.class) ≡ Some c.in-Some.selection = ap (selected_on c.args.self.now.channels) (sym channel) ∙ sym c.selected.ensures ∙ c.in-Some.is in
-      let gives = c.in-Ok.ensures.tells.denied status (subst (λ (table : Loaded). RefusesFile c.args.instruction (descriptors_of table) c.in-Some.selection c.args.command.now status) (sym c.deref_mut.ensures.value)
-      (subst (λ (found : Option Selection). RefusesFile c.args.instruction (descriptors_of c.args.self.now.loaded.value) (unwrap_or found AT_START) c.args.command.now status) there refused)) in
-      let stays = refused_stays c.tables_tell_states.ensures (memory g.S.Store c.args.self.now.store c.deref_mut.result.now) (memory g.S.Store c.on_files.new.store c.on_files.new.loaded)
-      (subst (λ (table : Loaded). Agrees (g.S.Store.store_mark c.args.self.now.store) (g.S.Store.stable c.args.self.now.store) table) (sym c.deref_mut.ensures.value) c.requires.underway.running.mounted.agrees) c.requires.underway.set.card
-      c.on_files.ensures.ends.keeps.told c.args.instruction (keys_seen (pins_of c.deref_mut.result.now) c.args.self.now.verified) c.in-Some.selection c.args.command.now status
-      (subst (λ (table : Loaded). RefusesFile c.args.instruction (descriptors_of table) c.in-Some.selection c.args.command.now status) (sym c.deref_mut.ensures.value)
-      (subst (λ (found : Option Selection). RefusesFile c.args.instruction (descriptors_of c.args.self.now.loaded.value) (unwrap_or found AT_START) c.args.command.now status) there refused))
-      c.on_files.new.selection c.on_files.new.out c.in-Ok.ensures.performs c.on_files.ensures.still in (
-        refl,
-        record {
-          refused = record { body = gives.1.body; status_is = gives.1.status_is };
-          table = gives.2 ∙ c.deref_mut.ensures.value;
-          channels =
-              c.set.ensures ∙ ap (λ (at : ℕ). slice_set c.args.self.now.channels at (Some c.on_files.new.selection)) channel
-              ∙ ap (λ (next : Selection). slice_set c.args.self.now.channels (channel_of c.args.command.now.class) (Some next)) gives.1.selected
-              ∙ put_back c.args.self.now.channels (channel_of c.args.command.now.class) c.in-Some.selection there;
-          verified = refl;
-          session = refl;
-          boxes = refl;
-          is_on = refl;
-          is_due = refl;
-          index = refl;
-          leaving = refl;
-          told = stays.0;
-          mark = c.on_files.ensures.ends.keeps.mark;
-          commits = stays.1;
-        },
-      );
-  moves =
-      let channel : c.channel_of-channel.result ≡ channel_of c.args.command.now.class = c.channel_of-channel.ensures ∙ ap (λ (apdu : Apdu). channel_of apdu.class) c.command.view_is in
-      files_moved (channel_of c.args.command.now.class) c.channel_of-channel.result (parts_of g.S.Store g.B.Applet c.args.self.now) _ (Some c.on_files.new.selection)
-      (subst (λ (table : Loaded). HasOtherFiles table c.on_files.new.loaded) c.deref_mut.ensures.value c.on_files.ensures.files.files) channel c.set.ensures refl refl refl;
-  table = search rules;
-  still = λ is.
-      let channel : c.channel_of-channel.result ≡ channel_of c.args.command.now.class = c.channel_of-channel.ensures ∙ ap (λ (apdu : Apdu). channel_of apdu.class) c.command.view_is in
-      let there : selected_on c.args.self.now.channels (channel_of c.args.command.now.class) ≡ Some c.in-Some.selection = ap (selected_on c.args.self.now.channels) (sym channel) ∙ sym c.selected.ensures ∙ c.in-Some.is in
-      let some = some_told c.tables_tell_states.ensures (g.S.Store.store_mark c.args.self.now.store) (g.S.Store.stable c.args.self.now.store) c.args.self.now.loaded.value c.requires.underway.running.mounted.agrees in
-      let seen = keys_seen (pins_of c.deref_mut.result.now) c.args.self.now.verified in
-      let gives = c.in-Ok.ensures.tells.answers some.0 (subst LeavesFiles (sym is) tt) (subst (λ (table : Loaded). IsTold table some.0) (sym c.deref_mut.ensures.value) some.1) in
-      let keeps = subst (λ (each : Instruction). (settled_file c.in-Some.selection (file_outcome each some.0 seen c.in-Some.selection c.args.command.now)).selection ≡ c.in-Some.selection) (sym is)
-      (status_keeps some.0 seen c.in-Some.selection c.args.command.now) in (
-        gives.2 ∙ c.deref_mut.ensures.value,
-        c.set.ensures ∙ ap (λ (at : ℕ). slice_set c.args.self.now.channels at (Some c.on_files.new.selection)) channel
-            ∙ ap (λ (next : Selection). slice_set c.args.self.now.channels (channel_of c.args.command.now.class) (Some next)) (gives.1.selected ∙ keeps)
-            ∙ put_back c.args.self.now.channels (channel_of c.args.command.now.class) c.in-Some.selection there,
-      );
-}
+returns-in-Ok-clause-acts g c =
+    let channel : c.channel_of-channel.result ≡ channel_of c.args.apdu.now.class = c.channel_of-channel.ensures ∙ ap (λ (apdu : Apdu). channel_of apdu.class) c.apdu.view_is in
+    let there : selected_on c.args.self.now.channels (channel_of c.args.apdu.now.class) ≡ Some c.in-Some.selection = ap (selected_on c.args.self.now.channels) (sym channel) ∙ sym c.selected.ensures ∙ c.in-Some.is in
+    files_act {X = Unit} (Ok c.in-Ok.field-0) c.args.apdu.now (parts_of g.S.Store g.B.Applet c.args.self.now) _ c.on_files.new.out c.args.command
+    (some_told c.tables_tell_states.ensures (g.S.Store.store_mark c.args.self.now.store) (g.S.Store.stable c.args.self.now.store) c.args.self.now.loaded.value c.requires.underway.running.mounted.agrees)
+    (λ state needs told.
+    let gives = c.in-Ok.ensures.tells.answers state needs (subst (λ (table : Loaded). IsTold table state) (sym c.deref_mut.ensures.value) told) in (
+      refl,
+      files_told c.args.command (parts_of g.S.Store g.B.Applet c.args.self.now) _ state c.args.apdu.now c.in-Some.selection c.on_files.new.selection c.on_files.new.out there
+          (keys_seen (pins_of c.deref_mut.result.now) c.args.self.now.verified) (ap (λ (table : Loaded). keys_seen (pins_of table) c.args.self.now.verified) c.deref_mut.ensures.value) told (gives.2 ∙ c.deref_mut.ensures.value) gives.1
+          (c.set.ensures ∙ ap (λ (at : ℕ). slice_set c.args.self.now.channels at (Some c.on_files.new.selection)) channel) refl refl refl,
+      gives.3,
+    ))
+    (λ status refused.
+    let told = subst (λ (table : Loaded). RefusesFile c.args.command (descriptors_of table) c.in-Some.selection c.args.apdu.now status) (sym c.deref_mut.ensures.value)
+    (subst (λ (found : Option Selection). RefusesFile c.args.command (descriptors_of c.args.self.now.loaded.value) (unwrap_or found AT_START) c.args.apdu.now status) there refused) in
+    let gives = c.in-Ok.ensures.tells.denied status told in
+    let stays = refused_stays c.tables_tell_states.ensures (memory g.S.Store c.args.self.now.store c.deref_mut.result.now) (memory g.S.Store c.on_files.new.store c.on_files.new.loaded)
+    (subst (λ (table : Loaded). Agrees (g.S.Store.store_mark c.args.self.now.store) (g.S.Store.stable c.args.self.now.store) table) (sym c.deref_mut.ensures.value) c.requires.underway.running.mounted.agrees) c.requires.underway.set.card
+    c.on_files.ensures.ends.keeps.told c.args.command (keys_seen (pins_of c.deref_mut.result.now) c.args.self.now.verified) c.in-Some.selection c.args.apdu.now status told
+    c.on_files.new.selection c.on_files.new.out c.in-Ok.ensures.performs c.on_files.ensures.still in (
+      refl,
+      record {
+        refused = record { body = gives.1.body; status_is = gives.1.status_is };
+        table = gives.2 ∙ c.deref_mut.ensures.value;
+        channels =
+            c.set.ensures ∙ ap (λ (at : ℕ). slice_set c.args.self.now.channels at (Some c.on_files.new.selection)) channel
+            ∙ ap (λ (next : Selection). slice_set c.args.self.now.channels (channel_of c.args.apdu.now.class) (Some next)) gives.1.selected
+            ∙ put_back c.args.self.now.channels (channel_of c.args.apdu.now.class) c.in-Some.selection there;
+        verified = refl;
+        session = refl;
+        boxes = refl;
+        is_on = refl;
+        is_due = refl;
+        index = refl;
+        leaving = refl;
+        told = stays.0;
+        mark = c.on_files.ensures.ends.keeps.mark;
+        commits = stays.1;
+      },
+    ))
+    (files_moved (channel_of c.args.apdu.now.class) c.channel_of-channel.result (parts_of g.S.Store g.B.Applet c.args.self.now) _ (Some c.on_files.new.selection)
+    (subst (λ (table : Loaded). HasOtherFiles table c.on_files.new.loaded) c.deref_mut.ensures.value c.on_files.ensures.files.files) channel c.set.ensures refl refl refl)
+    (returns-in-Ok-clause-still g c)
+
+pub returns-in-Err-clause-still : goal.returns-in-Err-clause-still
+returns-in-Err-clause-still g c = λ is.
+    let some = some_told c.tables_tell_states.ensures (g.S.Store.store_mark c.args.self.now.store) (g.S.Store.stable c.args.self.now.store) c.args.self.now.loaded.value c.requires.underway.running.mounted.agrees in
+    absurd (false≢true (c.in-Err.ensures.tells.answers some.0 (subst (λ (command : FileCommand). NeedsNoContents (File command)) (sym is) tt) (subst (λ (table : Loaded). IsTold table some.0) (sym c.deref_mut.ensures.value) some.1)).0)
 
 pub returns-in-Err-clause-acts : goal.returns-in-Err-clause-acts
-returns-in-Err-clause-acts g c = record {
-  answers = λ state leaves told. absurd (false≢true (c.in-Err.ensures.tells.answers state leaves (subst (λ (table : Loaded). IsTold table state) (sym c.deref_mut.ensures.value) told)).0);
-  commits = λ state leaves told. absurd (false≢true (c.in-Err.ensures.tells.answers state leaves (subst (λ (table : Loaded). IsTold table state) (sym c.deref_mut.ensures.value) told)).0);
-  denied = λ status refused.
-      let channel : c.channel_of-channel.result ≡ channel_of c.args.command.now.class = c.channel_of-channel.ensures ∙ ap (λ (apdu : Apdu). channel_of apdu.class) c.command.view_is in
-      let there : selected_on c.args.self.now.channels (channel_of c.args.command.now.class) ≡ Some c.in-Some.selection = ap (selected_on c.args.self.now.channels) (sym channel) ∙ sym c.selected.ensures ∙ c.in-Some.is in
-      absurd (false≢true (c.in-Err.ensures.tells.denied status (subst (λ (table : Loaded). RefusesFile c.args.instruction (descriptors_of table) c.in-Some.selection c.args.command.now status) (sym c.deref_mut.ensures.value)
-      (subst (λ (found : Option Selection). RefusesFile c.args.instruction (descriptors_of c.args.self.now.loaded.value) (unwrap_or found AT_START) c.args.command.now status) there refused))).0);
-  moves = files_kept (channel_of c.args.command.now.class) (parts_of g.S.Store g.B.Applet c.args.self.now) _ (c.in-Err.ensures.ends.table ∙ c.deref_mut.ensures.value) refl refl refl refl;
-  table = c.in-Err.ensures.ends.table ∙ c.deref_mut.ensures.value;
-  still = λ is.
-      let some = some_told c.tables_tell_states.ensures (g.S.Store.store_mark c.args.self.now.store) (g.S.Store.stable c.args.self.now.store) c.args.self.now.loaded.value c.requires.underway.running.mounted.agrees in
-      absurd (false≢true (c.in-Err.ensures.tells.answers some.0 (subst LeavesFiles (sym is) tt) (subst (λ (table : Loaded). IsTold table some.0) (sym c.deref_mut.ensures.value) some.1)).0);
-}
+returns-in-Err-clause-acts g c =
+    let channel : c.channel_of-channel.result ≡ channel_of c.args.apdu.now.class = c.channel_of-channel.ensures ∙ ap (λ (apdu : Apdu). channel_of apdu.class) c.apdu.view_is in
+    let there : selected_on c.args.self.now.channels (channel_of c.args.apdu.now.class) ≡ Some c.in-Some.selection = ap (selected_on c.args.self.now.channels) (sym channel) ∙ sym c.selected.ensures ∙ c.in-Some.is in
+    files_act {X = Unit} (Err c.in-Err.fault) c.args.apdu.now (parts_of g.S.Store g.B.Applet c.args.self.now) _ c.on_files.new.out c.args.command
+    (some_told c.tables_tell_states.ensures (g.S.Store.store_mark c.args.self.now.store) (g.S.Store.stable c.args.self.now.store) c.args.self.now.loaded.value c.requires.underway.running.mounted.agrees)
+    (λ state needs told. absurd (false≢true (c.in-Err.ensures.tells.answers state needs (subst (λ (table : Loaded). IsTold table state) (sym c.deref_mut.ensures.value) told)).0))
+    (λ status refused.
+    absurd (false≢true (c.in-Err.ensures.tells.denied status (subst (λ (table : Loaded). RefusesFile c.args.command (descriptors_of table) c.in-Some.selection c.args.apdu.now status) (sym c.deref_mut.ensures.value)
+    (subst (λ (found : Option Selection). RefusesFile c.args.command (descriptors_of c.args.self.now.loaded.value) (unwrap_or found AT_START) c.args.apdu.now status) there refused))).0))
+    (files_kept (channel_of c.args.apdu.now.class) (parts_of g.S.Store g.B.Applet c.args.self.now) _ (c.in-Err.ensures.ends.table ∙ c.deref_mut.ensures.value) refl refl refl refl)
+    (returns-in-Err-clause-still g c)
+
+pub returns-in-Err-clause-table : goal.returns-in-Err-clause-table
+returns-in-Err-clause-table g c = c.in-Err.ensures.ends.table ∙ c.deref_mut.ensures.value

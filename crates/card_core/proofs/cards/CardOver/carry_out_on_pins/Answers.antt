@@ -1,7 +1,7 @@
 use Rattle.std.specs.Prelude.{None}
 use Rattle.card_core.proofs.Restored.{silent_agrees}
 use Rattle.std.proofs.Common.{ℕ, List, ◌∷◌, Option, refl, sym, ◌∙◌, ap, subst, rules}
-use Rattle.std.specs.Prelude.{Contains}
+use Rattle.std.specs.Prelude.{Contains, Ok, Err}
 use Rattle.std.proofs.lemmas.Bool.{false≢true}
 use Rattle.card_layout.specs.Standing.{standing, Agrees}
 use Rattle.card_layout.specs.declared.entries.Loaded.{Loaded}
@@ -9,7 +9,9 @@ use Rattle.card_layout.specs.States.{pins_of, rows_of}
 use Rattle.card_memory.specs.Performing.{with_each}
 use Rattle.file_model.specs.declared.descriptors.Descriptor.{Descriptor}
 use Rattle.file_model.specs.Files.{descriptors_of}
-use Rattle.file_model.specs.Pins.{pin_tried, pin_outcome}
+use Rattle.file_model.specs.Commands.{pin_outcome, pin_settled}
+use Rattle.card_model.specs.declared.instructions.Instruction.TheVariants.{Pin}
+use Rattle.card_core.proofs.Levels.{pins_act}
 use Rattle.pin_rules.specs.Outcomes.{IsCarriedOut}
 use Rattle.card_core.specs.Cards.{parts_of, card_of}
 use Rattle.file_making.specs.Lawful.{AreSelected}
@@ -17,7 +19,7 @@ use Rattle.card_opening.proofs.Started.{holds_card}
 use Rattle.general_laws.specs.Optional.{if_some}
 use Rattle.card_core.proofs.Denied.{pins_refused}
 use Rattle.card_core.proofs.Kept.{rows_beside_pins, files_beside_pins, holds_passed, set_after}
-use Rattle.card_core.proofs.Lost.{fault_left, pins_beside, card_boxes}
+use Rattle.card_core.proofs.Lost.{fault_left, card_boxes}
 use Rattle.card_core.proofs.Served.{cards_in_order}
 use Rattle.card_core.proofs.Restarts.{toolkit_kept}
 use Rattle.card_core.proofs.Settling.{pins_settle, pins_fault, pins_counts}
@@ -25,11 +27,11 @@ use Rattle.card_core.proofs.Telling.{pins_answer}
 use Rattle.card_core.proofs.cards.CardOver.carry_out_on_pins.Goals as goal
 
 pub returns-in-Ok-clause-settled : goal.returns-in-Ok-clause-settled
-returns-in-Ok-clause-settled g c = λ instruction is byte. record {
+returns-in-Ok-clause-settled g c = record {
   settles =
-      pins_settle instruction is (parts_of g.S.Store g.B.Applet c.args.self.now) c.requires.underway.rests c.args.command.now byte _ _ c.pin_command.new.out c.in-Ok.ensures.performs c.requires.underway.rests refl refl refl;
+      pins_settle c.args.command (parts_of g.S.Store g.B.Applet c.args.self.now) c.requires.underway.rests c.args.apdu.now _ _ c.pin_command.new.out c.in-Ok.ensures.performs c.requires.underway.rests refl refl refl;
   counts =
-      pins_counts instruction is (parts_of g.S.Store g.B.Applet c.args.self.now) c.requires.underway.rests c.args.command.now byte _ c.deref_mut.result.now c.pin_command.new.loaded c.tables_tell_states.ensures c.requires.underway.running.mounted.agrees c.deref_mut.ensures.value
+      pins_counts c.args.command (parts_of g.S.Store g.B.Applet c.args.self.now) c.requires.underway.rests c.args.apdu.now _ c.deref_mut.result.now c.pin_command.new.loaded c.tables_tell_states.ensures c.requires.underway.running.mounted.agrees c.deref_mut.ensures.value
       _ c.pin_command.new.out c.in-Ok.ensures.performs (λ none. ap g.S.Store.stable (c.pin_command.ensures.still none).1);
   usual = search rules;
   empty = search rules;
@@ -54,77 +56,75 @@ returns-in-Ok-clause-goes_on g c = record {
 }
 
 pub returns-in-Err-clause-settled : goal.returns-in-Err-clause-settled
-returns-in-Err-clause-settled g c = λ instruction is byte. record {
+returns-in-Err-clause-settled g c = record {
   settles =
-      fault_left c.cards_go_on.ensures.rows instruction c.args.command.now (pins_beside instruction is) (card_of (parts_of g.S.Store g.B.Applet c.args.self.now)) _ c.requires.underway.running.stays (card_boxes (parts_of g.S.Store g.B.Applet c.args.self.now) c.requires.underway.rests)
+      fault_left c.cards_go_on.ensures.rows (Pin c.args.command) c.args.apdu.now refl (card_of (parts_of g.S.Store g.B.Applet c.args.self.now)) _ c.requires.underway.running.stays (card_boxes (parts_of g.S.Store g.B.Applet c.args.self.now) c.requires.underway.rests)
       (cards_in_order c.tables_tell_states.ensures c.tables_have_rows.ensures (parts_of g.S.Store g.B.Applet c.args.self.now) c.requires.underway.running c.requires.underway.rests)
-      (pins_fault instruction is (parts_of g.S.Store g.B.Applet c.args.self.now) c.requires.underway.rests c.args.command.now byte
+      (pins_fault c.args.command (parts_of g.S.Store g.B.Applet c.args.self.now) c.requires.underway.rests c.args.apdu.now
       (standing (g.S.Store.store_mark c.pin_command.new.store) (g.S.Store.stable c.pin_command.new.store)) c.in-Err.ensures.performs.passes);
   counts =
-      pins_counts instruction is (parts_of g.S.Store g.B.Applet c.args.self.now) c.requires.underway.rests c.args.command.now byte _ c.deref_mut.result.now c.pin_command.new.loaded c.tables_tell_states.ensures c.requires.underway.running.mounted.agrees c.deref_mut.ensures.value
+      pins_counts c.args.command (parts_of g.S.Store g.B.Applet c.args.self.now) c.requires.underway.rests c.args.apdu.now _ c.deref_mut.result.now c.pin_command.new.loaded c.tables_tell_states.ensures c.requires.underway.running.mounted.agrees c.deref_mut.ensures.value
       _ c.pin_command.new.out c.in-Err.ensures.performs (λ none. ap g.S.Store.stable (c.pin_command.ensures.still none).1);
   usual = search rules;
   empty = search rules;
 }
 
+pub returns-in-Err-clause-table : goal.returns-in-Err-clause-table
+returns-in-Err-clause-table g c = ap (λ (table : Loaded). record table { pins = c.deref.result.now.pins }) (c.deref_mut-in-Err.ensures.value ∙ c.pin_command.ensures.ends.others ∙ ap (λ (table : Loaded). record table { pins = c.pin_command.new.loaded.pins }) c.deref_mut.ensures.value) ∙ ap (λ (table : Loaded). record c.args.self.now.loaded.value { pins = table.pins }) c.deref.ensures
+
 pub returns-in-Err-clause-acts : goal.returns-in-Err-clause-acts
 returns-in-Err-clause-acts g c =
-    let same = ap (λ (table : Loaded). record table { pins = c.deref.result.now.pins }) (c.deref_mut-in-Err.ensures.value ∙ c.pin_command.ensures.ends.others ∙ ap (λ (table : Loaded). record table { pins = c.pin_command.new.loaded.pins }) c.deref_mut.ensures.value) ∙ ap (λ (table : Loaded). record c.args.self.now.loaded.value { pins = table.pins }) c.deref.ensures in
-    record {
-      answers = search rules;
-      denied = λ status refused. absurd (false≢true (c.in-Err.ensures.refused status (ap (λ (table : Loaded). pin_tried (pins_of table) c.args.self.now.verified c.args.command.now) c.deref_mut.ensures.value ∙ refused)).0);
-      moves = record {
-        table = same ∙ ap (λ (table : Loaded). record c.args.self.now.loaded.value { pins = table.pins }) (sym (same));
-        channels = refl;
-        session = refl;
-        boxes = refl;
-      };
-      table = same;
-    }
+    pins_act {X = Unit} (Err c.in-Err.fault) c.args.apdu.now (parts_of g.S.Store g.B.Applet c.args.self.now) _ c.pin_command.new.out c.args.command (λ state told. tt)
+    (λ status refused. absurd (false≢true (c.in-Err.ensures.refused status (ap (λ (table : Loaded). pin_outcome c.args.command (pins_of table) c.args.self.now.verified c.args.apdu.now) c.deref_mut.ensures.value ∙ refused)).0))
+    (record {
+      table = returns-in-Err-clause-table g c ∙ ap (λ (table : Loaded). record c.args.self.now.loaded.value { pins = table.pins }) (sym (returns-in-Err-clause-table g c));
+      channels = refl;
+      session = refl;
+      boxes = refl;
+    })
 
 pub returns-in-Err-clause-goes_on : goal.returns-in-Err-clause-goes_on
 returns-in-Err-clause-goes_on g c = record {
   set =
       set_after (parts_of g.S.Store g.B.Applet c.args.self.now) _ c.requires.underway.set c.pin_command.ensures.ends.keeps.size refl
-      (holds_passed (λ state. Contains (state ∷ with_each state (pin_outcome state.pins c.args.self.now.verified c.args.command.now).passed)) _ _ _ _ c.requires.underway.set.card c.pin_command.ensures.ends.keeps.told c.in-Err.ensures.performs.passes)
-      (λ silent. subst (Agrees (g.S.Store.store_mark c.pin_command.new.store) None) (sym ((returns-in-Err-clause-acts g c).table)) (subst (λ (mark : ℕ). Agrees mark None c.args.self.now.loaded.value) (sym c.pin_command.ensures.ends.keeps.mark) (silent_agrees _ _ _ c.requires.underway.running.mounted.agrees)))
-      c.pin_command.ensures.ends.keeps.told (ap rows_of ((returns-in-Err-clause-acts g c).table));
+      (holds_passed (λ state. Contains (state ∷ with_each state (pin_settled c.args.command state.pins c.args.self.now.verified c.args.apdu.now).passed)) _ _ _ _ c.requires.underway.set.card c.pin_command.ensures.ends.keeps.told c.in-Err.ensures.performs.passes)
+      (λ silent. subst (Agrees (g.S.Store.store_mark c.pin_command.new.store) None) (sym (returns-in-Err-clause-table g c)) (subst (λ (mark : ℕ). Agrees mark None c.args.self.now.loaded.value) (sym c.pin_command.ensures.ends.keeps.mark) (silent_agrees _ _ _ c.requires.underway.running.mounted.agrees)))
+      c.pin_command.ensures.ends.keeps.told (ap rows_of (returns-in-Err-clause-table g c));
   running = search rules;
   others = search rules;
   cause = search rules;
 }
 
 pub returns-in-Ok-clause-acts : goal.returns-in-Ok-clause-acts
-returns-in-Ok-clause-acts g c = record {
-  answers = λ instruction state is byte told.
-      pins_answer instruction is (parts_of g.S.Store g.B.Applet c.args.self.now) _ state c.args.command.now byte c.pin_command.new.out told c.pin_command.ensures.ends.empty
-      (subst (λ (table : Loaded). IsCarriedOut (pin_outcome (pins_of table) c.args.self.now.verified c.args.command.now) (pins_of table) c.pin_command.new.out.status c.pin_command.new.verified (pins_of c.pin_command.new.loaded)) c.deref_mut.ensures.value c.in-Ok.ensures.comes)
-      (c.pin_command.ensures.ends.others ∙ ap (λ (table : Loaded). record table { pins = c.pin_command.new.loaded.pins }) c.deref_mut.ensures.value) refl refl refl;
-  denied = λ status refused.
-      let gives = c.in-Ok.ensures.refused status (ap (λ (table : Loaded). pin_tried (pins_of table) c.args.self.now.verified c.args.command.now) c.deref_mut.ensures.value ∙ refused) in
-      let stays = (c.pin_command.ensures.still (pins_refused _ _ _ status (ap (λ (table : Loaded). pin_tried (pins_of table) c.args.self.now.verified c.args.command.now) c.deref_mut.ensures.value ∙ refused))).1 in (
-        refl,
-        record {
-          refused = record { body = gives.1.body; status_is = gives.1.status_is };
-          table = gives.2 ∙ c.deref_mut.ensures.value;
-          channels = refl;
-          verified = gives.1.verified;
-          session = refl;
-          boxes = refl;
-          is_on = refl;
-          is_due = refl;
-          index = refl;
-          leaving = refl;
-          told = ap g.S.Store.stable stays;
-          mark = ap g.S.Store.store_mark stays;
-          commits = if_some (g.S.Store.stable c.args.self.now.store) _ (λ bytes tells. ap g.S.Store.commits stays);
-        },
-      );
-  moves = record {
-    table = c.pin_command.ensures.ends.others ∙ ap (λ (table : Loaded). record table { pins = c.pin_command.new.loaded.pins }) c.deref_mut.ensures.value;
-    channels = refl;
-    session = refl;
-    boxes = refl;
-  };
-  table = search rules;
-}
+returns-in-Ok-clause-acts g c =
+    pins_act {X = Unit} (Ok c.in-Ok.field-0) c.args.apdu.now (parts_of g.S.Store g.B.Applet c.args.self.now) _ c.pin_command.new.out c.args.command
+    (λ state told.
+    pins_answer c.args.command (parts_of g.S.Store g.B.Applet c.args.self.now) _ state c.args.apdu.now c.pin_command.new.out told c.pin_command.ensures.ends.empty
+    (subst (λ (table : Loaded). IsCarriedOut (pin_settled c.args.command (pins_of table) c.args.self.now.verified c.args.apdu.now) (pins_of table) c.pin_command.new.out.status c.pin_command.new.verified (pins_of c.pin_command.new.loaded)) c.deref_mut.ensures.value c.in-Ok.ensures.comes)
+    (c.pin_command.ensures.ends.others ∙ ap (λ (table : Loaded). record table { pins = c.pin_command.new.loaded.pins }) c.deref_mut.ensures.value) refl refl refl)
+    (λ status refused.
+    let gives = c.in-Ok.ensures.refused status (ap (λ (table : Loaded). pin_outcome c.args.command (pins_of table) c.args.self.now.verified c.args.apdu.now) c.deref_mut.ensures.value ∙ refused) in
+    let stays = (c.pin_command.ensures.still (pins_refused _ _ _ _ status (ap (λ (table : Loaded). pin_outcome c.args.command (pins_of table) c.args.self.now.verified c.args.apdu.now) c.deref_mut.ensures.value ∙ refused))).1 in (
+      refl,
+      record {
+        refused = record { body = gives.1.body; status_is = gives.1.status_is };
+        table = gives.2 ∙ c.deref_mut.ensures.value;
+        channels = refl;
+        verified = gives.1.verified;
+        session = refl;
+        boxes = refl;
+        is_on = refl;
+        is_due = refl;
+        index = refl;
+        leaving = refl;
+        told = ap g.S.Store.stable stays;
+        mark = ap g.S.Store.store_mark stays;
+        commits = if_some (g.S.Store.stable c.args.self.now.store) _ (λ bytes tells. ap g.S.Store.commits stays);
+      },
+    ))
+    (record {
+      table = c.pin_command.ensures.ends.others ∙ ap (λ (table : Loaded). record table { pins = c.pin_command.new.loaded.pins }) c.deref_mut.ensures.value;
+      channels = refl;
+      session = refl;
+      boxes = refl;
+    })

@@ -1,4 +1,4 @@
-use Rattle.std.proofs.Common.{◌≡◌, inl, ℕ, List, ◌∷◌, length, Option, option_map, Ok, Err, refl, sym, ◌∙◌, ap, subst, rules}
+use Rattle.std.proofs.Common.{◌≡◌, ℕ, List, ◌∷◌, length, Option, option_map, Ok, Err, refl, sym, ◌∙◌, ap, subst, rules}
 use Rattle.std.proofs.lemmas.List.{with_items_is, length-map}
 use Rattle.applet_trait.specs.Minds.{AppletState}
 use Rattle.card_layout.specs.declared.entries.Loaded.{Loaded}
@@ -19,8 +19,7 @@ use Rattle.card_core.proofs.Polled.{polling, polled_may, polled_settles, polled_
 use Rattle.card_core.proofs.Served.{in_order, holds_left}
 use Rattle.card_core.proofs.Carried.{lent, files_beside_rows, rows_alone_moved, has_toolkit_of}
 use Rattle.card_core.proofs.Calm.{polled_calm}
-use Rattle.card_core.proofs.Staying.{toolkit_moved}
-use Rattle.card_model.specs.declared.instructions.Instruction.TheVariants.{Status}
+use Rattle.card_core.proofs.Staying.{status_lent}
 use Rattle.card_core.proofs.Stopped.{polled_rows}
 use Rattle.card_layout.specs.Memory.{memory}
 use Rattle.card_opening.proofs.Started.{holds_card}
@@ -47,10 +46,10 @@ returns-in-Ok-clause-acts g c = record {
       polled_so (parts_of g.S.Store g.B.Applet c.args.self.now) _ (Ok c.in-Ok.field-0)
       (lent (λ (table : Loaded) (minds now : List (Option AppletState)). (card : CardState) → HasToolkit (scene (memory g.S.Store c.args.self.now.store table) c.args.self.now.index c.args.self.now.session minds) card → Comes (polling card) (scene (memory g.S.Store c.args.self.now.store table) c.args.self.now.index c.args.self.now.session minds) (scene (memory g.S.Store c.poll.new.store c.poll.new.loaded) c.poll.new.index c.poll.new.session now) (Ok c.in-Ok.field-0)) c.deref_mut.result.now c.args.self.now.loaded.value (minds_of g.B.Applet.mind c.deref_mut-2.result.now) (minds_of g.B.Applet.mind c.args.self.now.boxes.items) (minds_of g.B.Applet.mind c.poll.new.cast) _ c.deref_mut.ensures.value (ap (minds_of g.B.Applet.mind) c.deref_mut-2.ensures.value) (sym (ap (minds_of g.B.Applet.mind) (with_items_is c.args.self.now.boxes c.poll.new.cast (c.poll.auto.cast ∙ c.deref_mut-2.ensures.len)))) c.in-Ok.ensures.comes);
   calm = search rules;
-  moves = λ command.
-      toolkit_moved Status command (parts_of g.S.Store g.B.Applet c.args.self.now) _ c.deref_mut.result.now (minds_of g.B.Applet.mind c.deref_mut-2.result.now) (minds_of g.B.Applet.mind c.poll.new.cast)
+  moves =
+      status_lent (parts_of g.S.Store g.B.Applet c.args.self.now) _ c.deref_mut.result.now (minds_of g.B.Applet.mind c.deref_mut-2.result.now) (minds_of g.B.Applet.mind c.poll.new.cast)
       c.deref_mut.ensures.value (ap (minds_of g.B.Applet.mind) c.deref_mut-2.ensures.value) (sym (ap (minds_of g.B.Applet.mind) (with_items_is c.args.self.now.boxes c.poll.new.cast (c.poll.auto.cast ∙ c.deref_mut-2.ensures.len))))
-      refl refl (rows_alone_moved c.deref_mut.result.now c.poll.new.loaded c.poll.ensures.keeps.table) (λ _. ap (λ (table : Loaded). table.next) c.poll.ensures.keeps.table) (λ other _. c.poll.ensures.keeps.rows_stay other) (inl c.poll.ensures.keeps.kinds) (λ other _. c.poll.ensures.keeps.others other);
+      refl refl c.poll.ensures.keeps.table c.poll.ensures.keeps.rows_stay c.poll.ensures.keeps.kinds (λ shelf was is. c.poll.ensures.keeps.others shelf is);
 }
 
 pub returns-in-Err-clause-acts : goal.returns-in-Err-clause-acts
@@ -62,10 +61,10 @@ returns-in-Err-clause-acts g c = record {
   calm =
       polled_calm {X = Unit} (parts_of g.S.Store g.B.Applet c.args.self.now) _ (Err c.in-Err.fault)
       (lent (λ (table : Loaded) (minds now : List (Option AppletState)). (card : CardState) → HasToolkit (scene (memory g.S.Store c.args.self.now.store table) c.args.self.now.index c.args.self.now.session minds) card → Comes {X = Unit} (polling card) (scene (memory g.S.Store c.args.self.now.store table) c.args.self.now.index c.args.self.now.session minds) (scene (memory g.S.Store c.poll.new.store c.poll.new.loaded) c.poll.new.index c.poll.new.session now) (Err c.in-Err.fault)) c.deref_mut.result.now c.args.self.now.loaded.value (minds_of g.B.Applet.mind c.deref_mut-2.result.now) (minds_of g.B.Applet.mind c.args.self.now.boxes.items) (minds_of g.B.Applet.mind c.poll.new.cast) _ c.deref_mut.ensures.value (ap (minds_of g.B.Applet.mind) c.deref_mut-2.ensures.value) (sym (ap (minds_of g.B.Applet.mind) (with_items_is c.args.self.now.boxes c.poll.new.cast (c.poll.auto.cast ∙ c.deref_mut-2.ensures.len)))) c.in-Err.ensures.comes);
-  moves = λ command.
-      toolkit_moved Status command (parts_of g.S.Store g.B.Applet c.args.self.now) _ c.deref_mut.result.now (minds_of g.B.Applet.mind c.deref_mut-2.result.now) (minds_of g.B.Applet.mind c.poll.new.cast)
+  moves =
+      status_lent (parts_of g.S.Store g.B.Applet c.args.self.now) _ c.deref_mut.result.now (minds_of g.B.Applet.mind c.deref_mut-2.result.now) (minds_of g.B.Applet.mind c.poll.new.cast)
       c.deref_mut.ensures.value (ap (minds_of g.B.Applet.mind) c.deref_mut-2.ensures.value) (sym (ap (minds_of g.B.Applet.mind) (with_items_is c.args.self.now.boxes c.poll.new.cast (c.poll.auto.cast ∙ c.deref_mut-2.ensures.len))))
-      refl refl (rows_alone_moved c.deref_mut.result.now c.poll.new.loaded c.poll.ensures.keeps.table) (λ _. ap (λ (table : Loaded). table.next) c.poll.ensures.keeps.table) (λ other _. c.poll.ensures.keeps.rows_stay other) (inl c.poll.ensures.keeps.kinds) (λ other _. c.poll.ensures.keeps.others other);
+      refl refl c.poll.ensures.keeps.table c.poll.ensures.keeps.rows_stay c.poll.ensures.keeps.kinds (λ shelf was is. c.poll.ensures.keeps.others shelf is);
 }
 
 pub returns-in-Ok-clause-goes_on : goal.returns-in-Ok-clause-goes_on

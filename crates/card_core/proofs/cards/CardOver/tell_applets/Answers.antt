@@ -3,12 +3,12 @@ use Rattle.std.specs.Prelude.{All, IfSome, IsSomeAnd}
 use Rattle.card_layout.specs.declared.entries.Loaded.{Loaded}
 use Rattle.card_model.specs.Runs.{IsLeft}
 use Rattle.card_model.specs.States.{CardState}
-use Rattle.card_model.specs.declared.instructions.Instruction.TheVariants.{Status}
 use Rattle.card_core.specs.Cards.{parts_of, card_of}
 use Rattle.card_core.specs.Moves.{polled_on}
 use Rattle.card_core.specs.Registered.{IsUsedOrBlank}
 use Rattle.card_core.proofs.Comes.{none_polled}
-use Rattle.card_core.proofs.Restored.{nothing, status_kinds, rows_blank, put_back_so, due_same, set_restored, moves_restored}
+use Rattle.card_core.proofs.Restored.{rows_blank, put_back_so, due_same, set_restored, status_restored}
+use Rattle.card_core.proofs.Carried.{rows_alone_moved}
 use Rattle.card_core.proofs.Served.{in_order, some_told}
 use Rattle.card_core.proofs.cards.CardOver.tell_applets.Goals as goal
 
@@ -27,7 +27,7 @@ returns-in-Err-clause-polled g c = record {
 
 pub returns-in-Err-clause-table : goal.returns-in-Err-clause-table
 returns-in-Err-clause-table g c =
-    put_back_so c.args.self.now.loaded.value c.serve_status.new.self.loaded.value c.put_back.new.loaded c.serve_status.new.self.before.rows c.serve_status.new.self.before.next (c.in-Err.ensures.acts.moves nothing).table
+    put_back_so c.args.self.now.loaded.value c.serve_status.new.self.loaded.value c.put_back.new.loaded c.serve_status.new.self.before.rows c.serve_status.new.self.before.next (rows_alone_moved c.args.self.now.loaded.value c.serve_status.new.self.loaded.value c.in-Err.ensures.acts.moves.table)
     (ap (λ kept. kept.rows) c.serve_status.ensures.before ∙ c.note.ensures.rows ∙ ap (λ (table : Loaded). table.rows) c.deref.ensures)
     (ap (λ kept. kept.next) c.serve_status.ensures.before ∙ c.note.ensures.next ∙ ap (λ (table : Loaded). table.next) c.deref.ensures)
     (c.put_back.ensures ∙ ap (λ (table : Loaded). record table { rows = c.serve_status.new.self.before.rows; next = c.serve_status.new.self.before.next }) c.deref_mut.ensures.value)
@@ -37,10 +37,10 @@ returns-in-Err-clause-acts g c = record {
   answers = search rules;
   commits = c.in-Err.ensures.acts.commits;
   calm = search rules;
-  moves = λ command.
+  moves =
       let some = some_told c.tables_tell_states.ensures _ _ c.args.self.now.loaded.value c.requires.underway.running.mounted.agrees in
-      moves_restored (parts_of g.S.Store g.B.Applet c.args.self.now) (parts_of g.S.Store g.B.Applet c.serve_status.new.self) c.put_back.new.loaded (returns-in-Err-clause-table g c) Status command (c.in-Err.ensures.acts.moves command) (status_kinds (parts_of g.S.Store g.B.Applet c.args.self.now) (parts_of g.S.Store g.B.Applet c.serve_status.new.self) command (c.in-Err.ensures.acts.moves command))
-      (λ shelf apart lacks.
+      status_restored (parts_of g.S.Store g.B.Applet c.args.self.now) (parts_of g.S.Store g.B.Applet c.serve_status.new.self) c.put_back.new.loaded (returns-in-Err-clause-table g c) c.in-Err.ensures.acts.moves
+      (λ shelf lacks.
       none_polled c.states_are_of_entries.ensures.rows (parts_of g.S.Store g.B.Applet c.args.self.now) (parts_of g.S.Store g.B.Applet c.serve_status.new.self) some.0 some.1
       (in_order c.tables_have_rows.ensures (parts_of g.S.Store g.B.Applet c.args.self.now) c.requires.underway.running some.0 some.1) shelf lacks c.cards_go_on.ensures.telling (c.in-Err.ensures.stopped.rows some.0 some.1));
 }
@@ -49,7 +49,7 @@ pub returns-in-Err-clause-goes_on : goal.returns-in-Err-clause-goes_on
 returns-in-Err-clause-goes_on g c = record {
   set =
       set_restored (parts_of g.S.Store g.B.Applet c.args.self.now) (parts_of g.S.Store g.B.Applet c.serve_status.new.self) c.put_back.new.loaded (returns-in-Err-clause-table g c) c.requires.underway.set c.in-Err.ensures.goes_on.set c.requires.underway.running.mounted.agrees
-      c.in-Err.ensures.goes_on.others.store_mark c.in-Err.ensures.goes_on.others.told (status_kinds (parts_of g.S.Store g.B.Applet c.args.self.now) (parts_of g.S.Store g.B.Applet c.serve_status.new.self) nothing (c.in-Err.ensures.acts.moves nothing));
+      c.in-Err.ensures.goes_on.others.store_mark c.in-Err.ensures.goes_on.others.told c.in-Err.ensures.acts.moves.kinds;
   running = search rules;
   others = search rules;
   cause = search rules;

@@ -14,7 +14,8 @@ use Rattle.card_core.proofs.Restarts.{due_same, failed_ready, fail_power, not_lo
 use Rattle.card_core.proofs.Leaving.{fail_moves}
 use Rattle.card_core.proofs.Refusing.{failed_first, ok_not_err}
 use Rattle.card_core.proofs.Staying.{still_its_own, refused_anew, left_alone}
-use Rattle.card_core.proofs.Telling.{answered_so, stood_so, memory_needs_none}
+use Rattle.card_core.proofs.Telling.{answered_so, stood_so}
+use Rattle.card_core.proofs.Named.{acts_named}
 use Rattle.card_core.proofs.Calm.{calm_may, calm_stands}
 use Rattle.card_core.proofs.Counting.{if_any, at_most}
 use Rattle.card_core.proofs.Taking.{so_may, so_stands}
@@ -37,52 +38,54 @@ returns-in-Err-clause-ready g c =
 pub returns-in-Ok-clause-acts : goal.returns-in-Ok-clause-acts
 returns-in-Ok-clause-acts g c = λ on rests.
     let acts = c.in-Ok.ensures.acts rests in
+    let does = acts_named {X = Unit} (Ok c.in-Ok.field-0) (parts_of g.S.Store g.B.Applet c.args.self.now) (parts_of g.S.Store g.B.Applet c.perform.new.self) c.args.apdu.now c.perform.new.out acts in
     record {
       refused = λ status refused. (let gives = acts.refused status refused in (refl, gives.1, gives.2));
       answers = λ card instruction may named needs other.
-          answered_so (parts_of g.S.Store g.B.Applet c.args.self.now) (parts_of g.S.Store g.B.Applet c.perform.new.self) card c.args.apdu.now c.perform.new.out may (acts.answers instruction card.persistent named needs may.table).0;
+          answered_so (parts_of g.S.Store g.B.Applet c.args.self.now) (parts_of g.S.Store g.B.Applet c.perform.new.self) card c.args.apdu.now c.perform.new.out may ((does instruction named).answers card.persistent needs may.table);
       trees = λ card instruction may named of_tree other.
-          stood_so (parts_of g.S.Store g.B.Applet c.args.self.now) (parts_of g.S.Store g.B.Applet c.perform.new.self) card c.args.apdu.now c.perform.new.out may (acts.trees instruction card.persistent named of_tree may.table);
-      commits = λ card instruction may named needs pins.
-          let so = so_may {X = Unit} (Ok c.in-Ok.field-0) (parts_of g.S.Store g.B.Applet c.args.self.now) (parts_of g.S.Store g.B.Applet c.perform.new.self) card c.args.apdu.now may (acts.commits instruction card.persistent named needs pins may.table) in
+          stood_so (parts_of g.S.Store g.B.Applet c.args.self.now) (parts_of g.S.Store g.B.Applet c.perform.new.self) card c.args.apdu.now c.perform.new.out may ((does instruction named).trees card.persistent of_tree may.table);
+      commits = λ card instruction may named by.
+          let so = so_may {X = Unit} (Ok c.in-Ok.field-0) (parts_of g.S.Store g.B.Applet c.args.self.now) (parts_of g.S.Store g.B.Applet c.perform.new.self) card c.args.apdu.now may ((does instruction named).commits card.persistent by may.table) in
           (λ other. so, all_commits (length (answer card c.args.apdu.now).commits) _ _ so);
       commits_trees = λ card instruction may named of_tree.
-          let so = so_stands {X = Unit} (Ok c.in-Ok.field-0) (parts_of g.S.Store g.B.Applet c.args.self.now) (parts_of g.S.Store g.B.Applet c.perform.new.self) card c.args.apdu.now may (acts.commits_trees instruction card.persistent named of_tree may.table) in
+          let so = so_stands {X = Unit} (Ok c.in-Ok.field-0) (parts_of g.S.Store g.B.Applet c.args.self.now) (parts_of g.S.Store g.B.Applet c.perform.new.self) card c.args.apdu.now may ((does instruction named).commits_trees card.persistent of_tree may.table) in
           (λ other. so, all_commits (length (answer card c.args.apdu.now).commits) _ _ so);
       done = λ card instruction may named leaves. (refl, (λ is. c.in-Ok.ensures.answered.usual (ap (λ (word : StatusWord). word.0) is)));
       calm = λ card instruction may named reaches none. (refl, (λ is. c.in-Ok.ensures.answered.usual (ap (λ (word : StatusWord). word.0) is)));
       calm_trees = λ card instruction may named of_tree none. (refl, (λ is. c.in-Ok.ensures.answered.usual (ap (λ (word : StatusWord). word.0) is)));
-      denied = λ instruction command status read named refused. (refl, (acts.denied instruction command status read named refused).1);
-      stays = acts.moves;
+      denied = λ instruction command status read named refused. (refl, ((acts.acts instruction command read named).denied status refused).1);
+      stays = λ instruction command read named. (acts.acts instruction command read named).moves;
       stopped = inl (refl, (λ is. c.in-Ok.ensures.answered.usual (ap (λ (word : StatusWord). word.0) is)));
     }
 
 pub returns-in-Err-clause-acts : goal.returns-in-Err-clause-acts
 returns-in-Err-clause-acts g c = λ on rests.
     let acts = c.in-Err.ensures.acts rests in
+    let does = acts_named {X = Unit} (Err c.in-Err.fault) (parts_of g.S.Store g.B.Applet c.args.self.now) (parts_of g.S.Store g.B.Applet c.perform.new.self) c.args.apdu.now c.perform.new.out acts in
     record {
       refused = λ status refused. absurd (false≢true (acts.refused status refused).0);
       answers = λ card instruction may named needs. failed_first _ c.in-Err.fault c.fail.result c.fail.new.out.status c.fail.ensures.failed c.fail.ensures.lost;
       trees = λ card instruction may named of_tree. failed_first _ c.in-Err.fault c.fail.result c.fail.new.out.status c.fail.ensures.failed c.fail.ensures.lost;
-      commits = λ card instruction may named needs pins. (
+      commits = λ card instruction may named by. (
         failed_first _ c.in-Err.fault c.fail.result c.fail.new.out.status c.fail.ensures.failed c.fail.ensures.lost,
         subst (λ each. CommitsAtMost (length (answer card c.args.apdu.now).commits) (parts_of g.S.Store g.B.Applet c.args.self.now).commits (parts_of g.S.Store g.B.Applet each).commits) (sym c.fail.ensures.others)
-            (so_may {X = Unit} (Err c.in-Err.fault) (parts_of g.S.Store g.B.Applet c.args.self.now) (parts_of g.S.Store g.B.Applet c.perform.new.self) card c.args.apdu.now may (acts.commits instruction card.persistent named needs pins may.table)),
+            (so_may {X = Unit} (Err c.in-Err.fault) (parts_of g.S.Store g.B.Applet c.args.self.now) (parts_of g.S.Store g.B.Applet c.perform.new.self) card c.args.apdu.now may ((does instruction named).commits card.persistent by may.table)),
       );
       commits_trees = λ card instruction may named of_tree. (
         failed_first _ c.in-Err.fault c.fail.result c.fail.new.out.status c.fail.ensures.failed c.fail.ensures.lost,
         subst (λ each. CommitsAtMost (length (answer card c.args.apdu.now).commits) (parts_of g.S.Store g.B.Applet c.args.self.now).commits (parts_of g.S.Store g.B.Applet each).commits) (sym c.fail.ensures.others)
-            (so_stands {X = Unit} (Err c.in-Err.fault) (parts_of g.S.Store g.B.Applet c.args.self.now) (parts_of g.S.Store g.B.Applet c.perform.new.self) card c.args.apdu.now may (acts.commits_trees instruction card.persistent named of_tree may.table)),
+            (so_stands {X = Unit} (Err c.in-Err.fault) (parts_of g.S.Store g.B.Applet c.args.self.now) (parts_of g.S.Store g.B.Applet c.perform.new.self) card c.args.apdu.now may ((does instruction named).commits_trees card.persistent of_tree may.table)),
       );
-      done = λ card instruction may named leaves. absurd (false≢true ((acts.answers instruction card.persistent named (memory_needs_none instruction leaves) may.table).1 leaves));
+      done = λ card instruction may named leaves. absurd (false≢true ((does instruction named).done leaves));
       calm = λ card instruction may named reaches none.
-          absurd (false≢true (calm_may {X = Unit} (Err c.in-Err.fault) (parts_of g.S.Store g.B.Applet c.args.self.now) card c.args.apdu.now may (acts.calm instruction card.persistent named reaches may.table) none));
+          absurd (false≢true (calm_may {X = Unit} (Err c.in-Err.fault) (parts_of g.S.Store g.B.Applet c.args.self.now) card c.args.apdu.now may ((does instruction named).calm card.persistent reaches may.table) none));
       calm_trees = λ card instruction may named of_tree none.
-          absurd (false≢true (calm_stands {X = Unit} (Err c.in-Err.fault) (parts_of g.S.Store g.B.Applet c.args.self.now) card c.args.apdu.now may (acts.calm_trees instruction card.persistent named of_tree may.table) none));
-      denied = λ instruction command status read named refused. absurd (false≢true (acts.denied instruction command status read named refused).0);
+          absurd (false≢true (calm_stands {X = Unit} (Err c.in-Err.fault) (parts_of g.S.Store g.B.Applet c.args.self.now) card c.args.apdu.now may ((does instruction named).calm_trees card.persistent of_tree may.table) none));
+      denied = λ instruction command status read named refused. absurd (false≢true ((acts.acts instruction command read named).denied status refused).0);
       stays = λ instruction command read named.
           subst (λ card. MovesItsOwn instruction command (parts_of g.S.Store g.B.Applet c.args.self.now) (parts_of g.S.Store g.B.Applet card)) (sym c.fail.ensures.others)
-          (still_its_own instruction command (parts_of g.S.Store g.B.Applet c.args.self.now) (parts_of g.S.Store g.B.Applet c.perform.new.self) c.fail.new.self.is_on true (acts.moves instruction command read named));
+          (still_its_own instruction command (parts_of g.S.Store g.B.Applet c.args.self.now) (parts_of g.S.Store g.B.Applet c.perform.new.self) c.fail.new.self.is_on true ((acts.acts instruction command read named).moves));
       stopped = inr (ap (λ card. (parts_of g.S.Store g.B.Applet card).table) c.fail.ensures.others ∙ acts.table);
     }
 
