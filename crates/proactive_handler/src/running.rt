@@ -9,21 +9,22 @@ ghost use Rattle.toolkit_model.specs.Commands.{last_answer};
 ghost use Rattle.toolkit_model.specs.Driving.{is_idle};
 ghost use Rattle.toolkit_model.specs.Orderly.{asks, CanBeSent};
 ghost use Rattle.toolkit_model.specs.Running.{begins_call, sending, mind_on, with_mind, run_of_row};
+ghost use Rattle.proactive_handler.specs.Acts.{command_of};
 ghost use Rattle.proactive_handler.specs.Boxes.{minds_of, IsSameBox};
 ghost use Rattle.proactive_handler.specs.Serving.{IsSessionServed};
 ghost use Rattle.proactive_handler.specs.Steps.{scene, toolkit, Moves};
 ghost use Rattle.card_layout.specs.Memory.{memory};
 ghost use Rattle.proactive_handler.specs.Reached.{Tells};
 ghost use Rattle.proactive_handler.specs.Scenes.{IsInService, KeepsScene};
-ghost use Rattle.proactive_handler.specs.Runs.{MayRun, KeepsRows};
+ghost use Rattle.proactive_handler.specs.Runs.{ended_by, MayRun, KeepsRows};
 
 use crate::acting::run_row;
+use crate::endings::Ending;
 use crate::settings::Setting;
-use applet_trait::{Applet, Stimulus};
+use applet_trait::{Act, Applet, Stimulus};
 use card_layout::Loaded;
 use card_memory::tables_tell_states;
 use store_form::{Store, StoreFault};
-use toolkit_commands::Proactive;
 use toolkit_session::Session;
 use trigger_index::Index;
 use uicc_types::Shelf;
@@ -39,14 +40,25 @@ fn begins_call(stimulus: &Stimulus) -> bool
     }
 }
 
-// The command that a run ended with goes out or waits, if there is one.
-fn send_last(session: &mut Session, shelf: Shelf, is_resumed: bool, sent: Option<Proactive>)
-    requires sendable { IfSome sent CanBeSent }
+// The command of an act goes out or waits, if it has one.
+fn send_of(session: &mut Session, shelf: Shelf, is_resumed: bool, act: &Act)
+    requires sendable { IfSome (command_of act.now) CanBeSent }
     requires room { is_resumed ≡ false → length session.old.waiting < MOST }
-    ensures { session.new ≡ sending shelf.0 is_resumed sent session.old }
+    ensures { session.new ≡ sending shelf.0 is_resumed (command_of act.now) session.old }
 {
-    if let Some(command) = sent {
-        session.send(shelf, is_resumed, &command);
+    if let Act::Send(command) = act {
+        session.send(shelf, is_resumed, command);
+    }
+}
+
+// The command that a run ended with goes out or waits, if there is one.
+fn send_last(session: &mut Session, shelf: Shelf, is_resumed: bool, last: &Act, ending: &Ending)
+    requires sendable { IfSome (ended_by last.now ending.now).sent CanBeSent }
+    requires room { is_resumed ≡ false → length session.old.waiting < MOST }
+    ensures { session.new ≡ sending shelf.0 is_resumed (ended_by last.now ending.now).sent session.old }
+{
+    if ending.is_sent {
+        send_of(session, shelf, is_resumed, last);
     }
 }
 
@@ -95,6 +107,7 @@ fn run_applet<S: Store, B: Applet>(
         profile: session.profile(),
         in_call: begins_call(stimulus),
     };
+    let mut does = Act::Done;
     match run_row(
         store,
         loaded,
@@ -103,9 +116,10 @@ fn run_applet<S: Store, B: Applet>(
         applet,
         &at,
         stimulus,
+        &mut does,
     ) {
         Ok(ending) => {
-            send_last(session, shelf, is_resumed, ending.sent);
+            send_last(session, shelf, is_resumed, &does, &ending);
             Ok(ending.answer)
         }
         Err(fault) => Err(fault),
