@@ -86,6 +86,7 @@ fn run_applet<S: Store, B: Applet>(
     shelf: Shelf,
     stimulus: &Stimulus,
     is_resumed: bool,
+    does: &mut Act,
 ) -> Result<Option<bool>, StoreFault>
     requires may_run { MayRun (memory S.Store store.old loaded.old) index.old shelf.0 }
     requires one_of_eight { GivesTimer stimulus.now }
@@ -107,7 +108,6 @@ fn run_applet<S: Store, B: Applet>(
         profile: session.profile(),
         in_call: begins_call(stimulus),
     };
-    let mut does = Act::Done;
     match run_row(
         store,
         loaded,
@@ -116,10 +116,10 @@ fn run_applet<S: Store, B: Applet>(
         applet,
         &at,
         stimulus,
-        &mut does,
+        does,
     ) {
         Ok(ending) => {
-            send_last(session, shelf, is_resumed, &does, &ending);
+            send_last(session, shelf, is_resumed, does, &ending);
             Ok(ending.answer)
         }
         Err(fault) => Err(fault),
@@ -127,8 +127,46 @@ fn run_applet<S: Store, B: Applet>(
 }
 
 /// Runs the applet of a row on a stimulus, which is idle, and answers the last answer to call control that it gave. It goes on
-/// after the response to its command, or not. Where there is no box on the shelf, nothing happens.
+/// after the response to its command, or not. Where there is no box on the shelf, nothing happens. Its acts are made in one place.
 pub(crate) fn run_one<S: Store, B: Applet>(
+    store: &mut S,
+    loaded: &mut Loaded,
+    index: &mut Index,
+    cast: &mut [Option<B>],
+    session: &mut Session,
+    shelf: Shelf,
+    stimulus: &Stimulus,
+    is_resumed: bool,
+    does: &mut Act,
+) -> Result<Option<bool>, StoreFault>
+    requires service { IsInService
+        (scene (memory S.Store store.old loaded.old) index.old session.old (minds_of B.mind cast.old)) cast.old }
+    requires row { HasRowOn loaded.old shelf.0 }
+    requires one_of_eight { GivesTimer stimulus.now }
+    requires idle { is_idle (asks session.old) shelf.0 ≡ true }
+    requires nothing_out { is_resumed ≡ true → session.old.out ≡ None }
+    ensures tells { Tells (run_of_row shelf.0 stimulus.now is_resumed)
+        (scene (memory S.Store store.old loaded.old) index.old session.old (minds_of B.mind cast.old))
+        (scene (memory S.Store store.new loaded.new) index.new session.new (minds_of B.mind cast.new))
+        cast.old cast.new result }
+    ensures untold { (other : ℕ) → shelf.0 ≢ other → IsSameBox other cast.old cast.new }
+    ensures keeps { KeepsScene
+        (scene (memory S.Store store.old loaded.old) index.old session.old (minds_of B.mind cast.old))
+        (scene (memory S.Store store.new loaded.new) index.new session.new (minds_of B.mind cast.new)) result }
+{
+    // This call is a law, and does nothing.
+    tables_tell_states();
+    let place = place_of(loaded, session, shelf);
+    match &mut cast[place] {
+        Some(applet) => run_applet(
+            store, loaded, index, applet, session, shelf, stimulus, is_resumed, does,
+        ),
+        None => Ok(None),
+    }
+}
+
+/// The same, in a place of its own for the acts.
+pub(crate) fn run_alone<S: Store, B: Applet>(
     store: &mut S,
     loaded: &mut Loaded,
     index: &mut Index,
@@ -153,13 +191,8 @@ pub(crate) fn run_one<S: Store, B: Applet>(
         (scene (memory S.Store store.old loaded.old) index.old session.old (minds_of B.mind cast.old))
         (scene (memory S.Store store.new loaded.new) index.new session.new (minds_of B.mind cast.new)) result }
 {
-    // This call is a law, and does nothing.
-    tables_tell_states();
-    let place = place_of(loaded, session, shelf);
-    match &mut cast[place] {
-        Some(applet) => run_applet(
-            store, loaded, index, applet, session, shelf, stimulus, is_resumed,
-        ),
-        None => Ok(None),
-    }
+    let mut does = Act::Done;
+    run_one(
+        store, loaded, index, cast, session, shelf, stimulus, is_resumed, &mut does,
+    )
 }
