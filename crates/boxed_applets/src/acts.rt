@@ -18,6 +18,7 @@ pub fn be_done(does: &mut Act)
     }
 }
 
+#[inline(never)]
 fn forget(does: &mut Act)
     ensures { does.new ≡ Act.Done }
 {
@@ -32,6 +33,7 @@ fn send(does: &mut Act, command: Proactive)
 }
 
 /// Shows a text.
+#[inline(never)]
 pub fn show(does: &mut Act, text: &[u8])
     requires { length text.now ≤ 255 }
     ensures { does.new ≡ show text.now }
@@ -41,6 +43,7 @@ pub fn show(does: &mut Act, text: &[u8])
 }
 
 /// Shows a text while nothing else goes on.
+#[inline(never)]
 pub fn show_when_idle(does: &mut Act, text: &[u8])
     requires { length text.now ≤ 255 }
     ensures { does.new ≡ Act.Send (Proactive.IdleText text.now) }
@@ -50,6 +53,7 @@ pub fn show_when_idle(does: &mut Act, text: &[u8])
 }
 
 /// Asks for up to `most` characters, or digits alone.
+#[inline(never)]
 pub fn ask(does: &mut Act, text: &[u8], digits: bool, most: u8)
     requires { length text.now ≤ 255 }
     ensures { does.new ≡ Act.Send (Proactive.GetInput text.now digits 0 most) }
@@ -64,6 +68,7 @@ pub fn ask(does: &mut Act, text: &[u8], digits: bool, most: u8)
 }
 
 /// Asks for a key.
+#[inline(never)]
 pub fn ask_for_key(does: &mut Act, text: &[u8])
     requires { length text.now ≤ 255 }
     ensures { does.new ≡ Act.Send (Proactive.GetInkey text.now) }
@@ -73,6 +78,7 @@ pub fn ask_for_key(does: &mut Act, text: &[u8])
 }
 
 /// Plays a tone.
+#[inline(never)]
 pub fn play(does: &mut Act, tone: u8)
     ensures { does.new ≡ Act.Send (Proactive.PlayTone tone) }
 {
@@ -80,6 +86,7 @@ pub fn play(does: &mut Act, tone: u8)
 }
 
 /// Asks for more time.
+#[inline(never)]
 pub fn ask_for_time(does: &mut Act)
     ensures { does.new ≡ Act.Send Proactive.MoreTime }
 {
@@ -87,6 +94,7 @@ pub fn ask_for_time(does: &mut Act)
 }
 
 /// Asks for information on what the handset knows.
+#[inline(never)]
 pub fn ask_for_information(does: &mut Act, what: u8)
     ensures { does.new ≡ Act.Send (Proactive.LocalInformation what) }
 {
@@ -94,6 +102,7 @@ pub fn ask_for_information(does: &mut Act, what: u8)
 }
 
 /// Asks for a reset of this mode.
+#[inline(never)]
 pub fn refresh(does: &mut Act, mode: u8)
     ensures { does.new ≡ Act.Send (Proactive.Refresh mode) }
 {
@@ -101,6 +110,7 @@ pub fn refresh(does: &mut Act, mode: u8)
 }
 
 /// Offers items to choose from.
+#[inline(never)]
 pub fn offer(does: &mut Act, title: &[u8], items: Items)
     requires { length title.now ≤ 10 }
     ensures { does.new ≡ Act.Send (Proactive.SelectItem title.now items) }
@@ -110,6 +120,7 @@ pub fn offer(does: &mut Act, title: &[u8], items: Items)
 }
 
 /// Starts a timer with this value.
+#[inline(never)]
 pub fn start(does: &mut Act, timer: u8, value: TimeValue)
     ensures { does.new ≡ Act.Send (Proactive.TimerManagement START timer value) }
 {
@@ -122,6 +133,7 @@ pub fn start(does: &mut Act, timer: u8, value: TimeValue)
 }
 
 /// Asks for a timer.
+#[inline(never)]
 pub fn take_timer(does: &mut Act)
     ensures { does.new ≡ Act.TakeTimer }
 {
@@ -129,6 +141,7 @@ pub fn take_timer(does: &mut Act)
 }
 
 /// Gives a timer back.
+#[inline(never)]
 pub fn free_timer(does: &mut Act, timer: u8)
     ensures { does.new ≡ Act.FreeTimer timer }
 {
@@ -136,6 +149,7 @@ pub fn free_timer(does: &mut Act, timer: u8)
 }
 
 /// Says whether a call may be set up.
+#[inline(never)]
 pub fn answer(does: &mut Act, allows: bool)
     ensures { does.new ≡ Act.Answer allows }
 {
@@ -143,6 +157,7 @@ pub fn answer(does: &mut Act, allows: bool)
 }
 
 /// Asks to be told of the events of a code.
+#[inline(never)]
 pub fn register(does: &mut Act, code: u8)
     ensures { does.new ≡ Act.Register code }
 {
@@ -150,6 +165,7 @@ pub fn register(does: &mut Act, code: u8)
 }
 
 /// Asks to be told of them no more.
+#[inline(never)]
 pub fn deregister(does: &mut Act, code: u8)
     ensures { does.new ≡ Act.Deregister code }
 {

@@ -61,6 +61,7 @@ impl<P: Copy> State<P> {
     }
 
     /// Asks to keep bytes.
+    #[inline(never)]
     pub fn keep(&mut self, does: &mut Act, phase: P, bytes: &[u8])
         requires { length bytes.now ≤ 64 }
         ensures acted { does.new ≡ Act.Keep bytes.now }
