@@ -23,16 +23,16 @@ pub trait Applet: Drop {
     fn wake(&mut self, kept: &Kept)
         ensures { mind self.new ≡ fresh (mind self.old).kind kept.now };
 
-    /// Takes a stimulus and answers what it does.
-    fn step(&mut self, stimulus: &Stimulus) -> Act
+    /// Takes a stimulus and says what it does, in place of the act that was there.
+    fn step(&mut self, stimulus: &Stimulus, does: &mut Act)
         ensures moved { mind self.new ≡ (act (mind self.old) stimulus.now).next }
-        ensures acted { result ≡ (act (mind self.old) stimulus.now).does }
+        ensures acted { does.new ≡ (act (mind self.old) stimulus.now).does }
         ensures same_kind { (mind self.new).kind ≡ (mind self.old).kind }
 
         // A command that is sent can be spelled, if it is short enough.
-        ensures writable { IsWritableAct result }
+        ensures writable { IsWritableAct does.new }
 
         // A command that is sent is read back as it was, if it is short enough and a timer that was given is one of the
         // eight.
-        ensures proper { GivesTimer stimulus.now → IsProperAct result };
+        ensures proper { GivesTimer stimulus.now → IsProperAct does.new };
 }

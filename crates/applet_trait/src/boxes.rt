@@ -14,7 +14,7 @@ impl Applet for Box<dyn Applet> {
         (**self).wake(kept)
     }
 
-    fn step(&mut self, stimulus: &Stimulus) -> Act {
-        (**self).step(stimulus)
+    fn step(&mut self, stimulus: &Stimulus, does: &mut Act) {
+        (**self).step(stimulus, does)
     }
 }

@@ -45,15 +45,15 @@ impl Applet for ProgramApplet {
         }
     }
 
-    fn step(&mut self, stimulus: &Stimulus) -> Act {
+    fn step(&mut self, stimulus: &Stimulus, does: &mut Act) {
         match self {
-            ProgramApplet::Greeter(applet) => applet.step(stimulus),
-            ProgramApplet::Menu(applet) => applet.step(stimulus),
-            ProgramApplet::Clock(applet) => applet.step(stimulus),
-            ProgramApplet::Watcher(applet) => applet.step(stimulus),
-            ProgramApplet::Barrier(applet) => applet.step(stimulus),
-            ProgramApplet::Notebook(applet) => applet.step(stimulus),
-            ProgramApplet::Table(applet) => applet.step(stimulus),
+            ProgramApplet::Greeter(applet) => applet.step(stimulus, does),
+            ProgramApplet::Menu(applet) => applet.step(stimulus, does),
+            ProgramApplet::Clock(applet) => applet.step(stimulus, does),
+            ProgramApplet::Watcher(applet) => applet.step(stimulus, does),
+            ProgramApplet::Barrier(applet) => applet.step(stimulus, does),
+            ProgramApplet::Notebook(applet) => applet.step(stimulus, does),
+            ProgramApplet::Table(applet) => applet.step(stimulus, does),
         }
     }
 }

@@ -2,7 +2,7 @@
 ghost use Rattle.std.specs.Prelude.{◌≡◌, []};
 ghost use Rattle.applet_trait.specs.Minds.{fresh};
 
-use crate::acts::{ask, kept_part};
+use crate::acts::{answer, ask, be_done, kept_part};
 use crate::numbers::is_barred;
 use crate::states::State;
 use applet_trait::numbers::{LAST_GOOD, MOST_DIGITS};
@@ -51,7 +51,7 @@ impl Applet for Barrier {
         self.state.wake(Phase::Ready, kept);
     }
 
-    fn step(&mut self, stimulus: &Stimulus) -> Act {
+    fn step(&mut self, stimulus: &Stimulus, does: &mut Act) {
         self.state.settle(stimulus);
         match (self.state.phase, stimulus) {
             (
@@ -63,7 +63,7 @@ impl Applet for Barrier {
             ) => {
                 let barred = is_barred(self.state.kept(), body.as_slice());
                 self.state.phase = Phase::Answered;
-                Act::Answer(!barred)
+                answer(does, !barred);
             }
             (
                 Phase::Ready,
@@ -73,7 +73,7 @@ impl Applet for Barrier {
                 },
             ) => {
                 self.state.phase = Phase::Asking;
-                ask(ASK_FOR_DIGITS, true, MOST_DIGITS)
+                ask(does, ASK_FOR_DIGITS, true, MOST_DIGITS);
             }
             (
                 Phase::Asking,
@@ -82,10 +82,12 @@ impl Applet for Barrier {
                     text,
                     ..
                 },
-            ) => self.state.keep(Phase::Keeping, kept_part(text.as_slice())),
+            ) => self
+                .state
+                .keep(does, Phase::Keeping, kept_part(text.as_slice())),
             _ => {
                 self.state.phase = Phase::Ready;
-                Act::Done
+                be_done(does);
             }
         }
     }

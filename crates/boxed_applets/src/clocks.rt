@@ -5,12 +5,12 @@ ghost use Rattle.applet_trait.specs.Tables.{five_minutes, expired};
 ghost use Rattle.boxed_applets.specs.Clocks.{clock_mind};
 ghost use Rattle.boxed_applets.specs.Made.{made};
 
-use crate::acts::show;
+use crate::acts::{be_done, free_timer, show, start, take_timer};
 use crate::states::State;
-use applet_trait::numbers::{MINUTES, START};
+use applet_trait::numbers::MINUTES;
 use applet_trait::texts::TICK;
 use applet_trait::{Act, Applet, Stimulus};
-use toolkit_commands::{Proactive, TimeValue};
+use toolkit_commands::TimeValue;
 use uicc_types::Kept;
 use uicc_types::events::{PROFILE_DOWNLOAD, TIMER_EXPIRATION};
 
@@ -33,18 +33,15 @@ pub struct Clock {
 }
 
 /// Starts a timer of five minutes.
-fn five_minutes(timer: u8) -> Act
-    ensures { result ≡ five_minutes timer }
+fn start_five_minutes(does: &mut Act, timer: u8)
+    ensures { does.new ≡ five_minutes timer }
 {
-    Act::Send(Proactive::TimerManagement {
-        action: START,
-        timer,
-        value: TimeValue {
-            hours: 0,
-            minutes: MINUTES,
-            seconds: 0,
-        },
-    })
+    let value = TimeValue {
+        hours: 0,
+        minutes: MINUTES,
+        seconds: 0,
+    };
+    start(does, timer, value);
 }
 
 impl Clock {
@@ -59,18 +56,18 @@ impl Clock {
     }
 
     /// The timer that the body names has run down.
-    fn expire(&mut self, body: &[u8]) -> Act
-        ensures { made result (clock_mind self.new) ≡ expired (clock_mind self.old) body.now }
+    fn expire(&mut self, body: &[u8], does: &mut Act)
+        ensures { made does.new (clock_mind self.new) ≡ expired (clock_mind self.old) body.now }
     {
         match body {
             [timer] => {
                 self.held = *timer;
                 self.state.phase = Phase::Ticking;
-                show(TICK)
+                show(does, TICK);
             }
             _ => {
                 self.state.phase = Phase::Ready;
-                Act::Done
+                be_done(does);
             }
         }
     }
@@ -89,7 +86,7 @@ impl Applet for Clock {
         self.held = 0;
     }
 
-    fn step(&mut self, stimulus: &Stimulus) -> Act {
+    fn step(&mut self, stimulus: &Stimulus, does: &mut Act) {
         self.state.settle(stimulus);
         match (self.state.phase, stimulus) {
             (
@@ -100,7 +97,7 @@ impl Applet for Clock {
                 },
             ) => {
                 self.state.phase = Phase::Taking;
-                Act::TakeTimer
+                take_timer(does);
             }
             (
                 Phase::Ready,
@@ -108,18 +105,18 @@ impl Applet for Clock {
                     code: TIMER_EXPIRATION,
                     body,
                 },
-            ) => self.expire(body.as_slice()),
+            ) => self.expire(body.as_slice(), does),
             (Phase::Taking, Stimulus::Timer { timer }) => {
                 self.state.phase = Phase::Started;
-                five_minutes(*timer)
+                start_five_minutes(does, *timer);
             }
             (Phase::Ticking, Stimulus::Response { .. } | Stimulus::Refused) => {
                 self.state.phase = Phase::Freeing;
-                Act::FreeTimer(self.held)
+                free_timer(does, self.held);
             }
             _ => {
                 self.state.phase = Phase::Ready;
-                Act::Done
+                be_done(does);
             }
         }
     }

@@ -2,7 +2,7 @@
 ghost use Rattle.std.specs.Prelude.{◌≡◌, []};
 ghost use Rattle.applet_trait.specs.Minds.{fresh};
 
-use crate::acts::show;
+use crate::acts::{be_done, show};
 use crate::states::State;
 use applet_trait::texts::GREETING;
 use applet_trait::{Act, Applet, Stimulus};
@@ -47,7 +47,7 @@ impl Applet for Greeter {
         self.state.wake(Phase::Ready, kept);
     }
 
-    fn step(&mut self, stimulus: &Stimulus) -> Act {
+    fn step(&mut self, stimulus: &Stimulus, does: &mut Act) {
         self.state.settle(stimulus);
         match (self.state.phase, stimulus) {
             (
@@ -58,11 +58,11 @@ impl Applet for Greeter {
                 },
             ) => {
                 self.state.phase = Phase::Greeting;
-                show(GREETING)
+                show(does, GREETING);
             }
             _ => {
                 self.state.phase = Phase::Ready;
-                Act::Done
+                be_done(does);
             }
         }
     }

@@ -3,12 +3,12 @@ ghost use Rattle.std.specs.Prelude.{◌≡◌, ◌≤◌, [], ◌∷◌, length}
 ghost use Rattle.applet_trait.specs.Minds.{fresh};
 ghost use Rattle.applet_trait.specs.Tables.{text_or_tone};
 
-use crate::acts::show;
+use crate::acts::{be_done, offer, play, show};
 use crate::states::State;
 use applet_trait::numbers::{GENERAL_BEEP, LAST_GOOD, TEXT, TONE};
 use applet_trait::texts::{CHOICE_TITLE, TEXT_ITEM, TONE_ITEM};
 use applet_trait::{Act, Applet, Stimulus};
-use toolkit_commands::{Item, Items, Proactive};
+use toolkit_commands::{Item, Items};
 use uicc_types::events::MENU_SELECTION;
 use uicc_types::{Full, Kept, ShortText};
 
@@ -51,13 +51,11 @@ fn pair(first: Item, second: Item) -> Items
     }
 }
 
-fn text_or_tone() -> Act
-    ensures { result ≡ text_or_tone }
+fn offer_text_or_tone(does: &mut Act)
+    ensures { does.new ≡ text_or_tone }
 {
-    Act::Send(Proactive::SelectItem {
-        title: ShortText::from_slice(CHOICE_TITLE),
-        items: pair(item_of(TEXT, TEXT_ITEM), item_of(TONE, TONE_ITEM)),
-    })
+    let items = pair(item_of(TEXT, TEXT_ITEM), item_of(TONE, TONE_ITEM));
+    offer(does, CHOICE_TITLE, items);
 }
 
 impl Menu {
@@ -85,7 +83,7 @@ impl Applet for Menu {
         self.state.wake(Phase::Ready, kept);
     }
 
-    fn step(&mut self, stimulus: &Stimulus) -> Act {
+    fn step(&mut self, stimulus: &Stimulus, does: &mut Act) {
         self.state.settle(stimulus);
         match (self.state.phase, stimulus) {
             (
@@ -96,7 +94,7 @@ impl Applet for Menu {
                 },
             ) => {
                 self.state.phase = Phase::Offering;
-                text_or_tone()
+                offer_text_or_tone(does);
             }
             (
                 Phase::Offering,
@@ -107,7 +105,7 @@ impl Applet for Menu {
                 },
             ) => {
                 self.state.phase = Phase::Chosen;
-                show(TEXT_ITEM)
+                show(does, TEXT_ITEM);
             }
             (
                 Phase::Offering,
@@ -117,13 +115,12 @@ impl Applet for Menu {
                     ..
                 },
             ) => {
-                let beep = Act::Send(Proactive::PlayTone { tone: GENERAL_BEEP });
                 self.state.phase = Phase::Chosen;
-                beep
+                play(does, GENERAL_BEEP);
             }
             _ => {
                 self.state.phase = Phase::Ready;
-                Act::Done
+                be_done(does);
             }
         }
     }

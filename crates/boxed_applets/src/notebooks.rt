@@ -5,7 +5,7 @@ ghost use Rattle.applet_trait.specs.Tables.{ask_for_note, opened};
 ghost use Rattle.boxed_applets.specs.Notebooks.{notebook_mind};
 ghost use Rattle.boxed_applets.specs.Made.{made};
 
-use crate::acts::{ask, kept_part, show};
+use crate::acts::{ask, be_done, kept_part, show};
 use crate::states::State;
 use applet_trait::numbers::{LAST_GOOD, LONGEST_NOTE};
 use applet_trait::texts::ASK_FOR_NOTE;
@@ -38,23 +38,22 @@ impl Notebook {
         }
     }
 
-    fn ask(&mut self) -> Act
-        ensures { made result (notebook_mind self.new) ≡ ask_for_note (notebook_mind self.old) }
+    fn ask(&mut self, does: &mut Act)
+        ensures { made does.new (notebook_mind self.new) ≡ ask_for_note (notebook_mind self.old) }
     {
         self.state.phase = Phase::Asking;
-        ask(ASK_FOR_NOTE, false, LONGEST_NOTE)
+        ask(does, ASK_FOR_NOTE, false, LONGEST_NOTE);
     }
 
     /// Shows the note, or asks for one.
-    fn open(&mut self) -> Act
-        ensures { made result (notebook_mind self.new) ≡ opened (notebook_mind self.old) self.old.state.kept }
+    fn open(&mut self, does: &mut Act)
+        ensures { made does.new (notebook_mind self.new) ≡ opened (notebook_mind self.old) self.old.state.kept }
     {
         match self.state.kept() {
-            [] => self.ask(),
+            [] => self.ask(does),
             note => {
-                let act = show(note);
+                show(does, note);
                 self.state.phase = Phase::KeepingOrShowing;
-                act
             }
         }
     }
@@ -72,7 +71,7 @@ impl Applet for Notebook {
         self.state.wake(Phase::Ready, kept);
     }
 
-    fn step(&mut self, stimulus: &Stimulus) -> Act {
+    fn step(&mut self, stimulus: &Stimulus, does: &mut Act) {
         self.state.settle(stimulus);
         match (self.state.phase, stimulus) {
             (
@@ -81,14 +80,14 @@ impl Applet for Notebook {
                     code: MENU_SELECTION,
                     ..
                 },
-            ) => self.ask(),
+            ) => self.ask(does),
             (
                 Phase::Ready,
                 Stimulus::Event {
                     code: PROFILE_DOWNLOAD,
                     ..
                 },
-            ) => self.open(),
+            ) => self.open(does),
             (
                 Phase::Asking,
                 Stimulus::Response {
@@ -98,10 +97,10 @@ impl Applet for Notebook {
                 },
             ) => self
                 .state
-                .keep(Phase::KeepingOrShowing, kept_part(text.as_slice())),
+                .keep(does, Phase::KeepingOrShowing, kept_part(text.as_slice())),
             _ => {
                 self.state.phase = Phase::Ready;
-                Act::Done
+                be_done(does);
             }
         }
     }

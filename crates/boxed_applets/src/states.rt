@@ -61,14 +61,15 @@ impl<P: Copy> State<P> {
     }
 
     /// Asks to keep bytes.
-    pub fn keep(&mut self, phase: P, bytes: &[u8]) -> Act
+    #[inline(never)]
+    pub fn keep(&mut self, does: &mut Act, phase: P, bytes: &[u8])
         requires { length bytes.now ≤ 64 }
-        ensures acted { result ≡ Act.Keep bytes.now }
+        ensures acted { does.new ≡ Act.Keep bytes.now }
         ensures moved { self.new ≡ record self.old { phase = phase; asked = Some bytes.now } }
     {
         self.phase = phase;
         self.asked = Some(Kept::from_slice(bytes));
-        Act::Keep(Octets::from_slice(bytes))
+        *does = Act::Keep(Octets::from_slice(bytes));
     }
 
     /// The bytes that are kept.

@@ -5,7 +5,10 @@ ghost use Rattle.applet_trait.specs.Tables.{acting, next_row};
 ghost use Rattle.boxed_applets.specs.Tables.{table_mind};
 ghost use Rattle.boxed_applets.specs.Made.{made};
 
-use crate::acts::show;
+use crate::acts::{
+    ask_for_information, ask_for_key, ask_for_time, be_done, deregister, play, refresh, register,
+    show, show_when_idle, take_timer,
+};
 use crate::programs::row_from;
 use crate::states::State;
 use applet_trait::actions::{
@@ -13,8 +16,7 @@ use applet_trait::actions::{
     TELL_INFORMATION,
 };
 use applet_trait::{Act, Applet, Stimulus};
-use toolkit_commands::Proactive;
-use uicc_types::{Kept, Octets};
+use uicc_types::Kept;
 
 #[derive(Clone, Copy)]
 enum Phase {
@@ -47,45 +49,41 @@ impl Table {
     }
 
     /// Does one action.
-    fn perform(&mut self, action: u8, argument: u8) -> Act
-        ensures { made result (table_mind self.new) ≡ acting (table_mind self.old) action argument }
+    fn perform(&mut self, action: u8, argument: u8, does: &mut Act)
+        ensures { made does.new (table_mind self.new) ≡ acting (table_mind self.old) action argument }
     {
         self.state.phase = Phase::Running;
         match action {
-            SHOW => show(&[argument]),
-            PLAY_TONE => Act::Send(Proactive::PlayTone { tone: argument }),
-            MORE_TIME => Act::Send(Proactive::MoreTime),
-            TELL_INFORMATION => Act::Send(Proactive::LocalInformation { what: argument }),
-            REFRESH => Act::Send(Proactive::Refresh { mode: argument }),
-            GET_KEY => Act::Send(Proactive::GetInkey {
-                text: Octets::from_slice(&[argument]),
-            }),
-            REGISTER => Act::Register(argument),
-            DEREGISTER => Act::Deregister(argument),
-            SHOW_WHEN_IDLE => Act::Send(Proactive::IdleText {
-                text: Octets::from_slice(&[argument]),
-            }),
-            TAKE_TIMER => Act::TakeTimer,
+            SHOW => show(does, &[argument]),
+            PLAY_TONE => play(does, argument),
+            MORE_TIME => ask_for_time(does),
+            TELL_INFORMATION => ask_for_information(does, argument),
+            REFRESH => refresh(does, argument),
+            GET_KEY => ask_for_key(does, &[argument]),
+            REGISTER => register(does, argument),
+            DEREGISTER => deregister(does, argument),
+            SHOW_WHEN_IDLE => show_when_idle(does, &[argument]),
+            TAKE_TIMER => take_timer(does),
             _ => {
                 self.state.phase = Phase::Ready;
-                Act::Done
+                be_done(does);
             }
         }
     }
 
     /// Does the first row of the event at this place or after it.
-    fn go_on(&mut self, from: usize, event: u8) -> Act
-        ensures { made result (table_mind self.new) ≡ next_row (table_mind self.old) from event }
+    fn go_on(&mut self, from: usize, event: u8, does: &mut Act)
+        ensures { made does.new (table_mind self.new) ≡ next_row (table_mind self.old) from event }
     {
         match row_from(self.state.kept(), from, event) {
             Some((place, row)) => {
                 self.held = place;
                 self.code = event;
-                self.perform(row.action, row.argument)
+                self.perform(row.action, row.argument, does);
             }
             None => {
                 self.state.phase = Phase::Ready;
-                Act::Done
+                be_done(does);
             }
         }
     }
@@ -105,15 +103,15 @@ impl Applet for Table {
         self.code = 0;
     }
 
-    fn step(&mut self, stimulus: &Stimulus) -> Act {
+    fn step(&mut self, stimulus: &Stimulus, does: &mut Act) {
         self.state.settle(stimulus);
         match (self.state.phase, stimulus) {
-            (Phase::Ready, Stimulus::Event { code, .. }) => self.go_on(0, *code),
+            (Phase::Ready, Stimulus::Event { code, .. }) => self.go_on(0, *code, does),
             (Phase::Ready, _) => {
                 self.state.phase = Phase::Ready;
-                Act::Done
+                be_done(does);
             }
-            (Phase::Running, _) => self.go_on(usize::from(self.held) + 1, self.code),
+            (Phase::Running, _) => self.go_on(usize::from(self.held) + 1, self.code, does),
         }
     }
 }

@@ -6,15 +6,14 @@ ghost use Rattle.toolkit_commands.specs.Envelopes.{value_in};
 ghost use Rattle.boxed_applets.specs.Watchers.{watcher_mind};
 ghost use Rattle.boxed_applets.specs.Made.{made};
 
-use crate::acts::show;
+use crate::acts::{be_done, show, show_when_idle};
 use crate::states::State;
 use applet_trait::numbers::{LOCATION_INFORMATION, MOST_KEPT};
 use applet_trait::texts::{ACTIVE, IDLE, LOST, MOVED};
 use applet_trait::{Act, Applet, Stimulus};
 use comprehension_tlv::find;
-use toolkit_commands::Proactive;
+use uicc_types::Kept;
 use uicc_types::events::{IDLE_SCREEN, LOCATION_STATUS, USER_ACTIVITY};
-use uicc_types::{Kept, Octets};
 
 #[derive(Clone, Copy)]
 enum Phase {
@@ -41,16 +40,6 @@ fn location_in(body: &[u8]) -> Option<&[u8]>
     }
 }
 
-/// Shows a text while nothing else goes on.
-fn show_when_idle(text: &[u8]) -> Act
-    requires { length text.now ≤ 255 }
-    ensures { result ≡ Act.Send (Proactive.IdleText text.now) }
-{
-    Act::Send(Proactive::IdleText {
-        text: Octets::from_slice(text),
-    })
-}
-
 impl Watcher {
     /// One that keeps nothing yet.
     pub fn new() -> Self
@@ -62,17 +51,17 @@ impl Watcher {
     }
 
     /// The handset told a location, or what should be one.
-    fn locate(&mut self, body: &[u8]) -> Act
-        ensures { made result (watcher_mind self.new) ≡ located (watcher_mind self.old)
+    fn locate(&mut self, body: &[u8], does: &mut Act)
+        ensures { made does.new (watcher_mind self.new) ≡ located (watcher_mind self.old)
             (value_in LOCATION_INFORMATION body.now) }
     {
         match location_in(body) {
             Some(location) if location.len() <= MOST_KEPT => {
-                self.state.keep(Phase::Keeping, location)
+                self.state.keep(does, Phase::Keeping, location);
             }
             _ => {
                 self.state.phase = Phase::Showing;
-                show(LOST)
+                show(does, LOST);
             }
         }
     }
@@ -90,7 +79,7 @@ impl Applet for Watcher {
         self.state.wake(Phase::Ready, kept);
     }
 
-    fn step(&mut self, stimulus: &Stimulus) -> Act {
+    fn step(&mut self, stimulus: &Stimulus, does: &mut Act) {
         self.state.settle(stimulus);
         match (self.state.phase, stimulus) {
             (
@@ -99,7 +88,7 @@ impl Applet for Watcher {
                     code: LOCATION_STATUS,
                     body,
                 },
-            ) => self.locate(body.as_slice()),
+            ) => self.locate(body.as_slice(), does),
             (
                 Phase::Ready,
                 Stimulus::Event {
@@ -108,7 +97,7 @@ impl Applet for Watcher {
                 },
             ) => {
                 self.state.phase = Phase::Showing;
-                show(ACTIVE)
+                show(does, ACTIVE);
             }
             (
                 Phase::Ready,
@@ -118,15 +107,15 @@ impl Applet for Watcher {
                 },
             ) => {
                 self.state.phase = Phase::Showing;
-                show_when_idle(IDLE)
+                show_when_idle(does, IDLE);
             }
             (Phase::Keeping, Stimulus::Went) => {
                 self.state.phase = Phase::Showing;
-                show(MOVED)
+                show(does, MOVED);
             }
             _ => {
                 self.state.phase = Phase::Ready;
-                Act::Done
+                be_done(does);
             }
         }
     }

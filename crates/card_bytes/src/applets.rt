@@ -50,7 +50,8 @@ pub fn show_turn(
     words: &[&str],
     shown: &mut String,
 ) -> Result<(), Failure> {
-    let act = applet.step(&stimulus(alloc, words)?);
+    let mut act = Act::Done;
+    applet.step(&stimulus(alloc, words)?, &mut act);
     show_act(&act, shown)?;
     Ok(())
 }
@@ -84,7 +85,8 @@ fn show_box_turn(
     applet.wake(&byte_list(alloc, bytes)?);
     let kind = applet.kind();
     write!(shown, "kind {kind}, ")?;
-    let act = applet.step(&stimulus(alloc, told)?);
+    let mut act = Act::Done;
+    applet.step(&stimulus(alloc, told)?, &mut act);
     show_act(&act, shown)?;
     Ok(())
 }

@@ -94,7 +94,9 @@ impl Noting<'_> {
 
     /// What the applet in it does next.
     pub fn act(&mut self, stimulus: &Stimulus) -> Act {
-        self.applet.step(stimulus)
+        let mut act = Act::Done;
+        self.applet.step(stimulus, &mut act);
+        act
     }
 }
 
@@ -112,9 +114,9 @@ impl Applet for Noting<'_> {
         self.applet.wake(kept)
     }
 
-    fn step(&mut self, stimulus: &Stimulus) -> Act {
+    fn step(&mut self, stimulus: &Stimulus, does: &mut Act) {
         self.notes.add(self.mark);
-        self.applet.step(stimulus)
+        self.applet.step(stimulus, does)
     }
 }
 

@@ -23,7 +23,8 @@ fn turn_of<B: Applet>(place: &mut Option<B>, kept: &Kept, stimulus: &Stimulus) -
     match place {
         Some(applet) => {
             applet.wake(kept);
-            let act = applet.step(stimulus);
+            let mut act = Act::Done;
+            applet.step(stimulus, &mut act);
             Some((applet.kind(), act))
         }
         None => None,

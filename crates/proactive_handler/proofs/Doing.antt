@@ -21,8 +21,9 @@ use Rattle.toolkit_model.specs.Registry.{registers, deregisters, with_code, with
 use Rattle.toolkit_model.specs.Passing.{passed_rows}
 use Rattle.toolkit_model.specs.Running.{Setting, Works, Carried, committed, ends, answers, commits, changing, taking, carried, admitted, is_admitted, is_held_by}
 use Rattle.proactive_handler.specs.declared.endings.Next.{Next}
-use Rattle.proactive_handler.specs.declared.endings.Next.TheVariants.{Told, Idle, Sent}
-use Rattle.proactive_handler.specs.Acts.{timer_told, next_of, TellsTimer, Stage, stage, works_at, with_these_rows, IsCarriedOut, Carries}
+use Rattle.proactive_handler.specs.declared.endings.Next.TheVariants.{Told as TellsNext, Sent as SendsNext}
+use Rattle.proactive_handler.specs.declared.endings.Reply.TheVariants.{Refused as WasRefused}
+use Rattle.proactive_handler.specs.Acts.{timer_told, Told, Idle, Sent, next_of, after, TellsTimer, Stage, stage, works_at, with_these_rows, IsCarriedOut, Carries}
 use Rattle.proactive_handler.specs.Counting.{Counts, counts_none}
 use Rattle.proactive_handler.specs.Moved.{has_rows, stands_still}
 
@@ -45,27 +46,31 @@ next_tells (Some stimulus) sent told = told
 next_tells None (Some command) told = tt
 next_tells None None told = tt
 
-all_told : (at : Setting) (does : Act) (old new : Stage) (r : Result Next StoreFault) → TellsOne (carried at does (works_at old)).tells → Carries at does old new r → IfOk r TellsTimer
+all_told : (at : Setting) (does : Act) (old new : Stage) (r : Result Next StoreFault) → TellsOne (carried at does (works_at old)).tells → Carries at does old new r → IfOk r (λ next. TellsTimer (after does next))
 all_told at does old new (Ok next) tells carries = subst TellsTimer (sym carries.next_is) (next_tells (carried at does (works_at old)).tells (admitted at old.timers does) tells)
 all_told at does old new (Err fault) tells carries = tt
 
 module _ (at : Setting) (old new : Stage) (r : Result Next StoreFault) where
-  pub send_told : (command : Proactive) → Carries at (Send command) old new r → IfOk r TellsTimer
+  pub send_told : (command : Proactive) → Carries at (Send command) old new r → IfOk r (λ next. TellsTimer (after (Send command) next))
   send_told command = all_told at (Send command) old new r (either_tells (is_admitted at old.timers command) (ends (works_at old)) (answers Refused (works_at old)) tt tt)
 
-  pub keep_told : (bytes : List ℕ) → Carries at (Keep bytes) old new r → IfOk r TellsTimer
+  pub keep_told : (bytes : List ℕ) → Carries at (Keep bytes) old new r → IfOk r (λ next. TellsTimer (after (Keep bytes) next))
   keep_told bytes =
       all_told at (Keep bytes) old new r (either_tells (nat_le (length bytes) MOST_KEPT) (commits (works_at old) (with_kept (rows_of old.memory.table) at.shelf bytes)) (answers Refused (works_at old)) tt tt)
 
-  pub register_told : (code : ℕ) → Carries at (Register code) old new r → IfOk r TellsTimer
+  pub register_told : (code : ℕ) → Carries at (Register code) old new r → IfOk r (λ next. TellsTimer (after (Register code) next))
   register_told code = all_told at (Register code) old new r (change_tells (works_at old) (with_code (rows_of old.memory.table) at.shelf code) (registers (rows_of old.memory.table) at.shelf code))
 
-  pub deregister_told : (code : ℕ) → Carries at (Deregister code) old new r → IfOk r TellsTimer
+  pub deregister_told : (code : ℕ) → Carries at (Deregister code) old new r → IfOk r (λ next. TellsTimer (after (Deregister code) next))
   deregister_told code = all_told at (Deregister code) old new r (change_tells (works_at old) (without_code (rows_of old.memory.table) at.shelf code) (deregisters (rows_of old.memory.table) at.shelf code))
 
 pub free_told : (b : Bool) (stimulus : Stimulus) → stimulus ≡ cond b Went Refused → GivesTimer stimulus
 free_told true stimulus is = subst GivesTimer (sym is) tt
 free_told false stimulus is = subst GivesTimer (sym is) tt
+
+-- another name of the act
+pub told_by : (one other : Act) (r : Result Next StoreFault) → one ≡ other → IfOk r (λ next. TellsTimer (after other next)) → IfOk r (λ next. TellsTimer (after one next))
+told_by one other r is = subst (λ (a : Act). IfOk r (λ next. TellsTimer (after a next))) (sym is)
 
 -- ---- the acts
 
@@ -105,8 +110,14 @@ module _ (tell : TablesTellStates) (memory : Memory) (agrees : Agrees memory.mar
       follows true = refl
       follows false = refl
 
-  pub send_so : (command : Proactive) (next : Next) → next ≡ cond (is_admitted at timers command) (Sent command) (Told Refused) → IsCarriedOut at (Send command) before before next
-  send_so command next is = subst (IsCarriedOut at (Send command) before before) (sym is) (sent_if command (is_admitted at timers command) refl)
+  after_sent : (command : Proactive) (b : Bool) → after (Send command) (cond b SendsNext (TellsNext WasRefused)) ≡ cond b (Sent command) (Told Refused)
+  after_sent command true = refl
+  after_sent command false = refl
+
+  pub send_so : (command : Proactive) (next : Next) → next ≡ cond (is_admitted at timers command) SendsNext (TellsNext WasRefused) → IsCarriedOut at (Send command) before before (after (Send command) next)
+  send_so command next is =
+      subst (IsCarriedOut at (Send command) before before) (sym (ap (after (Send command)) is ∙ after_sent command (is_admitted at timers command)))
+      (sent_if command (is_admitted at timers command) refl)
 
   timers_so : (does : Act) (after : Owners) (stimulus : Stimulus) → carried at does (works_at before) ≡ answers stimulus (record (works_at before) { timers = after }) → IsCarriedOut at does before (stage memory after mind) (Told stimulus)
   timers_so does after stimulus is = record {

@@ -1,6 +1,6 @@
 -- A run from its first act on: what it passes and answers is what that act does, and then what the rest of the run does.
 use Rattle.std.proofs.Common.{◌≡◌, refl, sym, ap, ◌∙◌, subst, ⊎_elim, inl, inr, ℕ, zero, suc, Bool, true, false, List, [], ◌∷◌, ◌++◌, cond, Option, Some, None, arith}
-use Rattle.std.specs.Prelude.{◌⊎◌, ◌&&◌, ◌≤◌, not, nat_le, length, filter_map, option_map, IsSomeAnd, Contains, OnOk, OnErr, IfOk, Result, Ok, Err, is_some}
+use Rattle.std.specs.Prelude.{◌⊎◌, ◌&&◌, ◌≤◌, not, nat_le, length, filter_map, option_map, IsSomeAnd, IfSome, Contains, Result, Ok, Err, is_some}
 use Rattle.std.specs.Option.{option_or, option_map_or}
 use Rattle.std.specs.List.{last_or, cons_option}
 use Rattle.std.specs.Result.{IsErr}
@@ -31,11 +31,9 @@ use Rattle.toolkit_model.specs.Passing.{ShelfTurn, Happening, Committed, rows_in
 use Rattle.toolkit_model.specs.Running.{Setting, Works, Carried, Ran, ends, answers, commits, changing, taking, carried, admitted, is_admitted, is_cards_own, is_short, is_within_rights, is_held_by, committed, noted, going_on, logged, carrying, awakened, run_on}
 use Rattle.toolkit_model.specs.Orderly.{CanBeSent}
 use Rattle.toolkit_model.specs.Commands.{answer_in, last_answer}
-use Rattle.proactive_handler.specs.declared.endings.Next.{Next}
-use Rattle.proactive_handler.specs.declared.endings.Next.TheVariants.{Told, Sent}
 use Rattle.proactive_handler.specs.declared.endings.Ending.{Ending}
-use Rattle.proactive_handler.specs.Acts.{next_of, Stage, works_at, with_these_rows, IsCarriedOut, IsActStopped}
-use Rattle.proactive_handler.specs.Runs.{answer_of, with_each_rows, StopsAt, IsRun, IsCut, RunsTo}
+use Rattle.proactive_handler.specs.Acts.{After, Told, Sent, next_of, Stage, works_at, with_these_rows, IsCarriedOut, IsActStopped}
+use Rattle.proactive_handler.specs.Runs.{answer_of, Ended, with_each_rows, StopsAt, IsRun, IsCut, RunsTo}
 use Rattle.proactive_handler.specs.Counting.{Counts, counts_none, counts_then}
 use Rattle.proactive_handler.specs.Joining.{stands_then, stops_later}
 use Rattle.proactive_handler.specs.Moved.{last_is_or, HasRowsOf, stands_still}
@@ -121,25 +119,30 @@ answer_noted at stimulus does timers done rest =
 
 -- ---- what comes next
 
-abbrev pub told_of : Next → Option Stimulus
+abbrev pub told_of : After → Option Stimulus
 told_of (Told stimulus) = Some stimulus
 told_of _ = None
 
-abbrev pub sent_of : Next → Option Proactive
+abbrev pub sent_of : After → Option Proactive
 sent_of (Sent command) = Some command
 sent_of _ = None
 
-tells_told : (tells : Option Stimulus) (sent : Option Proactive) → told_of (next_of tells sent) ≡ tells
+pub tells_told : (tells : Option Stimulus) (sent : Option Proactive) → told_of (next_of tells sent) ≡ tells
 tells_told (Some stimulus) sent = refl
 tells_told None (Some command) = refl
 tells_told None None = refl
 
-sends_sent : (tells : Option Stimulus) (sent : Option Proactive) → tells ≡ None → sent_of (next_of tells sent) ≡ sent
+pub sends_sent : (tells : Option Stimulus) (sent : Option Proactive) → tells ≡ None → sent_of (next_of tells sent) ≡ sent
 sends_sent (Some stimulus) sent is = cc is
 sends_sent None (Some command) is = refl
 sends_sent None None is = refl
 
 -- ---- what can be sent
+
+-- it may be that nothing is sent
+pub each_sent : (sent : Option Proactive) → ((command : Proactive) → sent ≡ Some command → CanBeSent command) → IfSome sent CanBeSent
+each_sent (Some command) can = can command refl
+each_sent None can = tt
 
 -- the length of a command is the same whatever its number
 abbrev pub HaveLengths : Type 0
@@ -242,7 +245,7 @@ module _ (at : Setting) (stimulus : Stimulus) (acts fuel : ℕ) (is_acts : acts 
   run_so tells is = run_is ∙ ap (λ (t : Option Stimulus). logged log_first (rest_after t)) is
 
   -- the run ended with the act
-  module _ (new : Stage) (next : Next) (out : IsCarriedOut at does stepped new next) (last : told_of next ≡ None) where
+  module _ (new : Stage) (next : After) (out : IsCarriedOut at does stepped new next) (last : told_of next ≡ None) where
     ends_so : done.tells ≡ None
     ends_so = sym (tells_told done.tells (admitted at old.timers does)) ∙ ap told_of (sym out.next_is) ∙ last
 
@@ -253,7 +256,7 @@ module _ (at : Setting) (stimulus : Stimulus) (acts fuel : ℕ) (is_acts : acts 
     pub can_be_sent : (command : Proactive) → next ≡ Sent command → HaveLengths → IsProperAct does → CanBeSent command
     can_be_sent command is lengths proper = sendable at old.timers does command lengths proper (sym sent_so ∙ ap sent_of is)
 
-    pub ended : (ending : Ending) → ending.sent ≡ sent_of next → ending.answer ≡ answer_of does → IsRun (run_on acts at stimulus (works_at old)) old new ending
+    pub ended : (ending : Ended) → ending.sent ≡ sent_of next → ending.answer ≡ answer_of does → IsRun (run_on acts at stimulus (works_at old)) old new ending
     ended ending sent answer =
         let is = run_so None ends_so in record {
           works_are = out.works_are ∙ sym (ap (λ (r : Ran). r.works) is);
@@ -292,7 +295,7 @@ module _ (at : Setting) (stimulus : Stimulus) (acts fuel : ℕ) (is_acts : acts 
     rest : Ran
     rest = run_on fuel at told (works_at mid)
 
-    pub went_on : (ending later : Ending) → IsRun (run_on fuel at told (works_at mid)) mid new later → ending.sent ≡ later.sent → ending.answer ≡ option_or later.answer (answer_of does) → IsRun (run_on acts at stimulus (works_at old)) old new ending
+    pub went_on : (ending later : Ended) → IsRun (run_on fuel at told (works_at mid)) mid new later → ending.sent ≡ later.sent → ending.answer ≡ option_or later.answer (answer_of does) → IsRun (run_on acts at stimulus (works_at old)) old new ending
     went_on ending later run sent answer = record {
       works_are = run.works_are ∙ sym (ap (λ (r : Ran). r.works) goes_so);
       sent_is = sent ∙ run.sent_is ∙ sym (ap (λ (r : Ran). r.sent) goes_so);
@@ -325,7 +328,7 @@ none_left : (at : Setting) (stimulus : Stimulus) (works : Works) → run_on zero
 unfolding run_on
 none_left at stimulus works = refl
 
-pub woke : (at : Setting) (stimulus : Stimulus) (acts : ℕ) (old new : Stage) (ending : Ending) → acts ≡ 0 → HasRowsOf (held old.memory) (rows_of old.memory.table) → new.memory ≡ old.memory → works_at new ≡ awakened at.shelf (works_at old)
+pub woke : (at : Setting) (stimulus : Stimulus) (acts : ℕ) (old new : Stage) (ending : Ended) → acts ≡ 0 → HasRowsOf (held old.memory) (rows_of old.memory.table) → new.memory ≡ old.memory → works_at new ≡ awakened at.shelf (works_at old)
     → ending.sent ≡ None → ending.answer ≡ None → IsRun (run_on acts at stimulus (works_at old)) old new ending
 woke at stimulus acts old new ending none has same works sent answer =
     let is = ap (λ (n : ℕ). run_on n at stimulus (works_at old)) none ∙ none_left at stimulus (works_at old) in record {
@@ -337,21 +340,6 @@ woke at stimulus acts old new ending none has same works sent answer =
     }
 
 -- a run that a fault stopped
-pub cut_runs : (ran : Ran) (old new : Stage) (again : Result Ending StoreFault) → IsErr again → IsCut ran old new → RunsTo ran old new again
-cut_runs ran old new (Ok ending) err cut = cc err
-cut_runs ran old new (Err fault) err cut = cut
-
--- ---- what a run came to, one thing at a time
-
-module _ (ran : Ran) (old new : Stage) where
-  pub on_run : (r : Result Ending StoreFault) (P : Type 0) → RunsTo ran old new r → ((ending : Ending) → IsRun ran old new ending → P) → OnOk r P
-  on_run (Ok ending) P runs then_so = then_so ending runs
-  on_run (Err fault) P runs then_so = cc
-
-  pub if_run : (r : Result Ending StoreFault) (P : Ending → Type 0) → RunsTo ran old new r → ((ending : Ending) → IsRun ran old new ending → P ending) → IfOk r P
-  if_run (Ok ending) P runs then_so = then_so ending runs
-  if_run (Err fault) P runs then_so = cc
-
-  pub on_cut : (r : Result Ending StoreFault) (P : Type 0) → RunsTo ran old new r → (IsCut ran old new → P) → OnErr r P
-  on_cut (Ok ending) P runs then_so = cc
-  on_cut (Err fault) P runs then_so = then_so runs
+pub cut_runs : (ran : Ran) (old new : Stage) (does : Act) (again : Result Ending StoreFault) → IsErr again → IsCut ran old new → RunsTo ran old new does again
+cut_runs ran old new does (Ok ending) err cut = cc err
+cut_runs ran old new does (Err fault) err cut = cut

@@ -16,10 +16,9 @@ use Rattle.toolkit_model.specs.Passing.{ToolkitState, Committed, Passed, rows_in
 use Rattle.toolkit_model.specs.Commands.{last_answer}
 use Rattle.toolkit_model.specs.Running.{Setting, Works, Ran, carried, admitted, committed, going_on, run_on, most_acts, setting_of, works_of, sending, begins_call, with_mind, mind_on, ended_in, run_of_mind, run_of_row}
 use Rattle.proactive_handler.specs.declared.settings.Setting.{Setting as GivenSetting}
-use Rattle.proactive_handler.specs.declared.endings.Ending.{Ending}
 use Rattle.proactive_handler.specs.Acts.{stage, works_at, with_these_rows}
 use Rattle.proactive_handler.specs.Counting.{Counts}
-use Rattle.proactive_handler.specs.Runs.{run_of, StopsAt, IsRun, IsCut}
+use Rattle.proactive_handler.specs.Runs.{run_of, Ended, StopsAt, IsRun, IsCut}
 use Rattle.proactive_handler.specs.Steps.{toolkit, Scene, scene, IsDone}
 use Rattle.proactive_handler.proofs.Joined.{rests}
 use Rattle.proactive_handler.specs.Joining.{last_append}
@@ -68,7 +67,7 @@ module _ (shelf : ℕ) (stimulus : Stimulus) (is_resumed : Bool) (old : Scene) (
     abbrev new_scene : Scene
     new_scene = scene memory' index' session' (with_mind old.minds shelf (Some mind'))
 
-    pub run_done : (before after : Owners) (ending : Ending) → IsRun made (stage old.memory before mind) (stage memory' after mind') ending → session' ≡ sending shelf is_resumed ending.sent (record old.session { timers = after })
+    pub run_done : (before after : Owners) (ending : Ended) → IsRun made (stage old.memory before mind) (stage memory' after mind') ending → session' ≡ sending shelf is_resumed ending.sent (record old.session { timers = after })
         → IsDone (run_of_row shelf stimulus is_resumed (toolkit old)) old new_scene
     run_done before after ending run session_is =
         let works_now : works_at (stage memory' after mind') ≡ ran.works = run.works_are ∙ ap (λ (r : Ran). r.works) same in

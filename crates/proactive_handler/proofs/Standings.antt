@@ -20,8 +20,7 @@ use Rattle.toolkit_model.specs.Registry.{with_code, without_code, with_kept}
 use Rattle.toolkit_model.specs.Passing.{passed_rows}
 use Rattle.toolkit_model.specs.Running.{Setting, Works, Carried, carried, commits, committed, answers, admitted}
 use Rattle.proactive_handler.specs.declared.endings.Next.{Next}
-use Rattle.proactive_handler.specs.declared.endings.Next.TheVariants.{Told}
-use Rattle.proactive_handler.specs.Acts.{next_of, Stage, stage, works_at, with_these_rows, IsCarriedOut, IsActStopped, Carries}
+use Rattle.proactive_handler.specs.Acts.{Told, next_of, Stage, stage, works_at, with_these_rows, IsCarriedOut, IsActStopped, Carries}
 use Rattle.proactive_handler.specs.Moved.{HasRowsOf, has_rows, stands_still}
 use Rattle.proactive_handler.specs.Counting.{Counts, counts_none, counts_one}
 

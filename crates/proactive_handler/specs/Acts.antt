@@ -6,8 +6,9 @@ use Rattle.card_layout.specs.Persistent.{Registration, Persistent}
 use Rattle.card_layout.specs.States.{rows_of}
 use Rattle.toolkit_commands.specs.declared.commands.Proactive.{Proactive}
 use Rattle.applet_trait.specs.declared.stimuli.Stimulus.{Stimulus}
-use Rattle.applet_trait.specs.declared.stimuli.Stimulus.TheVariants.{Refused, Timer}
+use Rattle.applet_trait.specs.declared.stimuli.Stimulus.TheVariants.{Went, Refused, Timer}
 use Rattle.applet_trait.specs.declared.stimuli.Act.{Act}
+use Rattle.applet_trait.specs.declared.stimuli.Act.TheVariants.{Send}
 use Rattle.applet_trait.specs.Laws.{GivesTimer}
 use Rattle.applet_trait.specs.Minds.{AppletState}
 use Rattle.timer_table.specs.Timers.{Owners}
@@ -15,7 +16,9 @@ use Rattle.toolkit_model.specs.Passing.{passed_rows}
 use Rattle.toolkit_model.specs.Running.{Setting, Works, carried, committed, admitted}
 use Rattle.proactive_handler.specs.declared.settings.Setting.{Setting as GivenSetting}
 use Rattle.proactive_handler.specs.declared.endings.Next.{Next}
-use Rattle.proactive_handler.specs.declared.endings.Next.TheVariants.{Told, Idle, Sent}
+use Rattle.proactive_handler.specs.declared.endings.Next.TheVariants.{Told as TellsNext, Idle as IdlesNext, Sent as SendsNext}
+use Rattle.proactive_handler.specs.declared.endings.Reply.{Reply}
+use Rattle.proactive_handler.specs.declared.endings.Reply.TheVariants.{Went as ItWent, Refused as WasRefused, Timer as GotTimer}
 use Rattle.proactive_handler.specs.Counting.{Counts}
 
 abbrev pub setting_of : GivenSetting → Setting
@@ -26,11 +29,34 @@ abbrev pub timer_told : Option ℕ → Stimulus
 timer_told (Some timer) = Timer timer
 timer_told None = Refused
 
+-- what an applet is told by a reply
+abbrev pub stimulus_of : Reply → Stimulus
+stimulus_of ItWent = Went
+stimulus_of WasRefused = Refused
+stimulus_of (GotTimer timer) = Timer timer
+
+-- What comes after an act: the applet is told something, or the run ends, with a command or without.
+pub data After : Type 0 where
+  Told : Stimulus → After
+  Idle : After
+  Sent : Proactive → After
+
 -- what comes after an act, from what the applet is told and from the command that is sent
-abbrev pub next_of : Option Stimulus → Option Proactive → Next
+abbrev pub next_of : Option Stimulus → Option Proactive → After
 next_of (Some stimulus) sent = Told stimulus
 next_of None (Some command) = Sent command
 next_of None None = Idle
+
+-- the command that an act sends
+abbrev pub command_of : Act → Option Proactive
+command_of (Send command) = Some command
+command_of _ = None
+
+-- what comes after this act, whose command stays where it stands
+abbrev pub after : Act → Next → After
+after does (TellsNext reply) = Told (stimulus_of reply)
+after does IdlesNext = Idle
+after does SendsNext = next_of None (command_of does)
 
 -- ---- what stands before an act and after it
 
@@ -53,7 +79,7 @@ with_these_rows rows state = record state { rows = rows }
 
 -- The act was carried out as it is defined, and the store stands for the state with the rows after it. It was one commit where
 -- there is one.
-pub record IsCarriedOut (at : Setting) (does : Act) (old new : Stage) (next : Next) : Type 0 where
+pub record IsCarriedOut (at : Setting) (does : Act) (old new : Stage) (next : After) : Type 0 where
   pub works_are : works_at new ≡ (carried at does (works_at old)).works
   pub next_is : next ≡ next_of (carried at does (works_at old)).tells (admitted at old.timers does)
   pub stands : held new.memory ≡ option_map (with_these_rows (rows_of new.memory.table)) (held old.memory)
@@ -69,10 +95,10 @@ pub record IsActStopped (at : Setting) (does : Act) (old new : Stage) : Type 0 w
   pub commits : new.memory.commits ≡ old.memory.commits
 
 abbrev pub Carries : Setting → Act → Stage → Stage → Result Next StoreFault → Type 0
-Carries at does old new (Ok next) = IsCarriedOut at does old new next
+Carries at does old new (Ok next) = IsCarriedOut at does old new (after does next)
 Carries at does old new (Err fault) = IsActStopped at does old new
 
 -- a timer that is told of is one of the eight
-abbrev pub TellsTimer : Next → Type 0
+abbrev pub TellsTimer : After → Type 0
 TellsTimer (Told stimulus) = GivesTimer stimulus
 TellsTimer _ = Unit {0}

@@ -1,5 +1,5 @@
 -- The run of an applet over the memory of a card.
-use Rattle.std.specs.Prelude.{◌≡◌, ◌⊎◌, ℕ, ◌+◌, ◌<◌, Bool, List, [], ◌∷◌, length, map, slice_index_or, Option, Some, None, option_map, Result, Ok, Err, OnOk, OnErr}
+use Rattle.std.specs.Prelude.{◌≡◌, ◌⊎◌, ℕ, ◌+◌, ◌<◌, Bool, if◌then◌else◌, List, [], ◌∷◌, length, map, slice_index_or, Option, Some, None, option_map, Result, Ok, Err, OnOk, OnErr}
 use Rattle.uicc_types.specs.Counts.{raised_by}
 use Rattle.store_form.specs.declared.store.StoreFault.{StoreFault}
 use Rattle.card_layout.specs.Memory.{Memory, held, IsMounted, Keeps}
@@ -10,13 +10,14 @@ use Rattle.applet_trait.specs.declared.stimuli.Act.TheVariants.{Answer}
 use Rattle.card_layout.specs.Standing.{Agrees}
 use Rattle.card_layout.specs.States.{rows_of}
 use Rattle.card_memory.specs.Model.{HasRowOn, PassesOne}
+use Rattle.toolkit_commands.specs.declared.commands.Proactive.{Proactive}
 use Rattle.toolkit_model.specs.Passing.{passed_rows}
 use Rattle.toolkit_model.specs.Running.{Works, Ran, run_on, most_acts}
 use Rattle.toolkit_model.specs.Commands.{last_answer}
 use Rattle.trigger_index.specs.Indexes.{StandsFor}
 use Rattle.proactive_handler.specs.declared.settings.Setting.{Setting as GivenSetting}
 use Rattle.proactive_handler.specs.declared.endings.Ending.{Ending}
-use Rattle.proactive_handler.specs.Acts.{setting_of, Stage, works_at, with_these_rows}
+use Rattle.proactive_handler.specs.Acts.{setting_of, Stage, works_at, with_these_rows, command_of}
 use Rattle.proactive_handler.specs.Counting.{Counts}
 
 -- what an act answers to call control
@@ -32,9 +33,18 @@ run_of at stimulus works = run_on most_acts (setting_of at) stimulus works
 abbrev pub with_each_rows : List (List Registration) → Persistent → List Persistent
 with_each_rows passed state = map (λ rows. with_these_rows rows state) passed
 
+-- What a run ended with: the command that was sent, if one was, and the last answer to call control.
+pub record Ended : Type 0 where
+  pub sent : Option Proactive
+  pub answer : Option Bool
+
+-- a command that was sent is that of the last act
+abbrev pub ended_by : Act → Ending → Ended
+ended_by does ending = record { sent = if ending.is_sent then command_of does else None; answer = ending.answer }
+
 -- The run came to its end: it changed what the definition changes, the store stands for the state with the rows after it, and
 -- there were as many commits as are noted.
-pub record IsRun (ran : Ran) (old new : Stage) (ending : Ending) : Type 0 where
+pub record IsRun (ran : Ran) (old new : Stage) (ending : Ended) : Type 0 where
   pub works_are : works_at new ≡ ran.works
   pub sent_is : ending.sent ≡ ran.sent
   pub answer_is : ending.answer ≡ last_answer ran.log
@@ -56,14 +66,14 @@ pub record IsCut (ran : Ran) (old new : Stage) : Type 0 where
   pub passes : PassesOne (held old.memory) (held new.memory) (with_each_rows (passed_rows ran.log))
   pub stops : StopsAt (rows_of old.memory.table ∷ passed_rows ran.log) old.memory new.memory
 
--- it comes to this run, or a fault stopped it
-abbrev pub RunsTo : Ran → Stage → Stage → Result Ending StoreFault → Type 0
-RunsTo ran old new (Ok ending) = IsRun ran old new ending
-RunsTo ran old new (Err fault) = IsCut ran old new
+-- it comes to this run, with this act as the last, or a fault stopped it
+abbrev pub RunsTo : Ran → Stage → Stage → Act → Result Ending StoreFault → Type 0
+RunsTo ran old new does (Ok ending) = IsRun ran old new (ended_by does ending)
+RunsTo ran old new does (Err fault) = IsCut ran old new
 
 -- the same, of the run over what stands on the stage
-abbrev pub Runs : (Works → Ran) → Stage → Stage → Result Ending StoreFault → Type 0
-Runs run old new result = RunsTo (run (works_at old)) old new result
+abbrev pub Runs : (Works → Ran) → Stage → Stage → Act → Result Ending StoreFault → Type 0
+Runs run old new does result = RunsTo (run (works_at old)) old new does result
 
 -- ---- what it needs, and what it keeps
 

@@ -7,7 +7,7 @@ ghost use Rattle.card_memory.specs.Model.{HasRowOn};
 ghost use Rattle.toolkit_model.specs.Orderly.{CanBeSent};
 ghost use Rattle.toolkit_model.specs.Running.{kept_on, run_on};
 ghost use Rattle.proactive_handler.specs.Acts.{setting_of, stage};
-ghost use Rattle.proactive_handler.specs.Runs.{answer_of, run_of, Runs, MayRun, KeepsRows};
+ghost use Rattle.proactive_handler.specs.Runs.{answer_of, ended_by, run_of, Runs, MayRun, KeepsRows};
 ghost use Rattle.card_layout.specs.Memory.{memory};
 
 use crate::carrying::carry_out;
@@ -46,7 +46,7 @@ fn answer_of(act: &Act) -> Option<bool>
     }
 }
 
-// So many acts at most, after which the applet wakes.
+// So many acts at most, after which the applet wakes. The last act stays in its place.
 fn run_on<S: Store, B: Applet>(
     store: &mut S,
     loaded: &mut Loaded,
@@ -55,14 +55,15 @@ fn run_on<S: Store, B: Applet>(
     applet: &mut B,
     at: &Setting,
     stimulus: &Stimulus,
+    does: &mut Act,
     acts: u8,
 ) -> Result<Ending, StoreFault>
     requires may_run { MayRun (memory S.Store store.old loaded.old) index.old at.now.shelf.0 }
     requires one_of_eight { GivesTimer stimulus.now }
     ensures runs { Runs (run_on acts (setting_of at.now) stimulus.now)
         (stage (memory S.Store store.old loaded.old) timers.old (B.mind applet.old))
-        (stage (memory S.Store store.new loaded.new) timers.new (B.mind applet.new)) result }
-    ensures sendable { IfOk result (λ ending. IfSome ending.sent CanBeSent) }
+        (stage (memory S.Store store.new loaded.new) timers.new (B.mind applet.new)) does.new result }
+    ensures sendable { IfOk result (λ ending. IfSome (ended_by does.new ending).sent CanBeSent) }
     ensures same_kind { (B.mind applet.new).kind ≡ (B.mind applet.old).kind }
     ensures keeps { KeepsRows (memory S.Store store.old loaded.old)
         (memory S.Store store.new loaded.new) index.new result }
@@ -73,22 +74,36 @@ fn run_on<S: Store, B: Applet>(
     if acts == 0 {
         wake(loaded, applet, at.shelf);
         return Ok(Ending {
-            sent: None,
+            is_sent: false,
             answer: None,
         });
     }
-    let act = applet.step(stimulus);
-    let answer = answer_of(&act);
-    match carry_out(store, loaded, index, timers, at, act)? {
-        Next::Idle => Ok(Ending { sent: None, answer }),
-        Next::Sent(command) => Ok(Ending {
-            sent: Some(command),
+    applet.step(stimulus, does);
+    let answer = answer_of(does);
+    match carry_out(store, loaded, index, timers, at, does)? {
+        Next::Idle => Ok(Ending {
+            is_sent: false,
             answer,
         }),
-        Next::Told(told) => {
-            let rest = run_on(store, loaded, index, timers, applet, at, &told, acts - 1)?;
+        Next::Sent => Ok(Ending {
+            is_sent: true,
+            answer,
+        }),
+        Next::Told(reply) => {
+            let told = reply.stimulus();
+            let rest = run_on(
+                store,
+                loaded,
+                index,
+                timers,
+                applet,
+                at,
+                &told,
+                does,
+                acts - 1,
+            )?;
             Ok(Ending {
-                sent: rest.sent,
+                is_sent: rest.is_sent,
                 answer: rest.answer.or(answer),
             })
         }
@@ -102,7 +117,7 @@ fn run_on<S: Store, B: Applet>(
 /// the run ends with it: the table has the rows before that commit, and the memory these or those after it. Of the index, the timers
 /// and the applet, but for its kind, nothing is said then.
 ///
-/// A timer that the stimulus names is one from 1 to 8.
+/// A timer that the stimulus names is one from 1 to 8. The last act stays in its place.
 pub fn run_row<S: Store, B: Applet>(
     store: &mut S,
     loaded: &mut Loaded,
@@ -111,18 +126,19 @@ pub fn run_row<S: Store, B: Applet>(
     applet: &mut B,
     at: &Setting,
     stimulus: &Stimulus,
+    does: &mut Act,
 ) -> Result<Ending, StoreFault>
     requires may_run { MayRun (memory S.Store store.old loaded.old) index.old at.now.shelf.0 }
     requires one_of_eight { GivesTimer stimulus.now }
     ensures runs { Runs (run_of at.now stimulus.now)
         (stage (memory S.Store store.old loaded.old) timers.old (B.mind applet.old))
-        (stage (memory S.Store store.new loaded.new) timers.new (B.mind applet.new)) result }
-    ensures sendable { IfOk result (λ ending. IfSome ending.sent CanBeSent) }
+        (stage (memory S.Store store.new loaded.new) timers.new (B.mind applet.new)) does.new result }
+    ensures sendable { IfOk result (λ ending. IfSome (ended_by does.new ending).sent CanBeSent) }
     ensures same_kind { (B.mind applet.new).kind ≡ (B.mind applet.old).kind }
     ensures keeps { KeepsRows (memory S.Store store.old loaded.old)
         (memory S.Store store.new loaded.new) index.new result }
 {
     run_on(
-        store, loaded, index, timers, applet, at, stimulus, MOST_ACTS,
+        store, loaded, index, timers, applet, at, stimulus, does, MOST_ACTS,
     )
 }

@@ -1,14 +1,15 @@
 //! Which commands of an applet are admitted.
-ghost use Rattle.std.specs.Prelude.{◌≡◌, false};
+ghost use Rattle.std.specs.Prelude.{◌≡◌, true, false};
 ghost use Rattle.std.specs.Option.{option_map_or};
 ghost use Rattle.terminal_profile.specs.Model.{allowed};
 ghost use Rattle.toolkit_commands.specs.Table.{HasWritableTime};
+ghost use Rattle.toolkit_commands.specs.Matching.{IsShort};
 ghost use Rattle.toolkit_model.specs.Running.{is_cards_own, is_held_by, is_within_rights, is_short, is_admitted};
 ghost use Rattle.proactive_handler.specs.Acts.{setting_of};
 
 use crate::settings::Setting;
 use timer_table::Timers;
-use toolkit_commands::{Proactive, spell};
+use toolkit_commands::{Proactive, lengths_of_commands, spell};
 use uicc_types::Shelf;
 
 /// The modes of a REFRESH that an applet may ask for: initialization of the application, and a reset of the card (ETSI TS 102
@@ -16,6 +17,9 @@ use uicc_types::Shelf;
 const INITIALIZATION: u8 = 0x03;
 
 const CARD_RESET: u8 = 0x04;
+
+/// How long a text fits in each command.
+const SHORT_TEXT: usize = 235;
 
 // Whether the card alone sends such a command.
 fn is_cards_own(command: &Proactive) -> bool
@@ -50,12 +54,29 @@ fn is_within_rights(timers: &Timers, shelf: Shelf, command: &Proactive) -> bool
     }
 }
 
-// Whether it fits the 255 bytes that a length can say.
+// Whether its text is so short that it fits, whatever the command.
+fn has_short_text(command: &Proactive) -> bool
+    ensures { result ≡ true → IsShort command.now }
+{
+    match command {
+        Proactive::SetUpEventList { events } => events.as_slice().len() <= SHORT_TEXT,
+        Proactive::DisplayText { text } => text.as_slice().len() <= SHORT_TEXT,
+        Proactive::GetInkey { text } => text.as_slice().len() <= SHORT_TEXT,
+        Proactive::GetInput { text, .. } => text.as_slice().len() <= SHORT_TEXT,
+        Proactive::IdleText { text } => text.as_slice().len() <= SHORT_TEXT,
+        Proactive::SelectItem { .. } | Proactive::SetUpMenu { .. } => false,
+        _ => true,
+    }
+}
+
+// Whether it fits the 255 bytes that a length can say. Most commands do whose bytes need not be made to see it.
 fn is_short(command: &Proactive) -> bool
     requires { HasWritableTime command.now }
     ensures { result ≡ is_short command.now }
 {
-    spell(command, 0).is_ok()
+    // This call is a law, and does nothing.
+    lengths_of_commands();
+    has_short_text(command) || spell(command, 0).is_ok()
 }
 
 // Whether the handset sent its profile and can carry the command out.

@@ -2,15 +2,15 @@
 ghost use Rattle.std.specs.Prelude.{◌≡◌, OnErr, IfOk};
 ghost use Rattle.applet_trait.specs.Laws.{IsWritableAct};
 ghost use Rattle.applet_trait.specs.Minds.{AppletState};
-ghost use Rattle.proactive_handler.specs.Acts.{setting_of, Carries, TellsTimer, stage};
+ghost use Rattle.proactive_handler.specs.Acts.{setting_of, after, Carries, TellsTimer, stage};
 ghost use Rattle.card_layout.specs.Memory.{memory};
 ghost use Rattle.proactive_handler.specs.Runs.{MayRun, KeepsRows};
 
 use crate::changes::{deregister, keep, register};
-use crate::endings::Next;
+use crate::endings::{Next, Reply};
 use crate::messages::{free_timer, send, take_timer};
 use crate::settings::Setting;
-use applet_trait::{Act, Stimulus};
+use applet_trait::Act;
 use card_layout::Loaded;
 use card_memory::tables_tell_states;
 use store_form::{Store, StoreFault};
@@ -24,14 +24,14 @@ pub(crate) fn carry_out<S: Store>(
     index: &mut Index,
     timers: &mut Timers,
     at: &Setting,
-    act: Act,
+    act: &Act,
 ) -> Result<Next, StoreFault>
     requires may_run { MayRun (memory S.Store store.old loaded.old) index.old at.now.shelf.0 }
-    requires writable { IsWritableAct act }
-    ensures carries { (mind : AppletState) → Carries (setting_of at.now) act
+    requires writable { IsWritableAct act.now }
+    ensures carries { (mind : AppletState) → Carries (setting_of at.now) act.now
         (stage (memory S.Store store.old loaded.old) timers.old mind)
         (stage (memory S.Store store.new loaded.new) timers.new mind) result }
-    ensures one_of_eight { IfOk result TellsTimer }
+    ensures one_of_eight { IfOk result (λ next. TellsTimer (after act.now next)) }
     ensures same { OnErr result (loaded.new ≡ loaded.old) }
     ensures keeps { KeepsRows (memory S.Store store.old loaded.old)
         (memory S.Store store.new loaded.new) index.new result }
@@ -42,10 +42,10 @@ pub(crate) fn carry_out<S: Store>(
         Act::Done => Ok(Next::Idle),
         Act::Send(command) => Ok(send(at, timers, command)),
         Act::Keep(bytes) => keep(store, loaded, at.shelf, bytes.as_slice()),
-        Act::Register(code) => register(store, loaded, index, at.shelf, code),
-        Act::Deregister(code) => deregister(store, loaded, index, at.shelf, code),
+        Act::Register(code) => register(store, loaded, index, at.shelf, *code),
+        Act::Deregister(code) => deregister(store, loaded, index, at.shelf, *code),
         Act::TakeTimer => Ok(Next::Told(take_timer(timers, at.shelf))),
-        Act::FreeTimer(timer) => Ok(Next::Told(free_timer(timers, at.shelf, timer))),
-        Act::Answer(_) => Ok(Next::Told(Stimulus::Went)),
+        Act::FreeTimer(timer) => Ok(Next::Told(free_timer(timers, at.shelf, *timer))),
+        Act::Answer(_) => Ok(Next::Told(Reply::Went)),
     }
 }

@@ -12,10 +12,9 @@ ghost use Rattle.proactive_handler.specs.Acts.{Carries, stage};
 ghost use Rattle.card_layout.specs.Memory.{IsMounted, Keeps, memory};
 ghost use Rattle.proactive_handler.specs.Runs.{MayRun};
 
-use crate::endings::Next;
+use crate::endings::{Next, Reply};
 use crate::laws::rows_are_listed;
 use applet_registry::commits_are_those_of_sessions;
-use applet_trait::Stimulus;
 use applet_trait::numbers::MOST_KEPT;
 use card_layout::{Loaded, states_are_of_entries};
 use card_memory::tables_tell_states;
@@ -49,10 +48,10 @@ pub(crate) fn keep<S: Store>(
     rows_are_listed();
     changes_are_followed();
     if bytes.len() > MOST_KEPT {
-        return Ok(Next::Told(Stimulus::Refused));
+        return Ok(Next::Told(Reply::Refused));
     }
     card_memory::keep_bytes(store, loaded, shelf, bytes)?;
-    Ok(Next::Told(Stimulus::Went))
+    Ok(Next::Told(Reply::Went))
 }
 
 // Commits that the row of a shelf is registered for an event that it isn't registered for.
@@ -83,7 +82,7 @@ fn commit_registration<S: Store>(
     changes_are_followed();
     card_memory::register(store, loaded, shelf, code)?;
     index.added(loaded, shelf, code);
-    Ok(Next::Told(Stimulus::Went))
+    Ok(Next::Told(Reply::Went))
 }
 
 /// Registers the row of a shelf for the event of this code, which is one commit where it isn't registered yet. A code of no such
@@ -113,10 +112,10 @@ pub(crate) fn register<S: Store>(
             if is_new {
                 commit_registration(store, loaded, index, shelf, code)
             } else {
-                Ok(Next::Told(Stimulus::Went))
+                Ok(Next::Told(Reply::Went))
             }
         }
-        Err(_) => Ok(Next::Told(Stimulus::Refused)),
+        Err(_) => Ok(Next::Told(Reply::Refused)),
     }
 }
 
@@ -146,7 +145,7 @@ fn commit_deregistration<S: Store>(
     changes_are_followed();
     card_memory::deregister(store, loaded, shelf, code)?;
     index.removed(shelf, code);
-    Ok(Next::Told(Stimulus::Went))
+    Ok(Next::Told(Reply::Went))
 }
 
 /// Registers the row of a shelf for the event of this code no longer, which is one commit where it is registered for it. A code
@@ -176,9 +175,9 @@ pub(crate) fn deregister<S: Store>(
             if is_there {
                 commit_deregistration(store, loaded, index, shelf, code)
             } else {
-                Ok(Next::Told(Stimulus::Went))
+                Ok(Next::Told(Reply::Went))
             }
         }
-        Err(_) => Ok(Next::Told(Stimulus::Refused)),
+        Err(_) => Ok(Next::Told(Reply::Refused)),
     }
 }

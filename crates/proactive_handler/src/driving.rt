@@ -8,7 +8,7 @@ ghost use Rattle.proactive_handler.specs.Reached.{TurnsOnly};
 ghost use Rattle.proactive_handler.specs.Scenes.{IsInService, KeepsScene};
 
 use crate::laws::rows_are_listed;
-use crate::running::run_one;
+use crate::running::run_alone;
 use applet_trait::{Applet, Stimulus};
 use card_layout::Loaded;
 use card_memory::tables_tell_states;
@@ -49,7 +49,7 @@ fn catch_up<S: Store, B: Applet>(
         Some(trigger) => {
             let Trigger { shelf, code, body } = trigger;
             let event = Stimulus::Event { code, body };
-            run_one(store, loaded, index, cast, session, shelf, &event, false)?;
+            run_alone(store, loaded, index, cast, session, shelf, &event, false)?;
             catch_up(store, loaded, index, cast, session, count - 1)
         }
         None => Ok(()),

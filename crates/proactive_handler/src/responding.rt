@@ -8,7 +8,7 @@ ghost use Rattle.proactive_handler.specs.Reached.{TurnsOnly};
 ghost use Rattle.proactive_handler.specs.Scenes.{IsInService, KeepsScene};
 
 use crate::driving::drive;
-use crate::running::run_one;
+use crate::running::run_alone;
 use applet_trait::{Applet, Stimulus};
 use card_layout::Loaded;
 use card_memory::tables_tell_states;
@@ -51,7 +51,7 @@ fn answer<S: Store, B: Applet>(
                 item: response.item,
                 text: response.text.copy(),
             };
-            run_one(store, loaded, index, cast, session, shelf, &stimulus, true)?;
+            run_alone(store, loaded, index, cast, session, shelf, &stimulus, true)?;
             Ok(())
         }
         None => Ok(()),

@@ -9,21 +9,22 @@ ghost use Rattle.toolkit_model.specs.Commands.{last_answer};
 ghost use Rattle.toolkit_model.specs.Driving.{is_idle};
 ghost use Rattle.toolkit_model.specs.Orderly.{asks, CanBeSent};
 ghost use Rattle.toolkit_model.specs.Running.{begins_call, sending, mind_on, with_mind, run_of_row};
+ghost use Rattle.proactive_handler.specs.Acts.{command_of};
 ghost use Rattle.proactive_handler.specs.Boxes.{minds_of, IsSameBox};
 ghost use Rattle.proactive_handler.specs.Serving.{IsSessionServed};
 ghost use Rattle.proactive_handler.specs.Steps.{scene, toolkit, Moves};
 ghost use Rattle.card_layout.specs.Memory.{memory};
 ghost use Rattle.proactive_handler.specs.Reached.{Tells};
 ghost use Rattle.proactive_handler.specs.Scenes.{IsInService, KeepsScene};
-ghost use Rattle.proactive_handler.specs.Runs.{MayRun, KeepsRows};
+ghost use Rattle.proactive_handler.specs.Runs.{ended_by, MayRun, KeepsRows};
 
 use crate::acting::run_row;
+use crate::endings::Ending;
 use crate::settings::Setting;
-use applet_trait::{Applet, Stimulus};
+use applet_trait::{Act, Applet, Stimulus};
 use card_layout::Loaded;
 use card_memory::tables_tell_states;
 use store_form::{Store, StoreFault};
-use toolkit_commands::Proactive;
 use toolkit_session::Session;
 use trigger_index::Index;
 use uicc_types::Shelf;
@@ -39,14 +40,25 @@ fn begins_call(stimulus: &Stimulus) -> bool
     }
 }
 
-// The command that a run ended with goes out or waits, if there is one.
-fn send_last(session: &mut Session, shelf: Shelf, is_resumed: bool, sent: Option<Proactive>)
-    requires sendable { IfSome sent CanBeSent }
+// The command of an act goes out or waits, if it has one.
+fn send_of(session: &mut Session, shelf: Shelf, is_resumed: bool, act: &Act)
+    requires sendable { IfSome (command_of act.now) CanBeSent }
     requires room { is_resumed ≡ false → length session.old.waiting < MOST }
-    ensures { session.new ≡ sending shelf.0 is_resumed sent session.old }
+    ensures { session.new ≡ sending shelf.0 is_resumed (command_of act.now) session.old }
 {
-    if let Some(command) = sent {
-        session.send(shelf, is_resumed, &command);
+    if let Act::Send(command) = act {
+        session.send(shelf, is_resumed, command);
+    }
+}
+
+// The command that a run ended with goes out or waits, if there is one.
+fn send_last(session: &mut Session, shelf: Shelf, is_resumed: bool, last: &Act, ending: &Ending)
+    requires sendable { IfSome (ended_by last.now ending.now).sent CanBeSent }
+    requires room { is_resumed ≡ false → length session.old.waiting < MOST }
+    ensures { session.new ≡ sending shelf.0 is_resumed (ended_by last.now ending.now).sent session.old }
+{
+    if ending.is_sent {
+        send_of(session, shelf, is_resumed, last);
     }
 }
 
@@ -74,6 +86,7 @@ fn run_applet<S: Store, B: Applet>(
     shelf: Shelf,
     stimulus: &Stimulus,
     is_resumed: bool,
+    does: &mut Act,
 ) -> Result<Option<bool>, StoreFault>
     requires may_run { MayRun (memory S.Store store.old loaded.old) index.old shelf.0 }
     requires one_of_eight { GivesTimer stimulus.now }
@@ -103,9 +116,10 @@ fn run_applet<S: Store, B: Applet>(
         applet,
         &at,
         stimulus,
+        does,
     ) {
         Ok(ending) => {
-            send_last(session, shelf, is_resumed, ending.sent);
+            send_last(session, shelf, is_resumed, does, &ending);
             Ok(ending.answer)
         }
         Err(fault) => Err(fault),
@@ -113,8 +127,46 @@ fn run_applet<S: Store, B: Applet>(
 }
 
 /// Runs the applet of a row on a stimulus, which is idle, and answers the last answer to call control that it gave. It goes on
-/// after the response to its command, or not. Where there is no box on the shelf, nothing happens.
+/// after the response to its command, or not. Where there is no box on the shelf, nothing happens. Its acts are made in one place.
 pub(crate) fn run_one<S: Store, B: Applet>(
+    store: &mut S,
+    loaded: &mut Loaded,
+    index: &mut Index,
+    cast: &mut [Option<B>],
+    session: &mut Session,
+    shelf: Shelf,
+    stimulus: &Stimulus,
+    is_resumed: bool,
+    does: &mut Act,
+) -> Result<Option<bool>, StoreFault>
+    requires service { IsInService
+        (scene (memory S.Store store.old loaded.old) index.old session.old (minds_of B.mind cast.old)) cast.old }
+    requires row { HasRowOn loaded.old shelf.0 }
+    requires one_of_eight { GivesTimer stimulus.now }
+    requires idle { is_idle (asks session.old) shelf.0 ≡ true }
+    requires nothing_out { is_resumed ≡ true → session.old.out ≡ None }
+    ensures tells { Tells (run_of_row shelf.0 stimulus.now is_resumed)
+        (scene (memory S.Store store.old loaded.old) index.old session.old (minds_of B.mind cast.old))
+        (scene (memory S.Store store.new loaded.new) index.new session.new (minds_of B.mind cast.new))
+        cast.old cast.new result }
+    ensures untold { (other : ℕ) → shelf.0 ≢ other → IsSameBox other cast.old cast.new }
+    ensures keeps { KeepsScene
+        (scene (memory S.Store store.old loaded.old) index.old session.old (minds_of B.mind cast.old))
+        (scene (memory S.Store store.new loaded.new) index.new session.new (minds_of B.mind cast.new)) result }
+{
+    // This call is a law, and does nothing.
+    tables_tell_states();
+    let place = place_of(loaded, session, shelf);
+    match &mut cast[place] {
+        Some(applet) => run_applet(
+            store, loaded, index, applet, session, shelf, stimulus, is_resumed, does,
+        ),
+        None => Ok(None),
+    }
+}
+
+/// The same, in a place of its own for the acts.
+pub(crate) fn run_alone<S: Store, B: Applet>(
     store: &mut S,
     loaded: &mut Loaded,
     index: &mut Index,
@@ -139,13 +191,8 @@ pub(crate) fn run_one<S: Store, B: Applet>(
         (scene (memory S.Store store.old loaded.old) index.old session.old (minds_of B.mind cast.old))
         (scene (memory S.Store store.new loaded.new) index.new session.new (minds_of B.mind cast.new)) result }
 {
-    // This call is a law, and does nothing.
-    tables_tell_states();
-    let place = place_of(loaded, session, shelf);
-    match &mut cast[place] {
-        Some(applet) => run_applet(
-            store, loaded, index, applet, session, shelf, stimulus, is_resumed,
-        ),
-        None => Ok(None),
-    }
+    let mut does = Act::Done;
+    run_one(
+        store, loaded, index, cast, session, shelf, stimulus, is_resumed, &mut does,
+    )
 }

@@ -11,7 +11,7 @@ ghost use Rattle.proactive_handler.specs.Reached.{Tells};
 ghost use Rattle.proactive_handler.specs.Scenes.{IsInService, KeepsScene};
 
 use crate::running::run_one;
-use applet_trait::{Applet, Stimulus};
+use applet_trait::{Act, Applet, Stimulus};
 use card_layout::Loaded;
 use card_memory::tables_tell_states;
 use event_dispatch::Shelves;
@@ -32,6 +32,7 @@ fn trigger_one<S: Store, B: Applet>(
     body: &Octets,
     event: &Stimulus,
     kept: bool,
+    does: &mut Act,
 ) -> Result<Option<bool>, StoreFault>
     requires service { IsInService
         (scene (memory S.Store store.old loaded.old) index.old session.old (minds_of B.mind cast.old)) cast.old }
@@ -52,7 +53,9 @@ fn trigger_one<S: Store, B: Applet>(
     // This call is a law, and does nothing.
     tables_tell_states();
     if session.idle(shelf) {
-        return run_one(store, loaded, index, cast, session, shelf, event, false);
+        return run_one(
+            store, loaded, index, cast, session, shelf, event, false, does,
+        );
     }
     if kept {
         session.keep_late(shelf, code, body);
@@ -72,6 +75,7 @@ fn trigger_each<S: Store, B: Applet>(
     body: &Octets,
     event: &Stimulus,
     kept: bool,
+    does: &mut Act,
 ) -> Result<Option<bool>, StoreFault>
     requires service { IsInService
         (scene (memory S.Store store.old loaded.old) index.old session.old (minds_of B.mind cast.old)) cast.old }
@@ -93,10 +97,10 @@ fn trigger_each<S: Store, B: Applet>(
     match to.split_first() {
         Some((shelf, others)) => {
             let answer = trigger_one(
-                store, loaded, index, cast, session, *shelf, code, body, event, kept,
+                store, loaded, index, cast, session, *shelf, code, body, event, kept, does,
             )?;
             let later = trigger_each(
-                store, loaded, index, cast, session, others, code, body, event, kept,
+                store, loaded, index, cast, session, others, code, body, event, kept, does,
             )?;
             Ok(later.or(answer))
         }
@@ -142,6 +146,7 @@ pub fn trigger<S: Store, B: Applet>(
         code,
         body: body.copy(),
     };
+    let mut does = Act::Done;
     trigger_each(
         store,
         loaded,
@@ -153,5 +158,6 @@ pub fn trigger<S: Store, B: Applet>(
         body,
         &event,
         kept,
+        &mut does,
     )
 }

@@ -1,10 +1,13 @@
-use Rattle.std.proofs.Common.{refl, sym, ap, ◌∙◌, subst, ◌-◌, Bool, Option, arith}
+use Rattle.std.proofs.Common.{refl, sym, ap, ◌∙◌, subst, ◌-◌, Bool, Option, None, arith}
 use Rattle.std.specs.Option.{option_or}
+use Rattle.applet_trait.specs.declared.stimuli.Stimulus.{Stimulus}
 use Rattle.applet_trait.specs.Minds.{AppletState}
 use Rattle.card_layout.specs.States.{rows_of}
 use Rattle.toolkit_model.specs.Running.{Works}
-use Rattle.proactive_handler.specs.Acts.{setting_of, stage, IsCarriedOut}
-use Rattle.proactive_handler.proofs.Joined.{told_of, sent_of, stepped, ended, can_be_sent, stopped_at, went_on, cut_later, woke, cut_runs}
+use Rattle.proactive_handler.specs.Acts.{Told, setting_of, stage, next_of, command_of, after, IsCarriedOut}
+use Rattle.proactive_handler.specs.Runs.{ended_by}
+use Rattle.proactive_handler.specs.declared.endings.Next.{Next}
+use Rattle.proactive_handler.proofs.Joined.{told_of, sent_of, tells_told, sends_sent, each_sent, stepped, ended, can_be_sent, stopped_at, went_on, cut_later, woke, cut_runs}
 use Rattle.proactive_handler.specs.Moved.{has_rows}
 use Rattle.card_layout.specs.Memory.{memory}
 use Rattle.proactive_handler.proofs.acting.+run_on.Goals as goal
@@ -17,40 +20,40 @@ returns-then-acts-eq0-clause-runs g t c =
 
 pub returns-in_err-carry_out-clause-runs : goal.returns-in_err-carry_out-clause-runs
 returns-in_err-carry_out-clause-runs g t c =
-    cut_runs _ _ _ c.from_residual.result c.from_residual.ensures.0 (stopped_at (setting_of c.args.at.now) c.args.stimulus.now c.args.acts (c.args.acts - 1) (omega (arith, c.if-acts-eq0.false))
-    (stage (memory g.S.Store c.args.store.now c.args.loaded.now) c.args.timers.now (g.B.Applet.mind c.args.applet.now)) c.step-act.result (g.B.Applet.mind c.step-act.new.self) c.step-act.ensures.acted c.step-act.ensures.moved
-    (stage (memory g.S.Store c.carry_out.new.store c.carry_out.new.loaded) c.carry_out.new.timers (g.B.Applet.mind c.step-act.new.self)) (has_rows c.tables_tell_states.ensures _ _ c.args.loaded.now c.requires.may_run.mounted.agrees) (c.in_err-carry_out.ensures.carries (g.B.Applet.mind c.step-act.new.self)))
+    cut_runs _ _ _ _ c.from_residual.result c.from_residual.ensures.0 (stopped_at (setting_of c.args.at.now) c.args.stimulus.now c.args.acts (c.args.acts - 1) (omega (arith, c.if-acts-eq0.false))
+    (stage (memory g.S.Store c.args.store.now c.args.loaded.now) c.args.timers.now (g.B.Applet.mind c.args.applet.now)) c.step.new.does (g.B.Applet.mind c.step.new.self) c.step.ensures.acted c.step.ensures.moved
+    (stage (memory g.S.Store c.carry_out.new.store c.carry_out.new.loaded) c.carry_out.new.timers (g.B.Applet.mind c.step.new.self)) (has_rows c.tables_tell_states.ensures _ _ c.args.loaded.now c.requires.may_run.mounted.agrees) (c.in_err-carry_out.ensures.carries (g.B.Applet.mind c.step.new.self)))
 
 pub returns-in_err-rest-in-Told-clause-runs : goal.returns-in_err-rest-in-Told-clause-runs
 returns-in_err-rest-in-Told-clause-runs g t c =
-    cut_runs _ _ _ c.from_residual-in_err-rest-in-Told.result c.from_residual-in_err-rest-in-Told.ensures.0
+    cut_runs _ _ _ _ c.from_residual-in_err-rest-in-Told.result c.from_residual-in_err-rest-in-Told.ensures.0
     (cut_later (setting_of c.args.at.now) c.args.stimulus.now c.args.acts (c.args.acts - 1) (omega (arith, c.if-acts-eq0.false))
-    (stage (memory g.S.Store c.args.store.now c.args.loaded.now) c.args.timers.now (g.B.Applet.mind c.args.applet.now)) c.step-act.result (g.B.Applet.mind c.step-act.new.self) c.step-act.ensures.acted c.step-act.ensures.moved
-    (stage (memory g.S.Store c.carry_out.new.store c.carry_out.new.loaded) c.carry_out.new.timers (g.B.Applet.mind c.step-act.new.self)) (stage (memory g.S.Store c.run_on.new.store c.run_on.new.loaded) c.run_on.new.timers (g.B.Applet.mind c.run_on.new.applet)) c.in-Told.told (subst (IsCarriedOut (setting_of c.args.at.now) c.step-act.result (stepped (setting_of c.args.at.now) c.args.stimulus.now c.args.acts (c.args.acts - 1) (omega (arith, c.if-acts-eq0.false))
-    (stage (memory g.S.Store c.args.store.now c.args.loaded.now) c.args.timers.now (g.B.Applet.mind c.args.applet.now)) c.step-act.result (g.B.Applet.mind c.step-act.new.self) c.step-act.ensures.acted c.step-act.ensures.moved) (stage (memory g.S.Store c.carry_out.new.store c.carry_out.new.loaded) c.carry_out.new.timers (g.B.Applet.mind c.step-act.new.self))) c.in-Told.is (c.in_ok-carry_out.ensures.carries (g.B.Applet.mind c.step-act.new.self))) (has_rows c.tables_tell_states.ensures _ _ c.args.loaded.now c.requires.may_run.mounted.agrees) c.in_err-rest-in-Told.ensures.runs)
+    (stage (memory g.S.Store c.args.store.now c.args.loaded.now) c.args.timers.now (g.B.Applet.mind c.args.applet.now)) c.step.new.does (g.B.Applet.mind c.step.new.self) c.step.ensures.acted c.step.ensures.moved
+    (stage (memory g.S.Store c.carry_out.new.store c.carry_out.new.loaded) c.carry_out.new.timers (g.B.Applet.mind c.step.new.self)) (stage (memory g.S.Store c.run_on.new.store c.run_on.new.loaded) c.run_on.new.timers (g.B.Applet.mind c.run_on.new.applet)) c.stimulus-told.result (subst (IsCarriedOut (setting_of c.args.at.now) c.step.new.does (stepped (setting_of c.args.at.now) c.args.stimulus.now c.args.acts (c.args.acts - 1) (omega (arith, c.if-acts-eq0.false))
+    (stage (memory g.S.Store c.args.store.now c.args.loaded.now) c.args.timers.now (g.B.Applet.mind c.args.applet.now)) c.step.new.does (g.B.Applet.mind c.step.new.self) c.step.ensures.acted c.step.ensures.moved) (stage (memory g.S.Store c.carry_out.new.store c.carry_out.new.loaded) c.carry_out.new.timers (g.B.Applet.mind c.step.new.self))) (ap (after c.step.new.does) c.in-Told.is ∙ ap (λ (s : Stimulus). Told s) (sym c.stimulus-told.ensures)) (c.in_ok-carry_out.ensures.carries (g.B.Applet.mind c.step.new.self))) (has_rows c.tables_tell_states.ensures _ _ c.args.loaded.now c.requires.may_run.mounted.agrees) c.in_err-rest-in-Told.ensures.runs)
 
 pub returns-in-Idle-clause-runs : goal.returns-in-Idle-clause-runs
 returns-in-Idle-clause-runs g t c =
     ended (setting_of c.args.at.now) c.args.stimulus.now c.args.acts (c.args.acts - 1) (omega (arith, c.if-acts-eq0.false))
-    (stage (memory g.S.Store c.args.store.now c.args.loaded.now) c.args.timers.now (g.B.Applet.mind c.args.applet.now)) c.step-act.result (g.B.Applet.mind c.step-act.new.self) c.step-act.ensures.acted c.step-act.ensures.moved
-    (stage (memory g.S.Store c.carry_out.new.store c.carry_out.new.loaded) c.carry_out.new.timers (g.B.Applet.mind c.step-act.new.self)) c.in_ok-carry_out.field-0 (c.in_ok-carry_out.ensures.carries (g.B.Applet.mind c.step-act.new.self)) (ap told_of c.in-Idle.is) _ (sym (ap sent_of c.in-Idle.is)) c.answer_of-answer.ensures
+    (stage (memory g.S.Store c.args.store.now c.args.loaded.now) c.args.timers.now (g.B.Applet.mind c.args.applet.now)) c.step.new.does (g.B.Applet.mind c.step.new.self) c.step.ensures.acted c.step.ensures.moved
+    (stage (memory g.S.Store c.carry_out.new.store c.carry_out.new.loaded) c.carry_out.new.timers (g.B.Applet.mind c.step.new.self)) (after c.step.new.does c.in_ok-carry_out.field-0) (c.in_ok-carry_out.ensures.carries (g.B.Applet.mind c.step.new.self)) (ap (λ (n : Next). told_of (after c.step.new.does n)) c.in-Idle.is) _ (sym (ap (λ (n : Next). sent_of (after c.step.new.does n)) c.in-Idle.is)) c.answer_of-answer.ensures
 
 pub returns-in-Sent-clause-runs : goal.returns-in-Sent-clause-runs
 returns-in-Sent-clause-runs g t c =
     ended (setting_of c.args.at.now) c.args.stimulus.now c.args.acts (c.args.acts - 1) (omega (arith, c.if-acts-eq0.false))
-    (stage (memory g.S.Store c.args.store.now c.args.loaded.now) c.args.timers.now (g.B.Applet.mind c.args.applet.now)) c.step-act.result (g.B.Applet.mind c.step-act.new.self) c.step-act.ensures.acted c.step-act.ensures.moved
-    (stage (memory g.S.Store c.carry_out.new.store c.carry_out.new.loaded) c.carry_out.new.timers (g.B.Applet.mind c.step-act.new.self)) c.in_ok-carry_out.field-0 (c.in_ok-carry_out.ensures.carries (g.B.Applet.mind c.step-act.new.self)) (ap told_of c.in-Sent.is) _ (sym (ap sent_of c.in-Sent.is)) c.answer_of-answer.ensures
+    (stage (memory g.S.Store c.args.store.now c.args.loaded.now) c.args.timers.now (g.B.Applet.mind c.args.applet.now)) c.step.new.does (g.B.Applet.mind c.step.new.self) c.step.ensures.acted c.step.ensures.moved
+    (stage (memory g.S.Store c.carry_out.new.store c.carry_out.new.loaded) c.carry_out.new.timers (g.B.Applet.mind c.step.new.self)) (after c.step.new.does c.in_ok-carry_out.field-0) (c.in_ok-carry_out.ensures.carries (g.B.Applet.mind c.step.new.self)) (ap (λ (n : Next). told_of (after c.step.new.does n)) c.in-Sent.is ∙ tells_told None (command_of c.step.new.does)) _ (sym (ap (λ (n : Next). sent_of (after c.step.new.does n)) c.in-Sent.is ∙ sends_sent None (command_of c.step.new.does) refl)) c.answer_of-answer.ensures
 
 pub returns-in-Sent-clause-sendable : goal.returns-in-Sent-clause-sendable
 returns-in-Sent-clause-sendable g t c =
-    can_be_sent (setting_of c.args.at.now) c.args.stimulus.now c.args.acts (c.args.acts - 1) (omega (arith, c.if-acts-eq0.false))
-    (stage (memory g.S.Store c.args.store.now c.args.loaded.now) c.args.timers.now (g.B.Applet.mind c.args.applet.now)) c.step-act.result (g.B.Applet.mind c.step-act.new.self) c.step-act.ensures.acted c.step-act.ensures.moved
-    (stage (memory g.S.Store c.carry_out.new.store c.carry_out.new.loaded) c.carry_out.new.timers (g.B.Applet.mind c.step-act.new.self)) c.in_ok-carry_out.field-0 (c.in_ok-carry_out.ensures.carries (g.B.Applet.mind c.step-act.new.self)) (ap told_of c.in-Sent.is) c.in-Sent.command c.in-Sent.is c.lengths_of_commands.ensures.any_number (c.step-act.ensures.proper c.requires.one_of_eight)
+    each_sent (command_of c.step.new.does) (λ command some. can_be_sent (setting_of c.args.at.now) c.args.stimulus.now c.args.acts (c.args.acts - 1) (omega (arith, c.if-acts-eq0.false))
+    (stage (memory g.S.Store c.args.store.now c.args.loaded.now) c.args.timers.now (g.B.Applet.mind c.args.applet.now)) c.step.new.does (g.B.Applet.mind c.step.new.self) c.step.ensures.acted c.step.ensures.moved
+    (stage (memory g.S.Store c.carry_out.new.store c.carry_out.new.loaded) c.carry_out.new.timers (g.B.Applet.mind c.step.new.self)) (after c.step.new.does c.in_ok-carry_out.field-0) (c.in_ok-carry_out.ensures.carries (g.B.Applet.mind c.step.new.self)) (ap (λ (n : Next). told_of (after c.step.new.does n)) c.in-Sent.is ∙ tells_told None (command_of c.step.new.does)) command (ap (after c.step.new.does) c.in-Sent.is ∙ ap (next_of None) some) c.lengths_of_commands.ensures.any_number (c.step.ensures.proper c.requires.one_of_eight))
 
 pub returns-in_ok-rest-in-Told-clause-runs : goal.returns-in_ok-rest-in-Told-clause-runs
 returns-in_ok-rest-in-Told-clause-runs g t c =
     went_on (setting_of c.args.at.now) c.args.stimulus.now c.args.acts (c.args.acts - 1) (omega (arith, c.if-acts-eq0.false))
-    (stage (memory g.S.Store c.args.store.now c.args.loaded.now) c.args.timers.now (g.B.Applet.mind c.args.applet.now)) c.step-act.result (g.B.Applet.mind c.step-act.new.self) c.step-act.ensures.acted c.step-act.ensures.moved
-    (stage (memory g.S.Store c.carry_out.new.store c.carry_out.new.loaded) c.carry_out.new.timers (g.B.Applet.mind c.step-act.new.self)) (stage (memory g.S.Store c.run_on.new.store c.run_on.new.loaded) c.run_on.new.timers (g.B.Applet.mind c.run_on.new.applet)) c.in-Told.told (subst (IsCarriedOut (setting_of c.args.at.now) c.step-act.result (stepped (setting_of c.args.at.now) c.args.stimulus.now c.args.acts (c.args.acts - 1) (omega (arith, c.if-acts-eq0.false))
-    (stage (memory g.S.Store c.args.store.now c.args.loaded.now) c.args.timers.now (g.B.Applet.mind c.args.applet.now)) c.step-act.result (g.B.Applet.mind c.step-act.new.self) c.step-act.ensures.acted c.step-act.ensures.moved) (stage (memory g.S.Store c.carry_out.new.store c.carry_out.new.loaded) c.carry_out.new.timers (g.B.Applet.mind c.step-act.new.self))) c.in-Told.is (c.in_ok-carry_out.ensures.carries (g.B.Applet.mind c.step-act.new.self))) _ c.in_ok-rest-in-Told.rest c.in_ok-rest-in-Told.ensures.runs refl
+    (stage (memory g.S.Store c.args.store.now c.args.loaded.now) c.args.timers.now (g.B.Applet.mind c.args.applet.now)) c.step.new.does (g.B.Applet.mind c.step.new.self) c.step.ensures.acted c.step.ensures.moved
+    (stage (memory g.S.Store c.carry_out.new.store c.carry_out.new.loaded) c.carry_out.new.timers (g.B.Applet.mind c.step.new.self)) (stage (memory g.S.Store c.run_on.new.store c.run_on.new.loaded) c.run_on.new.timers (g.B.Applet.mind c.run_on.new.applet)) c.stimulus-told.result (subst (IsCarriedOut (setting_of c.args.at.now) c.step.new.does (stepped (setting_of c.args.at.now) c.args.stimulus.now c.args.acts (c.args.acts - 1) (omega (arith, c.if-acts-eq0.false))
+    (stage (memory g.S.Store c.args.store.now c.args.loaded.now) c.args.timers.now (g.B.Applet.mind c.args.applet.now)) c.step.new.does (g.B.Applet.mind c.step.new.self) c.step.ensures.acted c.step.ensures.moved) (stage (memory g.S.Store c.carry_out.new.store c.carry_out.new.loaded) c.carry_out.new.timers (g.B.Applet.mind c.step.new.self))) (ap (after c.step.new.does) c.in-Told.is ∙ ap (λ (s : Stimulus). Told s) (sym c.stimulus-told.ensures)) (c.in_ok-carry_out.ensures.carries (g.B.Applet.mind c.step.new.self))) _ (ended_by c.run_on.new.does c.in_ok-rest-in-Told.rest) c.in_ok-rest-in-Told.ensures.runs refl
     (c.or.ensures ∙ ap (λ (answer : Option Bool). option_or c.in_ok-rest-in-Told.rest.answer answer) c.answer_of-answer.ensures)

@@ -8,13 +8,13 @@ use Rattle.proactive_handler.proofs.Answered.{of_awaited, awaited_of, owner_done
 use Rattle.card_layout.specs.Memory.{memory}
 use Rattle.proactive_handler.proofs.responding.answer.Goals as goal
 
-pub run_one-requires-clause-row : goal.run_one-requires-clause-row
-run_one-requires-clause-row g c =
+pub run_alone-requires-clause-row : goal.run_alone-requires-clause-row
+run_alone-requires-clause-row g c =
     let waits = awaited c.args.session.now c.requires.fetched in
     owner_row c.args.loaded.now c.args.session.now c.requires.service.served waits.out waits.out_is c.in-Some.shelf.0 (awaited_of c.args.session.now waits _ c.in-Some.ensures.owner)
 
-pub run_one-requires-clause-service : goal.run_one-requires-clause-service
-run_one-requires-clause-service g c =
+pub run_alone-requires-clause-service : goal.run_alone-requires-clause-service
+run_alone-requires-clause-service g c =
     let waits = awaited c.args.session.now c.requires.fetched in record {
       mounted = c.requires.service.mounted;
       indexed = c.requires.service.indexed;
@@ -22,24 +22,24 @@ run_one-requires-clause-service g c =
       served = subst (IsSessionServed c.args.loaded.now) (sym c.in-Some.ensures.state) (gone_served c.args.loaded.now c.args.session.now c.requires.service.served waits.out waits.out_is);
     }
 
-pub run_one-requires-clause-idle : goal.run_one-requires-clause-idle
-run_one-requires-clause-idle g c =
+pub run_alone-requires-clause-idle : goal.run_alone-requires-clause-idle
+run_alone-requires-clause-idle g c =
     let waits = awaited c.args.session.now c.requires.fetched in
     rw c.in-Some.ensures.state (owner_idle c.args.loaded.now c.args.session.now c.requires.service.served waits.out waits.out_is c.in-Some.shelf.0 (awaited_of c.args.session.now waits _ c.in-Some.ensures.owner))
 
-pub returns-in_err-run_one-in-Some-clause-moves : goal.returns-in_err-run_one-in-Some-clause-moves
-returns-in_err-run_one-in-Some-clause-moves g c =
+pub returns-in_err-run_alone-in-Some-clause-moves : goal.returns-in_err-run_alone-in-Some-clause-moves
+returns-in_err-run_alone-in-Some-clause-moves g c =
     let waits = awaited c.args.session.now c.requires.fetched in
     of_awaited c.args.session.now waits _
-    (owner_stops (scene (memory g.S.Store c.args.store.now c.args.loaded.now) c.args.index.now c.args.session.now (minds_of g.B.Applet.mind c.args.cast.now)) waits c.answered.new.self c.args.response.now c.in-Some.ensures.state (scene (memory g.S.Store c.run_one.new.store c.run_one.new.loaded) c.run_one.new.index c.run_one.new.session (minds_of g.B.Applet.mind c.run_one.new.cast)) c.from_residual.result c.from_residual.ensures.0 c.in-Some.shelf.0 c.copy.result c.copy.ensures
-    (sym (awaited_of c.args.session.now waits _ c.in-Some.ensures.owner)) c.in_err-run_one-in-Some.ensures.tells.moves)
+    (owner_stops (scene (memory g.S.Store c.args.store.now c.args.loaded.now) c.args.index.now c.args.session.now (minds_of g.B.Applet.mind c.args.cast.now)) waits c.answered.new.self c.args.response.now c.in-Some.ensures.state (scene (memory g.S.Store c.run_alone.new.store c.run_alone.new.loaded) c.run_alone.new.index c.run_alone.new.session (minds_of g.B.Applet.mind c.run_alone.new.cast)) c.from_residual.result c.from_residual.ensures.0 c.in-Some.shelf.0 c.copy.result c.copy.ensures
+    (sym (awaited_of c.args.session.now waits _ c.in-Some.ensures.owner)) c.in_err-run_alone-in-Some.ensures.tells.moves)
 
-pub returns-in_ok-run_one-in-Some-clause-moves : goal.returns-in_ok-run_one-in-Some-clause-moves
-returns-in_ok-run_one-in-Some-clause-moves g c =
+pub returns-in_ok-run_alone-in-Some-clause-moves : goal.returns-in_ok-run_alone-in-Some-clause-moves
+returns-in_ok-run_alone-in-Some-clause-moves g c =
     let waits = awaited c.args.session.now c.requires.fetched in
     of_awaited c.args.session.now waits _
-    (owner_done (scene (memory g.S.Store c.args.store.now c.args.loaded.now) c.args.index.now c.args.session.now (minds_of g.B.Applet.mind c.args.cast.now)) waits c.answered.new.self c.args.response.now c.in-Some.ensures.state (scene (memory g.S.Store c.run_one.new.store c.run_one.new.loaded) c.run_one.new.index c.run_one.new.session (minds_of g.B.Applet.mind c.run_one.new.cast)) c.in-Some.shelf.0 c.copy.result c.copy.ensures
-    (sym (awaited_of c.args.session.now waits _ c.in-Some.ensures.owner)) c.in_ok-run_one-in-Some.ensures.tells.moves)
+    (owner_done (scene (memory g.S.Store c.args.store.now c.args.loaded.now) c.args.index.now c.args.session.now (minds_of g.B.Applet.mind c.args.cast.now)) waits c.answered.new.self c.args.response.now c.in-Some.ensures.state (scene (memory g.S.Store c.run_alone.new.store c.run_alone.new.loaded) c.run_alone.new.index c.run_alone.new.session (minds_of g.B.Applet.mind c.run_alone.new.cast)) c.in-Some.shelf.0 c.copy.result c.copy.ensures
+    (sym (awaited_of c.args.session.now waits _ c.in-Some.ensures.owner)) c.in_ok-run_alone-in-Some.ensures.tells.moves)
 
 pub returns-in-None-clause-moves : goal.returns-in-None-clause-moves
 returns-in-None-clause-moves g c =
@@ -61,29 +61,29 @@ returns-in-None-clause-keeps g c =
       keeps = search rules;
     }
 
-pub returns-in_err-run_one-in-Some-clause-untold : goal.returns-in_err-run_one-in-Some-clause-untold
-returns-in_err-run_one-in-Some-clause-untold g c = λ other apart.
+pub returns-in_err-run_alone-in-Some-clause-untold : goal.returns-in_err-run_alone-in-Some-clause-untold
+returns-in_err-run_alone-in-Some-clause-untold g c = λ other apart.
     let waits = awaited c.args.session.now c.requires.fetched in
-    c.run_one.ensures.untold other (λ same. awaited_of c.args.session.now waits _ apart (sym (awaited_of c.args.session.now waits _ c.in-Some.ensures.owner) ∙ ap (λ (shelf : ℕ). Some shelf) same))
+    c.run_alone.ensures.untold other (λ same. awaited_of c.args.session.now waits _ apart (sym (awaited_of c.args.session.now waits _ c.in-Some.ensures.owner) ∙ ap (λ (shelf : ℕ). Some shelf) same))
 
-pub returns-in_ok-run_one-in-Some-clause-untold : goal.returns-in_ok-run_one-in-Some-clause-untold
-returns-in_ok-run_one-in-Some-clause-untold g c = λ other apart.
+pub returns-in_ok-run_alone-in-Some-clause-untold : goal.returns-in_ok-run_alone-in-Some-clause-untold
+returns-in_ok-run_alone-in-Some-clause-untold g c = λ other apart.
     let waits = awaited c.args.session.now c.requires.fetched in
-    c.run_one.ensures.untold other (λ same. awaited_of c.args.session.now waits _ apart (sym (awaited_of c.args.session.now waits _ c.in-Some.ensures.owner) ∙ ap (λ (shelf : ℕ). Some shelf) same))
+    c.run_alone.ensures.untold other (λ same. awaited_of c.args.session.now waits _ apart (sym (awaited_of c.args.session.now waits _ c.in-Some.ensures.owner) ∙ ap (λ (shelf : ℕ). Some shelf) same))
 
-pub returns-in_err-run_one-in-Some-clause-turns : goal.returns-in_err-run_one-in-Some-clause-turns
-returns-in_err-run_one-in-Some-clause-turns g c =
+pub returns-in_err-run_alone-in-Some-clause-turns : goal.returns-in_err-run_alone-in-Some-clause-turns
+returns-in_err-run_alone-in-Some-clause-turns g c =
     let waits = awaited c.args.session.now c.requires.fetched in
     of_awaited c.args.session.now waits _
-    (owner_leaves (scene (memory g.S.Store c.args.store.now c.args.loaded.now) c.args.index.now c.args.session.now (minds_of g.B.Applet.mind c.args.cast.now)) waits c.answered.new.self c.args.response.now c.in-Some.ensures.state (scene (memory g.S.Store c.run_one.new.store c.run_one.new.loaded) c.run_one.new.index c.run_one.new.session (minds_of g.B.Applet.mind c.run_one.new.cast)) c.args.cast.now c.run_one.new.cast c.from_residual.result c.from_residual.ensures.0 c.in-Some.shelf.0 c.copy.result c.copy.ensures
-    (sym (awaited_of c.args.session.now waits _ c.in-Some.ensures.owner)) c.in_err-run_one-in-Some.ensures.tells.turns)
+    (owner_leaves (scene (memory g.S.Store c.args.store.now c.args.loaded.now) c.args.index.now c.args.session.now (minds_of g.B.Applet.mind c.args.cast.now)) waits c.answered.new.self c.args.response.now c.in-Some.ensures.state (scene (memory g.S.Store c.run_alone.new.store c.run_alone.new.loaded) c.run_alone.new.index c.run_alone.new.session (minds_of g.B.Applet.mind c.run_alone.new.cast)) c.args.cast.now c.run_alone.new.cast c.from_residual.result c.from_residual.ensures.0 c.in-Some.shelf.0 c.copy.result c.copy.ensures
+    (sym (awaited_of c.args.session.now waits _ c.in-Some.ensures.owner)) c.in_err-run_alone-in-Some.ensures.tells.turns)
 
-pub returns-in_ok-run_one-in-Some-clause-turns : goal.returns-in_ok-run_one-in-Some-clause-turns
-returns-in_ok-run_one-in-Some-clause-turns g c =
+pub returns-in_ok-run_alone-in-Some-clause-turns : goal.returns-in_ok-run_alone-in-Some-clause-turns
+returns-in_ok-run_alone-in-Some-clause-turns g c =
     let waits = awaited c.args.session.now c.requires.fetched in
     of_awaited c.args.session.now waits _
-    (owner_left (scene (memory g.S.Store c.args.store.now c.args.loaded.now) c.args.index.now c.args.session.now (minds_of g.B.Applet.mind c.args.cast.now)) waits c.answered.new.self c.args.response.now c.in-Some.ensures.state (scene (memory g.S.Store c.run_one.new.store c.run_one.new.loaded) c.run_one.new.index c.run_one.new.session (minds_of g.B.Applet.mind c.run_one.new.cast)) c.args.cast.now c.run_one.new.cast c.in-Some.shelf.0 c.copy.result c.copy.ensures
-    (sym (awaited_of c.args.session.now waits _ c.in-Some.ensures.owner)) c.in_ok-run_one-in-Some.ensures.tells.turns)
+    (owner_left (scene (memory g.S.Store c.args.store.now c.args.loaded.now) c.args.index.now c.args.session.now (minds_of g.B.Applet.mind c.args.cast.now)) waits c.answered.new.self c.args.response.now c.in-Some.ensures.state (scene (memory g.S.Store c.run_alone.new.store c.run_alone.new.loaded) c.run_alone.new.index c.run_alone.new.session (minds_of g.B.Applet.mind c.run_alone.new.cast)) c.args.cast.now c.run_alone.new.cast c.in-Some.shelf.0 c.copy.result c.copy.ensures
+    (sym (awaited_of c.args.session.now waits _ c.in-Some.ensures.owner)) c.in_ok-run_alone-in-Some.ensures.tells.turns)
 
 pub returns-in-None-clause-turns : goal.returns-in-None-clause-turns
 returns-in-None-clause-turns g c =
