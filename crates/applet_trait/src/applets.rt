@@ -23,16 +23,28 @@ pub trait Applet: Drop {
     fn wake(&mut self, kept: &Kept)
         ensures { mind self.new ≡ fresh (mind self.old).kind kept.now };
 
-    /// Takes a stimulus and says what it does, in place of the act that was there.
-    fn step(&mut self, stimulus: &Stimulus, does: &mut Act)
+    /// Takes a stimulus and answers what it does.
+    fn step(&mut self, stimulus: &Stimulus) -> Act
         ensures moved { mind self.new ≡ (act (mind self.old) stimulus.now).next }
-        ensures acted { does.new ≡ (act (mind self.old) stimulus.now).does }
+        ensures acted { result ≡ (act (mind self.old) stimulus.now).does }
         ensures same_kind { (mind self.new).kind ≡ (mind self.old).kind }
 
         // A command that is sent can be spelled, if it is short enough.
-        ensures writable { IsWritableAct does.new }
+        ensures writable { IsWritableAct result }
 
         // A command that is sent is read back as it was, if it is short enough and a timer that was given is one of the
         // eight.
-        ensures proper { GivesTimer stimulus.now → IsProperAct does.new };
+        ensures proper { GivesTimer stimulus.now → IsProperAct result };
+
+    /// The same, with what it does in place of the act that was there. The card calls this one, so an applet that makes its acts in that
+    /// place spares a copy of each.
+    fn step_into(&mut self, stimulus: &Stimulus, does: &mut Act)
+        ensures moved { mind self.new ≡ (act (mind self.old) stimulus.now).next }
+        ensures acted { does.new ≡ (act (mind self.old) stimulus.now).does }
+        ensures same_kind { (mind self.new).kind ≡ (mind self.old).kind }
+        ensures writable { IsWritableAct does.new }
+        ensures proper { GivesTimer stimulus.now → IsProperAct does.new }
+    {
+        *does = self.step(stimulus);
+    }
 }

@@ -14,7 +14,11 @@ impl Applet for Box<dyn Applet> {
         (**self).wake(kept)
     }
 
-    fn step(&mut self, stimulus: &Stimulus, does: &mut Act) {
-        (**self).step(stimulus, does)
+    fn step(&mut self, stimulus: &Stimulus) -> Act {
+        (**self).step(stimulus)
+    }
+
+    fn step_into(&mut self, stimulus: &Stimulus, does: &mut Act) {
+        (**self).step_into(stimulus, does)
     }
 }

@@ -45,15 +45,21 @@ impl Applet for ProgramApplet {
         }
     }
 
-    fn step(&mut self, stimulus: &Stimulus, does: &mut Act) {
+    fn step(&mut self, stimulus: &Stimulus) -> Act {
+        let mut does = Act::Done;
+        self.step_into(stimulus, &mut does);
+        does
+    }
+
+    fn step_into(&mut self, stimulus: &Stimulus, does: &mut Act) {
         match self {
-            ProgramApplet::Greeter(applet) => applet.step(stimulus, does),
-            ProgramApplet::Menu(applet) => applet.step(stimulus, does),
-            ProgramApplet::Clock(applet) => applet.step(stimulus, does),
-            ProgramApplet::Watcher(applet) => applet.step(stimulus, does),
-            ProgramApplet::Barrier(applet) => applet.step(stimulus, does),
-            ProgramApplet::Notebook(applet) => applet.step(stimulus, does),
-            ProgramApplet::Table(applet) => applet.step(stimulus, does),
+            ProgramApplet::Greeter(applet) => applet.step_into(stimulus, does),
+            ProgramApplet::Menu(applet) => applet.step_into(stimulus, does),
+            ProgramApplet::Clock(applet) => applet.step_into(stimulus, does),
+            ProgramApplet::Watcher(applet) => applet.step_into(stimulus, does),
+            ProgramApplet::Barrier(applet) => applet.step_into(stimulus, does),
+            ProgramApplet::Notebook(applet) => applet.step_into(stimulus, does),
+            ProgramApplet::Table(applet) => applet.step_into(stimulus, does),
         }
     }
 }

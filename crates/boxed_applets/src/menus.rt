@@ -83,7 +83,13 @@ impl Applet for Menu {
         self.state.wake(Phase::Ready, kept);
     }
 
-    fn step(&mut self, stimulus: &Stimulus, does: &mut Act) {
+    fn step(&mut self, stimulus: &Stimulus) -> Act {
+        let mut does = Act::Done;
+        self.step_into(stimulus, &mut does);
+        does
+    }
+
+    fn step_into(&mut self, stimulus: &Stimulus, does: &mut Act) {
         self.state.settle(stimulus);
         match (self.state.phase, stimulus) {
             (

@@ -103,7 +103,13 @@ impl Applet for Table {
         self.code = 0;
     }
 
-    fn step(&mut self, stimulus: &Stimulus, does: &mut Act) {
+    fn step(&mut self, stimulus: &Stimulus) -> Act {
+        let mut does = Act::Done;
+        self.step_into(stimulus, &mut does);
+        does
+    }
+
+    fn step_into(&mut self, stimulus: &Stimulus, does: &mut Act) {
         self.state.settle(stimulus);
         match (self.state.phase, stimulus) {
             (Phase::Ready, Stimulus::Event { code, .. }) => self.go_on(0, *code, does),

@@ -50,8 +50,7 @@ pub fn show_turn(
     words: &[&str],
     shown: &mut String,
 ) -> Result<(), Failure> {
-    let mut act = Act::Done;
-    applet.step(&stimulus(alloc, words)?, &mut act);
+    let act = applet.step(&stimulus(alloc, words)?);
     show_act(&act, shown)?;
     Ok(())
 }
@@ -85,8 +84,7 @@ fn show_box_turn(
     applet.wake(&byte_list(alloc, bytes)?);
     let kind = applet.kind();
     write!(shown, "kind {kind}, ")?;
-    let mut act = Act::Done;
-    applet.step(&stimulus(alloc, told)?, &mut act);
+    let act = applet.step(&stimulus(alloc, told)?);
     show_act(&act, shown)?;
     Ok(())
 }

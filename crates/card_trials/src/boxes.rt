@@ -94,9 +94,7 @@ impl Noting<'_> {
 
     /// What the applet in it does next.
     pub fn act(&mut self, stimulus: &Stimulus) -> Act {
-        let mut act = Act::Done;
-        self.applet.step(stimulus, &mut act);
-        act
+        self.applet.step(stimulus)
     }
 }
 
@@ -114,9 +112,9 @@ impl Applet for Noting<'_> {
         self.applet.wake(kept)
     }
 
-    fn step(&mut self, stimulus: &Stimulus, does: &mut Act) {
+    fn step(&mut self, stimulus: &Stimulus) -> Act {
         self.notes.add(self.mark);
-        self.applet.step(stimulus, does)
+        self.applet.step(stimulus)
     }
 }
 

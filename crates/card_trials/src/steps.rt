@@ -293,9 +293,7 @@ fn a_box_is_handed_back_as_it_is(rt: HostRuntime) -> Result<(), Fail> {
         item: 0,
         text: Octets::from_slice(b"AB"),
     };
-    let mut act = Act::Done;
-    applet_of(5).step(&typed, &mut act);
-    assert!(rt; matches!(act, Act::Done));
+    assert!(rt; matches!(applet_of(5).step(&typed), Act::Done));
     let keeps = match cast.get_mut(5) {
         Some(Some(applet)) => match applet.act(&typed) {
             Act::Keep(note) => note.as_slice() == b"AB".as_slice(),

@@ -23,8 +23,7 @@ fn turn_of<B: Applet>(place: &mut Option<B>, kept: &Kept, stimulus: &Stimulus) -
     match place {
         Some(applet) => {
             applet.wake(kept);
-            let mut act = Act::Done;
-            applet.step(stimulus, &mut act);
+            let act = applet.step(stimulus);
             Some((applet.kind(), act))
         }
         None => None,

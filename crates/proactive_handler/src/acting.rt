@@ -78,7 +78,7 @@ fn run_on<S: Store, B: Applet>(
             answer: None,
         });
     }
-    applet.step(stimulus, does);
+    applet.step_into(stimulus, does);
     let answer = answer_of(does);
     match carry_out(store, loaded, index, timers, at, does)? {
         Next::Idle => Ok(Ending {

@@ -21,39 +21,39 @@ returns-then-acts-eq0-clause-runs g t c =
 pub returns-in_err-carry_out-clause-runs : goal.returns-in_err-carry_out-clause-runs
 returns-in_err-carry_out-clause-runs g t c =
     cut_runs _ _ _ _ c.from_residual.result c.from_residual.ensures.0 (stopped_at (setting_of c.args.at.now) c.args.stimulus.now c.args.acts (c.args.acts - 1) (omega (arith, c.if-acts-eq0.false))
-    (stage (memory g.S.Store c.args.store.now c.args.loaded.now) c.args.timers.now (g.B.Applet.mind c.args.applet.now)) c.step.new.does (g.B.Applet.mind c.step.new.self) c.step.ensures.acted c.step.ensures.moved
-    (stage (memory g.S.Store c.carry_out.new.store c.carry_out.new.loaded) c.carry_out.new.timers (g.B.Applet.mind c.step.new.self)) (has_rows c.tables_tell_states.ensures _ _ c.args.loaded.now c.requires.may_run.mounted.agrees) (c.in_err-carry_out.ensures.carries (g.B.Applet.mind c.step.new.self)))
+    (stage (memory g.S.Store c.args.store.now c.args.loaded.now) c.args.timers.now (g.B.Applet.mind c.args.applet.now)) c.step_into.new.does (g.B.Applet.mind c.step_into.new.self) c.step_into.ensures.acted c.step_into.ensures.moved
+    (stage (memory g.S.Store c.carry_out.new.store c.carry_out.new.loaded) c.carry_out.new.timers (g.B.Applet.mind c.step_into.new.self)) (has_rows c.tables_tell_states.ensures _ _ c.args.loaded.now c.requires.may_run.mounted.agrees) (c.in_err-carry_out.ensures.carries (g.B.Applet.mind c.step_into.new.self)))
 
 pub returns-in_err-rest-in-Told-clause-runs : goal.returns-in_err-rest-in-Told-clause-runs
 returns-in_err-rest-in-Told-clause-runs g t c =
     cut_runs _ _ _ _ c.from_residual-in_err-rest-in-Told.result c.from_residual-in_err-rest-in-Told.ensures.0
     (cut_later (setting_of c.args.at.now) c.args.stimulus.now c.args.acts (c.args.acts - 1) (omega (arith, c.if-acts-eq0.false))
-    (stage (memory g.S.Store c.args.store.now c.args.loaded.now) c.args.timers.now (g.B.Applet.mind c.args.applet.now)) c.step.new.does (g.B.Applet.mind c.step.new.self) c.step.ensures.acted c.step.ensures.moved
-    (stage (memory g.S.Store c.carry_out.new.store c.carry_out.new.loaded) c.carry_out.new.timers (g.B.Applet.mind c.step.new.self)) (stage (memory g.S.Store c.run_on.new.store c.run_on.new.loaded) c.run_on.new.timers (g.B.Applet.mind c.run_on.new.applet)) c.stimulus-told.result (subst (IsCarriedOut (setting_of c.args.at.now) c.step.new.does (stepped (setting_of c.args.at.now) c.args.stimulus.now c.args.acts (c.args.acts - 1) (omega (arith, c.if-acts-eq0.false))
-    (stage (memory g.S.Store c.args.store.now c.args.loaded.now) c.args.timers.now (g.B.Applet.mind c.args.applet.now)) c.step.new.does (g.B.Applet.mind c.step.new.self) c.step.ensures.acted c.step.ensures.moved) (stage (memory g.S.Store c.carry_out.new.store c.carry_out.new.loaded) c.carry_out.new.timers (g.B.Applet.mind c.step.new.self))) (ap (after c.step.new.does) c.in-Told.is ∙ ap (λ (s : Stimulus). Told s) (sym c.stimulus-told.ensures)) (c.in_ok-carry_out.ensures.carries (g.B.Applet.mind c.step.new.self))) (has_rows c.tables_tell_states.ensures _ _ c.args.loaded.now c.requires.may_run.mounted.agrees) c.in_err-rest-in-Told.ensures.runs)
+    (stage (memory g.S.Store c.args.store.now c.args.loaded.now) c.args.timers.now (g.B.Applet.mind c.args.applet.now)) c.step_into.new.does (g.B.Applet.mind c.step_into.new.self) c.step_into.ensures.acted c.step_into.ensures.moved
+    (stage (memory g.S.Store c.carry_out.new.store c.carry_out.new.loaded) c.carry_out.new.timers (g.B.Applet.mind c.step_into.new.self)) (stage (memory g.S.Store c.run_on.new.store c.run_on.new.loaded) c.run_on.new.timers (g.B.Applet.mind c.run_on.new.applet)) c.stimulus-told.result (subst (IsCarriedOut (setting_of c.args.at.now) c.step_into.new.does (stepped (setting_of c.args.at.now) c.args.stimulus.now c.args.acts (c.args.acts - 1) (omega (arith, c.if-acts-eq0.false))
+    (stage (memory g.S.Store c.args.store.now c.args.loaded.now) c.args.timers.now (g.B.Applet.mind c.args.applet.now)) c.step_into.new.does (g.B.Applet.mind c.step_into.new.self) c.step_into.ensures.acted c.step_into.ensures.moved) (stage (memory g.S.Store c.carry_out.new.store c.carry_out.new.loaded) c.carry_out.new.timers (g.B.Applet.mind c.step_into.new.self))) (ap (after c.step_into.new.does) c.in-Told.is ∙ ap (λ (s : Stimulus). Told s) (sym c.stimulus-told.ensures)) (c.in_ok-carry_out.ensures.carries (g.B.Applet.mind c.step_into.new.self))) (has_rows c.tables_tell_states.ensures _ _ c.args.loaded.now c.requires.may_run.mounted.agrees) c.in_err-rest-in-Told.ensures.runs)
 
 pub returns-in-Idle-clause-runs : goal.returns-in-Idle-clause-runs
 returns-in-Idle-clause-runs g t c =
     ended (setting_of c.args.at.now) c.args.stimulus.now c.args.acts (c.args.acts - 1) (omega (arith, c.if-acts-eq0.false))
-    (stage (memory g.S.Store c.args.store.now c.args.loaded.now) c.args.timers.now (g.B.Applet.mind c.args.applet.now)) c.step.new.does (g.B.Applet.mind c.step.new.self) c.step.ensures.acted c.step.ensures.moved
-    (stage (memory g.S.Store c.carry_out.new.store c.carry_out.new.loaded) c.carry_out.new.timers (g.B.Applet.mind c.step.new.self)) (after c.step.new.does c.in_ok-carry_out.field-0) (c.in_ok-carry_out.ensures.carries (g.B.Applet.mind c.step.new.self)) (ap (λ (n : Next). told_of (after c.step.new.does n)) c.in-Idle.is) _ (sym (ap (λ (n : Next). sent_of (after c.step.new.does n)) c.in-Idle.is)) c.answer_of-answer.ensures
+    (stage (memory g.S.Store c.args.store.now c.args.loaded.now) c.args.timers.now (g.B.Applet.mind c.args.applet.now)) c.step_into.new.does (g.B.Applet.mind c.step_into.new.self) c.step_into.ensures.acted c.step_into.ensures.moved
+    (stage (memory g.S.Store c.carry_out.new.store c.carry_out.new.loaded) c.carry_out.new.timers (g.B.Applet.mind c.step_into.new.self)) (after c.step_into.new.does c.in_ok-carry_out.field-0) (c.in_ok-carry_out.ensures.carries (g.B.Applet.mind c.step_into.new.self)) (ap (λ (n : Next). told_of (after c.step_into.new.does n)) c.in-Idle.is) _ (sym (ap (λ (n : Next). sent_of (after c.step_into.new.does n)) c.in-Idle.is)) c.answer_of-answer.ensures
 
 pub returns-in-Sent-clause-runs : goal.returns-in-Sent-clause-runs
 returns-in-Sent-clause-runs g t c =
     ended (setting_of c.args.at.now) c.args.stimulus.now c.args.acts (c.args.acts - 1) (omega (arith, c.if-acts-eq0.false))
-    (stage (memory g.S.Store c.args.store.now c.args.loaded.now) c.args.timers.now (g.B.Applet.mind c.args.applet.now)) c.step.new.does (g.B.Applet.mind c.step.new.self) c.step.ensures.acted c.step.ensures.moved
-    (stage (memory g.S.Store c.carry_out.new.store c.carry_out.new.loaded) c.carry_out.new.timers (g.B.Applet.mind c.step.new.self)) (after c.step.new.does c.in_ok-carry_out.field-0) (c.in_ok-carry_out.ensures.carries (g.B.Applet.mind c.step.new.self)) (ap (λ (n : Next). told_of (after c.step.new.does n)) c.in-Sent.is ∙ tells_told None (command_of c.step.new.does)) _ (sym (ap (λ (n : Next). sent_of (after c.step.new.does n)) c.in-Sent.is ∙ sends_sent None (command_of c.step.new.does) refl)) c.answer_of-answer.ensures
+    (stage (memory g.S.Store c.args.store.now c.args.loaded.now) c.args.timers.now (g.B.Applet.mind c.args.applet.now)) c.step_into.new.does (g.B.Applet.mind c.step_into.new.self) c.step_into.ensures.acted c.step_into.ensures.moved
+    (stage (memory g.S.Store c.carry_out.new.store c.carry_out.new.loaded) c.carry_out.new.timers (g.B.Applet.mind c.step_into.new.self)) (after c.step_into.new.does c.in_ok-carry_out.field-0) (c.in_ok-carry_out.ensures.carries (g.B.Applet.mind c.step_into.new.self)) (ap (λ (n : Next). told_of (after c.step_into.new.does n)) c.in-Sent.is ∙ tells_told None (command_of c.step_into.new.does)) _ (sym (ap (λ (n : Next). sent_of (after c.step_into.new.does n)) c.in-Sent.is ∙ sends_sent None (command_of c.step_into.new.does) refl)) c.answer_of-answer.ensures
 
 pub returns-in-Sent-clause-sendable : goal.returns-in-Sent-clause-sendable
 returns-in-Sent-clause-sendable g t c =
-    each_sent (command_of c.step.new.does) (λ command some. can_be_sent (setting_of c.args.at.now) c.args.stimulus.now c.args.acts (c.args.acts - 1) (omega (arith, c.if-acts-eq0.false))
-    (stage (memory g.S.Store c.args.store.now c.args.loaded.now) c.args.timers.now (g.B.Applet.mind c.args.applet.now)) c.step.new.does (g.B.Applet.mind c.step.new.self) c.step.ensures.acted c.step.ensures.moved
-    (stage (memory g.S.Store c.carry_out.new.store c.carry_out.new.loaded) c.carry_out.new.timers (g.B.Applet.mind c.step.new.self)) (after c.step.new.does c.in_ok-carry_out.field-0) (c.in_ok-carry_out.ensures.carries (g.B.Applet.mind c.step.new.self)) (ap (λ (n : Next). told_of (after c.step.new.does n)) c.in-Sent.is ∙ tells_told None (command_of c.step.new.does)) command (ap (after c.step.new.does) c.in-Sent.is ∙ ap (next_of None) some) c.lengths_of_commands.ensures.any_number (c.step.ensures.proper c.requires.one_of_eight))
+    each_sent (command_of c.step_into.new.does) (λ command some. can_be_sent (setting_of c.args.at.now) c.args.stimulus.now c.args.acts (c.args.acts - 1) (omega (arith, c.if-acts-eq0.false))
+    (stage (memory g.S.Store c.args.store.now c.args.loaded.now) c.args.timers.now (g.B.Applet.mind c.args.applet.now)) c.step_into.new.does (g.B.Applet.mind c.step_into.new.self) c.step_into.ensures.acted c.step_into.ensures.moved
+    (stage (memory g.S.Store c.carry_out.new.store c.carry_out.new.loaded) c.carry_out.new.timers (g.B.Applet.mind c.step_into.new.self)) (after c.step_into.new.does c.in_ok-carry_out.field-0) (c.in_ok-carry_out.ensures.carries (g.B.Applet.mind c.step_into.new.self)) (ap (λ (n : Next). told_of (after c.step_into.new.does n)) c.in-Sent.is ∙ tells_told None (command_of c.step_into.new.does)) command (ap (after c.step_into.new.does) c.in-Sent.is ∙ ap (next_of None) some) c.lengths_of_commands.ensures.any_number (c.step_into.ensures.proper c.requires.one_of_eight))
 
 pub returns-in_ok-rest-in-Told-clause-runs : goal.returns-in_ok-rest-in-Told-clause-runs
 returns-in_ok-rest-in-Told-clause-runs g t c =
     went_on (setting_of c.args.at.now) c.args.stimulus.now c.args.acts (c.args.acts - 1) (omega (arith, c.if-acts-eq0.false))
-    (stage (memory g.S.Store c.args.store.now c.args.loaded.now) c.args.timers.now (g.B.Applet.mind c.args.applet.now)) c.step.new.does (g.B.Applet.mind c.step.new.self) c.step.ensures.acted c.step.ensures.moved
-    (stage (memory g.S.Store c.carry_out.new.store c.carry_out.new.loaded) c.carry_out.new.timers (g.B.Applet.mind c.step.new.self)) (stage (memory g.S.Store c.run_on.new.store c.run_on.new.loaded) c.run_on.new.timers (g.B.Applet.mind c.run_on.new.applet)) c.stimulus-told.result (subst (IsCarriedOut (setting_of c.args.at.now) c.step.new.does (stepped (setting_of c.args.at.now) c.args.stimulus.now c.args.acts (c.args.acts - 1) (omega (arith, c.if-acts-eq0.false))
-    (stage (memory g.S.Store c.args.store.now c.args.loaded.now) c.args.timers.now (g.B.Applet.mind c.args.applet.now)) c.step.new.does (g.B.Applet.mind c.step.new.self) c.step.ensures.acted c.step.ensures.moved) (stage (memory g.S.Store c.carry_out.new.store c.carry_out.new.loaded) c.carry_out.new.timers (g.B.Applet.mind c.step.new.self))) (ap (after c.step.new.does) c.in-Told.is ∙ ap (λ (s : Stimulus). Told s) (sym c.stimulus-told.ensures)) (c.in_ok-carry_out.ensures.carries (g.B.Applet.mind c.step.new.self))) _ (ended_by c.run_on.new.does c.in_ok-rest-in-Told.rest) c.in_ok-rest-in-Told.ensures.runs refl
+    (stage (memory g.S.Store c.args.store.now c.args.loaded.now) c.args.timers.now (g.B.Applet.mind c.args.applet.now)) c.step_into.new.does (g.B.Applet.mind c.step_into.new.self) c.step_into.ensures.acted c.step_into.ensures.moved
+    (stage (memory g.S.Store c.carry_out.new.store c.carry_out.new.loaded) c.carry_out.new.timers (g.B.Applet.mind c.step_into.new.self)) (stage (memory g.S.Store c.run_on.new.store c.run_on.new.loaded) c.run_on.new.timers (g.B.Applet.mind c.run_on.new.applet)) c.stimulus-told.result (subst (IsCarriedOut (setting_of c.args.at.now) c.step_into.new.does (stepped (setting_of c.args.at.now) c.args.stimulus.now c.args.acts (c.args.acts - 1) (omega (arith, c.if-acts-eq0.false))
+    (stage (memory g.S.Store c.args.store.now c.args.loaded.now) c.args.timers.now (g.B.Applet.mind c.args.applet.now)) c.step_into.new.does (g.B.Applet.mind c.step_into.new.self) c.step_into.ensures.acted c.step_into.ensures.moved) (stage (memory g.S.Store c.carry_out.new.store c.carry_out.new.loaded) c.carry_out.new.timers (g.B.Applet.mind c.step_into.new.self))) (ap (after c.step_into.new.does) c.in-Told.is ∙ ap (λ (s : Stimulus). Told s) (sym c.stimulus-told.ensures)) (c.in_ok-carry_out.ensures.carries (g.B.Applet.mind c.step_into.new.self))) _ (ended_by c.run_on.new.does c.in_ok-rest-in-Told.rest) c.in_ok-rest-in-Told.ensures.runs refl
     (c.or.ensures ∙ ap (λ (answer : Option Bool). option_or c.in_ok-rest-in-Told.rest.answer answer) c.answer_of-answer.ensures)
