@@ -1,7 +1,6 @@
 -- An envelope, as it is to each card that it may come to.
 use Rattle.std.proofs.Common.{◌≡◌, sym, ap, ◌∙◌, ℕ, Bool, List, Option}
 use Rattle.std.specs.Prelude.{length}
-use Rattle.file_model.specs.Outcomes.{cut_to}
 use Rattle.toolkit_commands.specs.declared.envelopes.Envelope.{Envelope}
 use Rattle.toolkit_model.specs.Orderly.{asks}
 use Rattle.toolkit_model.specs.Passing.{ToolkitState}
@@ -20,9 +19,5 @@ module _ (card : CardState) (old : Scene) (has : HasToolkit old card) (envelope 
   pub busy_at : (shelves : List ℕ) (busy : Bool) → shelves ≡ (triggered_by envelope (toolkit old)).shelves → is_busy_with (asks old.session) (length old.session.late) envelope shelves ≡ busy → is_busy envelope (toolkit_of card) ≡ busy
   busy_at shelves busy is so = ap (λ (s : ToolkitState). is_busy envelope s) (toolkit_is card old has) ∙ busy_here envelope (toolkit old) shelves is ∙ so
 
-  pub body_at : (body : List ℕ) (expected expected' : Option ℕ) (answer : Option Bool) → body ≡ cut_to expected (data_for envelope answer) → expected ≡ expected' → answer ≡ last_answer (triggered envelope (toolkit old)).log
-      → body ≡ cut_to expected' (call_data envelope (toolkit_of card))
-  body_at body expected expected' answer is same answer_is =
-      is ∙ ap (λ (e : Option ℕ). cut_to e (data_for envelope answer)) same
-      ∙ ap (λ (a : Option Bool). cut_to expected' (data_for envelope a)) answer_is
-      ∙ ap (λ (s : ToolkitState). cut_to expected' (call_data envelope s)) (sym (toolkit_is card old has))
+  pub body_at : (body : List ℕ) (answer : Option Bool) → body ≡ data_for envelope answer → answer ≡ last_answer (triggered envelope (toolkit old)).log → body ≡ call_data envelope (toolkit_of card)
+  body_at body answer is answer_is = is ∙ ap (data_for envelope) answer_is ∙ ap (call_data envelope) (sym (toolkit_is card old has))

@@ -13,7 +13,7 @@ use Rattle.toolkit_commands.specs.Envelopes.{envelope_of}
 use Rattle.toolkit_commands.specs.Responses.{response_of}
 use Rattle.toolkit_commands.specs.Table.{details_of}
 use Rattle.file_model.specs.Chains.{refused_if, given, and_given}
-use Rattle.file_model.specs.Outcomes.{cut_to, has_data, has_no_data, has_le_alone}
+use Rattle.file_model.specs.Outcomes.{has_data, has_no_data, has_le_alone}
 use Rattle.file_model.specs.Records.{other_length}
 use Rattle.file_model.specs.Chained.{past_unless, past_given}
 use Rattle.toolkit_model.specs.Sessions.{Outstanding}
@@ -155,7 +155,7 @@ response_there (Some o) apdu reply is = refl
 
 abbrev pub reported_by : CardState → Apdu → Envelope → Result ToolkitOutcome StatusWord
 reported_by card apdu envelope =
-    refused_if (is_busy envelope (toolkit_of card)) TOOLKIT_BUSY (Ok (coming_to card (cut_to apdu.expected (call_data envelope (toolkit_of card))) (enveloped envelope (toolkit_of card))))
+    refused_if (is_busy envelope (toolkit_of card)) TOOLKIT_BUSY (Ok (coming_to card (call_data envelope (toolkit_of card)) (enveloped envelope (toolkit_of card))))
 
 envelope_alike : {Y : Type 0} (o : Option Envelope) (f : Envelope → Result Y StatusWord) → given o WRONG_DATA f ≡ and_given (given o WRONG_DATA (λ envelope. Ok envelope)) f
 unfolding given and_given
@@ -176,14 +176,14 @@ pub envelope_busy : (card : CardState) (apdu : Apdu) (envelope : Envelope) → e
 unfolding refused_if
 envelope_busy card apdu envelope is busy =
     envelope_is card apdu ∙ goes_then (envelope_tried apdu) (reported_by card apdu) envelope is
-    ∙ ap (λ b. refused_if b TOOLKIT_BUSY (Ok (coming_to card (cut_to apdu.expected (call_data envelope (toolkit_of card))) (enveloped envelope (toolkit_of card))))) busy
+    ∙ ap (λ b. refused_if b TOOLKIT_BUSY (Ok (coming_to card (call_data envelope (toolkit_of card)) (enveloped envelope (toolkit_of card))))) busy
 
 pub envelope_goes : (card : CardState) (apdu : Apdu) (envelope : Envelope) → envelope_tried apdu ≡ Ok envelope → is_busy envelope (toolkit_of card) ≡ false
-    → envelope_taken card apdu ≡ Ok (coming_to card (cut_to apdu.expected (call_data envelope (toolkit_of card))) (enveloped envelope (toolkit_of card)))
+    → envelope_taken card apdu ≡ Ok (coming_to card (call_data envelope (toolkit_of card)) (enveloped envelope (toolkit_of card)))
 unfolding refused_if
 envelope_goes card apdu envelope is free =
     envelope_is card apdu ∙ goes_then (envelope_tried apdu) (reported_by card apdu) envelope is
-    ∙ ap (λ b. refused_if b TOOLKIT_BUSY (Ok (coming_to card (cut_to apdu.expected (call_data envelope (toolkit_of card))) (enveloped envelope (toolkit_of card))))) free
+    ∙ ap (λ b. refused_if b TOOLKIT_BUSY (Ok (coming_to card (call_data envelope (toolkit_of card)) (enveloped envelope (toolkit_of card))))) free
 
 -- ---- INSTALL and DELETE
 

@@ -1,7 +1,6 @@
 //! ENVELOPE.
-ghost use Rattle.std.specs.Prelude.{◌≡◌, ◌≢◌, ◌≤◌, ℕ, length, false, All, Ok, IfOk};
+ghost use Rattle.std.specs.Prelude.{◌≡◌, ◌≢◌, ◌≤◌, [], ◌∷◌, ℕ, length, false, All, Ok, IfOk};
 ghost use Rattle.toolkit_commands.specs.declared.envelopes.Envelope.{Envelope};
-ghost use Rattle.file_model.specs.Outcomes.{cut_to};
 ghost use Rattle.card_layout.specs.States.{rows_of};
 ghost use Rattle.toolkit_model.specs.Commands.{enveloped, triggered, trigger_of, is_busy, last_answer};
 ghost use Rattle.proactive_handler.specs.Boxes.{minds_of, IsSameBox, AreForOthers};
@@ -27,7 +26,7 @@ use toolkit_commands::Envelope;
 use toolkit_laws::sessions_stay_in_order;
 use toolkit_session::Session;
 use trigger_index::Index;
-use uicc_types::{Answer, AnswerData, StatusWord};
+use uicc_types::{Answer, AnswerData, Full, StatusWord};
 
 // User activity and the idle screen are reported once.
 fn note_reported(session: &mut Session, envelope: &Envelope)
@@ -82,33 +81,29 @@ fn report<S: Store, B: Applet>(
     )
 }
 
-// The first so many bytes, or all of them where Le isn't given.
-fn cut(bytes: &[u8], expected: Option<u16>) -> AnswerData
-    requires { length bytes.now ≤ 255 }
-    ensures { result ≡ cut_to expected bytes.now }
+// The result of call control, in an answer that is empty before.
+fn put_result(body: &mut AnswerData, permission: u8)
+    requires { body.old ≡ [] }
+    ensures { body.new ≡ permission ∷ 0x00 ∷ [] }
 {
-    match expected {
-        Some(expected) => {
-            AnswerData::from_slice(&bytes[..bytes.len().min(usize::from(expected))])
-        }
-        None => AnswerData::from_slice(bytes),
+    match body.append(&[permission, 0x00]) {
+        Ok(()) => {}
+        Err(Full) => unreachable!(),
     }
 }
 
-/// What call control is answered: not allowed, or allowed (ETSI TS 102 223, 7.3.1.6). Other envelopes are answered without data.
-pub(crate) fn data_for(
-    envelope: &Envelope,
-    answer: Option<bool>,
-    expected: Option<u16>,
-) -> AnswerData
-    ensures { result ≡ cut_to expected (data_for envelope.now answer) }
+// Call control is answered that the call is not allowed, or that it is (ETSI TS 102 223, 7.3.1.6), in an answer that is empty before.
+// Other envelopes are answered without data.
+fn put_data(envelope: &Envelope, answer: Option<bool>, body: &mut AnswerData)
+    requires { body.old ≡ [] }
+    ensures { body.new ≡ data_for envelope.now answer }
 {
     if !is_call(envelope) {
-        return AnswerData::new();
+        return;
     }
     match answer {
-        Some(false) => cut(&[0x01, 0x00], expected),
-        _ => cut(&[0x00, 0x00], expected),
+        Some(false) => put_result(body, 0x01),
+        _ => put_result(body, 0x00),
     }
 }
 
@@ -159,7 +154,7 @@ pub fn take_envelope<S: Store, B: Applet>(
                 return Ok(());
             }
             let answer = report(store, loaded, index, cast, session, &envelope, &trigger)?;
-            out.body = data_for(&envelope, answer, command.expected);
+            put_data(&envelope, answer, &mut out.body);
             out.status = StatusWord::DONE;
             Ok(())
         }

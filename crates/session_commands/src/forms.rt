@@ -1,11 +1,11 @@
 //! What the parameters, the lengths and the data of a command are tested for, in the written order.
 ghost use Rattle.std.specs.Prelude.{◌≡◌, ◌≢◌, ◌≤◌, ◌==◌, ◌||◌, length, unwrap_or, IfErr};
-ghost use Rattle.file_model.specs.Outcomes.{has_le_alone};
 ghost use Rattle.card_model.specs.Toolkit.{has_zero_parameters, row_status};
 ghost use Rattle.session_commands.specs.Trying.{data_tried, fetch_tried, response_given, response_tried, envelope_given, envelope_tried};
 
 use apdu_form::Command;
 use applet_registry::RowFault;
+use file_model::{has_data, has_le_alone};
 use toolkit_commands::{Details, Envelope, Response, read_envelope, read_response};
 use uicc_types::StatusWord;
 
@@ -13,12 +13,6 @@ fn has_zero_parameters(command: &Command<'_>) -> bool
     ensures { result ≡ has_zero_parameters command.now }
 {
     command.p1 == 0 && command.p2 == 0
-}
-
-fn has_le_alone(command: &Command<'_>) -> bool
-    ensures { result ≡ has_le_alone command.now }
-{
-    command.body.is_empty() && command.expected.is_some()
 }
 
 /// P1 and P2 are 00, and there are data.
@@ -29,7 +23,7 @@ pub(crate) fn try_data(command: &Command<'_>) -> Result<(), StatusWord>
 {
     if !has_zero_parameters(command) {
         Err(StatusWord::WRONG_PARAMETERS)
-    } else if command.body.is_empty() {
+    } else if !has_data(command) {
         Err(StatusWord::WRONG_LENGTH)
     } else {
         Ok(())

@@ -3,7 +3,6 @@ use Rattle.std.specs.Prelude.{◌≢◌, All}
 use Rattle.uicc_types.specs.declared.answers.TheConstants.StatusWord.{TOOLKIT_BUSY}
 use Rattle.apdu_form.specs.Model.{Apdu}
 use Rattle.card_layout.specs.Memory.{memory}
-use Rattle.file_model.specs.Outcomes.{cut_to}
 use Rattle.toolkit_model.specs.Commands.{enveloped, call_data}
 use Rattle.toolkit_model.specs.Steps.{Report}
 use Rattle.proactive_handler.specs.Boxes.{minds_of}
@@ -37,7 +36,7 @@ pub returns-in_err-answer-in-Ok-clause-carries : goal.returns-in_err-answer-in-O
 returns-in_err-answer-in-Ok-clause-carries g c =
     λ card has.
     let old = (scene (memory g.S.Store c.args.store.now c.args.loaded.now) c.args.index.now c.args.session.now (minds_of g.B.Applet.mind c.args.cast.now)) in
-    card_stops card old has (cut_to c.args.command.now.expected (call_data c.in-Ok.envelope (toolkit_of card))) (enveloped c.in-Ok.envelope) (scene (memory g.S.Store c.report.new.store c.report.new.loaded) c.report.new.index c.report.new.session (minds_of g.B.Applet.mind c.report.new.cast))
+    card_stops card old has (call_data c.in-Ok.envelope (toolkit_of card)) (enveloped c.in-Ok.envelope) (scene (memory g.S.Store c.report.new.store c.report.new.loaded) c.report.new.index c.report.new.session (minds_of g.B.Applet.mind c.report.new.cast))
     (tells_here c.tables_tell_states.ensures old c.requires.rests.mounted) c.report.ensures.keeps.table
     (envelope_taken card c.args.command.now) _
     (envelope_goes card c.args.command.now c.in-Ok.envelope (sym c.try_envelope.ensures.value ∙ c.in-Ok.is)
@@ -48,13 +47,13 @@ pub returns-in_ok-answer-in-Ok-clause-carries : goal.returns-in_ok-answer-in-Ok-
 returns-in_ok-answer-in-Ok-clause-carries g c =
     λ card has.
     let old = (scene (memory g.S.Store c.args.store.now c.args.loaded.now) c.args.index.now c.args.session.now (minds_of g.B.Applet.mind c.args.cast.now)) in
-    card_done card old has (cut_to c.args.command.now.expected (call_data c.in-Ok.envelope (toolkit_of card))) (enveloped c.in-Ok.envelope) (scene (memory g.S.Store c.report.new.store c.report.new.loaded) c.report.new.index c.report.new.session (minds_of g.B.Applet.mind c.report.new.cast))
+    card_done card old has (call_data c.in-Ok.envelope (toolkit_of card)) (enveloped c.in-Ok.envelope) (scene (memory g.S.Store c.report.new.store c.report.new.loaded) c.report.new.index c.report.new.session (minds_of g.B.Applet.mind c.report.new.cast))
     (tells_here c.tables_tell_states.ensures old c.requires.rests.mounted) c.report.ensures.keeps.table
     (envelope_taken card c.args.command.now) _
     (envelope_goes card c.args.command.now c.in-Ok.envelope (sym c.try_envelope.ensures.value ∙ c.in-Ok.is)
     (busy_at card old has c.in-Ok.envelope c.trigger_of-trigger.result.shelves _ c.trigger_of-trigger.ensures.found.shelves (sym c.is_busy.ensures ∙ c.if-is_busy.false)))
     (enveloped c.in-Ok.envelope) refl tt
-    (body_at card old has c.in-Ok.envelope c.data_for-out.result c.command.inside.expected c.args.command.now.expected c.in_ok-answer-in-Ok.answer c.data_for-out.ensures (ap (λ (a : Apdu). a.expected) c.command.view_is) c.in_ok-answer-in-Ok.ensures.answer)
+    (body_at card old has c.in-Ok.envelope c.put_data.new.body c.in_ok-answer-in-Ok.answer c.put_data.ensures c.in_ok-answer-in-Ok.ensures.answer)
     refl c.in_ok-answer-in-Ok.ensures.moves
 
 pub returns-in_ok-answer-in-Ok-clause-ends : goal.returns-in_ok-answer-in-Ok-clause-ends
