@@ -116,7 +116,8 @@ fn write_out<O: Write>(output: &mut O, part: &[u8]) -> io::Result<()>
     match output.write(part) {
         Ok(count) if count == part.len() => {}
         Ok(count) => output.write_all(&part[count..])?,
-        Err(_) => output.write_all(part)?,
+        Err(error) if error.kind() == io::ErrorKind::Interrupted => output.write_all(part)?,
+        Err(error) => return Err(error),
     }
     output.flush()
 }

@@ -46,7 +46,7 @@ use file_commands::{read_binary, select, status, update_binary};
 use file_making::TreeCommand;
 use file_model::{ContentsCommand, FileCommand, PinCommand, Selection};
 use file_tree::Channels;
-use pin_rules::pin_command;
+use pin_rules::named_pin_command;
 use record_commands::{activate, deactivate, increase, read_record, search_record, update_record};
 use session_commands::poll;
 use session_laws::cards_go_on;
@@ -288,7 +288,7 @@ impl<S: Store, B: Applet> CardOver<S, B> {
         tables_have_rows();
         cards_go_on();
         let before = self.loaded.pins;
-        match pin_command(
+        match named_pin_command(
             command,
             &mut self.store,
             &mut self.loaded,

@@ -1,5 +1,5 @@
 -- What a PIN command has done, on any card, and on one that tells its state.
-use Rattle.std.specs.Prelude.{◌≡◌, ◌≢◌, ◌⊎◌, ℕ, ◌+◌, ◌<◌, ◌≤◌, false, List, [], ◌∷◌, length, slice_index_or, None, Some, option_map, IfSome, IsSomeAnd, Result, IfOk, OnOk, OnErr}
+use Rattle.std.specs.Prelude.{◌≡◌, ◌≢◌, ◌⊎◌, ℕ, ◌+◌, ◌<◌, ◌≤◌, ◌==◌, if◌then◌else◌, false, List, [], ◌∷◌, length, slice_index_or, None, Some, option_map, IfSome, IsSomeAnd, Result, IfOk, OnOk, OnErr}
 use Rattle.uicc_types.specs.Counts.{raised_by}
 use Rattle.uicc_types.specs.declared.answers.Answer.{Answer}
 use Rattle.uicc_types.specs.declared.answers.StatusWord.{StatusWord}
@@ -12,6 +12,7 @@ use Rattle.card_layout.specs.Memory.{Memory, held, Keeps}
 use Rattle.card_layout.specs.Standing.{Agrees}
 use Rattle.card_layout.specs.States.{pins_of}
 use Rattle.file_model.specs.declared.commands.PinCommand.{PinCommand}
+use Rattle.file_model.specs.declared.commands.PinCommand.TheVariants.{Verify, Change, Disable, Enable, Unblock}
 use Rattle.file_model.specs.Outcomes.{PinOutcome, last_of, has_no_data}
 use Rattle.file_model.specs.Pins.{pin_found, tries_left}
 use Rattle.file_model.specs.Guards.{guard_of, tries_by, TakesATry}
@@ -76,3 +77,12 @@ abbrev pub LeavesOneLess : PinCommand → Apdu → StatusWord → List Pin → L
 LeavesOneLess command apdu status before after =
     (tries : ℕ) → tries ≤ 10 → has_no_data apdu ≡ false → status ≡ tries_left tries
     → TakesATry (guard_of command) apdu.p2 before after × IsSomeAnd (pin_found after apdu.p2) (λ pin. tries_by (guard_of command) pin ≡ tries)
+
+-- the command that an instruction byte names (ETSI TS 102 221, 10.1.2); each byte that is none of the other four's stands for UNBLOCK PIN
+abbrev pub pin_by_byte : ℕ → PinCommand
+pin_by_byte ins =
+    if ins == 0x20 then Verify
+    else if ins == 0x24 then Change
+    else if ins == 0x26 then Disable
+    else if ins == 0x28 then Enable
+    else Unblock

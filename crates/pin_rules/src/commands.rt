@@ -5,7 +5,7 @@ ghost use Rattle.card_layout.specs.Memory.{IsMounted, memory};
 ghost use Rattle.card_layout.specs.States.{pins_of};
 ghost use Rattle.file_model.specs.Commands.{pin_outcome, pin_settled};
 ghost use Rattle.card_memory.specs.Model.{PerformsPin};
-ghost use Rattle.pin_rules.specs.Outcomes.{IsCarriedOut, LeavesOneLess, IsPinRefused, IsPinCutShort, IsTried, ChangesPins, AnswersPins};
+ghost use Rattle.pin_rules.specs.Outcomes.{IsCarriedOut, LeavesOneLess, IsPinRefused, IsPinCutShort, IsTried, ChangesPins, AnswersPins, pin_by_byte};
 ghost use Rattle.pin_rules.specs.Trials.{IsTrial, OnlyTells, comes_to};
 
 use crate::marks::{marked, tries_left};
@@ -59,7 +59,7 @@ fn carry_out<S: Store>(
 /// nothing doesn't touch the memory. `out` has the status, and no data ever. After a fault the table has the PINs
 /// before the commit that failed, the memory those or the ones after it, the commits before it are counted, and the same keys are
 /// verified as before.
-pub fn pin_command<S: Store>(
+pub fn named_pin_command<S: Store>(
     pin: PinCommand,
     store: &mut S,
     loaded: &mut Loaded,
@@ -91,4 +91,47 @@ pub fn pin_command<S: Store>(
     let tried = trial_of(pin, loaded, command);
     out.status = carry_out(store, loaded, verified, command, tried)?;
     Ok(())
+}
+
+// The command that an instruction byte names.
+fn pin_named(ins: u8) -> PinCommand
+    ensures { result ≡ pin_by_byte ins }
+{
+    match ins {
+        0x20 => PinCommand::Verify,
+        0x24 => PinCommand::Change,
+        0x26 => PinCommand::Disable,
+        0x28 => PinCommand::Enable,
+        _ => PinCommand::Unblock,
+    }
+}
+
+/// The same of the command that its instruction byte names; each byte that is none of the other four's stands for UNBLOCK PIN.
+pub fn pin_command<S: Store>(
+    store: &mut S,
+    loaded: &mut Loaded,
+    verified: &mut Verified,
+    command: &Command<'_>,
+    out: &mut Answer,
+) -> Result<(), StoreFault>
+    requires mounted { IsMounted (memory S.Store store.old loaded.old) }
+    ensures comes { OnOk result (IsCarriedOut (pin_settled (pin_by_byte command.now.ins) (pins_of loaded.old) verified.old command.now)
+        (pins_of loaded.old) out.new.status verified.new (pins_of loaded.new)) }
+    ensures commits { OnOk result (S.Store.commits store.new
+        ≡ raised_by (length (pin_settled (pin_by_byte command.now.ins) (pins_of loaded.old) verified.old command.now).passed)
+        (S.Store.commits store.old)) }
+    ensures performs { PerformsPin result (memory S.Store store.old loaded.old) (memory S.Store store.new loaded.new)
+        out.new verified.new (λ state. pin_settled (pin_by_byte command.now.ins) state.pins verified.old command.now) }
+    ensures guessed { OnOk result (LeavesOneLess (pin_by_byte command.now.ins) command.now out.new.status (pins_of loaded.old) (pins_of loaded.new)) }
+    ensures refused { (status : StatusWord) → pin_outcome (pin_by_byte command.now.ins) (pins_of loaded.old) verified.old command.now ≡ Err status
+        → IsOk result × IsPinRefused status out.new verified.old verified.new × (loaded.new ≡ loaded.old) }
+    ensures still { (pin_settled (pin_by_byte command.now.ins) (pins_of loaded.old) verified.old command.now).passed ≡ []
+        → IsOk result × (store.new ≡ store.old) × (loaded.new ≡ loaded.old) }
+    ensures stops { OnErr result (IsPinCutShort (pin_settled (pin_by_byte command.now.ins) (pins_of loaded.old) verified.old command.now)
+        (memory S.Store store.old loaded.old) (memory S.Store store.new loaded.new) verified.old verified.new) }
+    ensures ends { AnswersPins (memory S.Store store.old loaded.old) (memory S.Store store.new loaded.new)
+        out.new result }
+{
+    let pin = pin_named(command.ins);
+    named_pin_command(pin, store, loaded, verified, command, out)
 }

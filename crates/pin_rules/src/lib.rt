@@ -8,4 +8,4 @@ mod presenting;
 mod slots;
 mod trials;
 
-pub use commands::pin_command;
+pub use commands::{named_pin_command, pin_command};

@@ -29,10 +29,10 @@ use Rattle.card_core.proofs.cards.CardOver.carry_out_on_pins.Goals as goal
 pub returns-in-Ok-clause-settled : goal.returns-in-Ok-clause-settled
 returns-in-Ok-clause-settled g c = record {
   settles =
-      pins_settle c.args.command (parts_of g.S.Store g.B.Applet c.args.self.now) c.requires.underway.rests c.args.apdu.now _ _ c.pin_command.new.out c.in-Ok.ensures.performs c.requires.underway.rests refl refl refl;
+      pins_settle c.args.command (parts_of g.S.Store g.B.Applet c.args.self.now) c.requires.underway.rests c.args.apdu.now _ _ c.named_pin_command.new.out c.in-Ok.ensures.performs c.requires.underway.rests refl refl refl;
   counts =
-      pins_counts c.args.command (parts_of g.S.Store g.B.Applet c.args.self.now) c.requires.underway.rests c.args.apdu.now _ c.deref_mut.result.now c.pin_command.new.loaded c.tables_tell_states.ensures c.requires.underway.running.mounted.agrees c.deref_mut.ensures.value
-      _ c.pin_command.new.out c.in-Ok.ensures.performs (λ none. ap g.S.Store.stable (c.pin_command.ensures.still none).1);
+      pins_counts c.args.command (parts_of g.S.Store g.B.Applet c.args.self.now) c.requires.underway.rests c.args.apdu.now _ c.deref_mut.result.now c.named_pin_command.new.loaded c.tables_tell_states.ensures c.requires.underway.running.mounted.agrees c.deref_mut.ensures.value
+      _ c.named_pin_command.new.out c.in-Ok.ensures.performs (λ none. ap g.S.Store.stable (c.named_pin_command.ensures.still none).1);
   usual = search rules;
   empty = search rules;
 }
@@ -40,15 +40,15 @@ returns-in-Ok-clause-settled g c = record {
 pub returns-in-Ok-clause-goes_on : goal.returns-in-Ok-clause-goes_on
 returns-in-Ok-clause-goes_on g c = record {
   set =
-      set_after (parts_of g.S.Store g.B.Applet c.args.self.now) _ c.requires.underway.set c.pin_command.ensures.ends.keeps.size refl (holds_card _ _ _ c.in-Ok.ensures.ends.keeps.mounted.agrees)
-      (λ silent. subst (λ (telling : Option (List ℕ)). Agrees (g.S.Store.store_mark c.pin_command.new.store) telling c.pin_command.new.loaded) silent c.in-Ok.ensures.ends.keeps.mounted.agrees)
-      c.pin_command.ensures.ends.keeps.told (rows_beside_pins _ _ c.pin_command.ensures.ends.others ∙ ap rows_of c.deref_mut.ensures.value);
+      set_after (parts_of g.S.Store g.B.Applet c.args.self.now) _ c.requires.underway.set c.named_pin_command.ensures.ends.keeps.size refl (holds_card _ _ _ c.in-Ok.ensures.ends.keeps.mounted.agrees)
+      (λ silent. subst (λ (telling : Option (List ℕ)). Agrees (g.S.Store.store_mark c.named_pin_command.new.store) telling c.named_pin_command.new.loaded) silent c.in-Ok.ensures.ends.keeps.mounted.agrees)
+      c.named_pin_command.ensures.ends.keeps.told (rows_beside_pins _ _ c.named_pin_command.ensures.ends.others ∙ ap rows_of c.deref_mut.ensures.value);
   running = record {
     mounted = c.in-Ok.ensures.ends.keeps.mounted;
     selected =
-        subst (λ (files : List Descriptor). AreSelected files c.args.self.now.channels) (sym (files_beside_pins _ _ c.pin_command.ensures.ends.others ∙ ap descriptors_of c.deref_mut.ensures.value))
+        subst (λ (files : List Descriptor). AreSelected files c.args.self.now.channels) (sym (files_beside_pins _ _ c.named_pin_command.ensures.ends.others ∙ ap descriptors_of c.deref_mut.ensures.value))
         c.requires.underway.running.selected;
-    toolkit = toolkit_kept c.args.self.now.loaded.value c.pin_command.new.loaded _ _ _ (rows_beside_pins _ _ c.pin_command.ensures.ends.others ∙ ap rows_of c.deref_mut.ensures.value) c.requires.underway.running.toolkit;
+    toolkit = toolkit_kept c.args.self.now.loaded.value c.named_pin_command.new.loaded _ _ _ (rows_beside_pins _ _ c.named_pin_command.ensures.ends.others ∙ ap rows_of c.deref_mut.ensures.value) c.requires.underway.running.toolkit;
     stays = c.requires.underway.running.stays;
   };
   others = search rules;
@@ -61,20 +61,20 @@ returns-in-Err-clause-settled g c = record {
       fault_left c.cards_go_on.ensures.rows (Pin c.args.command) c.args.apdu.now refl (card_of (parts_of g.S.Store g.B.Applet c.args.self.now)) _ c.requires.underway.running.stays (card_boxes (parts_of g.S.Store g.B.Applet c.args.self.now) c.requires.underway.rests)
       (cards_in_order c.tables_tell_states.ensures c.tables_have_rows.ensures (parts_of g.S.Store g.B.Applet c.args.self.now) c.requires.underway.running c.requires.underway.rests)
       (pins_fault c.args.command (parts_of g.S.Store g.B.Applet c.args.self.now) c.requires.underway.rests c.args.apdu.now
-      (standing (g.S.Store.store_mark c.pin_command.new.store) (g.S.Store.stable c.pin_command.new.store)) c.in-Err.ensures.performs.passes);
+      (standing (g.S.Store.store_mark c.named_pin_command.new.store) (g.S.Store.stable c.named_pin_command.new.store)) c.in-Err.ensures.performs.passes);
   counts =
-      pins_counts c.args.command (parts_of g.S.Store g.B.Applet c.args.self.now) c.requires.underway.rests c.args.apdu.now _ c.deref_mut.result.now c.pin_command.new.loaded c.tables_tell_states.ensures c.requires.underway.running.mounted.agrees c.deref_mut.ensures.value
-      _ c.pin_command.new.out c.in-Err.ensures.performs (λ none. ap g.S.Store.stable (c.pin_command.ensures.still none).1);
+      pins_counts c.args.command (parts_of g.S.Store g.B.Applet c.args.self.now) c.requires.underway.rests c.args.apdu.now _ c.deref_mut.result.now c.named_pin_command.new.loaded c.tables_tell_states.ensures c.requires.underway.running.mounted.agrees c.deref_mut.ensures.value
+      _ c.named_pin_command.new.out c.in-Err.ensures.performs (λ none. ap g.S.Store.stable (c.named_pin_command.ensures.still none).1);
   usual = search rules;
   empty = search rules;
 }
 
 pub returns-in-Err-clause-table : goal.returns-in-Err-clause-table
-returns-in-Err-clause-table g c = ap (λ (table : Loaded). record table { pins = c.deref.result.now.pins }) (c.deref_mut-in-Err.ensures.value ∙ c.pin_command.ensures.ends.others ∙ ap (λ (table : Loaded). record table { pins = c.pin_command.new.loaded.pins }) c.deref_mut.ensures.value) ∙ ap (λ (table : Loaded). record c.args.self.now.loaded.value { pins = table.pins }) c.deref.ensures
+returns-in-Err-clause-table g c = ap (λ (table : Loaded). record table { pins = c.deref.result.now.pins }) (c.deref_mut-in-Err.ensures.value ∙ c.named_pin_command.ensures.ends.others ∙ ap (λ (table : Loaded). record table { pins = c.named_pin_command.new.loaded.pins }) c.deref_mut.ensures.value) ∙ ap (λ (table : Loaded). record c.args.self.now.loaded.value { pins = table.pins }) c.deref.ensures
 
 pub returns-in-Err-clause-acts : goal.returns-in-Err-clause-acts
 returns-in-Err-clause-acts g c =
-    pins_act {X = Unit} (Err c.in-Err.fault) c.args.apdu.now (parts_of g.S.Store g.B.Applet c.args.self.now) _ c.pin_command.new.out c.args.command (λ state told. tt)
+    pins_act {X = Unit} (Err c.in-Err.fault) c.args.apdu.now (parts_of g.S.Store g.B.Applet c.args.self.now) _ c.named_pin_command.new.out c.args.command (λ state told. tt)
     (λ status refused. absurd (false≢true (c.in-Err.ensures.refused status (ap (λ (table : Loaded). pin_outcome c.args.command (pins_of table) c.args.self.now.verified c.args.apdu.now) c.deref_mut.ensures.value ∙ refused)).0))
     (record {
       table = returns-in-Err-clause-table g c ∙ ap (λ (table : Loaded). record c.args.self.now.loaded.value { pins = table.pins }) (sym (returns-in-Err-clause-table g c));
@@ -86,10 +86,10 @@ returns-in-Err-clause-acts g c =
 pub returns-in-Err-clause-goes_on : goal.returns-in-Err-clause-goes_on
 returns-in-Err-clause-goes_on g c = record {
   set =
-      set_after (parts_of g.S.Store g.B.Applet c.args.self.now) _ c.requires.underway.set c.pin_command.ensures.ends.keeps.size refl
-      (holds_passed (λ state. Contains (state ∷ with_each state (pin_settled c.args.command state.pins c.args.self.now.verified c.args.apdu.now).passed)) _ _ _ _ c.requires.underway.set.card c.pin_command.ensures.ends.keeps.told c.in-Err.ensures.performs.passes)
-      (λ silent. subst (Agrees (g.S.Store.store_mark c.pin_command.new.store) None) (sym (returns-in-Err-clause-table g c)) (subst (λ (mark : ℕ). Agrees mark None c.args.self.now.loaded.value) (sym c.pin_command.ensures.ends.keeps.mark) (silent_agrees _ _ _ c.requires.underway.running.mounted.agrees)))
-      c.pin_command.ensures.ends.keeps.told (ap rows_of (returns-in-Err-clause-table g c));
+      set_after (parts_of g.S.Store g.B.Applet c.args.self.now) _ c.requires.underway.set c.named_pin_command.ensures.ends.keeps.size refl
+      (holds_passed (λ state. Contains (state ∷ with_each state (pin_settled c.args.command state.pins c.args.self.now.verified c.args.apdu.now).passed)) _ _ _ _ c.requires.underway.set.card c.named_pin_command.ensures.ends.keeps.told c.in-Err.ensures.performs.passes)
+      (λ silent. subst (Agrees (g.S.Store.store_mark c.named_pin_command.new.store) None) (sym (returns-in-Err-clause-table g c)) (subst (λ (mark : ℕ). Agrees mark None c.args.self.now.loaded.value) (sym c.named_pin_command.ensures.ends.keeps.mark) (silent_agrees _ _ _ c.requires.underway.running.mounted.agrees)))
+      c.named_pin_command.ensures.ends.keeps.told (ap rows_of (returns-in-Err-clause-table g c));
   running = search rules;
   others = search rules;
   cause = search rules;
@@ -97,14 +97,14 @@ returns-in-Err-clause-goes_on g c = record {
 
 pub returns-in-Ok-clause-acts : goal.returns-in-Ok-clause-acts
 returns-in-Ok-clause-acts g c =
-    pins_act {X = Unit} (Ok c.in-Ok.field-0) c.args.apdu.now (parts_of g.S.Store g.B.Applet c.args.self.now) _ c.pin_command.new.out c.args.command
+    pins_act {X = Unit} (Ok c.in-Ok.field-0) c.args.apdu.now (parts_of g.S.Store g.B.Applet c.args.self.now) _ c.named_pin_command.new.out c.args.command
     (λ state told.
-    pins_answer c.args.command (parts_of g.S.Store g.B.Applet c.args.self.now) _ state c.args.apdu.now c.pin_command.new.out told c.pin_command.ensures.ends.empty
-    (subst (λ (table : Loaded). IsCarriedOut (pin_settled c.args.command (pins_of table) c.args.self.now.verified c.args.apdu.now) (pins_of table) c.pin_command.new.out.status c.pin_command.new.verified (pins_of c.pin_command.new.loaded)) c.deref_mut.ensures.value c.in-Ok.ensures.comes)
-    (c.pin_command.ensures.ends.others ∙ ap (λ (table : Loaded). record table { pins = c.pin_command.new.loaded.pins }) c.deref_mut.ensures.value) refl refl refl)
+    pins_answer c.args.command (parts_of g.S.Store g.B.Applet c.args.self.now) _ state c.args.apdu.now c.named_pin_command.new.out told c.named_pin_command.ensures.ends.empty
+    (subst (λ (table : Loaded). IsCarriedOut (pin_settled c.args.command (pins_of table) c.args.self.now.verified c.args.apdu.now) (pins_of table) c.named_pin_command.new.out.status c.named_pin_command.new.verified (pins_of c.named_pin_command.new.loaded)) c.deref_mut.ensures.value c.in-Ok.ensures.comes)
+    (c.named_pin_command.ensures.ends.others ∙ ap (λ (table : Loaded). record table { pins = c.named_pin_command.new.loaded.pins }) c.deref_mut.ensures.value) refl refl refl)
     (λ status refused.
     let gives = c.in-Ok.ensures.refused status (ap (λ (table : Loaded). pin_outcome c.args.command (pins_of table) c.args.self.now.verified c.args.apdu.now) c.deref_mut.ensures.value ∙ refused) in
-    let stays = (c.pin_command.ensures.still (pins_refused _ _ _ _ status (ap (λ (table : Loaded). pin_outcome c.args.command (pins_of table) c.args.self.now.verified c.args.apdu.now) c.deref_mut.ensures.value ∙ refused))).1 in (
+    let stays = (c.named_pin_command.ensures.still (pins_refused _ _ _ _ status (ap (λ (table : Loaded). pin_outcome c.args.command (pins_of table) c.args.self.now.verified c.args.apdu.now) c.deref_mut.ensures.value ∙ refused))).1 in (
       refl,
       record {
         refused = record { body = gives.1.body; status_is = gives.1.status_is };
@@ -123,7 +123,7 @@ returns-in-Ok-clause-acts g c =
       },
     ))
     (record {
-      table = c.pin_command.ensures.ends.others ∙ ap (λ (table : Loaded). record table { pins = c.pin_command.new.loaded.pins }) c.deref_mut.ensures.value;
+      table = c.named_pin_command.ensures.ends.others ∙ ap (λ (table : Loaded). record table { pins = c.named_pin_command.new.loaded.pins }) c.deref_mut.ensures.value;
       channels = refl;
       session = refl;
       boxes = refl;
