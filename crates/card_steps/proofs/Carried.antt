@@ -8,16 +8,19 @@ use Rattle.card_model.specs.Counts.{IsCounted}
 use Rattle.card_model.specs.States.{IsGood, Machine}
 use Rattle.card_steps.proofs.CardLemmas.{sends_off}
 use Rattle.card_steps.proofs.Delivered.{off_counted}
+use Rattle.card_steps.proofs.LinkCounts.{IsShownAsOne, command_shown, counted_over, cut, cut_over, failed}
 use Rattle.card_steps.proofs.StepLemmas.{idle_counted}
 use Rattle.card_steps.specs.Ends.{Comes, End, Meets, MeetsAnswer, MeetsCut, end_words, reply_for}
 use Rattle.card_steps.specs.Runs.{is_calm, machine_of}
 use Rattle.card_steps.specs.Standing.{machine_is}
 use Rattle.card_steps.specs.Stepping.{Sends, seen}
 use Rattle.link_laws.specs.Shown.{item_of, shown_over, without_bytes}
-use Rattle.link_laws.specs.Stepped.{CountsSeeNoBytes, GivesOwnStep, LinkChangesNoStep}
+use Rattle.link_laws.specs.Stepped.{GivesOwnStep, LinkChangesNoStep}
+use Rattle.t0_link.proofs.Passed.{carried_gives}
 use Rattle.t0_link.specs.Carrying.{carried, command_answer, is_carried, is_some_carried}
 use Rattle.t0_link.specs.Exchanging.{Exchanges}
 use Rattle.t0_link.specs.Linking.{Answers, Course, Linked, Passes}
+use Rattle.t0_link.specs.Passing.{GivesAnswer, passed_apdu}
 use Rattle.t0_link.specs.Transmitting.{Transmits}
 use Rattle.t0_link.specs.declared.endpoint.LinkFault.{LinkFault}
 use Rattle.t0_link.specs.declared.endpoint.LinkFault.TheVariants.{PowerLost, NoPower}
@@ -30,13 +33,13 @@ use Rattle.uicc_types.specs.declared.runs.TraceItem.TheVariants as item
 
 -- it met the card
 met_so : (old new : End) (apdu : List ℕ) (shown : TraceItem) → Meets old apdu shown new → Comes old apdu shown new
-met_so old new apdu shown met = record { sends = met.takes.sends; counted = λ machine is. met.takes.counted; kept = met.takes.kept; waits = met.waits }
+met_so old new apdu shown met = record { sends = met.takes.sends; counted = met.takes.counted; kept = met.takes.kept; waits = met.waits }
 
 -- the card was off
 off_so : (old new : End) (apdu : List ℕ) → old.parts.is_on ≡ false → new ≡ old → Comes old apdu item.Off new
 off_so old new apdu off same = record {
   sends = λ machine is. sends_off old.parts new.parts apdu machine is off (ap (λ (e : End). machine_of e.parts) same);
-  counted = λ machine is. subst (λ (e : End). IsCounted old.parts.meter e.parts.meter [] (item.Off ∷ [])) (sym same) (off_counted old.parts.meter (idle_counted old.parts.meter));
+  counted = subst (λ (e : End). IsCounted old.parts.meter e.parts.meter [] (item.Off ∷ [])) (sym same) (off_counted old.parts.meter (idle_counted old.parts.meter));
   kept = let stays : new.parts.meter.faults ≡ old.parts.meter.faults = ap (λ (e : End). e.parts.meter.faults) same in omega arith;
   waits = ap (λ (e : End). e.waiting) same;
 }
@@ -74,43 +77,34 @@ calm_by_status item.EepromFailed = refl
 calm_alike : (shown other : TraceItem) → without_bytes other ≡ without_bytes shown → is_calm other ≡ true → is_calm shown ≡ true
 calm_alike shown other alike calm = sym (calm_by_status shown) ∙ ap is_calm (sym alike) ∙ calm_by_status other ∙ calm
 
-module _ (counts : CountsSeeNoBytes) (old new : End) (bytes : List ℕ) where
+module _ (old new : End) (bytes : List ℕ) where
   -- the link passed an APDU, which met the card, and of what that showed it made this
-  passed_so : (apdu : List ℕ) (make : Answer → Linked) (shown other : TraceItem) → ((machine : Machine) → machine_of old.parts ≡ Some machine → GivesOwnStep machine bytes (Passes apdu make)) → Meets old apdu shown new
-      → other ≡ shown_over make shown → Comes old bytes other new
-  passed_so apdu make shown other own met made = record {
+  passed_so : (apdu : List ℕ) (make : Answer → Linked) (shown other : TraceItem) → ((machine : Machine) → machine_of old.parts ≡ Some machine → GivesOwnStep machine bytes (Passes apdu make)) → IsShownAsOne (Passes apdu make)
+      → Meets old apdu shown new → other ≡ shown_over make shown → Comes old bytes other new
+  passed_so apdu make shown other own once met made = record {
     sends = λ machine is.
         let sent : Sends machine apdu shown new.parts = met.takes.sends machine is in
         let step = own machine is shown sent.machine sent.gives in
         subst (λ (i : TraceItem). Sends machine bytes i new.parts) (sym made)
         (record { machine = sent.machine; told = sent.told; gives = step.gives; rests = λ calm. sent.rests (calm_alike shown (shown_over make shown) step.alike calm) });
-    counted = λ machine is.
-        let sent : Sends machine apdu shown new.parts = met.takes.sends machine is in
-        let step = own machine is shown sent.machine sent.gives in
-        subst (λ (i : TraceItem). IsCounted old.parts.meter new.parts.meter [] (i ∷ [])) (sym made)
-        (counts old.parts.meter new.parts.meter [] (shown ∷ []) (shown_over make shown ∷ []) (ap (λ (i : TraceItem). i ∷ []) step.alike) met.takes.counted);
+    counted = counted_over old.parts.meter new.parts.meter [] shown other (ap failed made ∙ once shown met.takes.bare) (ap cut made ∙ cut_over make shown) met.takes.counted;
     kept = met.takes.kept;
     waits = met.waits;
   }
 
-  by_course : (course : Course) (result : Result ⊤ LinkFault) (left : Linked) → ((machine : Machine) → machine_of old.parts ≡ Some machine → GivesOwnStep machine bytes course) → Exchanges end_words old new course result left
-      → Comes old bytes (seen (reply_for result) left.answer) new
-  by_course (Answers linked) (Ok done) left own exchanged = record {
-    sends = λ machine is. absurd (own machine is);
-    counted = λ machine is. absurd (own machine is);
-    kept = let stays : new.parts.meter.faults ≡ old.parts.meter.faults = ap (λ (e : End). e.parts.meter.faults) exchanged.0 in omega arith;
-    waits = ap (λ (e : End). e.waiting) exchanged.0;
-  }
-  by_course (Answers linked) (Err fault) left own exchanged = absurd exchanged
-  by_course (Passes apdu make) (Ok done) left own exchanged =
-      passed_so apdu make (item_of exchanged.answer) (item_of left.answer) own exchanged.transmitted (ap (λ (l : Linked). item_of l.answer) exchanged.answered)
-  by_course (Passes apdu make) (Err PowerLost) left own exchanged = passed_so apdu make item.Cut item.Cut own exchanged.transmitted.0 refl
-  by_course (Passes apdu make) (Err NoPower) left own exchanged = off_so old new bytes exchanged.transmitted.0 exchanged.transmitted.1
+  by_course : (passed : List ℕ) (expected : Option ℕ) (course : Course) (result : Result ⊤ LinkFault) (left : Linked) → ((machine : Machine) → machine_of old.parts ≡ Some machine → GivesOwnStep machine bytes course)
+      → GivesAnswer passed expected course → IsShownAsOne course → Exchanges end_words old new course result left → Comes old bytes (seen (reply_for result) left.answer) new
+  by_course passed expected (Answers linked) result left own passes once exchanged = absurd passes
+  by_course passed expected (Passes apdu make) (Ok done) left own passes once exchanged =
+      passed_so apdu make (item_of exchanged.answer) (item_of left.answer) own once exchanged.transmitted (ap (λ (l : Linked). item_of l.answer) exchanged.answered)
+  by_course passed expected (Passes apdu make) (Err PowerLost) left own passes once exchanged = passed_so apdu make item.Cut item.Cut own once exchanged.transmitted.0 refl
+  by_course passed expected (Passes apdu make) (Err NoPower) left own passes once exchanged = off_so old new bytes exchanged.transmitted.0 exchanged.transmitted.1
 
   pub came_over : LinkChangesNoStep → IsCardReady old.parts → AreBytes bytes → IsTrue (carried bytes) → (kept : Option Answer) (result : Result ⊤ LinkFault) (left : Linked)
       → IfSome (command_in bytes) (λ command. Exchanges end_words old new (command_answer kept command) result left) → Comes old bytes (seen (reply_for result) left.answer) new
   came_over steps ready are_bytes carries kept result left exchanged =
       let found = carried_command bytes carries in
-      by_course (command_answer kept found.command) result left
+      by_course (passed_apdu found.command) found.command.expected (command_answer kept found.command) result left
       (λ machine is. steps machine kept bytes found.command (if_some_at (card_of old.parts) IsGood machine.card ready.good (machine_is old.parts machine is).card) are_bytes found.reads found.carries)
+      (carried_gives kept found.command found.carries) (command_shown kept found.command)
       (if_some_at (command_in bytes) (λ command. Exchanges end_words old new (command_answer kept command) result left) found.command exchanged found.reads)

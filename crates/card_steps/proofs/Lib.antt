@@ -1,6 +1,8 @@
 mod CardLemmas
 mod Carried
 mod Delivered
+pub mod LinkCounts
+mod Shown
 pub mod StepLemmas
 pub mod Worked
 mod Written

@@ -331,7 +331,7 @@ pub exchanges_at : (result : Result (Unit {0}) StepEnd) (apdu before : List ℕ)
     → GivesShowing result (λ done. item.Command apdu ∷ shown ∷ []) old before (step.Apdu apdu) (moment_at from taken) (moment_at after now)
 exchanges_at result apdu before old from set sent after taken mid now shown plans is told done command comes ok err sink =
     exchanges result apdu before old from.parts set.parts sent.parts after.parts taken mid now from.waiting after.waiting shown plans is told (parts_set from set done.given) (none_waits from set sent after done) command
-    comes.sends (comes.counted old (machine_set from set old done.given is)) (ap (λ (e : End). e.parts) done.back) ok err sink
+    comes.sends comes.counted (ap (λ (e : End). e.parts) done.back) ok err sink
 
 -- ---- what a reset came to, told another way
 

@@ -75,10 +75,11 @@ pub record Meets (old : End) (apdu : List ℕ) (shown : TraceItem) (new : End) :
   pub waits : new.waiting ≡ old.waiting
 
 -- A terminal's command came to the card, by itself or over a link, and this is what the trace shows of it. Over a store that tells its
--- bytes the card has taken the step of that command and its device counts what is shown, and no plan. The plan that waits goes on waiting.
+-- bytes the card has taken the step of that command, and over any store its device counts what is shown, and no plan. The plan that waits
+-- goes on waiting.
 pub record Comes (old : End) (apdu : List ℕ) (shown : TraceItem) (new : End) : Type 0 where
   pub sends : (machine : Machine) → machine_of old.parts ≡ Some machine → Sends machine apdu shown new.parts
-  pub counted : (machine : Machine) → machine_of old.parts ≡ Some machine → IsCounted old.parts.meter new.parts.meter [] (shown ∷ [])
+  pub counted : IsCounted old.parts.meter new.parts.meter [] (shown ∷ [])
   pub kept : old.parts.meter.faults ≤ new.parts.meter.faults
   pub waits : new.waiting ≡ old.waiting
 

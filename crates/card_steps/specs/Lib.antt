@@ -2,6 +2,7 @@ pub mod Ends
 pub mod Moves
 pub mod Runs
 pub mod RunLaws
+pub mod Showing
 pub mod Standing
 pub mod Stepping
 pub mod Tallies

@@ -6,6 +6,7 @@ ghost use Rattle.card_model.specs.States.{Machine};
 ghost use Rattle.card_steps.specs.Ends.{moment_at};
 ghost use Rattle.card_steps.specs.Moves.{IsShort, step_of};
 ghost use Rattle.card_steps.specs.Runs.{item_text, machine_of};
+ghost use Rattle.card_steps.specs.Showing.{Shows, ShowsAny};
 ghost use Rattle.card_steps.specs.Stepping.{GivesShowing, GivesStep, exchanged, restarted_by, seen};
 ghost use Rattle.card_steps.specs.Tallies.{Tallies, tally};
 ghost use Rattle.script_form.specs.Traces.{trace_text};
@@ -77,6 +78,9 @@ pub fn take_step<S: Store, B: Applet, W: Sink>(
         → W.taken trace.old ≡ Some before
         → GivesStep result old before (step_of step.entry) (moment_at end.old (W.taken trace.old))
         (moment_at end.new (W.taken trace.new)) }
+    ensures shows { (before : List ℕ) → W.taken trace.old ≡ Some before
+        → ShowsAny result before (step_of step.entry) (moment_at end.old (W.taken trace.old))
+        (moment_at end.new (W.taken trace.new)) }
     ensures failed { result ≡ Err StepEnd.ResetFailed
         → end.new.parts.meter.faults ≡ raised end.old.parts.meter.faults }
     ensures tallies { Tallies (tally W.Sink end.old trace.old) (tally W.Sink end.new trace.new)
@@ -111,6 +115,9 @@ pub fn exchange<S: Store, B: Applet, W: Sink>(
     ensures gives { (old : Machine) (before : List ℕ) → machine_of end.old.parts ≡ Some old
         → W.taken trace.old ≡ Some before
         → GivesShowing result (exchanged apdu.now answer.new) old before (step.Apdu apdu.now)
+        (moment_at end.old (W.taken trace.old)) (moment_at end.new (W.taken trace.new)) }
+    ensures shows { (before : List ℕ) → W.taken trace.old ≡ Some before
+        → Shows result (exchanged apdu.now answer.new) before (step.Apdu apdu.now)
         (moment_at end.old (W.taken trace.old)) (moment_at end.new (W.taken trace.new)) }
     ensures ends { result ≢ Err StepEnd.ResetFailed }
     ensures tallies { Tallies (tally W.Sink end.old trace.old) (tally W.Sink end.new trace.new)
@@ -163,6 +170,9 @@ pub fn restart<S: Store, B: Applet, W: Sink>(
     ensures gives { (old : Machine) (before : List ℕ) → machine_of end.old.parts ≡ Some old
         → W.taken trace.old ≡ Some before
         → GivesShowing result restarted_by old before step.Reset (moment_at end.old (W.taken trace.old))
+        (moment_at end.new (W.taken trace.new)) }
+    ensures shows { (before : List ℕ) → W.taken trace.old ≡ Some before
+        → Shows result restarted_by before step.Reset (moment_at end.old (W.taken trace.old))
         (moment_at end.new (W.taken trace.new)) }
     ensures failed { result ≡ Err StepEnd.ResetFailed
         → end.new.parts.meter.faults ≡ raised end.old.parts.meter.faults }

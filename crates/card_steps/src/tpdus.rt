@@ -4,6 +4,7 @@ ghost use Rattle.card_steps.specs.Ends.{moment_at};
 ghost use Rattle.card_steps.specs.Tpdus.{Delivers, GivesTpdu, IsPrepared};
 ghost use Rattle.card_model.specs.States.{Machine};
 ghost use Rattle.card_steps.specs.Runs.{machine_of};
+ghost use Rattle.card_steps.specs.Showing.{ShowsCourse, TpduShows};
 ghost use Rattle.card_steps.specs.Stepping.{seen};
 ghost use Rattle.card_steps.specs.Tallies.{Tallies, tally};
 ghost use Rattle.t0_link.specs.Exchanging.{IsPassed};
@@ -39,6 +40,7 @@ fn deliver<S: Store, B: Applet>(
 ) -> Reply
     ensures delivers { (old : Machine) → machine_of end.old.parts ≡ Some old
         → Delivers old (link_answer link.old tpdu.now) (seen result answer.new) link.new end.old end.new }
+    ensures shows { ShowsCourse (link_answer link.old tpdu.now) (seen result answer.new) link.new end.old end.new }
     ensures stays { (IsPassed (link_answer link.old tpdu.now) → ⊥) → end.new ≡ end.old }
     ensures kept { end.old.parts.meter.faults ≤ end.new.parts.meter.faults }
 {
@@ -63,6 +65,9 @@ pub fn take_tpdu<S: Store, B: Applet, W: Sink>(
     ensures gives { (old : Machine) (before : List ℕ) → machine_of end.old.parts ≡ Some old
         → W.taken trace.old ≡ Some before
         → GivesTpdu result old before tpdu.now (link_answer link.old tpdu.now) link.old link.new
+        (moment_at end.old (W.taken trace.old)) (moment_at end.new (W.taken trace.new)) }
+    ensures shows { (before : List ℕ) → W.taken trace.old ≡ Some before
+        → TpduShows result before tpdu.now (link_answer link.old tpdu.now) link.old link.new
         (moment_at end.old (W.taken trace.old)) (moment_at end.new (W.taken trace.new)) }
     ensures stays { (IsPassed (link_answer link.old tpdu.now) → ⊥) → end.new ≡ end.old }
     ensures tallies { Tallies (tally W.Sink end.old trace.old) (tally W.Sink end.new trace.new) (IsErr result) }

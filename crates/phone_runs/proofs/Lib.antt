@@ -6,3 +6,4 @@ mod LineLemmas
 mod Logging
 mod Serves
 mod OneTrace
+mod ShowSteps

@@ -28,20 +28,20 @@ use Rattle.uicc_types.specs.declared.plans.Plan.{Plan}
 
 -- ---- what the lines tell the handset
 
-told_none : (played : List ScriptLine) (line : ScriptLine) → phone_lines_of line ≡ [] → told_back (played ++ line ∷ []) ≡ told_back played
+pub told_none : (played : List ScriptLine) (line : ScriptLine) → phone_lines_of line ≡ [] → told_back (played ++ line ∷ []) ≡ told_back played
 told_none played line none =
     ap reverse (flat_map-append phone_lines_of played (line ∷ []) ∙ ap (λ (more : List PhoneLine). phone_lines played ++ (more ++ [])) none ∙ append-nil (phone_lines played))
 
-told_one : (played : List ScriptLine) (line : ScriptLine) (one : PhoneLine) → phone_lines_of line ≡ one ∷ [] → told_back (played ++ line ∷ []) ≡ one ∷ told_back played
+pub told_one : (played : List ScriptLine) (line : ScriptLine) (one : PhoneLine) → phone_lines_of line ≡ one ∷ [] → told_back (played ++ line ∷ []) ≡ one ∷ told_back played
 told_one played line one is =
     ap reverse (flat_map-append phone_lines_of played (line ∷ []) ∙ ap (λ (last : List PhoneLine). phone_lines played ++ (last ++ [])) is) ∙ reverse-append (phone_lines played) (one ∷ [])
 
 -- ---- the lines that were read
 
-served_none : (opening : List ScriptLine) (found : LineList) → AreRead found opening → AreServed opening found []
+pub served_none : (opening : List ScriptLine) (found : LineList) → AreRead found opening → AreServed opening found []
 served_none opening found read = record { read = subst (AreRead found) (sym (append-nil opening)) read; in_place = All-nil (λ line. may_be_heard line ≡ true) }
 
-served_more : (opening : List ScriptLine) (found : LineList) (played : List ScriptLine) (bytes : List ℕ) (line : ScriptLine) → AreServed opening found played → IsOnly (IsLine bytes) line → may_be_heard line ≡ true
+pub served_more : (opening : List ScriptLine) (found : LineList) (played : List ScriptLine) (bytes : List ℕ) (line : ScriptLine) → AreServed opening found played → IsOnly (IsLine bytes) line → may_be_heard line ≡ true
     → AreServed opening (found ++ Some bytes ∷ []) (played ++ line ∷ [])
 served_more opening found played bytes line so_far only may = record {
   read = subst (AreRead (found ++ Some bytes ∷ [])) (append_assoc opening played (line ∷ [])) (AreRead-more found (opening ++ played) bytes line so_far.read only);

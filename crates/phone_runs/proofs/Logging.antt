@@ -59,11 +59,11 @@ pub record GoesOnBy (log later : List Event) (step : Step) (items : List TraceIt
   pub orderly : IsOrderly (history log) → IsOrderly (history later)
   pub in_turn : AreInTurn log → AreInTurn later
 
-plans_behind : PlansAreSetInOrder → (steps_so : List Step) (step : Step) (waiting : Plan) → waiting ≡ waiting_after NONE steps_so
+pub plans_behind : PlansAreSetInOrder → (steps_so : List Step) (step : Step) (waiting : Plan) → waiting ≡ waiting_after NONE steps_so
     → plan_given steps_so ++ armed_after waiting (step ∷ []) ≡ plan_given (steps_so ++ step ∷ [])
 plans_behind order steps_so step waiting waits = ap (λ w. plan_given steps_so ++ armed_after w (step ∷ [])) waits ∙ sym (order NONE steps_so (step ∷ [])).0
 
-waiting_behind : PlansAreSetInOrder → (steps_so : List Step) (step : Step) (waiting : Plan) → waiting ≡ waiting_after NONE steps_so
+pub waiting_behind : PlansAreSetInOrder → (steps_so : List Step) (step : Step) (waiting : Plan) → waiting ≡ waiting_after NONE steps_so
     → waiting_after waiting (step ∷ []) ≡ waiting_after NONE (steps_so ++ step ∷ [])
 waiting_behind order steps_so step waiting waits = ap (λ w. waiting_after w (step ∷ [])) waits ∙ sym (order NONE steps_so (step ∷ [])).1
 
@@ -167,7 +167,7 @@ orderly_sent command reply.Answered answer log is orderly = (refl, (is, orderly)
 orderly_sent command reply.Cut answer log is orderly = (inl refl, (is, orderly))
 orderly_sent command reply.Off answer log is orderly = (refl, (is, orderly))
 
-sends_on : (command : Command) (outcome : Reply) (answer : Answer) (log : List Event) → asked (history log) ≡ Transmit command
+pub sends_on : (command : Command) (outcome : Reply) (answer : Answer) (log : List Event) → asked (history log) ≡ Transmit command
     → GoesOnBy log (with_reply command outcome answer log) (step.Apdu (apdu_of command)) (exchanged (apdu_of command) answer outcome)
 sends_on command outcome answer log is = record {
   steps_are = steps_sent command outcome answer log;
@@ -233,7 +233,7 @@ pub lines_reset : (outcome : AReset) (log : List Event) → lines_back (with_res
 lines_reset ended.Done log = refl
 lines_reset ended.Cut log = refl
 
-resets_on : (outcome : AReset) (log : List Event) → asked (history log) ≡ ResetCard → GoesOnBy log (with_reset outcome log) step.Reset (restarted_by outcome)
+pub resets_on : (outcome : AReset) (log : List Event) → asked (history log) ≡ ResetCard → GoesOnBy log (with_reset outcome log) step.Reset (restarted_by outcome)
 resets_on outcome log is = record {
   steps_are = steps_reset outcome log is;
   shown_is = ap seen (trace_reset outcome log) ∙ seen-append (trace log) (reset_entries outcome) ∙ ap (λ i. shown log ++ i) (resets_seen outcome);
@@ -262,10 +262,10 @@ ends_reset join order given log ResetFailed phone from to is gives at = fails_by
 pub trace_noted : (note : Note) (log : List Event) → trace (Happens (Noted note) ∷ log) ≡ trace log ++ Shown note ∷ []
 trace_noted note log = reverse-append (Shown note ∷ []) (entries_of (history log))
 
-shown_noted : (note : Note) (log : List Event) → shown (Happens (Noted note) ∷ log) ≡ shown log
+pub shown_noted : (note : Note) (log : List Event) → shown (Happens (Noted note) ∷ log) ≡ shown log
 shown_noted note log = ap seen (trace_noted note log) ∙ seen-append (trace log) (Shown note ∷ []) ∙ append-nil (shown log)
 
-text_noted : (note : Note) (log : List Event) → entries_text (trace (Happens (Noted note) ∷ log)) ≡ entries_text (trace log) ++ note_line note
+pub text_noted : (note : Note) (log : List Event) → entries_text (trace (Happens (Noted note) ∷ log)) ≡ entries_text (trace log) ++ note_line note
 text_noted note log = ap entries_text (trace_noted note log) ∙ text-append (trace log) (Shown note ∷ []) ∙ ap (λ t. entries_text (trace log) ++ t) (append-nil (note_line note))
 
 -- where the card stands and what waits is the same, and this is what the sink has taken
@@ -322,7 +322,7 @@ hears_line given log line old new now rest keeps at = record {
   rests = at.rests;
 }
 
-steps_planned : (plan : Plan) (log : List Event) → steps (Plans plan ∷ log) ≡ steps log ++ step.Plan plan ∷ []
+pub steps_planned : (plan : Plan) (log : List Event) → steps (Plans plan ∷ log) ≡ steps log ++ step.Plan plan ∷ []
 steps_planned plan log = reverse-append (step.Plan plan ∷ []) (steps_back log)
 
 -- faults are planned

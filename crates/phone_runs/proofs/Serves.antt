@@ -53,10 +53,10 @@ asks_note asked_for apdu note is = asks asked_for next.Show apdu note is
 -- ---- nothing
 
 -- it stands where it stood
-stays : (old mid : Kept) (h : List Happened) → IsAskedOf old mid None → asked h ≡ Rest → old ≡ kept h → mid ≡ kept h
+pub stays : (old mid : Kept) (h : List Happened) → IsAskedOf old mid None → asked h ≡ Rest → old ≡ kept h → mid ≡ kept h
 stays old mid h asking rest keeps = asking.after h keeps ∙ ap kept (next_is h Rest rest)
 
-at_rest : (old mid : Kept) (h : List Happened) → IsAskedOf old mid None → IsPhoneServed old → old ≡ kept h → asked h ≡ Rest
+pub at_rest : (old mid : Kept) (h : List Happened) → IsAskedOf old mid None → IsPhoneServed old → old ≡ kept h → asked h ≡ Rest
 at_rest old mid h asking served keeps =
     let same : asked h ≡ asked served.history = sym (asked_kept h) ∙ ap (λ (k : Kept). k.asked) (sym keeps ∙ served.keeps) ∙ asked_kept served.history in
     is_none_asked h (sym (asking.item h keeps)) (λ awaits. served.no_answer (sym same ∙ awaits))
@@ -76,13 +76,13 @@ none_same old mid asking served = stays old mid served.history asking (at_rest o
 
 -- ---- a command
 
-record SentSo (h : List Happened) (apdu : List ℕ) (mid : Kept) : Type 0 where
-  command : Command
-  asked_is : asked h ≡ Transmit command
-  bytes : apdu_of command ≡ apdu
-  keeps : mid ≡ kept (Sent command ∷ h)
+pub record SentSo (h : List Happened) (apdu : List ℕ) (mid : Kept) : Type 0 where
+  pub command : Command
+  pub asked_is : asked h ≡ Transmit command
+  pub bytes : apdu_of command ≡ apdu
+  pub keeps : mid ≡ kept (Sent command ∷ h)
 
-sent_so : (old mid : Kept) (found : Option PhoneStep) (apdu : List ℕ) (h : List Happened) → IsAskedOf old mid found → found ≡ Some (step.Send apdu) → old ≡ kept h → SentSo h apdu mid
+pub sent_so : (old mid : Kept) (found : Option PhoneStep) (apdu : List ℕ) (h : List Happened) → IsAskedOf old mid found → found ≡ Some (step.Send apdu) → old ≡ kept h → SentSo h apdu mid
 sent_so old mid found apdu h asking is keeps =
     let send = is_send h apdu (sym (asking.item h keeps) ∙ is) in
     record {
@@ -116,10 +116,10 @@ sent_more ending old mid new found apdu outcome answer asking is hears served =
 
 -- ---- a reset
 
-reset_so : (old mid : Kept) (found : Option PhoneStep) (h : List Happened) → IsAskedOf old mid found → found ≡ Some step.Reset → old ≡ kept h → asked h ≡ ResetCard
+pub reset_so : (old mid : Kept) (found : Option PhoneStep) (h : List Happened) → IsAskedOf old mid found → found ≡ Some step.Reset → old ≡ kept h → asked h ≡ ResetCard
 reset_so old mid found h asking is keeps = is_reset h (sym (asking.item h keeps) ∙ is)
 
-reset_keeps : (old mid : Kept) (found : Option PhoneStep) (h : List Happened) → IsAskedOf old mid found → asked h ≡ ResetCard → old ≡ kept h → mid ≡ kept h
+pub reset_keeps : (old mid : Kept) (found : Option PhoneStep) (h : List Happened) → IsAskedOf old mid found → asked h ≡ ResetCard → old ≡ kept h → mid ≡ kept h
 reset_keeps old mid found h asking resets keeps = asking.after h keeps ∙ ap kept (next_is h ResetCard resets)
 
 pub reset_further : CountsJoin → PlansAreSetInOrder → (old mid new : Kept) (found : Option PhoneStep) (outcome : AReset) (given : Beginning) (log : List Event) (from to : Moment) → IsAskedOf old mid found → found ≡ Some step.Reset
@@ -141,13 +141,13 @@ reset_more ending old mid new found outcome asking is hears served =
 
 -- ---- a note
 
-note_so : (old mid : Kept) (found : Option PhoneStep) (note : Note) (h : List Happened) → IsAskedOf old mid found → found ≡ Some (step.Note note) → old ≡ kept h → asked h ≡ Show note
+pub note_so : (old mid : Kept) (found : Option PhoneStep) (note : Note) (h : List Happened) → IsAskedOf old mid found → found ≡ Some (step.Note note) → old ≡ kept h → asked h ≡ Show note
 note_so old mid found note h asking is keeps = is_note h note (sym (asking.item h keeps) ∙ is)
 
-note_keeps : (old mid : Kept) (found : Option PhoneStep) (note : Note) (h : List Happened) → IsAskedOf old mid found → asked h ≡ Show note → old ≡ kept h → mid ≡ kept (Noted note ∷ h)
+pub note_keeps : (old mid : Kept) (found : Option PhoneStep) (note : Note) (h : List Happened) → IsAskedOf old mid found → asked h ≡ Show note → old ≡ kept h → mid ≡ kept (Noted note ∷ h)
 note_keeps old mid found note h asking shows keeps = asking.after h keeps ∙ ap kept (next_is h (Show note) shows)
 
-front_taken : (was now : Option (List ℕ)) (part before : List ℕ) → Becomes (TakesFront part) was now → was ≡ Some before → IsFrontTaken now before part
+pub front_taken : (was now : Option (List ℕ)) (part before : List ℕ) → Becomes (TakesFront part) was now → was ≡ Some before → IsFrontTaken now before part
 front_taken None now part before front told = absurd (cc)
 front_taken (Some was) None part before front told = absurd front
 front_taken (Some was) (Some now) part before front told =

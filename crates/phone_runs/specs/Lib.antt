@@ -6,3 +6,4 @@ pub mod Runs
 pub mod Playing
 pub mod Serving
 pub mod Laws
+pub mod Showing

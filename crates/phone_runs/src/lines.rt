@@ -8,6 +8,7 @@ ghost use Rattle.card_steps.specs.Tallies.{Tallies, tally};
 ghost use Rattle.phone_runs.specs.Lines.{PhoneComesTo, EndsAmid, GivesServed, IsBetweenLines, IsLineFurther, IsServing, StandsAtStart};
 ghost use Rattle.phone_runs.specs.Effects.{may_be_heard};
 ghost use Rattle.phone_runs.specs.Runs.{Beginning};
+ghost use Rattle.phone_runs.specs.Showing.{LineShows, Outset, PhoneShowsTo, ServesShowing, StartsShowing};
 ghost use Rattle.script_form.specs.declared.lines.ScriptLine.{ScriptLine as AnyLine};
 ghost use Rattle.uicc_types.specs.Counts.{CountsFailure, Rose};
 
@@ -35,7 +36,10 @@ pub fn serve_lines<S: Store, B: Applet, R: Source, W: Sink>(
     ensures served { (text : List ℕ) (opening : List AnyLine) (given : Beginning)
         → StandsAtStart text opening given script.old (R.left source.old) (moment_at card.old (W.taken trace.old))
         → PhoneComesTo text opening given (R.left source.new) result (moment_at card.new (W.taken trace.new)) }
-    // Over any memory: which lines were read, and why no more of them.
+    // Over any memory: what is shown, and which lines were read and why no more of them.
+    ensures shows { (text : List ℕ) (opening : List AnyLine) (given : Outset)
+        → StartsShowing text opening given script.old (R.left source.old) (moment_at card.old (W.taken trace.old))
+        → PhoneShowsTo text opening given (R.left source.new) result (moment_at card.new (W.taken trace.new)) }
     ensures reads { (text : List ℕ) (opening : List AnyLine)
         → IsReading may_be_heard opening text script.old (R.left source.old)
         → LinesReadTo may_be_heard opening text (R.left source.new) result }
@@ -79,6 +83,10 @@ fn serve_on<S: Store, B: Applet, R: Source, W: Sink>(
         → IsServing text opening given script.old (R.left source.old) phone.old
         (moment_at card.old (W.taken trace.old))
         → PhoneComesTo text opening given (R.left source.new) result (moment_at card.new (W.taken trace.new)) }
+    ensures shows { (text : List ℕ) (opening : List AnyLine) (given : Outset)
+        → ServesShowing text opening given script.old (R.left source.old) phone.old
+        (moment_at card.old (W.taken trace.old))
+        → PhoneShowsTo text opening given (R.left source.new) result (moment_at card.new (W.taken trace.new)) }
     ensures reads { (text : List ℕ) (opening : List AnyLine)
         → IsReading may_be_heard opening text script.old (R.left source.old)
         → LinesReadTo may_be_heard opening text (R.left source.new) result }
@@ -117,6 +125,11 @@ fn serve_line<S: Store, B: Applet, R: Source, W: Sink>(
         → IsServing text opening given script.old (R.left source.old) phone.old
         (moment_at card.old (W.taken trace.old))
         → GivesServed text opening given script.new (R.left source.new) phone.new
+        (moment_at card.new (W.taken trace.new)) result }
+    ensures shows { (text : List ℕ) (opening : List AnyLine) (given : Outset)
+        → ServesShowing text opening given script.old (R.left source.old) phone.old
+        (moment_at card.old (W.taken trace.old))
+        → LineShows text opening given script.new (R.left source.new) phone.new
         (moment_at card.new (W.taken trace.new)) result }
     ensures reads { (text : List ℕ) (opening : List AnyLine)
         → IsReading may_be_heard opening text script.old (R.left source.old)

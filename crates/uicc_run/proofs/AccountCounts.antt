@@ -1,38 +1,24 @@
 -- The trace shows as many failures and losses of power as the card had.
-use Rattle.std.proofs.Common.{◌≡◌, ℕ, ◌+◌, ◌*◌, ◌≤◌, ◌<◌, Bool, true, false, List, [], ◌∷◌, ◌++◌, length, Option, Some, None, inl, inr, refl, sym, ap, ◌∙◌, subst, arith, mod-lt}
-use Rattle.std.proofs.lemmas.Bool.{false≢true, ne_eqb}
+use Rattle.std.proofs.Common.{◌≡◌, ℕ, ◌+◌, ◌≤◌, List, [], ◌∷◌, ◌++◌, Option, Some, None, inl, inr, refl, sym, ap, ◌∙◌, subst, arith}
 use Rattle.std.proofs.lemmas.List.Sums.{sum_by-append}
-use Rattle.std.specs.Prelude.{◌%◌, ◌==◌, cond, count_by, if◌then◌else◌}
-use Rattle.apdu_form.specs.Model.{ne_of}
+use Rattle.std.specs.Prelude.{cond, count_by}
 use Rattle.card_model.specs.Counts.{is_cut, is_failure}
-use Rattle.card_model.specs.States.{Machine}
+use Rattle.card_steps.proofs.LinkCounts.{IsShownOnce, cut, cut_over, failed, fetched_fits, given_shown, kept_shown, left}
+use Rattle.card_steps.specs.Showing.{CourseShows, MayBreakOffTpdu}
 use Rattle.card_steps.specs.Stepping.{IsBare}
-use Rattle.card_steps.specs.Tpdus.{BreaksOffTpdu, CourseGives}
 use Rattle.link_laws.specs.Shown.{item_of, kept_over, shown_for, shown_over}
-use Rattle.t0_link.specs.Linking.{Answers, Linked, Passes, counting, course_of, fetched, given, kept_back, link_answer, misformed, status_alone}
+use Rattle.t0_link.specs.Linking.{Answers, Linked, Passes, course_of, fetched, given, kept_back, link_answer, misformed}
 use Rattle.t0_link.specs.Tpdus.{apdu_of, p3_of, transfer_in}
-use Rattle.t0_link.specs.declared.answers.TheConstants.{MORE_DATA, WRONG_LE}
 use Rattle.t0_link.specs.declared.tpdus.Transfer.{Transfer}
 use Rattle.t0_link.specs.declared.tpdus.Transfer.TheVariants.{GetResponse, Incoming, Outgoing}
-use Rattle.uicc_run.specs.Accounts.{Account, AreTold, Deed, IsTold, ShowsAsMany, Takes, Transfers, joined, kept_behind}
+use Rattle.uicc_run.specs.Accounts.{Account, Deed, ShowsAsMany, Takes, Transfers, joined, kept_behind}
+use Rattle.uicc_run.specs.Showing.{AreShown, IsShown}
 use Rattle.uicc_types.specs.declared.answers.Answer.{Answer}
-use Rattle.uicc_types.specs.declared.answers.StatusWord.{StatusWord}
 use Rattle.uicc_types.specs.declared.plans.Plan.{Plan}
 use Rattle.uicc_types.specs.declared.runs.Step.{Step}
 use Rattle.uicc_types.specs.declared.runs.Step.TheVariants as step
 use Rattle.uicc_types.specs.declared.runs.TraceItem.{TraceItem}
 use Rattle.uicc_types.specs.declared.runs.TraceItem.TheVariants as item
-
--- the failure that one item shows, and the one that is still to be shown of what the link keeps
-abbrev failed : TraceItem → ℕ
-failed shown = cond (is_failure shown) 1 0
-
-abbrev cut : TraceItem → ℕ
-cut shown = cond (is_cut shown) 1 0
-
-abbrev left : Option Answer → ℕ
-left None = 0
-left (Some answer) = failed (item_of answer)
 
 -- where the link keeps no failure, the trace shows as many as the card did, and the link keeps none behind them
 record Alike (kept after : Option Answer) (shown own : List TraceItem) : Type 0 where
@@ -46,16 +32,6 @@ failures_of_two bytes shown = omega arith
 cuts_of_two : (bytes : List ℕ) (shown : TraceItem) → count_by is_cut (shown_for bytes shown) ≡ cut shown
 cuts_of_two bytes shown = omega arith
 
--- ---- a status that counts bytes tells of no failure
-
-counting_more : (count : ℕ) → failed (item_of (status_alone (counting MORE_DATA count))) ≡ 0
-counting_more count =
-    ap (λ (b : Bool). cond b 1 0) (ne_eqb (0x61 * 256 + count % 256) 0x6581 (λ is. let below : count % 256 < 256 = mod-lt count (omega arith) in omega arith))
-
-counting_length : (count : ℕ) → failed (item_of (status_alone (counting WRONG_LE count))) ≡ 0
-counting_length count =
-    ap (λ (b : Bool). cond b 1 0) (ne_eqb (0x6C * 256 + count % 256) 0x6581 (λ is. let below : count % 256 < 256 = mod-lt count (omega arith) in omega arith))
-
 -- ---- the link answers by itself
 
 alone_alike : (linked : Linked) (tpdu : List ℕ) (kept : Option Answer) → failed (item_of linked.answer) + left linked.kept ≤ left kept → Alike kept linked.kept (shown_for tpdu (item_of linked.answer)) []
@@ -65,76 +41,9 @@ alone_alike linked tpdu kept fits = record {
   cuts = let two = cuts_of_two tpdu (item_of linked.answer) in omega arith;
 }
 
--- by whether this is the length that is asked for
-abbrev FetchedFits : Answer → Bool → Type 0
-FetchedFits answer b =
-    let linked : Linked = if b then record { answer = answer; kept = None } else record { answer = status_alone (counting WRONG_LE (length answer.body)); kept = Some answer } in
-    failed (item_of linked.answer) + left linked.kept ≤ left (Some answer)
-
-fetched_by : (answer : Answer) (b : Bool) → FetchedFits answer b
-fetched_by answer true = omega arith
-fetched_by answer false = let none = counting_length (length answer.body) in omega arith
-
-fetched_fits : (p3 : ℕ) (kept : Option Answer) → failed (item_of (fetched p3 kept).answer) + left (fetched p3 kept).kept ≤ left kept
-fetched_fits p3 None = omega arith
-fetched_fits p3 (Some answer) = fetched_by answer (length answer.body == ne_of p3)
-
 -- ---- the link passes an APDU
 
--- the link shows a failure of the card as one, and keeps none
-abbrev IsShown : (Answer → Linked) → TraceItem → Type 0
-IsShown make shown = (failed (shown_over make shown) ≡ failed shown) × (left (kept_over make shown) ≡ 0)
-
-given_shown : (shown : TraceItem) → IsShown given shown
-given_shown (item.Answer body status) = (refl, refl)
-given_shown (item.Command apdu) = (refl, refl)
-given_shown item.Reset = (refl, refl)
-given_shown item.Cut = (refl, refl)
-given_shown item.Off = (refl, refl)
-given_shown item.EepromFailed = (refl, refl)
-
--- an answer with data tells of no failure
-no_data : (byte : ℕ) (more : List ℕ) → byte ∷ more ≡ [] → ⊥
-no_data byte more is = cc
-
-bare_calm : (byte : ℕ) (more : List ℕ) (status : StatusWord) → IsBare (item.Answer (byte ∷ more) status) → failed (item.Answer (byte ∷ more) status) ≡ 0
-bare_calm byte more status bare = by_failure (is_failure (item.Answer (byte ∷ more) status)) refl where
-  by_failure : (b : Bool) → is_failure (item.Answer (byte ∷ more) status) ≡ b → failed (item.Answer (byte ∷ more) status) ≡ 0
-  by_failure true is = absurd (no_data byte more (bare is))
-  by_failure false is = ap (λ (b : Bool). cond b 1 0) is
-
-with_data : (body : List ℕ) (status : StatusWord) → IsBare (item.Answer body status) → (length body == 0) ≡ false → failed (item.Answer body status) ≡ 0
-with_data [] status bare some = absurd (false≢true (sym some))
-with_data (byte ∷ more) status bare some = bare_calm byte more status bare
-
--- by whether there are no data
-abbrev KeptShown : Answer → Bool → Type 0
-KeptShown answer b =
-    (failed (item_of (if b then answer else status_alone (counting MORE_DATA (length answer.body)))) ≡ failed (item_of answer))
-    × (left (if b then None else Some answer) ≡ 0)
-
-kept_by : (answer : Answer) (b : Bool) → (b ≡ false → failed (item_of answer) ≡ 0) → KeptShown answer b
-kept_by answer true calm = (refl, refl)
-kept_by answer false calm = (counting_more (length answer.body) ∙ sym (calm refl), calm refl)
-
-kept_shown : (shown : TraceItem) → IsBare shown → IsShown kept_back shown
-kept_shown (item.Answer body status) bare = kept_by (record { body = body; status = status }) (length body == 0) (λ some. with_data body status bare some)
-kept_shown (item.Command apdu) bare = (refl, refl)
-kept_shown item.Reset bare = (refl, refl)
-kept_shown item.Cut bare = (refl, refl)
-kept_shown item.Off bare = (refl, refl)
-kept_shown item.EepromFailed bare = (refl, refl)
-
--- a loss of power is shown as it is
-cut_over : (make : Answer → Linked) (shown : TraceItem) → cut (shown_over make shown) ≡ cut shown
-cut_over make (item.Answer body status) = refl
-cut_over make (item.Command apdu) = refl
-cut_over make item.Reset = refl
-cut_over make item.Cut = refl
-cut_over make item.Off = refl
-cut_over make item.EepromFailed = refl
-
-passed_alike : (make : Answer → Linked) (tpdu apdu : List ℕ) (kept : Option Answer) (shown : TraceItem) → IsShown make shown
+passed_alike : (make : Answer → Linked) (tpdu apdu : List ℕ) (kept : Option Answer) (shown : TraceItem) → IsShownOnce make shown
     → Alike kept (kept_over make shown) (shown_for tpdu (shown_over make shown)) (shown_for apdu shown)
 passed_alike make tpdu apdu kept shown same = record {
   failures = λ none. failures_of_two tpdu (shown_over make shown) ∙ same.0 ∙ sym (failures_of_two apdu shown);
@@ -149,24 +58,24 @@ as_told kept after other shown own seen mine keeps shown_is own_is alike =
     subst (λ (k : Option Answer). Alike kept k shown own) (sym keeps)
     (subst (λ (i : List TraceItem). Alike kept other i own) (sym shown_is) (subst (λ (i : List TraceItem). Alike kept other seen i) (sym own_is) alike))
 
-module _ (tpdu : List ℕ) (kept after : Option Answer) (old new : Machine) (own : List TraceItem) (reply : TraceItem) where
-  by_itself : (linked : Linked) → failed (item_of linked.answer) + left linked.kept ≤ left kept → CourseGives (Answers linked) old own reply after new → Alike kept after (shown_for tpdu reply) own
-  by_itself linked fits gives =
-      as_told kept after linked.kept (shown_for tpdu reply) own (shown_for tpdu (item_of linked.answer)) [] gives.keeps (ap (shown_for tpdu) gives.seen) gives.silent (alone_alike linked tpdu kept fits)
+module _ (tpdu : List ℕ) (kept after : Option Answer) (own : List TraceItem) (reply : TraceItem) where
+  by_itself : (linked : Linked) → failed (item_of linked.answer) + left linked.kept ≤ left kept → CourseShows (Answers linked) own reply after → Alike kept after (shown_for tpdu reply) own
+  by_itself linked fits shows =
+      as_told kept after linked.kept (shown_for tpdu reply) own (shown_for tpdu (item_of linked.answer)) [] shows.2 (ap (shown_for tpdu) shows.1) shows.0 (alone_alike linked tpdu kept fits)
 
-  passed_on : (apdu : List ℕ) (make : Answer → Linked) → ((shown : TraceItem) → IsBare shown → IsShown make shown) → CourseGives (Passes apdu make) old own reply after new
+  passed_on : (apdu : List ℕ) (make : Answer → Linked) → ((shown : TraceItem) → IsBare shown → IsShownOnce make shown) → CourseShows (Passes apdu make) own reply after
       → Alike kept after (shown_for tpdu reply) own
   passed_on apdu make fits gives =
       as_told kept after (kept_over make gives.shown) (shown_for tpdu reply) own (shown_for tpdu (shown_over make gives.shown)) (shown_for apdu gives.shown) gives.keeps (ap (shown_for tpdu) gives.seen) gives.came
       (passed_alike make tpdu apdu kept gives.shown (fits gives.shown gives.bare))
 
-  by_way : (way : Option Transfer) → CourseGives (course_of kept tpdu way) old own reply after new → Alike kept after (shown_for tpdu reply) own
+  by_way : (way : Option Transfer) → CourseShows (course_of kept tpdu way) own reply after → Alike kept after (shown_for tpdu reply) own
   by_way None gives = by_itself (misformed kept) (omega arith) gives
   by_way (Some GetResponse) gives = by_itself (fetched (p3_of tpdu) kept) (fetched_fits (p3_of tpdu) kept) gives
   by_way (Some Outgoing) gives = passed_on tpdu given (λ shown bare. given_shown shown) gives
   by_way (Some Incoming) gives = passed_on (apdu_of tpdu) kept_back kept_shown gives
 
-  tpdu_alike : CourseGives (link_answer kept tpdu) old own reply after new → Alike kept after (shown_for tpdu reply) own
+  tpdu_alike : CourseShows (link_answer kept tpdu) own reply after → Alike kept after (shown_for tpdu reply) own
   unfolding link_answer
   tpdu_alike gives = by_way (transfer_in tpdu) gives
 
@@ -175,10 +84,10 @@ step_alike (step.Apdu apdu) kept items = record { failures = λ none. refl; none
 step_alike step.Reset kept items = record { failures = λ none. refl; none_left = λ none. refl; cuts = refl }
 step_alike (step.Plan plan) kept items = record { failures = λ none. refl; none_left = λ none. none; cuts = refl }
 
-deed_alike : (deed : Deed) (kept after : Option Answer) (old new : Machine) (account : Account) → IsTold deed kept old account after new → Alike kept after account.shown account.own
-deed_alike (Takes step) kept after old new account told = as_told kept after (kept_behind step kept) account.shown account.own account.own account.own told.keeps told.shown_is refl (step_alike step kept account.own)
-deed_alike (Transfers tpdu) kept after old new account told =
-    as_told kept after after account.shown account.own (shown_for tpdu told.reply) account.own refl told.shown_is refl (tpdu_alike tpdu kept after old new account.own told.reply told.gives)
+deed_alike : (deed : Deed) (kept after : Option Answer) (account : Account) → IsShown deed kept account after → Alike kept after account.shown account.own
+deed_alike (Takes step) kept after account told = as_told kept after (kept_behind step kept) account.shown account.own account.own account.own told.keeps told.shown_is refl (step_alike step kept account.own)
+deed_alike (Transfers tpdu) kept after account told =
+    as_told kept after after account.shown account.own (shown_for tpdu told.reply) account.own refl told.shown_is refl (tpdu_alike tpdu kept after account.own told.reply told.shows)
 
 -- ---- one line after the other
 
@@ -205,24 +114,24 @@ alike_then kept between after one two first rest = record {
       omega arith;
 }
 
-told_alike : (deeds : List Deed) (kept after : Option Answer) (old new : Machine) (account : Account) → AreTold deeds kept old account after new → Alike kept after account.shown account.own
-told_alike [] kept after old new account told =
+told_alike : (deeds : List Deed) (kept after : Option Answer) (account : Account) → AreShown deeds kept account after → Alike kept after account.shown account.own
+told_alike [] kept after account told =
     as_told kept after kept account.shown account.own [] [] told.keeps (ap (λ (a : Account). a.shown) told.account_is) (ap (λ (a : Account). a.own) told.account_is) (record { failures = λ none. refl; none_left = λ none. none; cuts = refl })
-told_alike (deed ∷ more) kept after old new account told =
+told_alike (deed ∷ more) kept after account told =
     as_told kept after after account.shown account.own (joined told.first told.others).shown (joined told.first told.others).own refl (ap (λ (a : Account). a.shown) told.account_is) (ap (λ (a : Account). a.own) told.account_is)
-    (alike_then kept told.between after told.first told.others (deed_alike deed kept told.between old told.middle told.first told.told) (told_alike more told.between after told.middle new told.others told.rest))
+    (alike_then kept told.between after told.first told.others (deed_alike deed kept told.between told.first told.shown) (told_alike more told.between after told.others told.rest))
 
 -- nothing is to be shown of what a link keeps that keeps nothing
 of_alike : (after : Option Answer) (own shown : List TraceItem) → Alike None after shown own → ShowsAsMany own shown
 of_alike after own shown alike = record { failures = alike.failures refl; cuts = alike.cuts }
 
-pub shows_as_many : (deeds : List Deed) (after : Option Answer) (old new : Machine) (account : Account) → AreTold deeds None old account after new → ShowsAsMany account.own account.shown
-shows_as_many deeds after old new account told = of_alike after account.own account.shown (told_alike deeds None after old new account told)
+pub shows_as_many : (deeds : List Deed) (after : Option Answer) (account : Account) → AreShown deeds None account after → ShowsAsMany account.own account.shown
+shows_as_many deeds after account told = of_alike after account.own account.shown (told_alike deeds None after account told)
 
 -- and so it is where the sink failed in a line behind them
-module _ (deeds : List Deed) (kept after : Option Answer) (old middle : Machine) (account : Account) (told : AreTold deeds None old account kept middle) where
+module _ (deeds : List Deed) (kept after : Option Answer) (account : Account) (told : AreShown deeds None account kept) where
   alike_before : Alike None kept account.shown account.own
-  alike_before = told_alike deeds None kept old middle account told
+  alike_before = told_alike deeds None kept account told
 
   with_more : (own pending : List TraceItem) → Alike kept after pending own → ShowsAsMany (account.own ++ own) (account.shown ++ pending)
   with_more own pending alike =
@@ -239,9 +148,8 @@ module _ (deeds : List Deed) (kept after : Option Answer) (old middle : Machine)
         cuts = let shown = cuts-append account.shown own in let mine = cuts-append account.own own in omega arith;
       }
 
-  pub shows_in_tpdu : (tpdu : List ℕ) (new : Machine) (own pending : List TraceItem) (due set : List Plan) → BreaksOffTpdu middle tpdu (link_answer kept tpdu) own pending due set kept after new
-      → ShowsAsMany (account.own ++ own) (account.shown ++ pending)
-  shows_in_tpdu tpdu new own pending due set (inl unsent) =
+  pub shows_in_tpdu : (tpdu : List ℕ) (own pending : List TraceItem) (due set : List Plan) → MayBreakOffTpdu tpdu (link_answer kept tpdu) own pending due set kept after → ShowsAsMany (account.own ++ own) (account.shown ++ pending)
+  shows_in_tpdu tpdu own pending due set (inl unsent) =
       with_more own pending (as_told kept after kept pending own (item.Command tpdu ∷ []) [] unsent.3 unsent.1 unsent.0 (record { failures = λ none. refl; none_left = λ none. none; cuts = refl }))
-  shows_in_tpdu tpdu new own pending due set (inr sent) =
-      with_more own pending (as_told kept after after pending own (shown_for tpdu sent.0) own refl sent.2 refl (tpdu_alike tpdu kept after middle new own sent.0 sent.1))
+  shows_in_tpdu tpdu own pending due set (inr sent) =
+      with_more own pending (as_told kept after after pending own (shown_for tpdu sent.0) own refl sent.2 refl (tpdu_alike tpdu kept after own sent.0 sent.1))

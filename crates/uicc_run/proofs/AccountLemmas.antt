@@ -20,7 +20,7 @@ joined_nothing account =
     ∙ ap (λ (i : List TraceItem). record { steps = account.steps; own = i; shown = account.shown ++ [] }) (append-nil account.own)
     ∙ ap (λ (i : List TraceItem). record { steps = account.steps; own = account.own; shown = i }) (append-nil account.shown)
 
-joined_assoc : (one two three : Account) → joined (joined one two) three ≡ joined one (joined two three)
+pub joined_assoc : (one two three : Account) → joined (joined one two) three ≡ joined one (joined two three)
 joined_assoc one two three =
     let Made : List Step → List TraceItem → List TraceItem → Account = λ s o i. record { steps = s; own = o; shown = i } in
     ap (λ (s : List Step). Made s ((one.own ++ two.own) ++ three.own) ((one.shown ++ two.shown) ++ three.shown)) (append_assoc one.steps two.steps three.steps)

@@ -16,5 +16,6 @@ mod RunLemmas
 mod SceneLemmas
 mod ScriptLemmas
 mod ServingLemmas
+mod ShowLemmas
 mod StandardNumbers
 mod StoreLemmas

@@ -26,20 +26,18 @@ use Rattle.t0_link.specs.Linking.{link_answer}
 use Rattle.uicc_run.specs.Accounts.{Account, AreTold, Deed, IsTold, Takes, Transfers, joined, kept_behind}
 use Rattle.uicc_run.specs.Playing.{BreaksSo, CardComesTo, EndsSo, FailsSo, Given, IsPlayed, IsPlaying, Leaves, Reaches, StopsPlaying, left_at}
 use Rattle.uicc_run.specs.Runs.{HasKindsOf, first_machine}
+use Rattle.uicc_run.specs.Showing.{AreShown}
 use Rattle.uicc_run.specs.Steps.{deeds, deeds_of, may_follow, may_stand}
 use Rattle.uicc_run.proofs.AccountCounts.{shows_in_step, shows_in_tpdu, shows_as_many}
 use Rattle.uicc_run.proofs.AccountLemmas.{goes_on, told_one, told_then}
 use Rattle.uicc_run.proofs.RunLemmas.{deeds_none, deeds_one}
+use Rattle.uicc_run.proofs.ShowLemmas.{behind, broken_shows, plans_then, stands_there, told_shows, waiting_then}
 use Rattle.uicc_types.specs.declared.answers.Answer.{Answer}
 use Rattle.uicc_types.specs.declared.plans.Plan.{Plan}
 use Rattle.uicc_types.specs.declared.plans.TheConstants.Plan.{NONE}
 use Rattle.uicc_types.specs.declared.runs.Step.{Step}
 use Rattle.uicc_types.specs.declared.runs.Step.TheVariants as step
 use Rattle.uicc_types.specs.declared.runs.TraceItem.{TraceItem}
-
--- where the lines go to the card
-pub stands_there : (given : Given) (line : ScriptLine) (stands : Bool) → given.is_served ≡ false → may_follow line ≡ stands → may_stand given.is_served line ≡ stands
-stands_there given line stands unserved may = subst (λ served. may_stand served line ≡ stands) (sym unserved) may
 
 -- one more line behind `start`
 played_more : (given : Given) (found : LineList) (section played : List ScriptLine) (start : Persistent) (bytes : List ℕ) (line : ScriptLine) → IsPlayed given found section played start → IsOnly (IsLine bytes) line → may_stand given.is_served line ≡ true
@@ -116,17 +114,6 @@ tpdu_does tpdu kept after old before from to taken = record {
 
 -- ---- behind the lines before
 
--- the text behind what was taken
-behind : (before : List ℕ) (shown more : List TraceItem) → (before ++ text_of shown) ++ text_of more ≡ before ++ text_of (shown ++ more)
-behind before shown more = append_assoc before (text_of shown) (text_of more) ∙ ap (λ rest. before ++ rest) (sym (text_of-append shown more))
-
--- the plans of steps behind those of others
-plans_then : PlansAreSetInOrder → (steps more : List Step) (waiting : Plan) → waiting ≡ waiting_after NONE steps → plan_given steps ++ armed_after waiting more ≡ plan_given (steps ++ more)
-plans_then order steps more waiting waits = ap (λ w. plan_given steps ++ armed_after w more) waits ∙ sym (order NONE steps more).0
-
-waiting_then : PlansAreSetInOrder → (steps more : List Step) (waiting : Plan) → waiting ≡ waiting_after NONE steps → waiting_after waiting more ≡ waiting_after NONE (steps ++ more)
-waiting_then order steps more waiting waits = ap (λ w. waiting_after w more) waits ∙ sym (order NONE steps more).1
-
 -- a line that was carried out
 pub plays_further : (given : Given) (script next : ScriptReader) (left left_then : Option (List ℕ)) (kept after : Option Answer) (from to : Moment) (line : ScriptLine) (deed : Deed) → CountsJoin → PlansAreSetInOrder
     → ((found : LineList) → Follows given.text found script left → Finds given.text found next left_then line) → may_follow line ≡ true → deeds_of line ≡ deed ∷ []
@@ -161,6 +148,10 @@ pub run_so_far : (given : Given) (script : ScriptReader) (left : Option (List �
     → GoesOn (first_machine playing.start given.boxes) playing.account.steps playing.account.own playing.machine
 run_so_far given script left kept now playing = goes_on (deeds playing.played) None kept (first_machine playing.start given.boxes) playing.machine playing.account playing.are_told
 
+-- what was shown so far
+pub shown_so_far : (given : Given) (script : ScriptReader) (left : Option (List ℕ)) (kept : Option Answer) (now : Moment) → (playing : IsPlaying given script left kept now) → AreShown (deeds playing.played) None playing.account kept
+shown_so_far given script left kept now playing = told_shows (deeds playing.played) None kept (first_machine playing.start given.boxes) playing.machine playing.account playing.are_told
+
 -- the next line is for this
 abbrev pub reaches : (given : Given) (script next : ScriptReader) (left left_then : Option (List ℕ)) (kept : Option Answer) (from : Moment) (line : ScriptLine) (deed : Deed)
     → ((found : LineList) → Follows given.text found script left → Finds given.text found next left_then line) → deeds_of line ≡ deed ∷ [] → IsPlaying given script left kept from → Reaches given deed
@@ -177,7 +168,7 @@ reaches given script next left left_then kept from line deed search_so one playi
       lines_are = playing.lines;
       are_told = playing.are_told;
       of_card = run_of playing.account.steps (first_machine playing.start given.boxes) playing.machine playing.account.own (run_so_far given script left kept from playing);
-      shows = shows_as_many (deeds playing.played) kept (first_machine playing.start given.boxes) playing.machine playing.account playing.are_told;
+      shows = shows_as_many (deeds playing.played) kept playing.account (shown_so_far given script left kept from playing);
       bytes = finds.bytes;
       more = finds.more;
       line = line;
@@ -229,7 +220,7 @@ breaks_in_step given script next left left_then kept after from to line step joi
       set = broken.set;
       after = after;
       broken = (refl, subst (λ w. BreaksOff playing.machine step broken.pending (armed_after w (step ∷ [])) broken.set broken.machine) playing.waits broken.broken);
-      shows = shows_in_step (deeds playing.played) kept after (first_machine playing.start given.boxes) playing.machine playing.account playing.are_told broken.pending;
+      shows = shows_in_step (deeds playing.played) kept after playing.account (shown_so_far given script left kept from playing) broken.pending;
       cut_off = broken.cut_off;
       stands = broken.stands;
       written = broken.written;
@@ -254,7 +245,8 @@ breaks_in_tpdu given script next left left_then kept after from to line tpdu joi
       set = broken.set;
       after = after;
       broken = subst (λ w. BreaksOffTpdu playing.machine tpdu course broken.own broken.pending (armed_after w (steps_of course)) broken.set kept after broken.machine) playing.waits broken.broken;
-      shows = shows_in_tpdu (deeds playing.played) kept after (first_machine playing.start given.boxes) playing.machine playing.account playing.are_told tpdu broken.machine broken.own broken.pending _ broken.set broken.broken;
+      shows = shows_in_tpdu (deeds playing.played) kept after playing.account (shown_so_far given script left kept from playing) tpdu broken.own broken.pending _ broken.set
+          (broken_shows playing.machine broken.machine tpdu course broken.own broken.pending _ broken.set kept after broken.broken);
       cut_off = broken.cut_off;
       stands = broken.stands;
       written = broken.written;
@@ -282,7 +274,7 @@ ends_playing given script left left_then kept end now stands boxes cause playing
   lines = playing.lines;
   are_told = playing.are_told;
   of_card = run_of playing.account.steps (first_machine playing.start given.boxes) playing.machine playing.account.own (run_so_far given script left kept now playing);
-  shows = shows_as_many (deeds playing.played) kept (first_machine playing.start given.boxes) playing.machine playing.account playing.are_told;
+  shows = shows_as_many (deeds playing.played) kept playing.account (shown_so_far given script left kept now playing);
   cause = cause playing.found playing.follows;
   stands = stands playing.machine playing.told;
   written = playing.written;

@@ -15,6 +15,7 @@ use Rattle.uicc_run.specs.Playing.{Given}
 use Rattle.uicc_run.specs.Reading.{ReadsTo}
 use Rattle.uicc_run.specs.Scenes.{Scene, Seen, left_in}
 use Rattle.uicc_run.specs.Scripts.{HoldsDescribed, IsHalfMade}
+use Rattle.uicc_run.specs.Showing.{ShowsTo}
 use Rattle.uicc_run.specs.Stores.{IsSizeFor, content_in, held_in}
 use Rattle.uicc_run.specs.Unplanned.{IsQuiet}
 use Rattle.uicc_run.specs.declared.endings.Ending.{Ending}
@@ -54,10 +55,12 @@ pub record EndsFor (ending : Ending) (before after : Scene) (TraceIsSame MemoryI
   pub untouched : IsEarly ending → MemoryIsSame
   pub boxes : IsUnopened ending → BoxesAreSame
 
--- Which lines of the script were read, and why no more of them, where a run is given this; that it was quiet where no card was open; and
--- how many bytes of the script were taken at most.
+-- Which lines of the script were read, and why no more of them, where a run is given this; what is shown behind what the sink had taken;
+-- that it was quiet where no card was open; and how many bytes of the script were taken at most.
 pub record ReadsUntold (IsFor : Given → Type 0) (ending : Ending) (before after : Scene) : Type 0 where
   pub reads : (given : Given) → IsFor given → ReadsTo given after.left ending
+  pub shows : (given : Given) → IsFor given → before.taken ≡ Some given.before
+      → ShowsTo given before.meter after.left ending after.taken after.meter
   pub quiet : (given : Given) → IsFor given → IsUnopened ending → IsQuiet before after
   pub taken : (text : List ℕ) → before.left ≡ Some text → IsTaken (MOST_BYTES + 1) text after.left
 

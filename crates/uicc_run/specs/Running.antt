@@ -16,6 +16,7 @@ use Rattle.uicc_run.specs.Playing.{Given}
 use Rattle.uicc_run.specs.Reading.{ReadsTo}
 use Rattle.uicc_run.specs.Scenes.{Scene, left_in, seen}
 use Rattle.uicc_run.specs.Scripts.{CanOpen, HoldsDescribed, IsFirstBad, IsFirstTooMuch, IsGoodScript, IsUndisturbed, MeetsBad, ReachesStart, Refusal, RefusesAndTells, StopsAndTells, StopsAtStart, StopsBehind, TellsNext, TellsWhy}
+use Rattle.uicc_run.specs.Showing.{ShowsTo}
 use Rattle.uicc_run.specs.Stores.{content_in}
 use Rattle.uicc_run.specs.Terminals.{AskForBip, IsUnbroken, TracesBip}
 use Rattle.uicc_run.specs.Unplanned.{IsUnplanned}
@@ -30,15 +31,17 @@ IsTraced words status before after MemoryIsSame BoxesAreSame =
     → Traces given after.left (left_in given.pages after) status
     (IsCaused given words before after MemoryIsSame BoxesAreSame)
 
--- How a run of a script ended, over any memory: the sink took the last line of that end behind what it had taken, of which nothing is said
--- where a card was open. Which lines were read, and why no more of them, where the lines or the source ended it; where no card was open,
--- nothing was shown, the device was given no plan and counts no fewer faults, and the boxes are as they were; and where the script was not
--- read up to `start`, but for want of memory, or its words are wrong, so is the memory.
+-- How a run of a script ended, over any memory: the sink took the last line of that end behind what is shown before it. Which lines were
+-- read, and why no more of them, where the lines or the source ended it. Where a card was open and the lines went to it, what they show,
+-- and what the device has counted of that; nothing is said of this where they went to a handset. Where no card was open, nothing was shown,
+-- the device was given no plan and counts no fewer faults, and the boxes are as they were; and where the script was not read up to `start`,
+-- but for want of memory, or its words are wrong, so is the memory.
 pub record EndsUntold (given : Given) (status : ℕ) (before after : Scene) (MemoryIsSame BoxesAreSame : Type 0) : Type 0 where
   pub ending : Ending
   pub put : Option (List ℕ)
   pub closes : Closes ending put after.taken status
   pub reads : ReadsTo given after.left ending
+  pub shows : ShowsTo given before.meter after.left ending put after.meter
   pub unshown : IsUnopened ending → put ≡ Some given.before
   pub unplanned : IsUnopened ending → IsUnplanned before.meter after.meter
   pub boxes_kept : IsUnopened ending → BoxesAreSame

@@ -8,9 +8,10 @@ ghost use Rattle.card_steps.specs.Moves.{step_of};
 ghost use Rattle.card_steps.specs.Tallies.{Tallies, tally};
 ghost use Rattle.uicc_run.specs.Accounts.{kept_behind};
 ghost use Rattle.uicc_run.specs.Playing.{CardComesTo, Given, GivesPlayed, IsPlaying, left_at};
+ghost use Rattle.uicc_run.specs.Showing.{GivesShown, IsShowing, LinesShow};
 ghost use Rattle.uicc_run.specs.Steps.{may_follow};
 ghost use Rattle.script_form.specs.declared.lines.ScriptLine.{ScriptLine as AnyLine};
-ghost use Rattle.uicc_types.specs.Counts.{CountsFailure, Rose, raised};
+ghost use Rattle.uicc_types.specs.Counts.{CountsFailure, Meter, Rose, raised};
 
 use crate::effects::{Effect, effect_of};
 use applet_trait::Applet;
@@ -33,7 +34,10 @@ pub fn play_lines<S: Store, B: Applet, R: Source, W: Sink>(
     ensures played { (given : Given)
         → IsPlaying given script.old (R.left source.old) None (moment_at card.old (W.taken trace.old))
         → CardComesTo given (R.left source.new) result (left_at (moment_at card.new (W.taken trace.new))) }
-    // Over any memory: which lines were read, and why no more of them.
+    // Over any memory: what is shown, and which lines were read and why no more of them.
+    ensures shows { (given : Given) (first : Meter)
+        → IsShowing given first script.old (R.left source.old) None (moment_at card.old (W.taken trace.old))
+        → LinesShow given first (R.left source.new) result (W.taken trace.new) card.new.parts.meter }
     ensures reads { (text : List ℕ) (opening : List AnyLine)
         → IsReading may_follow opening text script.old (R.left source.old)
         → LinesReadTo may_follow opening text (R.left source.new) result }
@@ -78,6 +82,10 @@ fn play_line<S: Store, B: Applet, R: Source, W: Sink>(
     ensures played { (given : Given)
         → IsPlaying given script.old (R.left source.old) link.old (moment_at card.old (W.taken trace.old))
         → GivesPlayed given script.new (R.left source.new) link.new (moment_at card.new (W.taken trace.new)) result }
+    ensures shows { (given : Given) (first : Meter)
+        → IsShowing given first script.old (R.left source.old) link.old (moment_at card.old (W.taken trace.old))
+        → GivesShown given first script.new (R.left source.new) link.new
+        (moment_at card.new (W.taken trace.new)) result }
     ensures reads { (text : List ℕ) (opening : List AnyLine)
         → IsReading may_follow opening text script.old (R.left source.old)
         → GivesRead may_follow opening text script.new (R.left source.new) result }

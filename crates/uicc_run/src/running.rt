@@ -1,17 +1,19 @@
 //! A whole run: the words of the command line, the script, the card's memory and the trace.
-ghost use Rattle.std.specs.Prelude.{◌≡◌, ◌≢◌, ◌⊎◌, ◌+◌, ◌≤◌, ℕ, List, Some, true, length, map, string_bytes, is_some, option_map, IsErrOf, OnOk, OnErr, Option};
+ghost use Rattle.std.specs.Prelude.{◌≡◌, ◌≢◌, ◌⊎◌, ◌+◌, ◌≤◌, ℕ, List, [], Some, None, true, length, map, string_bytes, is_some, option_map, IsErrOf, OnOk, OnErr, Option};
 ghost use Rattle.byte_streams.specs.Reading.{IsTaken, IsWithin};
 ghost use Rattle.byte_streams.specs.declared.limits.TheConstants.{MOST_BYTES};
 ghost use Rattle.card_layout.specs.Places.{memory_size};
 ghost use Rattle.card_layout.specs.Standing.{stands_for};
 ghost use Rattle.card_layout.specs.declared.sizes.TheConstants.{ROW_COUNT};
 ghost use Rattle.card_layout.specs.Persistent.{Persistent};
+ghost use Rattle.card_model.specs.Counts.{IsCounted};
 ghost use Rattle.card_opening.specs.Boxes.{minds_of};
 ghost use Rattle.layout_section.specs.Laying.{KeepsFirstOr};
 ghost use Rattle.card_sections.specs.Behind.{IsReading, LinesReadTo};
 ghost use Rattle.card_sections.specs.Reading.{AtStart, reading};
 ghost use Rattle.card_steps.specs.Ends.{moment_at};
 ghost use Rattle.card_steps.specs.Tallies.{Tallies, tally};
+ghost use Rattle.phone_runs.specs.Showing.{Outset, PhoneShowsTo, StartsShowing};
 ghost use Rattle.script_form.specs.declared.lines.ScriptLine.{ScriptLine as AnyLine};
 ghost use Rattle.uicc_run.specs.Causes.{EndsFor, FitsRun, FitsStore, KeepsMemory, KeepsOpened, KeepsCardThere, KeepsStoreForm, LoadsUntold, ReadsUntold, RefusesAtFirst};
 ghost use Rattle.uicc_run.specs.Endings.{HasFailed, IsUnopened, status_for};
@@ -23,11 +25,12 @@ ghost use Rattle.uicc_run.specs.Reading.{ReadsTo};
 ghost use Rattle.uicc_run.specs.Running.{CarriesOut, HasCauses, IsEndedUntold, IsTraced, LeavesTheRest, LoadsLines, RefusesCards, RefusesWords, ServesChannels, StopsAtBad, StopsForRoom};
 ghost use Rattle.uicc_run.specs.Scenes.{left_in, left_of, scene, stored};
 ghost use Rattle.uicc_run.specs.Serving.{ComesTo};
+ghost use Rattle.uicc_run.specs.Showing.{IsShowing, LinesShow, ShowsTo};
 ghost use Rattle.uicc_run.specs.Steps.{may_stand};
 ghost use Rattle.uicc_run.specs.Stores.{memory_in, size_of};
 ghost use Rattle.uicc_run.specs.Terminals.{AskForBip, ServesBip};
 ghost use Rattle.uicc_run.specs.Unplanned.{IsQuiet};
-ghost use Rattle.uicc_types.specs.Counts.{CountsFailure, Rose};
+ghost use Rattle.uicc_types.specs.Counts.{CountsFailure, Meter, Rose};
 ghost use Rattle.uicc_types.specs.Told.{Becomes};
 
 use crate::endings::{Ending, last_line, status_of};
@@ -126,7 +129,7 @@ fn carry_out<R: Source, W: Sink, E: Eeprom, B: Applet>(
         (scene R.Source W.Sink E.Eeprom B.Applet script.old trace.old eeprom cast.items)
         → Comes given (R.left script.new) result.0 (left_in given.pages
         (scene R.Source W.Sink E.Eeprom B.Applet script.new trace.new result.1 result.2.items)) }
-    // Over any memory: which lines of the script were read, and why no more of them.
+    // Over any memory: which lines of the script were read, why no more of them, and what is shown.
     ensures untold { ReadsUntold (λ given. IsToRead given (map string_bytes words.now)
         (scene R.Source W.Sink E.Eeprom B.Applet script.old trace.old eeprom cast.items)) result.0
         (scene R.Source W.Sink E.Eeprom B.Applet script.old trace.old eeprom cast.items)
@@ -265,6 +268,11 @@ fn make_and_play<S: Store, R: Source, W: Sink, B: Applet>(
     ensures reads { (given : Given) (described : Option Persistent) → given.is_served ≡ is_handset listener
         → AtStart given.boxes given.first given.text reader.old (R.left script.old) described
         → ReadsTo given (R.left script.new) result.0 }
+    ensures shows { (given : Given) (described : Option Persistent) (first : Meter)
+        → given.is_served ≡ is_handset listener
+        → AtStart given.boxes given.first given.text reader.old (R.left script.old) described
+        → W.taken trace.old ≡ Some given.before → IsCounted first (S.meter store) [] []
+        → ShowsTo given first (R.left script.new) result.0 (W.taken trace.new) (S.meter result.1) }
     ensures within { (text : List ℕ) → IsWithin text (reading reader.old) (R.left script.old)
         → IsWithin text (reading reader.new) (R.left script.new) }
     ensures memory { KeepsCardThere (S.store_mark store) card.now result.0
@@ -321,6 +329,11 @@ fn open_and_play<S: Store, R: Source, W: Sink, B: Applet>(
     ensures reads { (given : Given) (described : Option Persistent) → given.is_served ≡ is_handset listener
         → AtStart given.boxes given.first given.text reader.old (R.left script.old) described
         → ReadsTo given (R.left script.new) result.0 }
+    ensures shows { (given : Given) (described : Option Persistent) (first : Meter)
+        → given.is_served ≡ is_handset listener
+        → AtStart given.boxes given.first given.text reader.old (R.left script.old) described
+        → W.taken trace.old ≡ Some given.before → IsCounted first (S.meter store) [] []
+        → ShowsTo given first (R.left script.new) result.0 (W.taken trace.new) (S.meter result.1) }
     ensures within { (text : List ℕ) → IsWithin text (reading reader.old) (R.left script.old)
         → IsWithin text (reading reader.new) (R.left script.new) }
     ensures memory { KeepsOpened (S.store_mark store) result.0
@@ -358,6 +371,12 @@ fn carry_on<S: Store, B: Applet, R: Source, W: Sink>(
     ensures comes { (given : Given) → given.is_served ≡ is_handset listener
         → IsStarted given reader.old (R.left script.old) (moment_at card.old (W.taken trace.old))
         → ComesTo given (R.left script.new) result (left_at (moment_at card.new (W.taken trace.new))) }
+    ensures shows { (given : Given) (first : Meter) → given.is_served ≡ is_handset listener
+        → IsShowing given first reader.old (R.left script.old) None (moment_at card.old (W.taken trace.old))
+        → LinesShow given first (R.left script.new) result (W.taken trace.new) card.new.parts.meter }
+    ensures served { (text : List ℕ) (opening : List AnyLine) (outset : Outset) → is_handset listener ≡ true
+        → StartsShowing text opening outset reader.old (R.left script.old) (moment_at card.old (W.taken trace.old))
+        → PhoneShowsTo text opening outset (R.left script.new) result (moment_at card.new (W.taken trace.new)) }
     ensures reads { (text : List ℕ) (opening : List AnyLine)
         → IsReading (may_stand (is_handset listener)) opening text reader.old (R.left script.old)
         → LinesReadTo (may_stand (is_handset listener)) opening text (R.left script.new) result }

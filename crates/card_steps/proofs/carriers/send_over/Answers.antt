@@ -10,5 +10,5 @@ pub returns : goal.returns
 returns g c =
     let left : Linked = record { answer = c.command.new.out; kept = c.command.new.self } in
     subst (λ (reply : Reply). Comes c.args.end.now c.args.apdu.now (seen reply c.command.new.out) c.command.new.card) (sym c.reply_of.ensures)
-    (came_over c.link_changes_no_step.ensures.counts c.args.end.now c.command.new.card c.args.apdu.now c.link_changes_no_step.ensures.steps c.is_ready.ensures c.are_bytes.ensures c.requires
+    (came_over c.args.end.now c.command.new.card c.args.apdu.now c.link_changes_no_step.ensures.steps c.is_ready.ensures c.are_bytes.ensures c.requires
     c.args.link.now c.command.result left c.command.ensures.moves)

@@ -1,8 +1,10 @@
-use Rattle.std.proofs.Common.{Ok, Err, ap, rules}
+use Rattle.std.proofs.Common.{Ok, Err, ap, inl, inr, refl, rules}
 use Rattle.card_steps.specs.Ends.{End}
 use Rattle.card_steps.specs.declared.steps.ResetOutcome.TheVariants as restart
+use Rattle.card_steps.proofs.Shown.{failure_cut_off, failure_shows, restart_shows}
 use Rattle.card_steps.proofs.StepLemmas.{counted_as, faults_behind, none_waits, parts_set, reset_failed, resets_as, restart_cut, restart_failed, restart_failed_broken, restarts, with_plan}
 use Rattle.card_steps.proofs.steps.restart.Goals as goal
+use Rattle.uicc_types.specs.declared.runs.TraceItem.TheVariants as item
 
 pub returns-in-Ok-clause-gives : goal.returns-in-Ok-clause-gives
 returns-in-Ok-clause-gives g c = λ old before is told.
@@ -109,3 +111,39 @@ returns-in-Ok-write_step-2-clause-failed g c = λ same.
     reset_failed c.args.end.now c.set_plan-is_set.new.self c.reset-outcome.new.self c.clear_plan.new.self
     (with_plan c.args.end.now c.set_plan-is_set.new.self c.reset-outcome.new.self c.clear_plan.new.self c.set_plan-is_set.result c.set_plan-is_set.ensures.set c.set_plan-is_set.ensures.is_set c.reset-outcome.ensures.waits c.clear_plan.ensures)
     (c.reset-outcome.ensures.takes.failed c.in-Failed.is)
+
+pub returns-in-Ok-clause-shows : goal.returns-in-Ok-clause-shows
+returns-in-Ok-clause-shows g c = λ before told.
+    restart_shows (Ok c.in-Ok.field-0) before c.args.end.now c.set_plan-is_set.new.self c.reset-outcome.new.self c.clear_plan.new.self _ _ item.Reset c.runs_are_counted.ensures.plans told
+    (with_plan c.args.end.now c.set_plan-is_set.new.self c.reset-outcome.new.self c.clear_plan.new.self c.set_plan-is_set.result c.set_plan-is_set.ensures.set c.set_plan-is_set.ensures.is_set c.reset-outcome.ensures.waits c.clear_plan.ensures)
+    (inl refl) (counted_as c.reset-outcome.result restart.Done _ _ c.in-Done.is c.reset-outcome.ensures.takes.counted) c.in-Ok.ensures.ok c.in-Ok.ensures.err c.in-Ok.ensures.sink
+
+pub returns-in-Err-clause-shows : goal.returns-in-Err-clause-shows
+returns-in-Err-clause-shows g c = λ before told.
+    restart_shows (Err c.in-Err.why) before c.args.end.now c.set_plan-is_set.new.self c.reset-outcome.new.self c.clear_plan.new.self _ _ item.Reset c.runs_are_counted.ensures.plans told
+    (with_plan c.args.end.now c.set_plan-is_set.new.self c.reset-outcome.new.self c.clear_plan.new.self c.set_plan-is_set.result c.set_plan-is_set.ensures.set c.set_plan-is_set.ensures.is_set c.reset-outcome.ensures.waits c.clear_plan.ensures)
+    (inl refl) (counted_as c.reset-outcome.result restart.Done _ _ c.in-Done.is c.reset-outcome.ensures.takes.counted) c.in-Err.ensures.ok c.in-Err.ensures.err c.in-Err.ensures.sink
+
+pub returns-in-Ok-write_step-clause-shows : goal.returns-in-Ok-write_step-clause-shows
+returns-in-Ok-write_step-clause-shows g c = λ before told.
+    restart_shows (Ok c.in-Ok-write_step.field-0) before c.args.end.now c.set_plan-is_set.new.self c.reset-outcome.new.self c.clear_plan.new.self _ _ item.Cut c.runs_are_counted.ensures.plans told
+    (with_plan c.args.end.now c.set_plan-is_set.new.self c.reset-outcome.new.self c.clear_plan.new.self c.set_plan-is_set.result c.set_plan-is_set.ensures.set c.set_plan-is_set.ensures.is_set c.reset-outcome.ensures.waits c.clear_plan.ensures)
+    (inr refl) (counted_as c.reset-outcome.result restart.Cut _ _ c.in-Cut.is c.reset-outcome.ensures.takes.counted) c.in-Ok-write_step.ensures.ok c.in-Ok-write_step.ensures.err c.in-Ok-write_step.ensures.sink
+
+pub returns-in-Err-write_step-clause-shows : goal.returns-in-Err-write_step-clause-shows
+returns-in-Err-write_step-clause-shows g c = λ before told.
+    restart_shows (Err c.in-Err-write_step.why) before c.args.end.now c.set_plan-is_set.new.self c.reset-outcome.new.self c.clear_plan.new.self _ _ item.Cut c.runs_are_counted.ensures.plans told
+    (with_plan c.args.end.now c.set_plan-is_set.new.self c.reset-outcome.new.self c.clear_plan.new.self c.set_plan-is_set.result c.set_plan-is_set.ensures.set c.set_plan-is_set.ensures.is_set c.reset-outcome.ensures.waits c.clear_plan.ensures)
+    (inr refl) (counted_as c.reset-outcome.result restart.Cut _ _ c.in-Cut.is c.reset-outcome.ensures.takes.counted) c.in-Err-write_step.ensures.ok c.in-Err-write_step.ensures.err c.in-Err-write_step.ensures.sink
+
+pub returns-in-Ok-write_step-2-clause-shows : goal.returns-in-Ok-write_step-2-clause-shows
+returns-in-Ok-write_step-2-clause-shows g c = λ before told.
+    failure_shows before c.args.end.now c.set_plan-is_set.new.self c.reset-outcome.new.self c.clear_plan.new.self _ _ c.runs_are_counted.ensures.plans told
+    (with_plan c.args.end.now c.set_plan-is_set.new.self c.reset-outcome.new.self c.clear_plan.new.self c.set_plan-is_set.result c.set_plan-is_set.ensures.set c.set_plan-is_set.ensures.is_set c.reset-outcome.ensures.waits c.clear_plan.ensures)
+    (counted_as c.reset-outcome.result restart.Failed _ _ c.in-Failed.is c.reset-outcome.ensures.takes.counted) c.in-Ok-write_step-2.ensures.ok
+
+pub returns-in-Err-write_step-2-clause-shows : goal.returns-in-Err-write_step-2-clause-shows
+returns-in-Err-write_step-2-clause-shows g c = λ before told.
+    failure_cut_off before c.args.end.now c.set_plan-is_set.new.self c.reset-outcome.new.self c.clear_plan.new.self _ _ c.runs_are_counted.ensures.plans told
+    (with_plan c.args.end.now c.set_plan-is_set.new.self c.reset-outcome.new.self c.clear_plan.new.self c.set_plan-is_set.result c.set_plan-is_set.ensures.set c.set_plan-is_set.ensures.is_set c.reset-outcome.ensures.waits c.clear_plan.ensures)
+    (counted_as c.reset-outcome.result restart.Failed _ _ c.in-Failed.is c.reset-outcome.ensures.takes.counted) c.in-Err-write_step-2.ensures.err

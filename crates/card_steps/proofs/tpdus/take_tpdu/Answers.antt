@@ -1,4 +1,5 @@
 use Rattle.std.proofs.Common.{◌∙◌, rules}
+use Rattle.card_steps.proofs.Shown.{reply_cut_off, tpdu_cut_off, tpdu_shows}
 use Rattle.card_steps.proofs.StepLemmas.{idle_counted}
 use Rattle.card_steps.proofs.Written.{breaks_reply, breaks_tpdu, takes}
 use Rattle.card_steps.specs.TellLaws.{tells_front, tells_whole}
@@ -39,3 +40,17 @@ returns-in-Err-clause-tallies g c = record {
   sink = search rules;
   tells = tells_front _ _ _ c.in-Err.ensures.err;
 }
+
+pub returns-in-Ok-write_reply-clause-shows : goal.returns-in-Ok-write_reply-clause-shows
+returns-in-Ok-write_reply-clause-shows g c = λ before told.
+    tpdu_shows c.args.tpdu.now before (link_answer c.args.link.now c.args.tpdu.now) c.args.link.now c.deliver-reply.new.link c.args.end.now c.deliver-reply.new.end _ _ _ _ told
+    c.deliver-reply.ensures.shows c.in-Ok.ensures.ok c.in-Ok-write_reply.ensures.ok
+
+pub returns-in-Err-write_reply-clause-shows : goal.returns-in-Err-write_reply-clause-shows
+returns-in-Err-write_reply-clause-shows g c = λ before told.
+    reply_cut_off c.args.tpdu.now before (link_answer c.args.link.now c.args.tpdu.now) c.args.link.now c.deliver-reply.new.link c.args.end.now c.deliver-reply.new.end _ _ _ _ told
+    c.deliver-reply.ensures.shows c.in-Ok.ensures.ok c.in-Err-write_reply.ensures.err
+
+pub returns-in-Err-clause-shows : goal.returns-in-Err-clause-shows
+returns-in-Err-clause-shows g c = λ before told.
+    tpdu_cut_off c.args.tpdu.now before (link_answer c.args.link.now c.args.tpdu.now) c.args.link.now c.args.end.now _ _ told c.in-Err.ensures.err

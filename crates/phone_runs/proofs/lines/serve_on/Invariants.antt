@@ -6,6 +6,7 @@ use Rattle.card_steps.specs.Ends.{moment_at}
 use Rattle.phone_runs.specs.Lines.{IsBetweenLines, IsServing}
 use Rattle.phone_runs.specs.Effects.{may_be_heard}
 use Rattle.phone_runs.specs.Runs.{Beginning}
+use Rattle.phone_runs.specs.Showing.{Outset, ServesShowing}
 use Rattle.script_form.specs.declared.lines.ScriptLine.{ScriptLine}
 use Rattle.phone_runs.proofs.lines.serve_on.Given as goal
 
@@ -13,6 +14,8 @@ abbrev pub invariant-loop-end : goal.invariant-loop-end
 invariant-loop-end g l = record {
   serving : (text : List ℕ) (opening : List ScriptLine) (given : Beginning) → IsServing text opening given l.initial.script (g.R.Source.left l.initial.source) l.initial.phone (moment_at l.initial.card (g.W.Sink.taken l.initial.trace))
       → IsServing text opening given l.script (g.R.Source.left l.source) l.phone (moment_at l.card (g.W.Sink.taken l.trace));
+  shows : (text : List ℕ) (opening : List ScriptLine) (given : Outset) → ServesShowing text opening given l.initial.script (g.R.Source.left l.initial.source) l.initial.phone (moment_at l.initial.card (g.W.Sink.taken l.initial.trace))
+      → ServesShowing text opening given l.script (g.R.Source.left l.source) l.phone (moment_at l.card (g.W.Sink.taken l.trace));
   reads : (text : List ℕ) (opening : List ScriptLine) → IsReading may_be_heard opening text l.initial.script (g.R.Source.left l.initial.source) → IsReading may_be_heard opening text l.script (g.R.Source.left l.source);
   within : (text : List ℕ) → IsWithin text l.initial.script.reader (g.R.Source.left l.initial.source) → IsWithin text l.script.reader (g.R.Source.left l.source);
   between : IsBetweenLines l.script l.phone;

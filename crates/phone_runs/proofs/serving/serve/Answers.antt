@@ -3,6 +3,7 @@ use Rattle.card_steps.specs.Standing.{machine_stands}
 use Rattle.card_steps.specs.Ends.{moment_at}
 use Rattle.card_steps.specs.TellLaws.{tells_front, tells_whole}
 use Rattle.phone_runs.proofs.Serves.{asks_note, asks_reset, asks_send, none_further, none_rests, none_same, note_ends, note_further, note_more, reset_ends, reset_further, reset_more, sent_ends, sent_further, sent_more}
+use Rattle.phone_runs.proofs.ShowSteps.{none_shows, note_shows, note_shows_end, reset_shows, reset_shows_end, sent_shows, sent_shows_end}
 use Rattle.phone_runs.proofs.serving.serve.Goals as goal
 
 pub returns-in-Nothing-clause-further : goal.returns-in-Nothing-clause-further
@@ -65,3 +66,39 @@ returns-in-Ok-write_note-clause-tallies g c = record { kept = search rules; sink
 
 pub returns-in-Err-write_note-clause-tallies : goal.returns-in-Err-write_note-clause-tallies
 returns-in-Err-write_note-clause-tallies g c = record { kept = search rules; sink = search rules; tells = tells_front _ _ _ c.in-Err-write_note.ensures.err }
+
+-- ---- over any memory
+
+pub returns-in-Nothing-clause-shows : goal.returns-in-Nothing-clause-shows
+returns-in-Nothing-clause-shows g c = λ given log at.
+    none_shows c.args.phone.now c.next.new.self given log _ (record { item = c.in-Nothing.ensures.item; after = c.in-Nothing.ensures.after }) c.requires.served at
+
+pub returns-in-Ok-clause-shows : goal.returns-in-Ok-clause-shows
+returns-in-Ok-clause-shows g c = λ given log at.
+    sent_shows c.runs_are_counted.ensures.join c.plans_are_set_in_order.ensures c.args.phone.now c.next.new.self c.hear.new.phone _ c.as_slice.result.now c.in-Ok.reply c.exchange.new.answer given log _ _
+    (record { item = c.next.ensures.item; after = c.next.ensures.after }) (asks_send c.next.result c.next.new.apdu c.as_slice.result.now c.next.new.note c.in-Send.is c.as_slice.ensures.value) c.hear.ensures c.in-Ok.ensures.shows at
+
+pub returns-in-Err-clause-shows : goal.returns-in-Err-clause-shows
+returns-in-Err-clause-shows g c = λ given log at.
+    sent_shows_end c.runs_are_counted.ensures.join c.args.phone.now c.next.new.self _ c.as_slice.result.now c.in-Err.end given log _ _
+    (record { item = c.next.ensures.item; after = c.next.ensures.after }) (asks_send c.next.result c.next.new.apdu c.as_slice.result.now c.next.new.note c.in-Send.is c.as_slice.ensures.value) c.in-Err.ensures.shows at
+
+pub returns-in-Ok-restart-clause-shows : goal.returns-in-Ok-restart-clause-shows
+returns-in-Ok-restart-clause-shows g c = λ given log at.
+    reset_shows c.runs_are_counted.ensures.join c.plans_are_set_in_order.ensures c.args.phone.now c.next.new.self c.begin_anew.new.phone _ c.in-Ok-restart.restarted given log _ _
+    (record { item = c.next.ensures.item; after = c.next.ensures.after }) (asks_reset c.next.result c.next.new.apdu c.next.new.note c.in-Reset.is) c.begin_anew.ensures c.in-Ok-restart.ensures.shows at
+
+pub returns-in-Err-restart-clause-shows : goal.returns-in-Err-restart-clause-shows
+returns-in-Err-restart-clause-shows g c = λ given log at.
+    reset_shows_end c.runs_are_counted.ensures.join c.plans_are_set_in_order.ensures c.args.phone.now c.next.new.self _ c.in-Err-restart.end given log _ _
+    (record { item = c.next.ensures.item; after = c.next.ensures.after }) (asks_reset c.next.result c.next.new.apdu c.next.new.note c.in-Reset.is) c.in-Err-restart.ensures.shows at
+
+pub returns-in-Ok-write_note-clause-shows : goal.returns-in-Ok-write_note-clause-shows
+returns-in-Ok-write_note-clause-shows g c = λ given log at.
+    note_shows c.args.phone.now c.next.new.self _ c.next.new.note given log (moment_at c.args.card.now (g.W.Sink.taken c.args.trace.now)) (g.W.Sink.taken c.write_note.new.sink)
+    (record { item = c.next.ensures.item; after = c.next.ensures.after }) (asks_note c.next.result c.next.new.apdu c.next.new.note c.in-Show.is) c.in-Ok-write_note.ensures.ok at
+
+pub returns-in-Err-write_note-clause-shows : goal.returns-in-Err-write_note-clause-shows
+returns-in-Err-write_note-clause-shows g c = λ given log at.
+    note_shows_end c.args.phone.now c.next.new.self _ c.next.new.note given log (moment_at c.args.card.now (g.W.Sink.taken c.args.trace.now)) (g.W.Sink.taken c.write_note.new.sink)
+    (record { item = c.next.ensures.item; after = c.next.ensures.after }) (asks_note c.next.result c.next.new.apdu c.next.new.note c.in-Show.is) c.in-Err-write_note.ensures.err at

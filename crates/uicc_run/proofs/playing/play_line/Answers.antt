@@ -5,7 +5,8 @@ use Rattle.card_steps.specs.Standing.{machine_minds, machine_stands}
 use Rattle.uicc_run.proofs.CardLemmas.{machine_kinds}
 use Rattle.uicc_run.specs.Steps.{may_follow, may_stand}
 use Rattle.uicc_run.specs.Accounts.{Takes, Transfers}
-use Rattle.uicc_run.proofs.PlayLemmas.{breaks_in_step, breaks_in_tpdu, comes_to_end, ends_in_step, ends_playing, plays_further, plays_on, stands_there, step_does, tpdu_does}
+use Rattle.uicc_run.proofs.PlayLemmas.{breaks_in_step, breaks_in_tpdu, comes_to_end, ends_in_step, ends_playing, plays_further, plays_on, step_does, tpdu_does}
+use Rattle.uicc_run.proofs.ShowLemmas.{cut_in_step, cut_in_tpdu, ends_showing, shows_failure, shows_further, shows_on, shows_to_end, stands_there, step_does_show, tpdu_does_show}
 use Rattle.uicc_run.proofs.playing.play_line.Goals as goal
 
 pub returns-in-Err-clause-played : goal.returns-in-Err-clause-played
@@ -70,3 +71,46 @@ returns-in-Ok-take_step-clause-reads g c = λ text opening reading.
 pub returns-in-Ok-take_tpdu-clause-reads : goal.returns-in-Ok-take_tpdu-clause-reads
 returns-in-Ok-take_tpdu-clause-reads g c = λ text opening reading.
     reads_on may_follow opening text _ _ _ _ c.read_behind.new.line (λ found follows. c.in-Ok.ensures.gives may_follow text found follows) c.in-Transfers.ensures.0 reading
+
+-- ---- what is shown
+
+pub returns-in-Err-clause-shows : goal.returns-in-Err-clause-shows
+returns-in-Err-clause-shows g c = λ given first showing.
+    shows_to_end given first _ _ _ _ (ends_showing given first _ _ _ _ _ _ (λ found follows. c.in-Err.ensures.gives (may_stand given.is_served) given.text found follows) showing)
+
+pub returns-in-Nothing-clause-shows : goal.returns-in-Nothing-clause-shows
+returns-in-Nothing-clause-shows g c = λ given first showing.
+    shows_on given first _ _ _ _ _ _ c.read_behind.new.line (λ found follows. c.in-Ok.ensures.gives (may_stand given.is_served) given.text found follows) c.in-Nothing.ensures.0 c.in-Nothing.ensures.1 showing
+
+pub returns-in-OutOfPlace-clause-shows : goal.returns-in-OutOfPlace-clause-shows
+returns-in-OutOfPlace-clause-shows g c = λ given first showing.
+    ends_showing given first _ _ _ _ _ _ (λ found follows. bad_behind (may_stand given.is_served) given.text found c.read_behind.new.script _ c.read_behind.new.line _ (c.in-Ok.ensures.gives (may_stand given.is_served) given.text found follows) (stands_there given c.read_behind.new.line false showing.unserved c.in-OutOfPlace.ensures) c.number.ensures) showing
+
+pub returns-in-Ok-take_step-clause-shows : goal.returns-in-Ok-take_step-clause-shows
+returns-in-Ok-take_step-clause-shows g c = λ given first showing.
+    shows_further given first _ _ _ _ c.args.link.now c.drop_kept.new.link _ _ c.read_behind.new.line (Takes (step_of c.in-Takes.step)) c.runs_are_counted.ensures.join c.plans_are_set_in_order.ensures (λ found follows. c.in-Ok.ensures.gives (may_stand given.is_served) given.text found follows)
+    c.in-Takes.ensures.0 c.in-Takes.ensures.1
+    (λ before told. step_does_show (step_of c.in-Takes.step) c.args.link.now c.drop_kept.new.link before _ _ c.drop_kept.ensures (c.in-Ok-take_step.ensures.shows before told)) showing
+
+pub returns-in-Err-SinkFailed-clause-shows : goal.returns-in-Err-SinkFailed-clause-shows
+returns-in-Err-SinkFailed-clause-shows g c = λ given first showing.
+    let shows = rw c.in-Err-SinkFailed.field-0-is at c.in-Err-SinkFailed.ensures.shows in
+    cut_in_step given first _ _ _ (g.R.Source.left c.read_behind.new.source) c.args.link.now c.drop_kept.new.link _ _ c.read_behind.new.line (step_of c.in-Takes.step) c.runs_are_counted.ensures.join (λ found follows. c.in-Ok.ensures.gives (may_stand given.is_served) given.text found follows)
+    c.in-Takes.ensures.1 shows showing
+
+pub returns-in-Err-ResetFailed-clause-shows : goal.returns-in-Err-ResetFailed-clause-shows
+returns-in-Err-ResetFailed-clause-shows g c = λ given first showing.
+    let shows = rw c.in-Err-ResetFailed.field-0-is at c.in-Err-ResetFailed.ensures.shows in
+    shows_failure given first _ _ _ (g.R.Source.left c.read_behind.new.source) c.args.link.now _ _ c.read_behind.new.line (step_of c.in-Takes.step) c.runs_are_counted.ensures.join c.plans_are_set_in_order.ensures (λ found follows. c.in-Ok.ensures.gives (may_stand given.is_served) given.text found follows)
+    c.in-Takes.ensures.1 shows showing
+
+pub returns-in-Ok-take_tpdu-clause-shows : goal.returns-in-Ok-take_tpdu-clause-shows
+returns-in-Ok-take_tpdu-clause-shows g c = λ given first showing.
+    shows_further given first _ _ _ _ c.args.link.now c.take_tpdu.new.link _ _ c.read_behind.new.line (Transfers c.in-Transfers.tpdu.now) c.runs_are_counted.ensures.join c.plans_are_set_in_order.ensures (λ found follows. c.in-Ok.ensures.gives (may_stand given.is_served) given.text found follows)
+    c.in-Transfers.ensures.0 c.in-Transfers.ensures.1
+    (λ before told. tpdu_does_show c.in-Transfers.tpdu.now c.args.link.now c.take_tpdu.new.link before _ _ (c.in-Ok-take_tpdu.ensures.shows before told)) showing
+
+pub returns-in-Err-take_tpdu-clause-shows : goal.returns-in-Err-take_tpdu-clause-shows
+returns-in-Err-take_tpdu-clause-shows g c = λ given first showing.
+    cut_in_tpdu given first _ _ _ (g.R.Source.left c.read_behind.new.source) c.args.link.now c.take_tpdu.new.link _ _ c.read_behind.new.line c.in-Transfers.tpdu.now c.runs_are_counted.ensures.join (λ found follows. c.in-Ok.ensures.gives (may_stand given.is_served) given.text found follows)
+    c.in-Transfers.ensures.1 c.in-Err-take_tpdu.ensures.shows showing

@@ -1,4 +1,5 @@
 use Rattle.std.proofs.Common.{inl, inr, ap, sym, ◌∙◌, subst}
+use Rattle.std.proofs.lemmas.Bool.{false≢true}
 use Rattle.card_sections.specs.Behind.{IsReading, LinesReadTo}
 use Rattle.card_steps.specs.Ends.{moment_at}
 use Rattle.uicc_run.specs.Listeners.{is_handset}
@@ -31,3 +32,15 @@ pub returns-in-Card-clause-reads : goal.returns-in-Card-clause-reads
 returns-in-Card-clause-reads g c = λ text opening reading.
     subst (λ s. LinesReadTo (may_stand s) opening text (g.R.Source.left c.play_lines.new.source) c.play_lines.result) (sym (ap is_handset c.in-Card.is))
     (c.play_lines.ensures.reads text opening (subst (λ s. IsReading (may_stand s) opening text c.args.reader.now (g.R.Source.left c.args.script.now)) (ap is_handset c.in-Card.is) reading))
+
+pub returns-in-Handset-clause-shows : goal.returns-in-Handset-clause-shows
+returns-in-Handset-clause-shows g c = λ given first is showing. absurd (false≢true (sym showing.unserved ∙ is ∙ ap is_handset c.in-Handset.is))
+
+pub returns-in-Card-clause-shows : goal.returns-in-Card-clause-shows
+returns-in-Card-clause-shows g c = λ given first is showing. c.play_lines.ensures.shows given first showing
+
+pub returns-in-Handset-clause-served : goal.returns-in-Handset-clause-served
+returns-in-Handset-clause-served g c = λ text opening outset served starts. c.serve_lines.ensures.shows text opening outset starts
+
+pub returns-in-Card-clause-served : goal.returns-in-Card-clause-served
+returns-in-Card-clause-served g c = λ text opening outset served starts. absurd (false≢true (sym (ap is_handset c.in-Card.is) ∙ served))

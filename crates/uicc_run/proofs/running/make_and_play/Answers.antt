@@ -1,5 +1,5 @@
-use Rattle.std.proofs.Common.{refl, ◌∙◌}
-use Rattle.uicc_run.proofs.OpenLemmas.{caused_kept, keeps_so, made_none, made_so, memory_tells, none_is_some, not_made, stays_made, unplanned_then}
+use Rattle.std.proofs.Common.{[], refl, ◌∙◌}
+use Rattle.uicc_run.proofs.OpenLemmas.{caused_counted, caused_kept, keeps_so, made_none, made_so, memory_tells, none_is_some, not_made, stays_made, unplanned_then}
 use Rattle.uicc_run.proofs.running.make_and_play.Goals as goal
 
 pub returns-in-Ok-clause-comes : goal.returns-in-Ok-clause-comes
@@ -38,3 +38,11 @@ returns-in-Ok-clause-quiet g c = λ unopened.
 
 pub returns-in-Err-clause-quiet : goal.returns-in-Err-clause-quiet
 returns-in-Err-clause-quiet g c = λ unopened. record { silent = refl; unplanned = caused_kept _ _ c.make.ensures.keeps.cause }
+
+pub returns-in-Ok-clause-shows : goal.returns-in-Ok-clause-shows
+returns-in-Ok-clause-shows g c = λ given described first served at told counted.
+    c.open_and_play.ensures.shows given described first served at told
+    (c.runs_are_counted.ensures.join _ _ _ [] [] [] [] counted (caused_counted _ _ c.make.ensures.keeps.cause (λ so. cc (so, c.in-Ok.is)) (λ so. cc (so, c.in-Ok.is))))
+
+pub returns-in-Err-clause-shows : goal.returns-in-Err-clause-shows
+returns-in-Err-clause-shows g c = λ given described first served at told counted. tt

@@ -1,13 +1,20 @@
-use Rattle.std.proofs.Common.{ap, refl, ◌∙◌}
+use Rattle.std.proofs.Common.{[], None, ap, refl, sym, subst, ◌∙◌}
 use Rattle.card_core.specs.Parts.{CardParts}
 use Rattle.card_core.specs.Cards.{parts_of}
+use Rattle.card_steps.specs.Ends.{moment_at}
+use Rattle.card_steps.specs.Stepping.{moment}
+use Rattle.phone_runs.specs.Showing.{StartsShowing}
 use Rattle.uicc_run.specs.Listeners.{is_handset}
 use Rattle.uicc_run.specs.Opening.{IsStarted}
 use Rattle.uicc_run.proofs.CardLemmas.{at_end}
 use Rattle.uicc_run.proofs.EndLemmas.{ends_played, rose_as}
-use Rattle.uicc_run.proofs.OpenLemmas.{caused_kept, formatted_then, given_back, refusal_keeps, refused, starts}
+use Rattle.uicc_run.proofs.OpenLemmas.{caused_counted, caused_kept, formatted_then, given_back, refusal_keeps, refused, starts}
 use Rattle.uicc_run.proofs.ReadingLemmas.{reads_behind, reads_refused, reads_start}
 use Rattle.uicc_run.proofs.ServingLemmas.{opening}
+use Rattle.uicc_run.proofs.ShowLemmas.{outset, refused_shows, serves_shown_first, shows_first}
+use Rattle.uicc_run.specs.Showing.{IsShowing, LinesShow}
+use Rattle.uicc_types.specs.Counts.{Meter}
+use Rattle.uicc_types.specs.declared.plans.TheConstants.Plan.{NONE}
 use Rattle.uicc_run.proofs.running.open_and_play.Goals as goal
 
 pub returns-in-Ok-clause-comes : goal.returns-in-Ok-clause-comes
@@ -53,3 +60,31 @@ returns-in-Ok-clause-ends g c =
     (c.close-store.ensures.meter ∙ ap (λ (p : CardParts). p.meter) c.into_parts-card.ensures.parts)
     (c.carry_on-end.ensures.failed reset))
     c.carry_on-end.ensures.tallies.tells
+
+pub returns-in-Ok-clause-shows : goal.returns-in-Ok-clause-shows
+returns-in-Ok-clause-shows g c = λ given described first served at told counted.
+    let parts = parts_of g.S.Store g.B.Applet c.in-Ok.card in
+    let taken = g.W.Sink.taken c.args.trace.now in
+    let meter = c.close-store.ensures.meter ∙ ap (λ (p : CardParts). p.meter) c.into_parts-card.ensures.parts in
+    let opened = c.runs_are_counted.ensures.join first (g.S.Store.meter c.args.store) parts.meter [] [] [] [] counted (caused_counted _ _ c.in-Ok.ensures.opened.calm (λ so. so) (λ so. so)) in
+    record {
+      for_card = λ unserved.
+          subst (λ (m : Meter). LinesShow given first (g.R.Source.left c.carry_on-end.new.script) c.carry_on-end.result (g.W.Sink.taken c.carry_on-end.new.trace) m) (sym meter)
+          (c.carry_on-end.ensures.shows given first served
+          (at_end (IsShowing given first c.args.reader.now (g.R.Source.left c.args.script.now) None) c.new-card.result parts taken c.new-card.ensures.parts c.new-card.ensures.waiting
+          (shows_first given first c.args.reader.now (g.R.Source.left c.args.script.now) described (moment parts taken NONE) unserved at told opened refl)));
+      for_handset = λ is_served. record {
+        section = at.section;
+        card = described;
+        described = at.described;
+        at = moment_at c.carry_on-end.new.card (g.W.Sink.taken c.carry_on-end.new.trace);
+        taken_is = refl;
+        meter_is = meter;
+        shows = c.carry_on-end.ensures.served given.text (opening at.section) (outset given first) (sym served ∙ is_served)
+            (at_end (StartsShowing given.text (opening at.section) (outset given first) c.args.reader.now (g.R.Source.left c.args.script.now)) c.new-card.result parts taken c.new-card.ensures.parts c.new-card.ensures.waiting
+            (serves_shown_first given first c.args.reader.now (g.R.Source.left c.args.script.now) described (moment parts taken NONE) at told opened refl));
+      };
+    }
+
+pub returns-in-Err-clause-shows : goal.returns-in-Err-clause-shows
+returns-in-Err-clause-shows g c = λ given described first served at told counted. rw c.ending_of.ensures (refused_shows given first c.in-Err.fault _ _ _)

@@ -1,12 +1,15 @@
-use Rattle.std.proofs.Common.{◌≡◌, None, refl, true, false, ap, sym, inr, ◌∙◌, subst}
+use Rattle.std.proofs.Common.{◌≡◌, [], None, refl, true, false, ap, sym, inr, ◌∙◌, subst}
 use Rattle.std.specs.Prelude.{IfSome, Ok}
 use Rattle.card_layout.specs.Standing.{stands_for}
 use Rattle.byte_streams.specs.Laws.{IsTaken-within, IsWithin-start}
+use Rattle.card_model.specs.Counts.{IsCounted}
 use Rattle.card_opening.specs.Boxes.{minds_of}
 use Rattle.card_sections.specs.Reading.{EndsInSection}
+use Rattle.card_steps.proofs.StepLemmas.{idle_counted}
 use Rattle.layout_section.specs.Laying.{KeepsFirstOr}
 use Rattle.uicc_run.specs.Headline.{Comes}
 use Rattle.uicc_run.specs.Scripts.{ReachesStart}
+use Rattle.uicc_run.specs.Showing.{ShowsTo}
 use Rattle.uicc_run.specs.Stores.{content_in, held_in, mark_of, memory_in}
 use Rattle.uicc_run.specs.Unplanned.{IsUnplanned}
 use Rattle.uicc_types.specs.Told.{Becomes}
@@ -26,6 +29,7 @@ returns-in-Err-clause-untold g c = record {
   reads = λ given play.
       subst (λ b. EndsInSection b given.first given.text (g.R.Source.left c.read_section.new.source) c.in-Err.fault) (ap (minds_of g.B.Applet.mind) c.as_slice.ensures.value ∙ play.boxes_are)
       (c.in-Err.ensures.card given.first given.text (at_first _ given.first given.text c.new-reader.result _ c.args.card c.new-reader.ensures.reader c.new-reader.ensures.number play.first_is play.text_is));
+  shows = λ given play told. tt;
   quiet = λ given play unopened. record { silent = refl; unplanned = unplanned_still _ };
   taken = λ text told.
       IsTaken-within text _ _ (c.in-Err.ensures.within text (IsWithin-start text _ _ c.new-reader.ensures.reader told));
@@ -50,6 +54,10 @@ pub returns-then-pages-clause-untold : goal.returns-then-pages-clause-untold
 returns-then-pages-clause-untold g c = record {
   reads = λ given play.
       c.make_and_play-ending.ensures.reads given _ play.served_is (at_start_of _ given.boxes given.first given.text _ _ _ (ap (minds_of g.B.Applet.mind) c.as_slice.ensures.value ∙ play.boxes_are) (c.in-Ok.ensures.card given.first given.text (at_first _ given.first given.text c.new-reader.result _ c.args.card c.new-reader.ensures.reader c.new-reader.ensures.number play.first_is play.text_is)));
+  shows = λ given play told.
+      subst (λ e. ShowsTo given (g.E.Eeprom.meter c.args.eeprom) (g.R.Source.left c.make_and_play-ending.new.script) c.make_and_play-ending.result.0 (g.W.Sink.taken c.make_and_play-ending.new.trace) (g.E.Eeprom.meter e)) (sym c.into_device.ensures.device)
+      (c.make_and_play-ending.ensures.shows given _ (g.E.Eeprom.meter c.args.eeprom) play.served_is (at_start_of _ given.boxes given.first given.text _ _ _ (ap (minds_of g.B.Applet.mind) c.as_slice.ensures.value ∙ play.boxes_are) (c.in-Ok.ensures.card given.first given.text (at_first _ given.first given.text c.new-reader.result _ c.args.card c.new-reader.ensures.reader c.new-reader.ensures.number play.first_is play.text_is))) told
+      (subst (λ m. IsCounted (g.E.Eeprom.meter c.args.eeprom) m [] []) (sym (ap (λ s. g.E.Eeprom.meter s.device) c.new-store.ensures)) (idle_counted _)));
   quiet = λ given play unopened.
       let quiet = c.make_and_play-ending.ensures.quiet unopened in
       record {
@@ -110,6 +118,10 @@ pub returns-clause-untold : goal.returns-clause-untold
 returns-clause-untold g c = record {
   reads = λ given play.
       c.make_and_play-ending-else-pages.ensures.reads given _ play.served_is (at_start_of _ given.boxes given.first given.text _ _ _ (ap (minds_of g.B.Applet.mind) c.as_slice.ensures.value ∙ play.boxes_are) (c.in-Ok.ensures.card given.first given.text (at_first _ given.first given.text c.new-reader.result _ c.args.card c.new-reader.ensures.reader c.new-reader.ensures.number play.first_is play.text_is)));
+  shows = λ given play told.
+      subst (λ e. ShowsTo given (g.E.Eeprom.meter c.args.eeprom) (g.R.Source.left c.make_and_play-ending-else-pages.new.script) c.make_and_play-ending-else-pages.result.0 (g.W.Sink.taken c.make_and_play-ending-else-pages.new.trace) (g.E.Eeprom.meter e)) (sym c.into_device-else-pages.ensures.device)
+      (c.make_and_play-ending-else-pages.ensures.shows given _ (g.E.Eeprom.meter c.args.eeprom) play.served_is (at_start_of _ given.boxes given.first given.text _ _ _ (ap (minds_of g.B.Applet.mind) c.as_slice.ensures.value ∙ play.boxes_are) (c.in-Ok.ensures.card given.first given.text (at_first _ given.first given.text c.new-reader.result _ c.args.card c.new-reader.ensures.reader c.new-reader.ensures.number play.first_is play.text_is))) told
+      (subst (λ m. IsCounted (g.E.Eeprom.meter c.args.eeprom) m [] []) (sym (ap (λ s. g.E.Eeprom.meter s.device) c.new-store-else-pages.ensures)) (idle_counted _)));
   quiet = λ given play unopened.
       let quiet = c.make_and_play-ending-else-pages.ensures.quiet unopened in
       record {

@@ -32,6 +32,7 @@ returns-clause-untold g c = λ given from. record {
   put = g.W.Sink.taken c.carry_out-ending.new.trace;
   closes = c.close.ensures.closed;
   reads = c.carry_out-ending.ensures.untold.reads given (to_read given _ _ from);
+  shows = c.carry_out-ending.ensures.untold.shows given (to_read given _ _ from) from.before_is;
   unshown = λ unopened. (c.carry_out-ending.ensures.untold.quiet given (to_read given _ _ from) unopened).silent ∙ from.before_is;
   unplanned = λ unopened. (c.carry_out-ending.ensures.untold.quiet given (to_read given _ _ from) unopened).unplanned;
   boxes_kept = c.carry_out-ending.ensures.ends.boxes;

@@ -1,0 +1,145 @@
+-- What a step or a TPDU comes to over any store, also one that tells nothing: what is shown, what the sink has taken of that, what the
+-- device has counted, and which plan waits. Nothing is said of the card.
+use Rattle.std.specs.Prelude.{◌≡◌, ◌⊎◌, ℕ, List, [], ◌∷◌, ◌++◌, Option, Some, Result, Ok, Err, ⊤}
+use Rattle.byte_streams.specs.declared.streams.Failed.{Failed}
+use Rattle.card_model.specs.Counts.{IsCounted}
+use Rattle.card_model.specs.Runs.{armed_after, waiting_after}
+use Rattle.card_steps.specs.Ends.{End}
+use Rattle.card_steps.specs.Runs.{text_of}
+use Rattle.card_steps.specs.Stepping.{IsBare, IsCutOff, Moment}
+use Rattle.card_steps.specs.Tpdus.{steps_of}
+use Rattle.card_steps.specs.declared.steps.StepEnd.{StepEnd}
+use Rattle.card_steps.specs.declared.steps.StepEnd.TheVariants.{SinkFailed, ResetFailed}
+use Rattle.link_laws.specs.Shown.{item_of, kept_over, shown_for, shown_over}
+use Rattle.t0_link.specs.Linking.{Course, Answers, Linked, Passes}
+use Rattle.uicc_types.specs.declared.answers.Answer.{Answer}
+use Rattle.uicc_types.specs.declared.plans.Plan.{Plan}
+use Rattle.uicc_types.specs.declared.runs.Step.{Step}
+use Rattle.uicc_types.specs.declared.runs.Step.TheVariants as step
+use Rattle.uicc_types.specs.declared.runs.TraceItem.{TraceItem}
+use Rattle.uicc_types.specs.declared.runs.TraceItem.TheVariants as item
+
+-- ---- what may be shown
+
+-- what may come of a command: an answer, or that power was lost or was not there
+abbrev pub IsReply : TraceItem → Type 0
+IsReply (item.Answer body status) = ⊤
+IsReply item.Cut = ⊤
+IsReply item.Off = ⊤
+IsReply (item.Command apdu) = ⊥
+IsReply item.Reset = ⊥
+IsReply item.EepromFailed = ⊥
+
+-- a command is shown with what came of it, a reset in one line, and a plan not at all
+abbrev pub MayShow : Step → List TraceItem → Type 0
+MayShow (step.Apdu apdu) items = (reply : TraceItem) × IsReply reply × (items ≡ item.Command apdu ∷ reply ∷ [])
+MayShow step.Reset items = (items ≡ item.Reset ∷ []) ⊎ (items ≡ item.Cut ∷ [])
+MayShow (step.Plan plan) items = items ≡ []
+
+-- a reset in which the memory failed
+abbrev pub MayEnd : Step → List TraceItem → Type 0
+MayEnd (step.Apdu apdu) items = ⊥
+MayEnd step.Reset items = items ≡ item.EepromFailed ∷ []
+MayEnd (step.Plan plan) items = ⊥
+
+-- What was to be shown where the sink fails in the last line of it, the plan that was due, and those that were set: none where that
+-- line is the command's own.
+abbrev pub MayBreakOff : Step → List TraceItem → List Plan → List Plan → Type 0
+MayBreakOff (step.Apdu apdu) items due set = ((items ≡ item.Command apdu ∷ []) × (set ≡ [])) ⊎ (MayShow (step.Apdu apdu) items × (set ≡ due))
+MayBreakOff step.Reset items due set = (MayShow step.Reset items ⊎ MayEnd step.Reset items) × (set ≡ due)
+MayBreakOff (step.Plan plan) items due set = ⊥
+
+-- ---- a step
+
+-- it was taken, and this is what it shows
+pub record ShowsStep (shown : List TraceItem) (before : List ℕ) (step : Step) (from to : Moment) : Type 0 where
+  pub may : MayShow step shown
+  pub written : to.taken ≡ Some (before ++ text_of shown)
+  pub counted : IsCounted from.meter to.meter (armed_after from.waiting (step ∷ [])) shown
+  pub waits : to.waiting ≡ waiting_after from.waiting (step ∷ [])
+
+-- the sink failed in the last line of this
+pub record CutsOffStep (before : List ℕ) (step : Step) (from to : Moment) : Type 0 where
+  pub pending : List TraceItem
+  pub front : List ℕ
+  pub set : List Plan
+  pub may : MayBreakOff step pending (armed_after from.waiting (step ∷ [])) set
+  pub cut_off : IsCutOff pending front
+  pub written : to.taken ≡ Some (before ++ front)
+  pub counted : IsCounted from.meter to.meter set pending
+
+-- it was the last, and this is what it shows
+pub record ShowsLast (before : List ℕ) (step : Step) (from to : Moment) : Type 0 where
+  pub shown : List TraceItem
+  pub may : MayEnd step shown
+  pub written : to.taken ≡ Some (before ++ text_of shown)
+  pub counted : IsCounted from.meter to.meter (armed_after from.waiting (step ∷ [])) shown
+
+-- why no more is done
+abbrev pub ShowsStepEnd : StepEnd → List ℕ → Step → Moment → Moment → Type 0
+ShowsStepEnd SinkFailed before step from to = CutsOffStep before step from to
+ShowsStepEnd ResetFailed before step from to = ShowsLast before step from to
+
+-- what is shown of a step whose outcome tells it
+abbrev pub Shows : {A : Type 0} → Result A StepEnd → (A → List TraceItem) → List ℕ → Step → Moment → Moment → Type 0
+Shows (Ok outcome) shown before step from to = ShowsStep (shown outcome) before step from to
+Shows (Err end) shown before step from to = ShowsStepEnd end before step from to
+
+-- and of any
+abbrev pub ShowsAny : Result (Unit {0}) StepEnd → List ℕ → Step → Moment → Moment → Type 0
+ShowsAny (Ok done) before step from to = (shown : List TraceItem) × ShowsStep shown before step from to
+ShowsAny (Err end) before step from to = ShowsStepEnd end before step from to
+
+-- ---- a TPDU
+
+-- The link passes an APDU, of which the card shows this, and makes of that the line that is seen. A failure is answered without data, so
+-- the link keeps none.
+pub record ShowsPassed (apdu : List ℕ) (make : Answer → Linked) (own : List TraceItem) (reply : TraceItem) (kept : Option Answer) : Type 0 where
+  pub shown : TraceItem
+  pub came : own ≡ item.Command apdu ∷ shown ∷ []
+  pub replies : IsReply shown
+  pub bare : IsBare shown
+  pub seen : reply ≡ shown_over make shown
+  pub keeps : kept ≡ kept_over make shown
+
+-- what the card shows of its own, the reply that is seen, and what the link keeps
+abbrev pub CourseShows : Course → List TraceItem → TraceItem → Option Answer → Type 0
+CourseShows (Answers linked) own reply kept = (own ≡ []) × (reply ≡ item_of linked.answer) × (kept ≡ linked.kept)
+CourseShows (Passes apdu make) own reply kept = ShowsPassed apdu make own reply kept
+
+-- the same where the sink fails in the last line of it
+abbrev pub MayBreakOffTpdu : List ℕ → Course → List TraceItem → List TraceItem → List Plan → List Plan → Option Answer → Option Answer → Type 0
+MayBreakOffTpdu tpdu course own pending due set before kept =
+    ((own ≡ []) × (pending ≡ item.Command tpdu ∷ []) × (set ≡ []) × (kept ≡ before))
+    ⊎ ((reply : TraceItem) × CourseShows course own reply kept × (pending ≡ shown_for tpdu reply) × (set ≡ due))
+
+-- it was taken, and both its lines were written
+pub record ShowsTpdu (before tpdu : List ℕ) (course : Course) (kept : Option Answer) (from to : Moment) : Type 0 where
+  pub own : List TraceItem
+  pub reply : TraceItem
+  pub shows : CourseShows course own reply kept
+  pub written : to.taken ≡ Some (before ++ text_of (shown_for tpdu reply))
+  pub counted : IsCounted from.meter to.meter (armed_after from.waiting (steps_of course)) own
+  pub waits : to.waiting ≡ waiting_after from.waiting (steps_of course)
+
+-- the sink failed in one of its lines
+pub record CutsOffTpdu (before tpdu : List ℕ) (course : Course) (keeps kept : Option Answer) (from to : Moment) : Type 0 where
+  pub own : List TraceItem
+  pub pending : List TraceItem
+  pub front : List ℕ
+  pub set : List Plan
+  pub may : MayBreakOffTpdu tpdu course own pending (armed_after from.waiting (steps_of course)) set keeps kept
+  pub cut_off : IsCutOff pending front
+  pub written : to.taken ≡ Some (before ++ front)
+  pub counted : IsCounted from.meter to.meter set own
+
+abbrev pub TpduShows : Result ⊤ Failed → List ℕ → List ℕ → Course → Option Answer → Option Answer → Moment → Moment → Type 0
+TpduShows (Ok done) before tpdu course keeps kept from to = ShowsTpdu before tpdu course kept from to
+TpduShows (Err failed) before tpdu course keeps kept from to = CutsOffTpdu before tpdu course keeps kept from to
+
+-- inside it: the link was given it
+pub record ShowsCourse (course : Course) (reply : TraceItem) (kept : Option Answer) (from to : End) : Type 0 where
+  pub own : List TraceItem
+  pub shows : CourseShows course own reply kept
+  pub counted : IsCounted from.parts.meter to.parts.meter (armed_after from.waiting (steps_of course)) own
+  pub waits : to.waiting ≡ waiting_after from.waiting (steps_of course)
