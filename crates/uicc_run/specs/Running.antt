@@ -32,10 +32,10 @@ IsTraced words status before after MemoryIsSame BoxesAreSame =
     (IsCaused given words before after MemoryIsSame BoxesAreSame)
 
 -- How a run of a script ended, over any memory: the sink took the last line of that end behind what is shown before it. Which lines were
--- read, and why no more of them, where the lines or the source ended it. Where a card was open and the lines went to it, what they show,
--- and what the device has counted of that; nothing is said of this where they went to a handset. Where no card was open, nothing was shown,
--- the device was given no plan and counts no fewer faults, and the boxes are as they were; and where the script was not read up to `start`,
--- but for want of memory, or its words are wrong, so is the memory.
+-- read, and why no more of them, where the lines or the source ended it. Where a card was open, what the lines show, to the card or by a
+-- handset, and what the device has counted of that. Where no card was open, nothing was shown, the device was given no plan and counts no
+-- fewer faults, and the boxes are as they were; and where the script was not read up to `start`, but for want of memory, or its words are
+-- wrong, so is the memory.
 pub record EndsUntold (given : Given) (status : ℕ) (before after : Scene) (MemoryIsSame BoxesAreSame : Type 0) : Type 0 where
   pub ending : Ending
   pub put : Option (List ℕ)
