@@ -30,15 +30,19 @@ use Rattle.card_model.specs.Channels.{is_open, channel_of}
 use Rattle.card_model.specs.Instructions.{is_known}
 use Rattle.card_model.specs.Pending.{pending_few}
 use Rattle.card_model.specs.States.{CardState}
-use Rattle.card_model.specs.Toolkit.{ToolkitOutcome, toolkit_of, coming_to, is_length_of, profile_taken, command_fetched, response_taken, envelope_taken}
-use Rattle.card_model.specs.declared.instructions.Instruction.TheVariants as instruction
+use Rattle.card_model.specs.Toolkit.{ToolkitOutcome, toolkit_of, coming_to, is_length_of, profile_taken, command_fetched, response_taken, envelope_taken, toolkit_outcome}
+use Rattle.card_model.specs.declared.instructions.Instruction.TheVariants.{File, Toolkit}
+use Rattle.card_model.specs.declared.instructions.ToolkitCommand.TheVariants as toolkit
+use Rattle.file_model.specs.declared.commands.FileCommand.TheVariants as file
+use Rattle.file_model.specs.Commands.{file_outcome}
+use Rattle.card_model.specs.Cases.{cut_result, cut_so}
 use Rattle.session_laws.specs.Fetching.{FetchesGiveCommands}
 use Rattle.session_laws.specs.Laws.{EventsGoOn}
 use Rattle.session_laws.specs.Moving.{HasOrder, Answers, if_carried, command_by, taken}
 use Rattle.session_laws.specs.Staying.{LeavesUnanswered, OthersLeaveUnanswered}
 use Rattle.session_laws.proofs.Naming.{report_leaves}
 use Rattle.handset_laws.specs.Exchanges.{ResponsesAreRead, CanServe, Announces, AnnouncedCommandsAreFetched, ResponsesAreTaken}
-use Rattle.handset_laws.proofs.Receiving.{past_unless, past_given, instruction_of, parts_of, comes, answer_so, taken_so}
+use Rattle.handset_laws.proofs.Receiving.{past_unless, past_given, instruction_of, parts_of, carried, comes, answer_so, taken_so}
 
 -- ---- the basic channel stays open
 
@@ -61,14 +65,17 @@ unfolding and_given
 toolkit_open card basic (Ok done) = basic
 toolkit_open card basic (Err status) = tt
 
-comes_open : (card : CardState) → is_open card.channels 0 ≡ true → (command : Command) → OpenIn (comes card command)
+carried_open : (card : CardState) → is_open card.channels 0 ≡ true → (command : Command) → OpenIn (carried card command)
 unfolding carried_out
-comes_open card basic sent.SelectMf = file_open card basic (parts_of sent.SelectMf) false _
-comes_open card basic sent.SendProfile = toolkit_open card basic _
-comes_open card basic (sent.Fetch size) = toolkit_open card basic _
-comes_open card basic (sent.Respond details reply) = toolkit_open card basic _
-comes_open card basic (sent.Tell report) = toolkit_open card basic _
-comes_open card basic sent.AskStatus = file_open card basic (parts_of sent.AskStatus) true _
+carried_open card basic sent.SelectMf = file_open card basic (parts_of sent.SelectMf) false _
+carried_open card basic sent.SendProfile = toolkit_open card basic _
+carried_open card basic (sent.Fetch size) = toolkit_open card basic _
+carried_open card basic (sent.Respond details reply) = toolkit_open card basic _
+carried_open card basic (sent.Tell report) = toolkit_open card basic _
+carried_open card basic sent.AskStatus = file_open card basic (parts_of sent.AskStatus) true _
+
+comes_open : (card : CardState) → is_open card.channels 0 ≡ true → (command : Command) → OpenIn (comes card command)
+comes_open card basic command = cut_so (λ answered. is_open answered.state.channels 0 ≡ true) (λ status. ⊤) _ (carried card command) (λ answered is. is) (carried_open card basic command)
 
 settled_open : (card : CardState) → is_open card.channels 0 ≡ true → (came : Result Answered StatusWord) → OpenIn came → is_open (settled card came).state.channels 0 ≡ true
 settled_open card basic (Ok answered) is = is
@@ -130,14 +137,17 @@ LooksForCommands sent.SelectMf = ⊥
 LooksForCommands (sent.Fetch size) = ⊥
 LooksForCommands _ = ⊤
 
+carried_plain : (card : CardState) (command : Command) → LooksForCommands command → PlainIn (carried card command)
+unfolding carried_out toolkit_outcome file_outcome
+carried_plain card sent.SelectMf looks = absurd looks
+carried_plain card sent.SendProfile looks = toolkit_so card _ (profile_plain card (parts_of sent.SendProfile))
+carried_plain card (sent.Fetch size) looks = absurd looks
+carried_plain card (sent.Respond details reply) looks = toolkit_so card _ (response_plain card (parts_of (sent.Respond details reply)))
+carried_plain card (sent.Tell report) looks = toolkit_so card _ (envelope_plain card (parts_of (sent.Tell report)))
+carried_plain card sent.AskStatus looks = status_so card (parts_of sent.AskStatus) _ (status_plain card _ (parts_of sent.AskStatus))
+
 comes_plain : (card : CardState) (command : Command) → LooksForCommands command → PlainIn (comes card command)
-unfolding carried_out
-comes_plain card sent.SelectMf looks = absurd looks
-comes_plain card sent.SendProfile looks = toolkit_so card _ (profile_plain card (parts_of sent.SendProfile))
-comes_plain card (sent.Fetch size) looks = absurd looks
-comes_plain card (sent.Respond details reply) looks = toolkit_so card _ (response_plain card (parts_of (sent.Respond details reply)))
-comes_plain card (sent.Tell report) looks = toolkit_so card _ (envelope_plain card (parts_of (sent.Tell report)))
-comes_plain card sent.AskStatus looks = status_so card (parts_of sent.AskStatus) _ (status_plain card _ (parts_of sent.AskStatus))
+comes_plain card command looks = cut_so (λ answered. IsPlain answered.status) IsPlain _ (carried card command) (λ answered is. is) (carried_plain card command looks)
 
 settled_plain : (card : CardState) (came : Result Answered StatusWord) → PlainIn came → IsPlain (settled card came).status
 settled_plain card (Ok answered) is = is
@@ -187,13 +197,13 @@ IsAnother (sent.Fetch size) = ⊥
 IsAnother (sent.Respond details reply) = ⊥
 IsAnother _ = ⊤
 
-another_leaves : (card : CardState) (command : Command) → IsAnother command → LeavesUnanswered (if_carried (comes card command) (command_by (instruction_of command) card (parts_of command)))
-another_leaves card sent.SelectMf another = other_carried (comes card sent.SelectMf) None tt
-another_leaves card sent.SendProfile another = other_carried (comes card sent.SendProfile) (command_by instruction.TerminalProfile card (parts_of sent.SendProfile)) tt
+another_leaves : (card : CardState) (command : Command) → IsAnother command → LeavesUnanswered (if_carried (carried card command) (command_by (instruction_of command) card (parts_of command)))
+another_leaves card sent.SelectMf another = other_carried (carried card sent.SelectMf) None tt
+another_leaves card sent.SendProfile another = other_carried (carried card sent.SendProfile) (command_by (Toolkit toolkit.TerminalProfile) card (parts_of sent.SendProfile)) tt
 another_leaves card (sent.Fetch size) another = absurd another
 another_leaves card (sent.Respond details reply) another = absurd another
-another_leaves card (sent.Tell report) another = other_carried (comes card (sent.Tell report)) _ (report_leaves (envelope_of (parts_of (sent.Tell report)).body))
-another_leaves card sent.AskStatus another = other_carried (comes card sent.AskStatus) (command_by instruction.Status card (parts_of sent.AskStatus)) tt
+another_leaves card (sent.Tell report) another = other_carried (carried card (sent.Tell report)) _ (report_leaves (envelope_of (parts_of (sent.Tell report)).body))
+another_leaves card sent.AskStatus another = other_carried (carried card sent.AskStatus) (command_by (File file.Status) card (parts_of sent.AskStatus)) tt
 
 -- what is pending is short
 few_pending : (card : CardState) → HasOrder card → IfSome (pending card.session) (λ n. n ≤ 255)
@@ -257,7 +267,7 @@ waits_so card size is = by_out (unfetched card.session) refl is where
   by_out (Some out) same counted = record { out = out; unfetched_is = same; length_is = cc }
 
 fetch_taken : (card : CardState) (size : ℕ) → CanServe card → (waits : Waits card size) → taken is_known card (apdu_of (sent.Fetch size)) ≡ Some (Fetch waits.out)
-unfolding carried_out and_given
+unfolding carried_out toolkit_outcome and_given
 fetch_taken card size ready waits =
     taken_so card ready.basic (sent.Fetch size)
     ∙ ap (λ (came : Result ToolkitOutcome StatusWord). if_carried (and_given (toolkit_tried card came) (λ answered. Ok (event_told false answered))) (option_map (λ out. Fetch out) (unfetched card.session)))
@@ -267,7 +277,7 @@ fetch_taken card size ready waits =
 pub announced_fetched : FetchesGiveCommands → AnnouncedCommandsAreFetched
 announced_fetched gives card size ready announces =
     let waits = waits_so card size announces in
-    record { out = waits.out; waits = waits.unfetched_is; gives = gives is_known card (apdu_of (sent.Fetch size)) waits.out refl (fetch_taken card size ready waits) }
+    record { out = waits.out; waits = waits.unfetched_is; gives = gives is_known card (apdu_of (sent.Fetch size)) waits.out refl (omega (arith, few_waiting card ready.order waits.out waits.unfetched_is)) (fetch_taken card size ready waits) }
 
 -- ---- TERMINAL RESPONSE
 
@@ -293,12 +303,12 @@ response_done card details reply out read held answers some =
     ∙ past_given (reply_to out (spellings (response_objects details reply))) read WRONG_DATA _ answers
 
 response_status : (card : CardState) (came : Result ToolkitOutcome StatusWord) (outcome : ToolkitOutcome) → came ≡ Ok outcome
-    → (settled card (and_given (toolkit_tried card came) (λ answered. Ok (event_told false answered)))).status ≡ DONE
+    → (settled card (cut_result None (and_given (toolkit_tried card came) (λ answered. Ok (event_told false answered))))).status ≡ DONE
 unfolding and_given
-response_status card came outcome is = ap (λ (each : Result ToolkitOutcome StatusWord). (settled card (and_given (toolkit_tried card each) (λ answered. Ok (event_told false answered)))).status) is
+response_status card came outcome is = ap (λ (each : Result ToolkitOutcome StatusWord). (settled card (cut_result None (and_given (toolkit_tried card each) (λ answered. Ok (event_told false answered))))).status) is
 
 pub responses_taken : EventsGoOn → ResponsesAreRead → ((details : Details) (reply : Reply) → 1 ≤ length (spellings (response_objects details reply))) → ResponsesAreTaken
-unfolding carried_out
+unfolding carried_out toolkit_outcome
 responses_taken goes reads some card details reply ready awaits =
     let command : Command = sent.Respond details reply in
     let content : List ℕ = spellings (response_objects details reply) in

@@ -15,11 +15,14 @@ use Rattle.handset_model.specs.declared.commands.Reply.{Reply}
 use Rattle.handset_model.specs.declared.commands.Report.{Report}
 use Rattle.toolkit_commands.specs.declared.commands.Details.{Details}
 use Rattle.card_model.specs.Answers.{Answered, answer, answer_of, carried_with, settled, tried, with_pending}
+use Rattle.card_model.specs.Cases.{cut_result}
 use Rattle.card_model.specs.Channels.{is_open}
 use Rattle.card_model.specs.Instructions.{instruction_tried, is_known}
 use Rattle.card_model.specs.States.{CardState}
 use Rattle.card_model.specs.declared.instructions.Instruction.{Instruction}
-use Rattle.card_model.specs.declared.instructions.Instruction.TheVariants as instruction
+use Rattle.card_model.specs.declared.instructions.Instruction.TheVariants.{File, Toolkit}
+use Rattle.card_model.specs.declared.instructions.ToolkitCommand.TheVariants as toolkit
+use Rattle.file_model.specs.declared.commands.FileCommand.TheVariants as file
 use Rattle.session_laws.specs.Moving.{command_by, if_carried, taken_by, taken}
 
 -- ---- chains
@@ -41,12 +44,12 @@ past_result found x next is = ap (λ each. and_given each next) is
 
 -- the instruction that a command of a handset is
 abbrev pub instruction_of : Command → Instruction
-instruction_of sent.SelectMf = instruction.Select
-instruction_of sent.SendProfile = instruction.TerminalProfile
-instruction_of (sent.Fetch size) = instruction.Fetch
-instruction_of (sent.Respond details reply) = instruction.TerminalResponse
-instruction_of (sent.Tell report) = instruction.Envelope
-instruction_of sent.AskStatus = instruction.Status
+instruction_of sent.SelectMf = File file.Select
+instruction_of sent.SendProfile = Toolkit toolkit.TerminalProfile
+instruction_of (sent.Fetch size) = Toolkit toolkit.Fetch
+instruction_of (sent.Respond details reply) = Toolkit toolkit.TerminalResponse
+instruction_of (sent.Tell report) = Toolkit toolkit.Envelope
+instruction_of sent.AskStatus = File file.Status
 
 abbrev class_of : Command → ℕ
 class_of sent.SelectMf = 0x00
@@ -62,12 +65,12 @@ ins_byte sent.AskStatus = 0xF2
 
 named : (channels : List (Option Selection)) → is_open channels 0 ≡ true → (command : Command) → instruction_tried is_known channels (class_of command) (ins_byte command) ≡ Ok (instruction_of command)
 unfolding instruction_tried refused_if given
-named channels basic sent.SelectMf = ap (λ (b : Bool). refused_if (not b) NO_SUCH_CHANNEL (Ok instruction.Select)) basic
-named channels basic sent.SendProfile = ap (λ (b : Bool). refused_if (not b) NO_SUCH_CHANNEL (Ok instruction.TerminalProfile)) basic
-named channels basic (sent.Fetch size) = ap (λ (b : Bool). refused_if (not b) NO_SUCH_CHANNEL (Ok instruction.Fetch)) basic
-named channels basic (sent.Respond details reply) = ap (λ (b : Bool). refused_if (not b) NO_SUCH_CHANNEL (Ok instruction.TerminalResponse)) basic
-named channels basic (sent.Tell report) = ap (λ (b : Bool). refused_if (not b) NO_SUCH_CHANNEL (Ok instruction.Envelope)) basic
-named channels basic sent.AskStatus = ap (λ (b : Bool). refused_if (not b) NO_SUCH_CHANNEL (Ok instruction.Status)) basic
+named channels basic sent.SelectMf = ap (λ (b : Bool). refused_if (not b) NO_SUCH_CHANNEL (Ok (File file.Select))) basic
+named channels basic sent.SendProfile = ap (λ (b : Bool). refused_if (not b) NO_SUCH_CHANNEL (Ok (Toolkit toolkit.TerminalProfile))) basic
+named channels basic (sent.Fetch size) = ap (λ (b : Bool). refused_if (not b) NO_SUCH_CHANNEL (Ok (Toolkit toolkit.Fetch))) basic
+named channels basic (sent.Respond details reply) = ap (λ (b : Bool). refused_if (not b) NO_SUCH_CHANNEL (Ok (Toolkit toolkit.TerminalResponse))) basic
+named channels basic (sent.Tell report) = ap (λ (b : Bool). refused_if (not b) NO_SUCH_CHANNEL (Ok (Toolkit toolkit.Envelope))) basic
+named channels basic sent.AskStatus = ap (λ (b : Bool). refused_if (not b) NO_SUCH_CHANNEL (Ok (File file.Status))) basic
 
 -- ---- the parts
 
@@ -131,9 +134,13 @@ parts_read sent.AskStatus = refl
 
 -- ---- what the card makes of it
 
--- what comes of the command before it is told what waits
+-- what comes of the command
+abbrev pub carried : CardState → Command → Result Answered StatusWord
+carried card command = carried_with true (instruction_of command) card (parts_of command)
+
+-- and of it, cut to Le, before it is told what waits
 abbrev pub comes : CardState → Command → Result Answered StatusWord
-comes card command = carried_with true (instruction_of command) card (parts_of command)
+comes card command = cut_result (expected_of command) (carried card command)
 
 module _ (card : CardState) (basic : is_open card.channels 0 ≡ true) (command : Command) where
   tried_so : tried is_known card (apdu_of command) ≡ comes card command
@@ -146,7 +153,7 @@ module _ (card : CardState) (basic : is_open card.channels 0 ≡ true) (command 
   unfolding answer_of
   answer_so = ap (λ (came : Result Answered StatusWord). with_pending (settled card came)) tried_so
 
-  pub taken_so : taken is_known card (apdu_of command) ≡ if_carried (comes card command) (command_by (instruction_of command) card (parts_of command))
+  pub taken_so : taken is_known card (apdu_of command) ≡ if_carried (carried card command) (command_by (instruction_of command) card (parts_of command))
   taken_so =
       ap (option_and_then (λ (apdu : Apdu). taken_by card apdu (instruction_tried is_known card.channels apdu.class apdu.ins))) (parts_read command)
       ∙ ap (taken_by card (parts_of command)) (named card.channels basic command)

@@ -42,8 +42,9 @@ use Rattle.card_model.specs.Answers.{answer, carried_out, tried, answer_of}
 use Rattle.card_model.specs.Instructions.{instruction_tried}
 use Rattle.card_model.specs.Runs.{IsRun}
 use Rattle.card_model.specs.States.{CardState, Machine, powered, woken, woken_boxes}
-use Rattle.card_model.specs.Toolkit.{profile_taken, command_fetched, response_taken}
+use Rattle.card_model.specs.Toolkit.{profile_taken, command_fetched, response_taken, toolkit_outcome}
 use Rattle.handset_laws.specs.Serving.{IsServing, AreServed}
+use Rattle.file_model.specs.Commands.{file_outcome}
 
 -- ---- the card and the handset
 
@@ -123,7 +124,7 @@ exchange old apdu body status more back new body_is status_is rest = inl (record
 })
 
 run : IsRun (powered card) steps (seen trace) (powered after_response)
-unfolding refused_if given and_given command_in fields_in instruction_tried carried_out tried answer_of woken woken_boxes descriptor_in descriptors_in file_found selection_of chosen_by_identifier chosen selecting file_selected profile_taken command_fetched response_taken profiled fetched answered responded told_one given_one caught_up wanted filled_up driven trigger_order asks run_on run_of_row act number_of row_from allowed allowed_event consulted tagged response_of apdu_of Reading.tag_at Reading.length_at Reading.value_at Reading.object_at Reading.outline_within Reading.outline_at Reading.template_of
+unfolding refused_if given and_given command_in fields_in instruction_tried carried_out file_outcome toolkit_outcome tried answer_of woken woken_boxes descriptor_in descriptors_in file_found selection_of chosen_by_identifier chosen selecting file_selected profile_taken command_fetched response_taken profiled fetched answered responded told_one given_one caught_up wanted filled_up driven trigger_order asks run_on run_of_row act number_of row_from allowed allowed_event consulted tagged response_of apdu_of Reading.tag_at Reading.length_at Reading.value_at Reading.object_at Reading.outline_within Reading.outline_at Reading.template_of
 run =
     exchange card (apdu_of sent.SelectMf) [] (record { 0 = 0x9000 }) _ _ _ refl refl (
     exchange after_select (apdu_of sent.SendProfile) [] (record { 0 = 0x9110 }) _ _ _ refl refl (
@@ -134,7 +135,7 @@ run =
 
 -- a FETCH that was not announced is refused, and a response too where nothing was fetched: so the law needs the handset's rules
 unannounced : map (λ (apdu : List ℕ). (answer card apdu).status) (apdu_of (sent.Fetch 16) ∷ respond ∷ []) ≡ CONDITIONS_NOT_SATISFIED ∷ CONDITIONS_NOT_SATISFIED ∷ []
-unfolding refused_if given and_given command_in fields_in instruction_tried carried_out tried answer_of woken woken_boxes descriptor_in descriptors_in file_found selection_of chosen_by_identifier chosen selecting file_selected profile_taken command_fetched response_taken profiled fetched answered responded told_one given_one caught_up wanted filled_up driven trigger_order asks run_on run_of_row act number_of row_from allowed allowed_event consulted tagged response_of apdu_of Reading.tag_at Reading.length_at Reading.value_at Reading.object_at Reading.outline_within Reading.outline_at Reading.template_of
+unfolding refused_if given and_given command_in fields_in instruction_tried carried_out file_outcome toolkit_outcome tried answer_of woken woken_boxes descriptor_in descriptors_in file_found selection_of chosen_by_identifier chosen selecting file_selected profile_taken command_fetched response_taken profiled fetched answered responded told_one given_one caught_up wanted filled_up driven trigger_order asks run_on run_of_row act number_of row_from allowed allowed_event consulted tagged response_of apdu_of Reading.tag_at Reading.length_at Reading.value_at Reading.object_at Reading.outline_within Reading.outline_at Reading.template_of
 unannounced = refl
 
 refused : IsServing CONDITIONS_NOT_SATISFIED → ⊥
