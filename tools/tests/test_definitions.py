@@ -118,8 +118,9 @@ pub fn run(x: u8) -> u8
     # a definition, and some of those that cite it: by its own module, by another name, and handed on by a module
     CITED = [
         (("card_model", "Runs", "IsRun"), ("crates/uicc_run/specs/Playing.antt", "EndsSo", "")),
-        (("card_sections", "Behind", "ReadsTo"), ("crates/uicc_run/src/running.rt", "carry_on", "reads")),
-        (("uicc_run", "Endings", "status_of"), ("crates/uicc_run/src/running.rt", "close", "status")),
+        (("card_sections", "Behind", "LinesReadTo"), ("crates/uicc_run/src/running.rt", "carry_on", "reads")),
+        (("uicc_run", "Endings", "status_for"), ("crates/uicc_run/src/running.rt", "close", "status")),
+        (("card_layout", "Persistent", "Pin"), ("crates/card_model/specs/Answers.antt", "with_pins", "")),
         (("uicc_run", "Playing", "Reaches"), ("crates/uicc_run/specs/Playing.antt", "BreaksSo", "")),
         (("card_layout", "Used", "HasNode"), ("crates/card_memory/src/entries.rt", "node_of", "there")),
     ]
