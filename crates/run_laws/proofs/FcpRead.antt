@@ -4,6 +4,7 @@ use Rattle.std.specs.Prelude.{◌==◌, if◌then◌else◌, nat_le, All}
 use Rattle.std.specs.Int.{to_be_bytes, w16}
 use Rattle.std.specs.List.{flat_map}
 use Rattle.std.proofs.lemmas.Bool.{cond-true, eq-eqb, leb-false}
+use Rattle.std.proofs.lemmas.List.{take_all}
 use Rattle.std.proofs.lemmas.List.Elements.{All-cons, All-nil}
 use Rattle.access_rules.specs.Objects.{object}
 use Rattle.card_layout.specs.Persistent.{Pin}
@@ -20,7 +21,7 @@ use Rattle.uicc_types.specs.declared.answers.StatusWord.{StatusWord}
 use Rattle.general_laws.specs.Choices.{low_chosen}
 use Rattle.file_model.proofs.SelectLaws.{object_low, kind_low, keys_low, few_pins}
 use Rattle.run_laws.specs.Fcp.{Object, file_told, objects_in, pins_told, rule_told, short_told}
-use Rattle.run_laws.specs.FcpLaws.{FcpAreObjects, IsFcp, SelectAnswersFcp, StatusAnswersFcp}
+use Rattle.run_laws.specs.FcpLaws.{FcpAreAnsweredWhole, FcpAreObjects, IsFcp, SelectAnswersFcp, StatusAnswersFcp}
 use Rattle.run_laws.proofs.PutAndRead.{unless_ok}
 use Rattle.run_laws.proofs.ObjectsRead.{IsShortObject, all_spelled, spelled_are_read}
 
@@ -136,6 +137,12 @@ told_is_fcp pins file few =
 
 pub fcp_are_objects : FcpAreObjects
 fcp_are_objects state file sound = told_is_fcp state.pins file (few_pins state sound)
+
+-- no Le from 129 on cuts them
+pub fcp_are_answered_whole : FcpAreAnsweredWhole
+fcp_are_answered_whole None pins file bytes is allows = refl
+fcp_are_answered_whole (Some most) pins file bytes is allows =
+    take_all most bytes (omega (arith, ap (length {A = ℕ}) is.one_object, is.short, allows))
 
 -- ---- what SELECT and STATUS answer
 

@@ -1,8 +1,9 @@
 -- What SELECT and STATUS answer is read back, object by object, and tells what the file is (ETSI TS 102 221, 11.1.1.3 and 11.1.1.4).
-use Rattle.std.specs.Prelude.{◌≡◌, ℕ, ◌^◌, ◌<◌, ◌≤◌, List, ◌∷◌, length, Contains, Some, IfSome, Ok}
+use Rattle.std.specs.Prelude.{◌≡◌, ℕ, ◌^◌, ◌<◌, ◌≤◌, List, ◌∷◌, length, Contains, Option, Some, IfSome, Ok}
 use Rattle.apdu_form.specs.Model.{Apdu}
 use Rattle.card_layout.specs.Persistent.{File, Persistent, Pin}
 use Rattle.card_layout.specs.Soundness.{IsSound}
+use Rattle.card_model.specs.Answers.{cut_to}
 use Rattle.file_model.specs.Fcp.{fcp}
 use Rattle.file_model.specs.Files.{descriptor_in, descriptors_in, file_found}
 use Rattle.file_model.specs.Laws.{IsSoundCard}
@@ -39,6 +40,11 @@ abbrev pub StatusAnswersFcp : Type 0
 StatusAnswersFcp = (state : Persistent) (selection : Selection) (apdu : Apdu) (outcome : FileOutcome)
     → IsSound state → status_told state selection apdu ≡ Ok outcome → apdu.p2 ≡ 0x00
     → (df : Descriptor) × (file_found (descriptors_in state) (Number selection.df) ≡ Some df) × IsFcp state.pins df outcome.body
+
+-- Where there is no Le, or one that allows 129 bytes (256 does), all of it is answered.
+abbrev pub FcpAreAnsweredWhole : Type 0
+FcpAreAnsweredWhole = (expected : Option ℕ) (pins : List Pin) (file : Descriptor) (bytes : List ℕ)
+    → IsFcp pins file bytes → IfSome expected (λ most. 129 ≤ most) → cut_to expected bytes ≡ bytes
 
 -- the identifiers of a file have two bytes
 pub record HasShortIdentifiers (file : File) : Type 0 where

@@ -1,6 +1,6 @@
 //! What is read where it was put. The function does nothing: its contract is the law.
 ghost use Rattle.run_laws.specs.Fitting.{WhatStandsFits};
-ghost use Rattle.run_laws.specs.FcpLaws.{FcpAreObjects, FcpTellFiles, SelectAnswersFcp, StatusAnswersFcp};
+ghost use Rattle.run_laws.specs.FcpLaws.{FcpAreAnsweredWhole, FcpAreObjects, FcpTellFiles, SelectAnswersFcp, StatusAnswersFcp};
 ghost use Rattle.run_laws.specs.JournalLaws.{EntriesAreRead, NothingElseIsRead};
 ghost use Rattle.run_laws.specs.ReadingLaws.{BytesAreRead, RecordsAreRead};
 
@@ -11,12 +11,13 @@ pub fn what_is_put_is_read()
     ensures records { RecordsAreRead }
 {}
 
-/// What SELECT and STATUS answer, before Le cuts it, is one object, and falls apart into just the objects that tell of the file. Two
-/// files of which the same is told are alike in all that is told.
+/// What SELECT and STATUS answer, before Le cuts it, is one object of at most 129 bytes, and falls apart into just the objects that tell
+/// of the file; no Le of so many or more cuts it. Two files of which the same is told are alike in all that is told.
 pub fn what_is_told_is_read()
     ensures objects { FcpAreObjects }
     ensures select { SelectAnswersFcp }
     ensures status { StatusAnswersFcp }
+    ensures whole { FcpAreAnsweredWhole }
     ensures files { FcpTellFiles }
 {}
 

@@ -45,8 +45,8 @@ pub fn toolkit_laws_hold_throughout()
     toolkit_laws_hold_of_runs();
 }
 
-/// The status of each answer of a good card tells what waits to be fetched: `91XX` that a command waits which has XX bytes, so that
-/// a FETCH of XX bytes gives it, and `9000` that none does.
+/// The status of each answer of a good card tells what waits to be fetched: `91XX` that a command waits which has XX bytes, or 256
+/// where XX is 00, so that a FETCH of XX bytes gives it, and `9000` that none does.
 pub fn answers_tell_what_waits()
     ensures { AnswersTellWhatWaits }
 {
