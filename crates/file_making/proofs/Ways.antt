@@ -1,12 +1,10 @@
 -- What the entries of a table say of where there is room in its state.
-use Rattle.std.proofs.Common.{get_or, ◌≡◌, ℕ, ◌+◌, ◌≤◌, ◌<◌, Bool, true, false, cond, List, [], ◌∷◌, Some, None, refl, ◌∙◌, ap, subst, ⊎_elim, arith}
+use Rattle.std.proofs.Common.{get_or, ◌≡◌, ℕ, ◌+◌, ◌≤◌, ◌<◌, ◌^◌, Bool, true, false, cond, List, [], ◌∷◌, Option, Some, None, refl, ◌∙◌, ap, subst, ⊎_elim, arith}
 use Rattle.std.specs.Prelude.{◌⊎◌, ◌==◌, ◌&&◌, find, slice_get, Contains, IsTrue, option_and_then}
 use Rattle.std.proofs.lemmas.Bool.{and_parts, and_from, both_ways, cond-true, cond-false}
 use Rattle.std.proofs.lemmas.Option.{slice_get-get_or, get_or_from_slice_get, slice_get_within}
 use Rattle.std.proofs.lemmas.List.Elements.{All-contains, Contains-get_or}
-use Rattle.general_laws.specs.Choices.{mapped_Some}
 use Rattle.general_laws.specs.Finding.{find_Some}
-use Rattle.general_laws.specs.Optional.{none_mapped}
 use Rattle.card_layout.specs.declared.entries.Node.{Node}
 use Rattle.card_layout.specs.declared.entries.Loaded.{Loaded}
 use Rattle.card_layout.specs.Kinds.{df_kind, is_ef_kind}
@@ -17,7 +15,7 @@ use Rattle.card_layout.specs.StateLaws.{FilesAreEntries, FilesComeFromEntries, I
 use Rattle.card_layout.specs.Used.{HasNode, file_if}
 use Rattle.layout_standing.proofs.Attributes.{not_df}
 use Rattle.file_making.specs.Rooms.{IsRoom, share_a_byte}
-use Rattle.file_making.specs.Tables.{is_node_in_the_way, end_in_the_way}
+use Rattle.file_making.specs.Tables.{is_node_in_the_way}
 use Rattle.file_making.proofs.SmallestRooms.{Shared, le_or_lt, shared, shares, either_place}
 
 -- the entry of an EF stands for a file of its kind, in its place
@@ -38,29 +36,42 @@ file_there table content number node law has =
 
 -- ---- an EF in the way
 
--- the search goes on where the EF ends: the bytes may stand at no place between
-pub way_blocked : (table : Loaded) (content : List ℕ) (size place other : ℕ) (node : Node) → FilesAreEntries
-    → find (is_node_in_the_way place size) table.nodes ≡ Some node → IsRoom (state_of table content) size other → place ≤ other → node.place + node.size ≤ other
-way_blocked table content size place other node law found room later =
-    let known = find_Some (is_node_in_the_way place size) table.nodes node found in
-    let number : ℕ = known.0.0 in
-    let parts = and_parts (node.used && is_ef_kind node.kind) (share_a_byte place size node.place node.size) known.1 in
-    let flags = and_parts node.used (is_ef_kind node.kind) parts.0 in
+-- where the bytes have room, none is
+pub none_in_the_way : (table : Loaded) (content : List ℕ) (size place : ℕ) → FilesAreEntries → IsRoom (state_of table content) size place
+    → find (is_node_in_the_way place size) table.nodes ≡ None
+none_in_the_way table content size place law room = either (find (is_node_in_the_way place size) table.nodes) refl where
+  taken : (node : Node) → find (is_node_in_the_way place size) table.nodes ≡ Some node → ⊥
+  taken node found =
+      let known = find_Some (is_node_in_the_way place size) table.nodes node found in
+      let number : ℕ = known.0.0 in
+      let parts = and_parts (node.used && is_ef_kind node.kind) (share_a_byte place size node.place node.size) known.1 in
+      let flags = and_parts node.used (is_ef_kind node.kind) parts.0 in
+      let both : Shared place size node.place node.size = shared place size node.place node.size parts.1 in
+      let there : slice_get table.nodes number ≡ Some node = slice_get-get_or table.nodes number node known.0.1 ∙ ap Some known.0.2 in
+      let has : HasNode table number node = record { there = there; used = flags.0 } in
+      let in_files : Contains (state_of table content).files (ef_file content number node) = subst (Contains (state_of table content).files) (ef_is content number node flags.1) (file_there table content number node law has) in
+      All-contains (λ (file : File). IsTrue (is_ef_kind file.kind) → (byte : ℕ) → place ≤ byte → byte < place + size → file.place ≤ byte → byte < file.place + file.size → ⊥) (state_of table content).files (ef_file content number node) room.free in_files
+      flags.1 both.byte both.after both.before both.other_after both.other_before
+
+  either : (o : Option Node) → find (is_node_in_the_way place size) table.nodes ≡ o → o ≡ None
+  either None is = refl
+  either (Some node) is = absurd (taken node is)
+
+-- where an EF is in the way, it is so up to its end
+pub in_the_way_to_its_end : (size place other : ℕ) (node : Node) → is_node_in_the_way place size node ≡ true → is_node_in_the_way other size node ≡ false
+    → place ≤ other → node.place + node.size ≤ other
+in_the_way_to_its_end size place other node is is_not later =
+    let parts = and_parts (node.used && is_ef_kind node.kind) (share_a_byte place size node.place node.size) is in
     let both : Shared place size node.place node.size = shared place size node.place node.size parts.1 in
-    let there : slice_get table.nodes number ≡ Some node = slice_get-get_or table.nodes number node known.0.1 ∙ ap Some known.0.2 in
-    let has : HasNode table number node = record { there = there; used = flags.0 } in
-    let in_files : Contains (state_of table content).files (ef_file content number node) = subst (Contains (state_of table content).files) (ef_is content number node flags.1) (file_there table content number node law has) in
-    let free = All-contains (λ (file : File). IsTrue (is_ef_kind file.kind) → (byte : ℕ) → other ≤ byte → byte < other + size → file.place ≤ byte → byte < file.place + file.size → ⊥) (state_of table content).files (ef_file content number node) room.free in_files in
-    passed size place other node.place (node.place + node.size) both.byte later both.before both.other_after both.other_before both.after (λ byte. free flags.1 byte)
-  where
-    passed : (size place other begins ends byte : ℕ) → place ≤ other → byte < place + size → begins ≤ byte → byte < ends → place ≤ byte
-        → ((b : ℕ) → other ≤ b → b < other + size → begins ≤ b → b < ends → ⊥) → ends ≤ other
-    passed size place other begins ends byte later before after_begin before_end after free = ⊎_elim {C = ends ≤ other} (λ done. done)
-        (λ inside. ⊎_elim {C = ends ≤ other}
-        (λ above. absurd (free byte above (omega arith) after_begin before_end))
-        (λ below. absurd (free other (omega arith) (omega arith) (omega arith) inside))
-        (le_or_lt other byte))
-        (le_or_lt ends other)
+    let at = λ (byte : ℕ) (after : other ≤ byte) (before : byte < other + size) (from : node.place ≤ byte) (to : byte < node.place + node.size).
+    both_ways (is_node_in_the_way other size node) is_not
+    (and_from (node.used && is_ef_kind node.kind) (share_a_byte other size node.place node.size) parts.0 (shares other size node.place node.size byte after before from to)) in
+    ⊎_elim {C = node.place + node.size ≤ other} (λ done. done)
+    (λ inside. ⊎_elim {C = node.place + node.size ≤ other}
+    (λ above. absurd (at node.place above (omega (arith, both.before, both.other_after, later)) (omega arith) (omega (arith, both.other_after, both.other_before))))
+    (λ below. absurd (at other (omega arith) (omega (arith, both.after, both.before)) (omega (arith, below)) inside))
+    (le_or_lt other node.place))
+    (le_or_lt (node.place + node.size) other)
 
 -- ---- no EF in the way
 
@@ -94,16 +105,42 @@ way_clear table content size place law from to none = record {
 
 -- ---- the search
 
-pub way_ends : (table : Loaded) (content : List ℕ) (size place next other : ℕ) → FilesAreEntries
-    → end_in_the_way place size table.nodes ≡ Some next → IsRoom (state_of table content) size other → place ≤ other → next ≤ other
-way_ends table content size place next other law is room later =
-    let found = mapped_Some (λ (node : Node). node.place + node.size) (find (is_node_in_the_way place size) table.nodes) next is in
-    subst (λ n. n ≤ other) found.2 (way_blocked table content size place other found.0 law found.1 room later)
+-- ---- the search through the table
 
-pub way_open : (table : Loaded) (content : List ℕ) (size place : ℕ) → FilesComeFromEntries → data_place ≤ place → place + size ≤ data_end table.wide
-    → end_in_the_way place size table.nodes ≡ None → IsRoom (state_of table content) size place
-way_open table content size place law from to none =
-    way_clear table content size place law from to (none_mapped (λ (node : Node). node.place + node.size) (find (is_node_in_the_way place size) table.nodes) none)
+-- how far it has come, where these entries are left
+pub record IsBehind (nodes rest : List Node) (place size behind : ℕ) : Type 0 where
+  pub later : place ≤ behind
+  pub low : behind < 2 ^ 17
+  pub clear : behind ≡ place → find (is_node_in_the_way place size) nodes ≡ find (is_node_in_the_way place size) rest
+  pub empty : size ≡ 0 → behind ≡ place
+  pub skipped : (other : ℕ) → find (is_node_in_the_way other size) nodes ≡ None → place ≤ other → behind ≤ other
+
+-- the next one is in the way
+pub behind_one : (nodes rest : List Node) (place size behind : ℕ) (node : Node) → IsBehind nodes (node ∷ rest) place size behind → Contains nodes node
+    → is_node_in_the_way behind size node ≡ true → node.place + node.size < 2 ^ 17 → IsBehind nodes rest place size (node.place + node.size)
+behind_one nodes rest place size behind node so_far there is low =
+    let parts = and_parts (node.used && is_ef_kind node.kind) (share_a_byte behind size node.place node.size) is in
+    let both : Shared behind size node.place node.size = shared behind size node.place node.size parts.1 in
+    let more : behind < node.place + node.size = omega (arith, both.after, both.other_before) in
+    record {
+      later = omega (arith, more, so_far.later);
+      low = low;
+      clear = λ same. absurd (omega (arith, same, more, so_far.later));
+      empty = λ none. absurd (omega (arith, none, both.after, both.before));
+      skipped = λ other free after. in_the_way_to_its_end size behind other node is (none_found (is_node_in_the_way other size) nodes node free there) (so_far.skipped other free after);
+    }
+
+-- it isn't
+pub beside_one : (nodes rest : List Node) (place size behind : ℕ) (node : Node) → IsBehind nodes (node ∷ rest) place size behind
+    → is_node_in_the_way behind size node ≡ false → IsBehind nodes rest place size behind
+beside_one nodes rest place size behind node so_far is = record {
+  later = so_far.later;
+  low = so_far.low;
+  clear = λ same. so_far.clear same ∙ cond-false (is_node_in_the_way place size node) (Some node) (find (is_node_in_the_way place size) rest)
+      (subst (λ (n : ℕ). is_node_in_the_way n size node ≡ false) same is);
+  empty = so_far.empty;
+  skipped = so_far.skipped;
+}
 
 -- a place from which so many bytes reach beyond those of the files is too late
 pub too_late : (table : Loaded) (content : List ℕ) (size place end other : ℕ) → end ≡ data_end table.wide → end < place + size → IsRoom (state_of table content) size other → place ≤ other → ⊥

@@ -1,5 +1,5 @@
 -- What is asked of a table of entries, where the state asks it of files.
-use Rattle.std.specs.Prelude.{ℕ, ◌+◌, ◌&&◌, Bool, List, find, Option, option_map}
+use Rattle.std.specs.Prelude.{ℕ, ◌&&◌, Bool}
 use Rattle.card_layout.specs.declared.entries.Node.{Node}
 use Rattle.card_layout.specs.Kinds.{is_ef_kind}
 use Rattle.file_making.specs.Rooms.{share_a_byte}
@@ -7,7 +7,3 @@ use Rattle.file_making.specs.Rooms.{share_a_byte}
 -- an EF's entry, with a byte in this range
 abbrev pub is_node_in_the_way : ℕ → ℕ → Node → Bool
 is_node_in_the_way place size node = node.used && is_ef_kind node.kind && share_a_byte place size node.place node.size
-
--- where the first such EF ends
-abbrev pub end_in_the_way : ℕ → ℕ → List Node → Option ℕ
-end_in_the_way place size nodes = option_map (λ node. node.place + node.size) (find (is_node_in_the_way place size) nodes)

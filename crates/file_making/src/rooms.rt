@@ -1,9 +1,9 @@
 //! Where there is room on a card: for the bytes of an EF, and for one file more.
-ghost use Rattle.std.specs.Prelude.{◌≡◌, ◌+◌, ◌≤◌, ◌<◌, ◌^◌, List, ℕ, IfSome};
+ghost use Rattle.std.specs.Prelude.{◌≡◌, ◌≤◌, ◌<◌, ◌^◌, List, ℕ, None, IfSome, find};
 ghost use Rattle.card_layout.specs.States.{state_of};
 ghost use Rattle.card_layout.specs.Places.{data_end};
 ghost use Rattle.file_making.specs.Rooms.{IsSmallestRoom, room_at, free_number};
-ghost use Rattle.file_making.specs.Tables.{is_node_in_the_way, end_in_the_way};
+ghost use Rattle.file_making.specs.Tables.{is_node_in_the_way};
 
 use crate::laws::rooms_are_smallest;
 use card_layout::places::{DATA, MEMORY_SIZE, UPPER_ROWS};
@@ -12,7 +12,8 @@ use card_layout::{Loaded, Node, kinds, states_are_of_entries};
 
 // Whether this is the entry of an EF with one of the `size` bytes from `place` on.
 fn is_in_the_way(node: &Node, place: u32, size: u32) -> bool
-    requires { place + size ≤ MEMORY_SIZE }
+    requires place { place < 2 ^ 17 }
+    requires size { size < 2 ^ 16 }
     ensures { result ≡ is_node_in_the_way place size node.now }
 {
     let begins = u32::from(node.place);
@@ -20,20 +21,24 @@ fn is_in_the_way(node: &Node, place: u32, size: u32) -> bool
     node.used && kinds::is_ef(node.kind) && place.max(begins) < (place + size).min(ends)
 }
 
-// Where the first EF ends that has one of the `size` bytes from `place` on.
-fn end_in_the_way(nodes: &[Node], place: u32, size: u32) -> Option<u32>
-    requires { place + size ≤ MEMORY_SIZE }
-    ensures value { result ≡ end_in_the_way place size nodes.now }
-    ensures later { IfSome result (λ end. place < end) }
-    ensures low { IfSome result (λ end. end < 2 ^ 17) }
-    ensures some { IfSome result (λ _. 1 ≤ size) }
+// The place behind the EFs that are in the way: behind one of them, whether the next is in the way from there on, and so through the table.
+fn behind_files(nodes: &[Node], place: u32, size: u32) -> u32
+    requires place { place < 2 ^ 17 }
+    requires size { size < 2 ^ 16 }
+    ensures later { place ≤ result }
+    ensures low { result < 2 ^ 17 }
+    ensures clear { result ≡ place → find (is_node_in_the_way place size) nodes.now ≡ None }
+    ensures empty { size ≡ 0 → result ≡ place }
+    ensures skipped { (other : ℕ) → find (is_node_in_the_way other size) nodes.now ≡ None → place ≤ other
+        → result ≤ other }
 {
+    let mut behind = place;
     for node in nodes {
-        if is_in_the_way(node, place, size) {
-            return Some(u32::from(node.place) + u32::from(node.size));
+        if is_in_the_way(node, behind, size) {
+            behind = u32::from(node.place) + u32::from(node.size);
         }
     }
-    None
+    behind
 }
 
 // Where the bytes of the files end.
@@ -49,8 +54,8 @@ fn end_of_files(wide: bool) -> u32
 }
 
 /// The smallest place at which so many bytes may stand: among those of the files, and beside those of each EF. None exactly
-/// where there is no such place. From each EF that is in the way the search goes on where it ends, so the gaps between the
-/// files are tried in ascending order.
+/// where there is no such place. From each EF that is in the way the search goes on where it ends, and through the table so often
+/// until none is: twice, where the entries stand in the order of the files.
 pub fn room(loaded: &Loaded, size: u16) -> Option<u16>
     ensures smallest { (content : List ℕ) → IsSmallestRoom (state_of loaded.now content) size result }
     ensures value { (content : List ℕ) → result ≡ room_at (state_of loaded.now content) size }
@@ -61,10 +66,11 @@ pub fn room(loaded: &Loaded, size: u16) -> Option<u16>
     let size = u32::from(size);
     let mut place = DATA as u32;
     while place + size <= end {
-        match end_in_the_way(loaded.all_nodes(), place, size) {
-            Some(next) => place = next,
-            None => return Some(place as u16),
+        let behind = behind_files(loaded.all_nodes(), place, size);
+        if behind == place {
+            return Some(place as u16);
         }
+        place = behind;
     }
     None
 }

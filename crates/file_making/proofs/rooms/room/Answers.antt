@@ -1,46 +1,46 @@
-use Rattle.std.proofs.Common.{◌≡◌, ℕ, ◌+◌, ◌≤◌, Some, None, List, arith, ap, ◌∙◌, sym, subst}
+use Rattle.std.proofs.Common.{ℕ, ◌+◌, ◌≤◌, Some, None, List, arith, ap, ◌∙◌, sym, subst}
+use Rattle.std.specs.Prelude.{find}
 use Rattle.card_layout.specs.declared.entries.Node.{Node}
 use Rattle.card_layout.specs.Places.{data_end}
 use Rattle.card_layout.specs.States.{state_of}
 use Rattle.file_making.specs.Rooms.{IsSmallestRoom, room_at}
-use Rattle.file_making.specs.Tables.{end_in_the_way}
-use Rattle.file_making.proofs.Ways.{way_ends, way_open, too_late}
+use Rattle.file_making.specs.Tables.{is_node_in_the_way}
+use Rattle.file_making.proofs.Ways.{none_in_the_way, way_clear, too_late}
 use Rattle.file_making.proofs.rooms.room.Goals as goal
 
 pub loop-place-preserved : goal.loop-place-preserved
 loop-place-preserved c =
-    let place : ℕ = c.loop-place.place in
-    let size : ℕ = c.from-size.result in
-    let here : end_in_the_way place size c.args.loaded.now.nodes ≡ Some c.in-Some.next =
-    ap (λ (nodes : List Node). end_in_the_way place size nodes) (sym c.all_nodes.ensures.value) ∙ sym c.in-Some.ensures.value in
     record {
-      from = omega (arith, c.in-Some.ensures.later);
-      low = c.in-Some.ensures.low;
-      some = λ none. absurd (omega (arith, c.in-Some.ensures.some));
-      passed = λ content other room. way_ends c.args.loaded.now content size place c.in-Some.next other c.states_are_of_entries.ensures.files here room (c.loop-place.invariant.passed content other room);
+      from = omega (arith, c.behind_files-behind.ensures.later, c.loop-place.invariant.from);
+      low = c.behind_files-behind.ensures.low;
+      some = λ none. absurd (c.if-behind-place.false (c.behind_files-behind.ensures.empty none));
+      passed = λ content other room. c.behind_files-behind.ensures.skipped other
+          (ap (λ (nodes : List Node). find (is_node_in_the_way other c.from-size.result) nodes) c.all_nodes.ensures.value ∙ none_in_the_way c.args.loaded.now content c.from-size.result other c.states_are_of_entries.ensures.files room)
+          (c.loop-place.invariant.passed content other room);
     }
 
 -- that it serves, and the ones before don't
-found : (c : goal.In-None) (content : List ℕ) → IsSmallestRoom (state_of c.args.loaded.now content) c.args.size (Some c.loop-place.place)
+found : (c : goal.Then-behind-place) (content : List ℕ) → IsSmallestRoom (state_of c.args.loaded.now content) c.args.size (Some c.loop-place.place)
 found c content =
     let place : ℕ = c.loop-place.place in
     let size : ℕ = c.from-size.result in
-    let here : end_in_the_way place size c.args.loaded.now.nodes ≡ None =
-    ap (λ (nodes : List Node). end_in_the_way place size nodes) (sym c.all_nodes.ensures.value) ∙ sym c.in-None.ensures.value in
     let ends : place + size ≤ data_end c.args.loaded.now.wide = subst (λ (n : ℕ). place + size ≤ n) c.end_of_files-end.ensures.value c.loop-place-test.true in
-    subst (λ (n : ℕ). IsSmallestRoom (state_of c.args.loaded.now content) n (Some place)) c.from-size.ensures
-    (way_open c.args.loaded.now content size place c.states_are_of_entries.ensures.from_nodes c.loop-place.invariant.from ends here, c.loop-place.invariant.passed content)
+    subst (λ (n : ℕ). IsSmallestRoom (state_of c.args.loaded.now content) n (Some place)) c.from-size.ensures (
+      way_clear c.args.loaded.now content size place c.states_are_of_entries.ensures.from_nodes c.loop-place.invariant.from ends
+          (ap (λ (nodes : List Node). find (is_node_in_the_way place size) nodes) (sym c.all_nodes.ensures.value) ∙ c.behind_files-behind.ensures.clear c.if-behind-place.true),
+      c.loop-place.invariant.passed content,
+    )
 
 none : (c : goal.After-loop-place) (content : List ℕ) → IsSmallestRoom (state_of c.args.loaded.now content) c.args.size None
 none c content =
     subst (λ (n : ℕ). IsSmallestRoom (state_of c.args.loaded.now content) n None) c.from-size.ensures
     (λ other room. too_late c.args.loaded.now content c.from-size.result c.loop-place.place c.end_of_files-end.result other c.end_of_files-end.ensures.value c.loop-place-test.false room (c.loop-place.invariant.passed content other room))
 
-pub returns-in-None-clause-smallest : goal.returns-in-None-clause-smallest
-returns-in-None-clause-smallest c = λ content. found c content
+pub returns-then-behind-place-clause-smallest : goal.returns-then-behind-place-clause-smallest
+returns-then-behind-place-clause-smallest c = λ content. found c content
 
-pub returns-in-None-clause-value : goal.returns-in-None-clause-value
-returns-in-None-clause-value c = λ content.
+pub returns-then-behind-place-clause-value : goal.returns-then-behind-place-clause-value
+returns-then-behind-place-clause-value c = λ content.
     let state = state_of c.args.loaded.now content in
     c.rooms_are_smallest.ensures.one state c.args.size (Some c.loop-place.place) (room_at state c.args.size) (found c content) (c.rooms_are_smallest.ensures.smallest state c.args.size)
 
