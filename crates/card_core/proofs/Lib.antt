@@ -2,6 +2,7 @@ mod Standing
 mod AtMost
 mod Selecting
 mod Settling
+mod Single
 mod Telling
 mod Kept
 mod Tries

@@ -122,7 +122,7 @@ pub refused_settled : {X : Type 0} (done : X) (parts : CardParts) → parts.is_d
     → ((persistent : Persistent) → f (card_with false parts persistent) ≡ Err status) → out.body ≡ [] → out.status ≡ status → out.status.0 ≢ MEMORY_PROBLEM.0 → IsSettled (Ok done) parts parts out f
 refused_settled {X} done parts rests out status f refused body is usual = record {
   settles = refusal_settles parts out status f rests refused body is;
-  counts = counts_none {X = X} (Ok done) parts parts rests (λ card. (settled card (f card)).commits) (λ persistent. ap (λ came. (settled (card_with false parts persistent) came).commits) (refused persistent)) refl refl;
+  counts = counts_none {X = X} (Ok done) parts parts rests (λ card. (settled card (f card)).commits) (λ persistent. ap (λ came. (settled (card_with false parts persistent) came).commits) (refused persistent)) refl refl refl;
   usual = usual;
   empty = tt;
 }

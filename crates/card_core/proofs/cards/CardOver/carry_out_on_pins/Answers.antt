@@ -32,7 +32,7 @@ returns-in-Ok-clause-settled g c = record {
       pins_settle c.args.command (parts_of g.S.Store g.B.Applet c.args.self.now) c.requires.underway.rests c.args.apdu.now _ _ c.named_pin_command.new.out c.in-Ok.ensures.performs c.requires.underway.rests refl refl refl;
   counts =
       pins_counts c.args.command (parts_of g.S.Store g.B.Applet c.args.self.now) c.requires.underway.rests c.args.apdu.now _ c.deref_mut.result.now c.named_pin_command.new.loaded c.tables_tell_states.ensures c.requires.underway.running.mounted.agrees c.deref_mut.ensures.value
-      _ c.named_pin_command.new.out c.in-Ok.ensures.performs (λ none. ap g.S.Store.stable (c.named_pin_command.ensures.still none).1);
+      _ c.named_pin_command.new.out c.in-Ok.ensures.performs c.in-Ok.ensures.stops (λ none. ap g.S.Store.stable (c.named_pin_command.ensures.still none).1);
   usual = search rules;
   empty = search rules;
 }
@@ -64,7 +64,7 @@ returns-in-Err-clause-settled g c = record {
       (standing (g.S.Store.store_mark c.named_pin_command.new.store) (g.S.Store.stable c.named_pin_command.new.store)) c.in-Err.ensures.performs.passes);
   counts =
       pins_counts c.args.command (parts_of g.S.Store g.B.Applet c.args.self.now) c.requires.underway.rests c.args.apdu.now _ c.deref_mut.result.now c.named_pin_command.new.loaded c.tables_tell_states.ensures c.requires.underway.running.mounted.agrees c.deref_mut.ensures.value
-      _ c.named_pin_command.new.out c.in-Err.ensures.performs (λ none. ap g.S.Store.stable (c.named_pin_command.ensures.still none).1);
+      _ c.named_pin_command.new.out c.in-Err.ensures.performs c.in-Err.ensures.stops (λ none. ap g.S.Store.stable (c.named_pin_command.ensures.still none).1);
   usual = search rules;
   empty = search rules;
 }
