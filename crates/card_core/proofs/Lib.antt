@@ -3,6 +3,7 @@ mod AtMost
 mod Selecting
 mod Settling
 mod Single
+mod Rows
 mod Telling
 mod Kept
 mod Tries

@@ -32,21 +32,7 @@ use Rattle.card_core.proofs.Tries.{plain, settles_alike, refusal_settles}
 
 -- refused in the same way, in another answer
 pub denied_as : (word other : StatusWord) (mid out : Answer) (old new : CardParts) → IsDenied word mid old new → IsRefusedWith other out → IsDenied other out old new
-denied_as word other mid out old new is refused = record {
-  refused = refused;
-  table = is.table;
-  channels = is.channels;
-  verified = is.verified;
-  session = is.session;
-  boxes = is.boxes;
-  is_on = is.is_on;
-  is_due = is.is_due;
-  index = is.index;
-  leaving = is.leaving;
-  told = is.told;
-  mark = is.mark;
-  commits = is.commits;
-}
+denied_as word other mid out old new is refused = record { refused = refused; stays = is.stays }
 
 module _ {X : Type 0} (result : Result X StoreFault) (old new : CardParts) where
   -- another answer that comes of the same

@@ -133,8 +133,25 @@ fn asks_secure_messaging(class: u8) -> bool
 }
 
 /// The command that a class and an instruction byte name: the class is tested first, then the channel, then the instruction.
-#[tactic(auto, unfolding(card_model::specs::Instructions::instruction_tried, file_model::specs::Chains::refused_if, file_model::specs::Chains::given))]
 pub fn instruction_of(channels: &Channels, class: u8, ins: u8) -> Result<Instruction, StatusWord>
+    ensures tried { result ≡ instruction_tried is_known channels.now class ins }
+    ensures open { OnOk result (is_open channels.now (channel_of class) ≡ true) }
+    ensures usual { result ≢ Err StatusWord.MEMORY_PROBLEM }
+{
+    // Most commands come so, on the basic channel, which is open: one that has a row is refused for none of the rest.
+    if class == 0x00 || class == 0x80 {
+        channels.basic_is_open();
+        if let Some(row) = Row::of(class, ins) {
+            return Ok(row.instruction);
+        }
+    }
+    instruction_tested(channels, class, ins)
+}
+
+// The same, by one test after the other.
+#[inline(never)]
+#[tactic(auto, unfolding(card_model::specs::Instructions::instruction_tried, file_model::specs::Chains::refused_if, file_model::specs::Chains::given))]
+fn instruction_tested(channels: &Channels, class: u8, ins: u8) -> Result<Instruction, StatusWord>
     ensures tried { result ≡ instruction_tried is_known channels.now class ins }
     ensures open { OnOk result (is_open channels.now (channel_of class) ≡ true) }
     ensures usual { result ≢ Err StatusWord.MEMORY_PROBLEM }
