@@ -1,7 +1,8 @@
 -- From what a command of the toolkit comes to, to what the card comes to.
-use Rattle.std.proofs.Common.{◌≡◌, ◌⊎◌, inl, inr, ℕ, Bool, true, false, List, [], length, Option, Some, None, Result, Ok, Err, refl, sym, ◌∙◌, ap, subst}
+use Rattle.std.proofs.Common.{◌≡◌, ◌⊎◌, inl, inr, ℕ, ◌+◌, arith, Bool, true, false, List, [], length, Option, Some, None, Result, Ok, Err, refl, sym, ◌∙◌, ap, subst}
 use Rattle.std.specs.Prelude.{IfSome, IsOk, MatchResult, ⊤}
 use Rattle.std.proofs.lemmas.Bool.{false≢true}
+use Rattle.std.proofs.lemmas.List.{length-map}
 use Rattle.uicc_types.specs.Counts.{raised_by}
 use Rattle.uicc_types.specs.declared.answers.Answer.{Answer}
 use Rattle.uicc_types.specs.declared.answers.StatusWord.{StatusWord}
@@ -10,6 +11,7 @@ use Rattle.store_form.specs.declared.store.StoreFault.{StoreFault}
 use Rattle.apdu_form.specs.Model.{Apdu}
 use Rattle.access_rules.specs.declared.rules.Verified.{Verified}
 use Rattle.card_layout.specs.declared.entries.Loaded.{Loaded}
+use Rattle.card_layout.specs.Memory.{held}
 use Rattle.card_layout.specs.Persistent.{Pin, Persistent}
 use Rattle.card_layout.specs.Standing.{Agrees}
 use Rattle.card_layout.specs.States.{pins_of}
@@ -18,9 +20,10 @@ use Rattle.file_model.specs.Access.{keys_seen}
 use Rattle.file_model.specs.Chains.{and_given}
 use Rattle.file_model.specs.Files.{descriptors_of}
 use Rattle.toolkit_model.specs.Model.{AppletState}
+use Rattle.toolkit_model.specs.Passing.{passed_rows}
 use Rattle.card_model.specs.Answers.{Answered, settled, carried_out, event_told, on_toolkit, toolkit_tried, seen_by}
 use Rattle.card_model.specs.States.{CardState}
-use Rattle.card_model.specs.Toolkit.{ToolkitOutcome, toolkit_outcome}
+use Rattle.card_model.specs.Toolkit.{ToolkitOutcome, toolkit_outcome, states_passed, with_rows}
 use Rattle.card_model.specs.declared.instructions.Instruction.TheVariants.{Toolkit}
 use Rattle.card_model.specs.declared.instructions.ToolkitCommand.{ToolkitCommand}
 use Rattle.card_model.specs.declared.instructions.ToolkitCommand.TheVariants.{TerminalProfile, Fetch, TerminalResponse, Envelope, InstallApplet, DeleteApplet}
@@ -28,16 +31,17 @@ use Rattle.session_laws.specs.Laws.{CommandsLeaveRows}
 use Rattle.session_laws.specs.Moving.{HasOrder, LeavesRows, command_by}
 use Rattle.toolkit_model.specs.Steps.{Command}
 use Rattle.proactive_handler.specs.Counting.{Counts}
-use Rattle.session_commands.specs.Carrying.{HasToolkit, Carries}
+use Rattle.session_commands.specs.Carrying.{HasToolkit, IsToolkitCutShort, Carries, state_at}
 use Rattle.session_commands.specs.Cards.{AnswersSo, answers_so, holds_so, counts_so, at_most_so}
+use Rattle.card_memory.specs.Performing.{CommitsAtMost}
 use Rattle.card_core.specs.AnyStore.{AnswersAs}
 use Rattle.card_core.specs.Cards.{memory_of, held_by, card_with, card_of}
 use Rattle.card_core.specs.Commands.{leaving_by}
 use Rattle.card_core.specs.Acting.{CommitsSo}
-use Rattle.card_core.specs.Moves.{Answers, CommitsStates}
+use Rattle.card_core.specs.Moves.{Answers, CommitsStates, StopsAt}
 use Rattle.card_core.specs.Parts.{CardParts}
 use Rattle.proactive_handler.specs.Steps.{Scene, scene}
-use Rattle.card_memory.specs.Performing.{CommitsAtMost}
+use Rattle.card_core.proofs.AtMost.{stops_between, stands_there}
 use Rattle.card_core.proofs.Standing.{if_card, card_then}
 
 -- ---- which command it is
@@ -128,6 +132,20 @@ module _ (command : ToolkitCommand) (apdu : Apdu) (old new : CardParts) (seen : 
 
 -- ---- how often it commits
 
+-- a fault stopped one of its commits
+module _ (card : CardState) (out : Answer) (old new : Scene) (stood : held old.memory ≡ Some card.persistent) where
+  short_stops : (outcome : ToolkitOutcome) → IsToolkitCutShort outcome old new → StopsAt card.persistent (settled card (toolkit_tried card (Ok outcome))).commits old.memory.commits new.memory.commits (held new.memory)
+  unfolding and_given
+  short_stops outcome short =
+      let long : length (states_passed card.persistent outcome) ≡ length (passed_rows outcome.passed.log) = length-map (passed_rows outcome.passed.log) (with_rows card.persistent outcome.next_sequence) in
+      stops_between card.persistent (states_passed card.persistent outcome) old.memory.commits new.memory.commits (held new.memory) short.count (omega (arith, short.one_more, long)) short.commits
+      (stands_there (state_at outcome short.count) (state_at outcome (short.count + 1)) (held old.memory) (held new.memory) card.persistent stood short.stands)
+
+  pub stops_so : (X : Type 0) (tried : Result ToolkitOutcome StatusWord) (fault : StoreFault) → Carries {X = X} tried out old new (Err fault)
+      → StopsAt card.persistent (settled card (toolkit_tried card tried)).commits old.memory.commits new.memory.commits (held new.memory)
+  stops_so X (Err status) fault carries = absurd carries
+  stops_so X (Ok outcome) fault carries = short_stops outcome carries
+
 module _ (command : ToolkitCommand) (apdu : Apdu) (old new : CardParts) (seen : Verified) (seen_is : seen ≡ keys_seen (pins_of old.table) old.verified) (tell : TablesTellStates)
     (agrees : Agrees old.store_mark old.told old.table) (rests : old.is_due ≡ false) where
   counted : {X : Type 0} (out : Answer) (done : X) → ((card : CardState) → HasToolkit (scene_of old) card → Carries {X = X} (toolkit_outcome command card seen apdu) out (scene_of old) (scene_of new) (Ok done))
@@ -140,12 +158,13 @@ module _ (command : ToolkitCommand) (apdu : Apdu) (old new : CardParts) (seen : 
       (subst (λ (keys : Verified). Carries {X = X} (toolkit_outcome command card keys apdu) out (scene_of old) (scene_of new) (Ok done)) sees (carries card (has_toolkit_of old persistent told))))
 
   stopped_at : (X : Type 0) (out : Answer) (fault : StoreFault) → ((card : CardState) → HasToolkit (scene_of old) card → Carries {X = X} (toolkit_outcome command card seen apdu) out (scene_of old) (scene_of new) (Err fault))
-      → (persistent : Persistent) → IsTold old.table persistent → CommitsAtMost (length (settled (card_with false old persistent) (carried_out (Toolkit command) (card_with false old persistent) apdu)).commits) old.commits new.commits
-  stopped_at X out fault carries persistent told =
+      → (persistent : Persistent) → held_by old ≡ Some persistent → IsTold old.table persistent
+      → StopsAt persistent (settled (card_with false old persistent) (carried_out (Toolkit command) (card_with false old persistent) apdu)).commits old.commits new.commits (held_by new)
+  stopped_at X out fault carries persistent held told =
       let card : CardState = card_with false old persistent in
       let sees : seen ≡ seen_by card = seen_is ∙ ap (λ (pins : List Pin). keys_seen pins old.verified) (sym told.pins) in
-      subst (λ (came : Result Answered StatusWord). CommitsAtMost (length (settled card came).commits) old.commits new.commits) (sym (by_toolkit command card apdu))
-      (at_most_so card out (scene_of old) (scene_of new) X (toolkit_outcome command card (seen_by card) apdu) fault
+      subst (λ (came : Result Answered StatusWord). StopsAt persistent (settled card came).commits old.commits new.commits (held_by new)) (sym (by_toolkit command card apdu))
+      (stops_so card out (scene_of old) (scene_of new) held X (toolkit_outcome command card (seen_by card) apdu) fault
       (subst (λ (keys : Verified). Carries {X = X} (toolkit_outcome command card keys apdu) out (scene_of old) (scene_of new) (Err fault)) sees (carries card (has_toolkit_of old persistent told))))
 
   pub toolkit_counts : {X : Type 0} (result : Result X StoreFault) (out : Answer)
@@ -161,7 +180,7 @@ module _ (command : ToolkitCommand) (apdu : Apdu) (old new : CardParts) (seen : 
   toolkit_counts {X} (Err fault) out carries calm = record {
     commits = tt;
     stopped =
-        if_card old (λ card. CommitsAtMost (length (settled card (carried_out (Toolkit command) card apdu)).commits) old.commits new.commits) rests (λ persistent held. stopped_at X out fault carries persistent (tell old.store_mark old.told old.table persistent agrees held));
+        if_card old (λ card. StopsAt card.persistent (settled card (carried_out (Toolkit command) card apdu)).commits old.commits new.commits (held_by new)) rests (λ persistent held. stopped_at X out fault carries persistent held (tell old.store_mark old.told old.table persistent agrees held));
     stable =
         if_card old (λ card. (settled card (carried_out (Toolkit command) card apdu)).commits ≡ [] → new.told ≡ old.told) rests
         (λ persistent held none. absurd (false≢true (calm persistent (tell old.store_mark old.told old.table persistent agrees held) none)));

@@ -1,5 +1,5 @@
 -- How often a command commits, and that the bytes stay where it doesn't: from its parts to the whole.
-use Rattle.std.proofs.Common.{◌≡◌, ◌⊎◌, inl, inr, ℕ, ◌≤◌, arith, ◌==◌, true, false, List, [], ◌++◌, length, Option, Some, None, Result, Ok, Err, sym, ◌∙◌, ap, subst}
+use Rattle.std.proofs.Common.{◌≡◌, ◌⊎◌, inl, inr, ℕ, ◌==◌, true, false, List, [], ◌++◌, length, Bool, Option, Some, None, option_map, Result, Ok, sym, ◌∙◌, ap, subst}
 use Rattle.std.specs.Prelude.{IfSome}
 use Rattle.std.proofs.lemmas.Bool.{false≢true}
 use Rattle.std.proofs.lemmas.Result.{on_ok_weaker, on_err_weaker}
@@ -11,18 +11,17 @@ use Rattle.uicc_types.specs.declared.answers.TheConstants.StatusWord.{DONE}
 use Rattle.store_form.specs.declared.store.StoreFault.{StoreFault}
 use Rattle.apdu_form.specs.Model.{Apdu}
 use Rattle.card_layout.specs.Persistent.{Persistent}
-use Rattle.card_memory.specs.Performing.{CommitsAtMost}
 use Rattle.card_model.specs.Answers.{Answered, settled, carried_with, carried_out, tried, answer_of, answer}
 use Rattle.card_model.specs.Instructions.{is_known}
-use Rattle.card_model.specs.States.{CardState}
+use Rattle.card_model.specs.States.{CardState, woken}
 use Rattle.card_model.specs.declared.instructions.Instruction.TheVariants.{File}
 use Rattle.file_model.specs.declared.commands.FileCommand.TheVariants.{Status}
-use Rattle.card_core.specs.Cards.{card_with, card_of}
-use Rattle.card_core.specs.Moves.{Answers, CommitsStates, polled_on}
+use Rattle.card_core.specs.Cards.{card_with, card_of, held_by}
+use Rattle.card_core.specs.Moves.{Answers, CommitsStates, StopsAt, polled_on}
 use Rattle.card_core.specs.Parts.{CardParts}
 use Rattle.card_core.proofs.Polling.{IsTelling, IsNotTold, tells_or_not}
 use Rattle.card_core.proofs.Standing.{if_card, use_card}
-use Rattle.card_core.proofs.AtMost.{all_commits, no_commits}
+use Rattle.card_core.proofs.AtMost.{stops_none, stops_more}
 
 -- ---- what passes alike
 
@@ -40,10 +39,10 @@ module _ {X : Type 0} (result : Result X StoreFault) (old new : CardParts) (rest
     stopped =
         on_err_weaker result
         (λ stopped.
-        if_card old (λ card. CommitsAtMost (length (g card)) old.commits new.commits) rests
+        if_card old (λ card. StopsAt card.persistent (g card) old.commits new.commits (held_by new)) rests
         (λ persistent held.
-        subst (λ (passed : List Persistent). CommitsAtMost (length passed) old.commits new.commits) (alike persistent)
-        (use_card old (λ card. CommitsAtMost (length (f card)) old.commits new.commits) persistent rests held stopped)))
+        subst (λ (passed : List Persistent). StopsAt persistent passed old.commits new.commits (held_by new)) (alike persistent)
+        (use_card old (λ card. StopsAt card.persistent (f card) old.commits new.commits (held_by new)) persistent rests held stopped)))
         counts.stopped;
     stable =
         if_card old (λ card. g card ≡ [] → new.told ≡ old.told) rests
@@ -51,16 +50,16 @@ module _ {X : Type 0} (result : Result X StoreFault) (old new : CardParts) (rest
   }
 
   -- nothing is committed, and the memory is left alone
-  pub counts_none : (passed : CardState → List Persistent) → ((persistent : Persistent) → passed (card_with false old persistent) ≡ []) → new.commits ≡ old.commits → new.told ≡ old.told → CommitsStates result old new passed
-  counts_none passed none counted told = record {
+  pub counts_none : (passed : CardState → List Persistent) → ((persistent : Persistent) → passed (card_with false old persistent) ≡ []) → new.commits ≡ old.commits → new.told ≡ old.told → held_by new ≡ held_by old → CommitsStates result old new passed
+  counts_none passed none counted told same = record {
     commits =
         on_ok result
         (if_card old (λ card. new.commits ≡ raised_by (length (passed card)) old.commits) rests
         (λ persistent held. counted ∙ ap (λ (states : List Persistent). raised_by (length states) old.commits) (sym (none persistent))));
     stopped =
         on_err result
-        (if_card old (λ card. CommitsAtMost (length (passed card)) old.commits new.commits) rests
-        (λ persistent held. no_commits (length (passed (card_with false old persistent))) old.commits new.commits counted));
+        (if_card old (λ card. StopsAt card.persistent (passed card) old.commits new.commits (held_by new)) rests
+        (λ persistent held. stops_none persistent (passed (card_with false old persistent)) old.commits new.commits (held_by new) counted (same ∙ held)));
     stable = if_card old (λ card. passed card ≡ [] → new.told ≡ old.told) rests (λ persistent held is. told);
   }
 
@@ -85,11 +84,12 @@ module _ (apdu : Apdu) where
   abbrev whole_of : CardState → Answered
   whole_of card = settled card (carried_with true (File Status) card apdu)
 
-  -- once it was told, the whole commits what telling the applets does
+  -- once it was told, the whole commits what telling the applets does, to what was held before
   told_commits : (card : CardState) (first : Answer) → (first.status.0 == DONE.0) ≡ true → first.status ≡ (first_of card).status
-      → IsTelling card apdu (first_of card) ⊎ IsNotTold card apdu (first_of card) → ((whole_of card).commits ≡ (polled_on (first_of card).state).commits) × ((first_of card).commits ≡ [])
+      → IsTelling card apdu (first_of card) ⊎ IsNotTold card apdu (first_of card)
+      → ((whole_of card).commits ≡ (polled_on (first_of card).state).commits) × ((first_of card).commits ≡ []) × ((first_of card).state.persistent ≡ card.persistent)
   told_commits card first done same (inl telling) =
-      (ap (λ (each : Answered). each.commits) telling.carried ∙ ap (λ (states : List Persistent). states ++ (polled_on (first_of card).state).commits) telling.commits, telling.commits)
+      (ap (λ (each : Answered). each.commits) telling.carried ∙ ap (λ (states : List Persistent). states ++ (polled_on (first_of card).state).commits) telling.commits, telling.commits, telling.persistent)
   told_commits card first done same (inr silent) = absurd (false≢true (sym silent.other ∙ ap (λ (word : StatusWord). word.0 == DONE.0) (sym same) ∙ done))
 
   -- where it wasn't, the whole commits what the command itself does
@@ -108,23 +108,19 @@ module _ (apdu : Apdu) where
       if_each (card_of old) (λ card. (first_of card).commits ≡ [] → mid.told ≡ old.told) (λ card. (whole_of card).commits ≡ [] → mid.told ≡ old.told)
       (λ card stays none. stays (silent_commits card (tells_or_not card apdu) none)) stable
 
-  fewer : (card : CardState) → IsTelling card apdu (first_of card) ⊎ IsNotTold card apdu (first_of card) → length (first_of card).commits ≤ length (whole_of card).commits
-  fewer card (inl telling) =
-      let none : length (first_of card).commits ≡ 0 = ap length telling.commits in
-      omega (arith, none)
-  fewer card (inr silent) =
-      let same : length (whole_of card).commits ≡ length (first_of card).commits = ap (λ (each : Answered). length each.commits) silent.carried in
-      omega (arith, same)
+  whole_stops : (card : CardState) (before now : ℕ) (after : Option Persistent) → IsTelling card apdu (first_of card) ⊎ IsNotTold card apdu (first_of card) → StopsAt card.persistent (first_of card).commits before now after
+      → StopsAt card.persistent (whole_of card).commits before now after
+  whole_stops card before now after (inl telling) stops =
+      stops_more card.persistent (whole_of card).commits before now after (subst (λ (states : List Persistent). StopsAt card.persistent states before now after) telling.commits stops)
+  whole_stops card before now after (inr silent) stops =
+      subst (λ (states : List Persistent). StopsAt card.persistent states before now after) (sym (ap (λ (each : Answered). each.commits) silent.carried)) stops
 
-  -- no more commits were done than the whole has
-  pub status_at_most : (old mid : CardParts) → IfSome (card_of old) (λ card. CommitsAtMost (length (first_of card).commits) old.commits mid.commits)
-      → IfSome (card_of old) (λ card. CommitsAtMost (length (whole_of card).commits) old.commits mid.commits)
-  status_at_most old mid stopped =
-      if_each (card_of old) (λ card. CommitsAtMost (length (first_of card).commits) old.commits mid.commits) (λ card. CommitsAtMost (length (whole_of card).commits) old.commits mid.commits)
-      (λ card most.
-      let few = fewer card (tells_or_not card apdu) in
-      (most.0, (omega (arith, most.1.0, few), most.1.1)))
-      stopped
+  -- and so the whole was stopped
+  pub status_stops : (old mid : CardParts) → IfSome (card_of old) (λ card. StopsAt card.persistent (first_of card).commits old.commits mid.commits (held_by mid))
+      → IfSome (card_of old) (λ card. StopsAt card.persistent (whole_of card).commits old.commits mid.commits (held_by mid))
+  status_stops old mid stopped =
+      if_each (card_of old) (λ card. StopsAt card.persistent (first_of card).commits old.commits mid.commits (held_by mid)) (λ card. StopsAt card.persistent (whole_of card).commits old.commits mid.commits (held_by mid))
+      (λ card stops. whole_stops card old.commits mid.commits (held_by mid) (tells_or_not card apdu) stops) stopped
 
   module _ (old mid : CardParts) (first : Answer) (answers : IfSome (card_of old) (λ card. Answers (first_of card) first (card_of mid))) (commits : IfSome (card_of old) (λ card. mid.commits ≡ raised_by (length (first_of card).commits) old.commits))
       (stable : IfSome (card_of old) (λ card. (first_of card).commits ≡ [] → mid.told ≡ old.told)) where
@@ -145,12 +141,13 @@ module _ (apdu : Apdu) where
       stopped =
           on_err_weaker result
           (λ polled.
-          if_both (card_of old) (λ card. Answers (first_of card) first (card_of mid)) (λ card. mid.commits ≡ raised_by (length (first_of card).commits) old.commits) (λ card. CommitsAtMost (length (whole_of card).commits) old.commits new.commits)
+          if_both (card_of old) (λ card. Answers (first_of card) first (card_of mid)) (λ card. mid.commits ≡ raised_by (length (first_of card).commits) old.commits) (λ card. StopsAt card.persistent (whole_of card).commits old.commits new.commits (held_by new))
           (λ card is counted.
           let told = told_commits card first done is.status (tells_or_not card apdu) in
-          subst (λ (count : ℕ). CommitsAtMost (length (whole_of card).commits) count new.commits) (counted ∙ ap (λ (states : List Persistent). raised_by (length states) old.commits) told.1)
-          (subst (λ (states : List Persistent). CommitsAtMost (length states) mid.commits new.commits) (sym told.0)
-          (subst (λ (found : Option CardState). IfSome found (λ each. CommitsAtMost (length (polled_on each).commits) mid.commits new.commits)) is.moved polled)))
+          subst (λ (count : ℕ). StopsAt card.persistent (whole_of card).commits count new.commits (held_by new)) (counted ∙ ap (λ (states : List Persistent). raised_by (length states) old.commits) told.1)
+          (subst (λ (states : List Persistent). StopsAt card.persistent states mid.commits new.commits (held_by new)) (sym told.0)
+          (subst (λ (state : Persistent). StopsAt state (polled_on (first_of card).state).commits mid.commits new.commits (held_by new)) told.2
+          (subst (λ (found : Option CardState). IfSome found (λ each. StopsAt each.persistent (polled_on each).commits mid.commits new.commits (held_by new))) is.moved polled))))
           answers commits)
           counts.stopped;
       stable =
@@ -162,20 +159,13 @@ module _ (apdu : Apdu) where
     }
 
     -- they weren't
-    pub status_counts_other : {X : Type 0} (result : Result X StoreFault) → (first.status.0 == DONE.0) ≡ false → CommitsStates result old mid (λ card. (whole_of card).commits)
-    status_counts_other result other = record {
+    pub status_counts_other : {X : Type 0} (done : X) → (first.status.0 == DONE.0) ≡ false → CommitsStates (Ok done) old mid (λ card. (whole_of card).commits)
+    status_counts_other done other = record {
       commits =
-          on_ok result
-          (if_both (card_of old) (λ card. Answers (first_of card) first (card_of mid)) (λ card. mid.commits ≡ raised_by (length (first_of card).commits) old.commits) (λ card. mid.commits ≡ raised_by (length (whole_of card).commits) old.commits)
+          if_both (card_of old) (λ card. Answers (first_of card) first (card_of mid)) (λ card. mid.commits ≡ raised_by (length (first_of card).commits) old.commits) (λ card. mid.commits ≡ raised_by (length (whole_of card).commits) old.commits)
           (λ card is counted. counted ∙ ap (λ (states : List Persistent). raised_by (length states) old.commits) (sym (other_commits card first other is.status (tells_or_not card apdu))))
-          answers commits);
-      stopped =
-          on_err result
-          (if_both (card_of old) (λ card. Answers (first_of card) first (card_of mid)) (λ card. mid.commits ≡ raised_by (length (first_of card).commits) old.commits) (λ card. CommitsAtMost (length (whole_of card).commits) old.commits mid.commits)
-          (λ card is counted.
-          all_commits (length (whole_of card).commits) old.commits mid.commits
-          (counted ∙ ap (λ (states : List Persistent). raised_by (length states) old.commits) (sym (other_commits card first other is.status (tells_or_not card apdu)))))
-          answers commits);
+          answers commits;
+      stopped = tt;
       stable = status_stays old mid stable;
     }
 
@@ -198,9 +188,9 @@ counts_from result old mid new passed same counted told counts = record {
   stopped =
       on_err_weaker result
       (λ stopped.
-      if_each (card_of old) (λ card. CommitsAtMost (length (passed card)) mid.commits new.commits) (λ card. CommitsAtMost (length (passed card)) old.commits new.commits)
-      (λ card is. subst (λ (count : ℕ). CommitsAtMost (length (passed card)) count new.commits) counted is)
-      (subst (λ (found : Option CardState). IfSome found (λ card. CommitsAtMost (length (passed card)) mid.commits new.commits)) same stopped))
+      if_each (card_of old) (λ card. StopsAt card.persistent (passed card) mid.commits new.commits (held_by new)) (λ card. StopsAt card.persistent (passed card) old.commits new.commits (held_by new))
+      (λ card is. subst (λ (count : ℕ). StopsAt card.persistent (passed card) count new.commits (held_by new)) counted is)
+      (subst (λ (found : Option CardState). IfSome found (λ card. StopsAt card.persistent (passed card) mid.commits new.commits (held_by new))) same stopped))
       counts.stopped;
   stable =
       if_each (card_of old) (λ card. passed card ≡ [] → new.told ≡ mid.told) (λ card. passed card ≡ [] → new.told ≡ old.told)
@@ -208,9 +198,12 @@ counts_from result old mid new passed same counted told counts = record {
       (subst (λ (found : Option CardState). IfSome found (λ card. passed card ≡ [] → new.told ≡ mid.told)) same counts.stable);
 }
 
--- what commits exactly, or no more, commits no more
-pub at_most : {X : Type 0} (result : Result X StoreFault) (old new : CardParts) (passed : CardState → List Persistent) → CommitsStates result old new passed → IfSome (card_of old) (λ card. CommitsAtMost (length (passed card)) old.commits new.commits)
-at_most (Ok done) old new passed counts =
-    if_each (card_of old) (λ card. new.commits ≡ raised_by (length (passed card)) old.commits) (λ card. CommitsAtMost (length (passed card)) old.commits new.commits)
-    (λ card is. all_commits (length (passed card)) old.commits new.commits is) counts.commits
-at_most (Err fault) old new passed counts = counts.stopped
+-- where nothing moved, nothing was done
+pub stops_unmoved : (old new : CardParts) (passed : CardState → List Persistent) → new.commits ≡ old.commits → held_by new ≡ held_by old
+    → IfSome (card_of old) (λ card. StopsAt card.persistent (passed card) old.commits new.commits (held_by new))
+unfolding card_of woken
+stops_unmoved old new passed counted same = by_held old.is_due (held_by old) same where
+  by_held : (due : Bool) (held : Option Persistent) → held_by new ≡ held → IfSome (option_map (card_with due old) held) (λ card. StopsAt card.persistent (passed card) old.commits new.commits (held_by new))
+  by_held due None is = tt
+  by_held true (Some state) is = stops_none state (passed (card_with true old state)) old.commits new.commits (held_by new) counted is
+  by_held false (Some state) is = stops_none state (passed (card_with false old state)) old.commits new.commits (held_by new) counted is

@@ -2,6 +2,8 @@ mod Standing
 mod AtMost
 mod Selecting
 mod Settling
+mod Single
+mod Rows
 mod Telling
 mod Kept
 mod Tries

@@ -32,21 +32,7 @@ use Rattle.card_core.proofs.Tries.{plain, settles_alike, refusal_settles}
 
 -- refused in the same way, in another answer
 pub denied_as : (word other : StatusWord) (mid out : Answer) (old new : CardParts) → IsDenied word mid old new → IsRefusedWith other out → IsDenied other out old new
-denied_as word other mid out old new is refused = record {
-  refused = refused;
-  table = is.table;
-  channels = is.channels;
-  verified = is.verified;
-  session = is.session;
-  boxes = is.boxes;
-  is_on = is.is_on;
-  is_due = is.is_due;
-  index = is.index;
-  leaving = is.leaving;
-  told = is.told;
-  mark = is.mark;
-  commits = is.commits;
-}
+denied_as word other mid out old new is refused = record { refused = refused; stays = is.stays }
 
 module _ {X : Type 0} (result : Result X StoreFault) (old new : CardParts) where
   -- another answer that comes of the same
@@ -122,7 +108,7 @@ pub refused_settled : {X : Type 0} (done : X) (parts : CardParts) → parts.is_d
     → ((persistent : Persistent) → f (card_with false parts persistent) ≡ Err status) → out.body ≡ [] → out.status ≡ status → out.status.0 ≢ MEMORY_PROBLEM.0 → IsSettled (Ok done) parts parts out f
 refused_settled {X} done parts rests out status f refused body is usual = record {
   settles = refusal_settles parts out status f rests refused body is;
-  counts = counts_none {X = X} (Ok done) parts parts rests (λ card. (settled card (f card)).commits) (λ persistent. ap (λ came. (settled (card_with false parts persistent) came).commits) (refused persistent)) refl refl;
+  counts = counts_none {X = X} (Ok done) parts parts rests (λ card. (settled card (f card)).commits) (λ persistent. ap (λ came. (settled (card_with false parts persistent) came).commits) (refused persistent)) refl refl refl;
   usual = usual;
   empty = tt;
 }

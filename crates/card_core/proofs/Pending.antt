@@ -131,7 +131,7 @@ module _ (bytes : List ℕ) (new : CardParts) (mid out : Answer) (body : out.bod
         (λ word gives. (
           refl,
           denied_as word (told_pending (pending old.session) word) mid out old new gives.1
-              (subst (λ (session : SessionState). IsRefusedWith (told_pending (pending session) word) out) gives.1.session (pending_refused word gives.1.refused)),
+              (subst (λ (session : SessionState). IsRefusedWith (told_pending (pending session) word) out) (ap (λ (parts : CardParts). parts.session) gives.1.stays) (pending_refused word gives.1.refused)),
         ))
         (does.acts instruction apdu read named);
     table = tt;

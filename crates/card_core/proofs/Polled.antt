@@ -24,7 +24,6 @@ use Rattle.card_model.specs.declared.instructions.ToolkitCommand.TheVariants.{Te
 use Rattle.session_laws.specs.Laws.{TellingLeavesRows}
 use Rattle.session_laws.specs.Moving.{HaveFixed, HasOrder}
 use Rattle.session_commands.specs.Cards.{AnswersSo, answers_so, holds_so, counts_so, at_most_so}
-use Rattle.card_memory.specs.Performing.{CommitsAtMost}
 use Rattle.proactive_handler.specs.Steps.{Scene}
 use Rattle.session_commands.specs.Carrying.{HasToolkit, HasCome, IsToolkitCutShort, IsAnswered, Carries, Comes}
 use Rattle.session_commands.specs.Deleting.{LeavesUnregistered}
@@ -32,14 +31,14 @@ use Rattle.card_core.specs.AnyStore.{MayBe}
 use Rattle.card_core.specs.Cards.{held_by, card_with, card_of, card_due, IsSet, IsRunning, memory_of}
 use Rattle.card_core.specs.Laws.{TablesHaveRows}
 use Rattle.card_core.specs.Acting.{CommitsSo}
-use Rattle.card_core.specs.Moves.{polled_on, CommitsStates}
+use Rattle.card_core.specs.Moves.{polled_on, CommitsStates, StopsAt}
 use Rattle.card_core.specs.Parts.{CardParts}
 use Rattle.card_core.proofs.Broken.{short_left}
 use Rattle.card_core.proofs.Served.{some_told, in_order, boxes_after, silent_then}
 use Rattle.card_core.proofs.Standing.{if_card}
 use Rattle.uicc_types.specs.Counts.{raised_by}
 use Rattle.proactive_handler.specs.Counting.{Counts}
-use Rattle.card_core.proofs.Carried.{scene_of, has_toolkit_of, made_of, is_delete}
+use Rattle.card_core.proofs.Carried.{scene_of, has_toolkit_of, made_of, is_delete, stops_so}
 
 outcome_or : ToolkitOutcome → Result ToolkitOutcome StatusWord → ToolkitOutcome
 outcome_or other (Ok outcome) = outcome
@@ -123,11 +122,11 @@ module _ (tell : TablesTellStates) (old new : CardParts) (agrees : Agrees old.st
       (record { body = refl; status_is = refl; comes = comes card (has_toolkit_of old persistent told) })
 
   stopped_at : StoreFault → ((card : CardState) → HasToolkit (scene_of old) card → IsToolkitCutShort (polling card) (scene_of old) (scene_of new))
-      → (persistent : Persistent) → IsTold old.table persistent → CommitsAtMost (length (polled_on (card_with false old persistent)).commits) old.commits new.commits
+      → (persistent : Persistent) → held_by old ≡ Some persistent → IsTold old.table persistent → StopsAt persistent (polled_on (card_with false old persistent)).commits old.commits new.commits (held_by new)
   unfolding said and_given
-  stopped_at fault short persistent told =
+  stopped_at fault short persistent held told =
       let card : CardState = card_with false old persistent in
-      at_most_so card (said (polling card)) (scene_of old) (scene_of new) (Unit {0}) (Ok (polling card)) fault
+      stops_so card (said (polling card)) (scene_of old) (scene_of new) held (Unit {0}) (Ok (polling card)) fault
       (short card (has_toolkit_of old persistent told))
 
   pub polled_counts : {X : Type 0} (result : Result X StoreFault) → ((card : CardState) → HasToolkit (scene_of old) card → Comes (polling card) (scene_of old) (scene_of new) result)
@@ -139,7 +138,7 @@ module _ (tell : TablesTellStates) (old new : CardParts) (agrees : Agrees old.st
   }
   polled_counts (Err fault) comes calm = record {
     commits = tt;
-    stopped = if_card old (λ card. CommitsAtMost (length (polled_on card).commits) old.commits new.commits) rests (λ persistent held. stopped_at fault comes persistent (tell old.store_mark old.told old.table persistent agrees held));
+    stopped = if_card old (λ card. StopsAt card.persistent (polled_on card).commits old.commits new.commits (held_by new)) rests (λ persistent held. stopped_at fault comes persistent held (tell old.store_mark old.told old.table persistent agrees held));
     stable =
         if_card old (λ card. (polled_on card).commits ≡ [] → new.told ≡ old.told) rests
         (λ persistent held none. absurd (false≢true (calm persistent (tell old.store_mark old.told old.table persistent agrees held) none)));

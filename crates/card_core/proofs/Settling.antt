@@ -1,6 +1,6 @@
 -- From what a command on files, on PINs or on channels comes to, to what the card comes to.
-use Rattle.std.proofs.Common.{◌≡◌, ℕ, false, List, [], ◌∷◌, length, Option, Some, None, refl, sym, ◌∙◌, ap, subst}
-use Rattle.std.specs.Prelude.{IfSome, IsSomeAnd, Contains, Result, Ok, Err, unwrap_or, slice_set}
+use Rattle.std.proofs.Common.{◌≡◌, ℕ, ◌+◌, ◌≤◌, arith, false, List, [], ◌∷◌, length, Option, Some, None, refl, sym, ◌∙◌, ap, subst}
+use Rattle.std.specs.Prelude.{IfSome, IsSomeAnd, Contains, Result, Ok, Err, OnErr, unwrap_or, slice_set}
 use Rattle.std.specs.Option.{option_to_list}
 use Rattle.std.proofs.lemmas.List.{set-get_or, length-map}
 use Rattle.general_laws.specs.Optional.{if_some_at}
@@ -29,14 +29,16 @@ use Rattle.card_model.specs.Channels.{channel_of, selected_on, channel_tried}
 use Rattle.card_model.specs.Answers.{Answered, settled, carried_out, with_pins, file_tried, pin_tried, managed, selection_on, seen_by}
 use Rattle.card_model.specs.declared.instructions.Instruction.TheVariants.{File, Pin as OnPins, ManageChannel}
 use Rattle.card_memory.specs.Laws.{TablesTellStates}
-use Rattle.card_memory.specs.Performing.{IsOutcome, Performs, IsPinOutcome, PerformsPin, PassesOne, StaysStill, with_each, CommitsAtMost}
+use Rattle.card_memory.specs.Performing.{IsOutcome, Performs, IsPinOutcome, PerformsPin, PassesOne, StaysStill, with_each}
 use Rattle.card_model.proofs.Lawful.{last_with_pins}
 use Rattle.card_core.specs.Parts.{CardParts}
 use Rattle.card_core.specs.Cards.{memory_of, held_by, card_with, card_of}
 use Rattle.card_core.specs.Commands.{channels_managed}
-use Rattle.card_core.specs.Moves.{Answers, CommitsStates}
-use Rattle.card_core.proofs.AtMost.{no_commits}
-use Rattle.card_core.proofs.Standing.{if_card, card_then}
+use Rattle.card_core.specs.Moves.{Answers, CommitsStates, StopsAt}
+use Rattle.pin_rules.specs.Outcomes.{IsPinCutShort, state_after}
+use Rattle.card_core.proofs.AtMost.{stops_one, stops_between, stands_there}
+use Rattle.card_core.proofs.Single.{files_once}
+use Rattle.card_core.proofs.Standing.{if_card, use_card, card_then}
 
 -- ---- commands on files
 
@@ -142,8 +144,12 @@ module _ (command : FileCommand) (tell : TablesTellStates) (old new : CardParts)
     files_counts (Err fault) next out performs still = record {
       commits = tt;
       stopped =
-          if_card old (λ card. CommitsAtMost (length (settled card (carried_out (File command) card apdu)).commits) old.commits new.commits) rests
-          (λ persistent held. no_commits (length (settled (card_with false old persistent) (carried_out (File command) (card_with false old persistent) apdu)).commits) old.commits new.commits performs.commits);
+          if_card old (λ card. StopsAt card.persistent (settled card (carried_out (File command) card apdu)).commits old.commits new.commits (held_by new)) rests
+          (λ persistent held.
+          let card : CardState = card_with false old persistent in
+          stops_one persistent (settled card (carried_out (File command) card apdu)).commits old.commits new.commits (held_by new)
+          (subst (λ (passed : List Persistent). length passed ≤ 1) (files_pass persistent held) (files_once persistent seen selection apdu command)) performs.commits
+          (use_card old (λ card. IsSomeAnd (held_by new) (Contains (card.persistent ∷ (settled card (carried_out (File command) card apdu)).commits))) persistent rests held (files_fault (held_by new) performs.passes)));
       stable = files_stay still;
     }
 
@@ -230,20 +236,26 @@ module _ (command : PinCommand) (old : CardParts) (rests : old.is_due ≡ false)
         let pins : persistent.pins ≡ pins_of table = (tell old.store_mark old.told old.table persistent agrees held).pins ∙ ap pins_of (sym same) in
         still (ap (λ (known : List Pin). (pin_settled command known old.verified apdu).passed) (sym pins) ∙ nil_mapped (with_pins persistent) (pin_settled command persistent.pins old.verified apdu).passed (pins_pass persistent ∙ none)))
 
-    pub pins_at_most : IfSome (held_by old) (λ state. CommitsAtMost (length (pin_settled command state.pins old.verified apdu).passed) old.commits new.commits)
-        → IfSome (card_of old) (λ card. CommitsAtMost (length (settled card (carried_out (OnPins command) card apdu)).commits) old.commits new.commits)
-    pins_at_most most =
-        if_card old (λ card. CommitsAtMost (length (settled card (carried_out (OnPins command) card apdu)).commits) old.commits new.commits) rests
+    pub pins_stop : TablesTellStates → Agrees old.store_mark old.told old.table → table ≡ old.table
+        → IsPinCutShort (pin_settled command (pins_of table) old.verified apdu) (record (memory_of old) { table = table }) (record (memory_of new) { table = now }) old.verified new.verified
+        → IfSome (card_of old) (λ card. StopsAt card.persistent (settled card (carried_out (OnPins command) card apdu)).commits old.commits new.commits (held_by new))
+    pins_stop tell agrees same stops =
+        if_card old (λ card. StopsAt card.persistent (settled card (carried_out (OnPins command) card apdu)).commits old.commits new.commits (held_by new)) rests
         (λ persistent held.
-        subst (λ (count : ℕ). CommitsAtMost count old.commits new.commits)
-        (sym (length-map (pin_settled command persistent.pins old.verified apdu).passed (with_pins persistent)) ∙ ap (λ (passed : List Persistent). length passed) (pins_pass persistent))
-        (if_some_at (held_by old) (λ state. CommitsAtMost (length (pin_settled command state.pins old.verified apdu).passed) old.commits new.commits) persistent most held))
+        let passed : List (List Pin) = (pin_settled command (pins_of table) old.verified apdu).passed in
+        let pins : pins_of table ≡ persistent.pins = ap pins_of same ∙ sym (tell old.store_mark old.told old.table persistent agrees held).pins in
+        let long : length (with_each persistent passed) ≡ length passed = length-map passed (with_pins persistent) in
+        subst (λ (states : List Persistent). StopsAt persistent states old.commits new.commits (held_by new))
+        (ap (λ (known : List Pin). with_each persistent (pin_settled command known old.verified apdu).passed) pins ∙ pins_pass persistent)
+        (stops_between persistent (with_each persistent passed) old.commits new.commits (held_by new) stops.place (omega (arith, stops.one_more, long)) stops.commits
+        (stands_there (state_after passed stops.place) (state_after passed (stops.place + 1)) (held_by old) (held_by new) persistent held stops.stands)))
 
     pub pins_counts : TablesTellStates → Agrees old.store_mark old.told old.table → table ≡ old.table → (result : Result Unit StoreFault) (out : Answer)
         → PerformsPin result (record (memory_of old) { table = table }) (record (memory_of new) { table = now }) out new.verified (λ state. pin_settled command state.pins old.verified apdu)
+        → OnErr result (IsPinCutShort (pin_settled command (pins_of table) old.verified apdu) (record (memory_of old) { table = table }) (record (memory_of new) { table = now }) old.verified new.verified)
         → ((pin_settled command (pins_of table) old.verified apdu).passed ≡ [] → new.told ≡ old.told) → CommitsStates result old new (λ card. (settled card (carried_out (OnPins command) card apdu)).commits)
-    pins_counts tell agrees same (Ok done) out performs still = record { commits = pins_commit out performs; stopped = tt; stable = pins_stay tell agrees same still }
-    pins_counts tell agrees same (Err fault) out performs still = record { commits = tt; stopped = pins_at_most performs.commits; stable = pins_stay tell agrees same still }
+    pins_counts tell agrees same (Ok done) out performs stops still = record { commits = pins_commit out performs; stopped = tt; stable = pins_stay tell agrees same still }
+    pins_counts tell agrees same (Err fault) out performs stops still = record { commits = tt; stopped = pins_stop tell agrees same stops; stable = pins_stay tell agrees same still }
 
 -- ---- channels
 

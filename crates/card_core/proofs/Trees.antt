@@ -1,5 +1,5 @@
 -- Commands that make, delete and resize files: from what the call over the store says to what the card comes to.
-use Rattle.std.proofs.Common.{◌≡◌, ℕ, false, List, [], ◌∷◌, length, Option, Some, None, refl, sym, ◌∙◌, ap, subst}
+use Rattle.std.proofs.Common.{◌≡◌, ℕ, ◌≤◌, false, List, [], ◌∷◌, length, Option, Some, None, refl, sym, ◌∙◌, ap, subst}
 use Rattle.std.specs.Prelude.{IfSome, IsSomeAnd, Contains, is_some, Result, Ok, Err, OnErr}
 use Rattle.std.specs.Result.{result_ok}
 use Rattle.std.proofs.lemmas.Bool.{false≢true}
@@ -37,11 +37,11 @@ use Rattle.record_commands.specs.Tables.{HasOtherFiles}
 use Rattle.card_core.specs.AnyStore.{IsOfMemory, AnswersStanding, MovesTree}
 use Rattle.card_core.specs.Cards.{memory_of, held_by, card_with, card_of}
 use Rattle.card_core.specs.Acting.{CommitsSo}
-use Rattle.card_core.specs.Moves.{Answers, CommitsStates}
-use Rattle.card_memory.specs.Performing.{CommitsAtMost}
-use Rattle.card_core.proofs.AtMost.{no_commits}
+use Rattle.card_core.specs.Moves.{Answers, CommitsStates, StopsAt}
+use Rattle.card_core.proofs.AtMost.{no_commits, stops_one}
+use Rattle.card_core.proofs.Single.{trees_once}
 use Rattle.card_core.specs.Parts.{CardParts}
-use Rattle.card_core.proofs.Standing.{if_card, card_then}
+use Rattle.card_core.proofs.Standing.{if_card, use_card, card_then}
 
 -- ---- what it is tried on
 
@@ -139,8 +139,12 @@ module _ (command : TreeCommand) (tell : TablesTellStates) (old : CardParts) (re
   trees_counts new table same (Err fault) out performs still none = record {
     commits = tt;
     stopped =
-        if_card old (λ card. CommitsAtMost (length (settled card (carried_out (Tree command) card apdu)).commits) old.commits new.commits) rests
-        (λ persistent held. no_commits (length (settled (card_with false old persistent) (carried_out (Tree command) (card_with false old persistent) apdu)).commits) old.commits new.commits none);
+        if_card old (λ card. StopsAt card.persistent (settled card (carried_out (Tree command) card apdu)).commits old.commits new.commits (held_by new)) rests
+        (λ persistent held.
+        let card : CardState = card_with false old persistent in
+        stops_one persistent (settled card (carried_out (Tree command) card apdu)).commits old.commits new.commits (held_by new)
+        (subst (λ (passed : List Persistent). length passed ≤ 1) (trees_pass persistent held) (trees_once persistent seen old.channels (channel_of apdu.class) apdu command)) none
+        (use_card old (λ card. IsSomeAnd (held_by new) (Contains (card.persistent ∷ (settled card (carried_out (Tree command) card apdu)).commits))) persistent rests held (trees_fault (held_by new) performs)));
     stable = trees_stay new.told table same still;
   }
 

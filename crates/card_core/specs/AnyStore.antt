@@ -1,5 +1,5 @@
 -- What is said of a card over any store, be its bytes told or not.
-use Rattle.std.specs.Prelude.{◌≡◌, ◌≢◌, true, false, ℕ, List, [], Option, Some, None, IfSome, unwrap_or, Result, Ok, Err}
+use Rattle.std.specs.Prelude.{◌≡◌, ◌≢◌, true, false, ℕ, List, [], Option, Some, None, unwrap_or, Result, Ok, Err}
 use Rattle.uicc_types.specs.declared.answers.Answer.{Answer}
 use Rattle.uicc_types.specs.declared.answers.StatusWord.{StatusWord}
 use Rattle.uicc_types.specs.declared.answers.TheConstants.StatusWord.{WRONG_LENGTH}
@@ -138,23 +138,10 @@ RefusesByTable (File command) parts apdu status = RefusesFile command (descripto
 RefusesByTable (Pin command) parts apdu status = pin_outcome command (pins_of parts.table) parts.verified apdu ≡ Err status
 RefusesByTable _ parts apdu status = ⊥
 
--- Refused with this status without data; the table with its index, what is selected, the verified keys, the session and the boxes
--- stay, and whether there is power and whether a recovery is due. Of the store the bytes and the mark stay; that nothing is
--- committed is told where the bytes are.
+-- Refused with this status without data; the whole card stays, and its store isn't touched.
 pub record IsDenied (status : StatusWord) (out : Answer) (old new : CardParts) : Type 0 where
   pub refused : IsRefusedWith status out
-  pub table : new.table ≡ old.table
-  pub channels : new.channels ≡ old.channels
-  pub verified : new.verified ≡ old.verified
-  pub session : new.session ≡ old.session
-  pub boxes : new.boxes ≡ old.boxes
-  pub is_on : new.is_on ≡ old.is_on
-  pub is_due : new.is_due ≡ old.is_due
-  pub index : new.index ≡ old.index
-  pub leaving : new.leaving ≡ old.leaving
-  pub told : new.told ≡ old.told
-  pub mark : new.store_mark ≡ old.store_mark
-  pub commits : IfSome old.told (λ bytes. new.commits ≡ old.commits)
+  pub stays : new ≡ old
 
 -- ---- what a command leaves as it was, also where it meets a fault
 

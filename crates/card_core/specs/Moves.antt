@@ -1,5 +1,5 @@
 -- How the calls of a card move it, over a store that tells its bytes; and what a command owes at a fault and without power.
-use Rattle.std.specs.Prelude.{◌≡◌, ◌≢◌, ◌⊎◌, ◌↔◌, ℕ, List, [], ◌∷◌, true, false, length, map, Contains, Option, Some, is_some, IfSome, IsSomeAnd, Result, Ok, Err, IsOk, OnOk, OnErr, IsErrOf}
+use Rattle.std.specs.Prelude.{◌≡◌, ◌≢◌, ◌⊎◌, ◌↔◌, ℕ, ◌+◌, ◌≤◌, List, [], ◌∷◌, slice_index_or, true, false, length, map, Contains, Option, Some, is_some, IfSome, IsSomeAnd, Result, Ok, Err, IsOk, OnOk, OnErr, IsErrOf}
 use Rattle.uicc_types.specs.Counts.{Caused, raised_by}
 use Rattle.uicc_types.specs.declared.answers.Answer.{Answer}
 use Rattle.uicc_types.specs.declared.answers.StatusWord.{StatusWord}
@@ -7,14 +7,13 @@ use Rattle.uicc_types.specs.declared.answers.TheConstants.StatusWord.{MEMORY_PRO
 use Rattle.store_form.specs.declared.store.StoreFault.{StoreFault}
 use Rattle.card_layout.specs.Persistent.{Persistent}
 use Rattle.card_layout.specs.States.{rows_of}
-use Rattle.card_memory.specs.Performing.{CommitsAtMost}
 use Rattle.card_model.specs.States.{CardState}
 use Rattle.toolkit_model.specs.Commands.{polled}
 use Rattle.card_model.specs.Answers.{Answered, settled, on_toolkit, answer, passed}
 use Rattle.card_model.specs.Toolkit.{toolkit_of, coming_to}
 use Rattle.card_model.specs.Runs.{IsLeft}
 use Rattle.card_core.specs.Parts.{CardParts}
-use Rattle.card_core.specs.Cards.{card_of, card_due}
+use Rattle.card_core.specs.Cards.{card_of, card_due, held_by}
 use Rattle.card_core.specs.declared.faults.CardFault.{CardFault}
 use Rattle.card_core.specs.declared.faults.CardFault.TheVariants.{PowerLost, NoPower}
 
@@ -51,14 +50,26 @@ IsServed result out = IsOk result × (out.status ≢ MEMORY_PROBLEM)
 abbrev pub OnServed : {X : Type 0} → Result X CardFault → Answer → Type 0 → Type 0
 OnServed result out Holds = OnOk result (out.status ≢ MEMORY_PROBLEM → Holds)
 
+-- A fault stopped what commits these states, one after the other, to a store that stood for this one. So many commits were
+-- acknowledged, and each of those is counted; it stands for the state after them, or for the one after the next.
+pub record StopsAt (state : Persistent) (states : List Persistent) (before now : ℕ) (after : Option Persistent) : Type 0 where
+  pub place : ℕ
+  pub counted : now ≡ raised_by place before
+  pub reached : ℕ
+  pub near : (reached ≡ place) ⊎ (reached ≡ place + 1)
+  pub within : reached ≤ length states
+  pub stands : after ≡ Some (slice_index_or (state ∷ states) reached state)
+
 -- How often a command committed, and that its bytes stay where it commits nothing, over a store that tells them.
 pub record CountsCommits {X : Type 0} (result : Result X CardFault) (old new : CardParts) (bytes : List ℕ) (out : Answer) : Type 0 where
   -- each of the states that the command has was committed once, and no other
   pub commits : OnServed result out
       (IfSome (card_of old) (λ card. new.commits ≡ raised_by (length (answer card bytes).commits) old.commits))
-  -- where the memory failed or power was lost, no more commits were acknowledged than the command has
-  pub at_most : IfSome (card_of old)
-      (λ card. CommitsAtMost (length (answer card bytes).commits) old.commits new.commits)
+  -- where the memory failed or power was lost, what it stands for is the state after the commits that were acknowledged, or after
+  -- one more
+  pub stopped : IsServed result out
+      ⊎ IfSome (card_of old)
+      (λ card. StopsAt card.persistent (answer card bytes).commits old.commits new.commits (held_by new))
   -- a command that has none leaves the bytes as they were, also at a fault
   pub stable : IfSome (card_of old) (λ card. (answer card bytes).commits ≡ [] → new.told ≡ old.told)
 
@@ -110,11 +121,12 @@ abbrev pub Comes : {X : Type 0} → Result X StoreFault → Option CardState →
 Comes (Ok _) before apdu out after due = IfSome before (λ card. Answers (answer card apdu) out after)
 Comes (Err _) before apdu out after due = IfSome before (λ card. IsSomeAnd due (IsLeft card (passed card apdu)))
 
--- Where the store tells its bytes, each of these states is committed once, and no other; where a fault stops that, no more commits
--- were acknowledged than there are states. Where there is none, the bytes stay as they were, also where a fault stops it.
+-- Where the store tells its bytes, each of these states is committed once, and no other; where a fault stops that, it stands for the
+-- one after the commits that were acknowledged, or after one more. Where there is none, the bytes stay as they were, also where a
+-- fault stops it.
 pub record CommitsStates {X : Type 0} (result : Result X StoreFault) (old new : CardParts) (states : CardState → List Persistent) : Type 0 where
   pub commits : OnOk result (IfSome (card_of old) (λ card. new.commits ≡ raised_by (length (states card)) old.commits))
-  pub stopped : OnErr result (IfSome (card_of old) (λ card. CommitsAtMost (length (states card)) old.commits new.commits))
+  pub stopped : OnErr result (IfSome (card_of old) (λ card. StopsAt card.persistent (states card) old.commits new.commits (held_by new)))
   pub stable : IfSome (card_of old) (λ card. states card ≡ [] → new.told ≡ old.told)
 
 -- the rows of the table are those of one of these states

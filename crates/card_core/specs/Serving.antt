@@ -35,9 +35,9 @@ pub record TellsOfFiles (result : Result Unit StoreFault) (command : FileCommand
   -- SELECT and STATUS are answered so, and commit nothing
   pub answers : (state : Persistent) → NeedsNoContents (File command) → IsTold old.table state
       → IsOk result × IsAnswer (settled_file before (file_outcome command state (keys_seen (pins_of old.table) verified) before apdu)) out after × (new.table ≡ old.table) × (new.commits ≡ old.commits)
-  -- and what is refused before access is tested
+  -- and what is refused before access is tested, which leaves the memory alone
   pub denied : (status : StatusWord) → RefusesFile command (descriptors_of old.table) before apdu status
-      → IsOk result × IsRefused status out before after × (new.table ≡ old.table)
+      → IsOk result × IsRefused status out before after × (new ≡ old)
 
 -- What a memory of the table tells of a command that makes, deletes or resizes a file.
 pub record TellsOfTree (result : Result Unit StoreFault) (before after : Memory) (old new : List (Option Selection)) (status : StatusWord) (meaning : Persistent → Result TreeOutcome StatusWord) : Type 0 where

@@ -73,7 +73,8 @@ fn on_contents<S: Store>(
         (settled_file selection.old (contents_outcome command state seen.now selection.old apdu.now)).passed) }
     ensures denied { (status : StatusWord)
         → file_addressed command (descriptors_of loaded.old) selection.old apdu.now ≡ Err status
-        → IsOk result × IsRefused status out.new selection.old selection.new × (loaded.new ≡ loaded.old) }
+        → IsOk result × IsRefused status out.new selection.old selection.new
+        × (memory S.Store store.new loaded.new ≡ memory S.Store store.old loaded.old) }
     ensures files { KeepsOtherFiles loaded.old loaded.new }
     ensures ends { EndsWell result (memory S.Store store.old loaded.old) (memory S.Store store.new loaded.new)
         out.new selection.new }

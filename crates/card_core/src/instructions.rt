@@ -51,7 +51,9 @@ const fn basic_channel(class: u8, instruction: Instruction) -> Option<Row>
 impl Row {
     ghost use Rattle.card_core.specs.Commands.{row_shown};
 
-    // The row of an instruction byte in a class (ETSI TS 102 221, 10.1.2), of each command that the card has.
+    // The row of an instruction byte in a class (ETSI TS 102 221, 10.1.2), of each command that the card has. It is laid out where it
+    // is called: a call would hand the row over through memory.
+    #[inline(always)]
     fn of(class: u8, ins: u8) -> Option<Row>
         ensures shown { option_map (row_shown ins) result ≡ row_of is_known class ins }
     {
@@ -133,8 +135,25 @@ fn asks_secure_messaging(class: u8) -> bool
 }
 
 /// The command that a class and an instruction byte name: the class is tested first, then the channel, then the instruction.
-#[tactic(auto, unfolding(card_model::specs::Instructions::instruction_tried, file_model::specs::Chains::refused_if, file_model::specs::Chains::given))]
 pub fn instruction_of(channels: &Channels, class: u8, ins: u8) -> Result<Instruction, StatusWord>
+    ensures tried { result ≡ instruction_tried is_known channels.now class ins }
+    ensures open { OnOk result (is_open channels.now (channel_of class) ≡ true) }
+    ensures usual { result ≢ Err StatusWord.MEMORY_PROBLEM }
+{
+    // Most commands come so, on the basic channel, which is open: one that has a row is refused for none of the rest.
+    if class == 0x00 || class == 0x80 {
+        channels.basic_is_open();
+        if let Some(row) = Row::of(class, ins) {
+            return Ok(row.instruction);
+        }
+    }
+    instruction_tested(channels, class, ins)
+}
+
+// The same, by one test after the other.
+#[inline(never)]
+#[tactic(auto, unfolding(card_model::specs::Instructions::instruction_tried, file_model::specs::Chains::refused_if, file_model::specs::Chains::given))]
+fn instruction_tested(channels: &Channels, class: u8, ins: u8) -> Result<Instruction, StatusWord>
     ensures tried { result ≡ instruction_tried is_known channels.now class ins }
     ensures open { OnOk result (is_open channels.now (channel_of class) ≡ true) }
     ensures usual { result ≢ Err StatusWord.MEMORY_PROBLEM }

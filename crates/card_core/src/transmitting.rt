@@ -111,9 +111,9 @@ impl<S: Store, B: Applet> CardOver<S, B> {
     /// comes to, it leaves as it was what isn't its own to move; behind what was due, a card that begins anew takes it.
     ///
     /// Over a store that tells its bytes, an answer other than `6581` comes after one commit for each that the command has, and
-    /// no other. Whatever comes of a command, no more are acknowledged than it has; and one that has none leaves the bytes as
-    /// they were, also where the memory fails. Over any store how often it commits is told as its answer is, but for a command on
-    /// PINs.
+    /// no other. Where the memory fails or power is lost, what it holds is the state behind the commits that were acknowledged, or
+    /// behind one more; and one that has none leaves the bytes as they were, also then. Over any store how often it commits is
+    /// told as its answer is, but for a command on PINs.
     pub fn transmit(&mut self, apdu: &[u8], out: &mut Answer) -> Result<(), CardFault>
         requires ready { IsCardReady (parts_of S.Store B.Applet self.old) }
         ensures moves { Transmits result (card_of (parts_of S.Store B.Applet self.old))

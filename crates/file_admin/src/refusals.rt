@@ -5,7 +5,7 @@ ghost use Rattle.card_layout.specs.Decoding.{number_at};
 ghost use Rattle.card_layout.specs.Kinds.{transparent_kind};
 ghost use Rattle.file_model.specs.Files.{descriptor_of, descriptors_of, lies_in};
 ghost use Rattle.file_model.specs.LifeCycles.{has_no_parameters};
-ghost use Rattle.file_model.specs.Outcomes.{has_data, is_deactivated};
+ghost use Rattle.file_model.specs.Outcomes.{is_deactivated};
 ghost use Rattle.file_tree.specs.Tables.{IsCardTable, IsNumbered};
 ghost use Rattle.file_making.specs.Creating.{is_there, has_id, has_short, created_if_room, created};
 ghost use Rattle.file_making.specs.Deleting.{is_in_use, deleting, deleted};
@@ -21,6 +21,7 @@ use card_layout::kinds::{DEACTIVATED, DF, TRANSPARENT};
 use card_layout::sizes::{NODE_COUNT, SIZE_LIMIT};
 use card_layout::{Loaded, Node};
 use file_making::{NewFile, read_template};
+use file_model::has_data;
 use file_tree::{Channels, Descriptor, Wanted, first_file};
 use uicc_types::{FileId, StatusWord};
 
@@ -28,12 +29,6 @@ fn has_no_parameters(command: &Command<'_>) -> bool
     ensures { result ≡ has_no_parameters command.now }
 {
     command.p1 == 0x00 && command.p2 == 0x00
-}
-
-fn has_data(command: &Command<'_>) -> bool
-    ensures { result ≡ has_data command.now }
-{
-    !command.body.is_empty()
 }
 
 // The number in two of the bytes.

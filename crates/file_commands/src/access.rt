@@ -37,7 +37,9 @@ pub fn is_allowed<S: Store>(
     }
 }
 
-// Whether the record that rules the file grants it; one that isn't there grants nothing.
+// Whether the record that rules the file grants it; one that isn't there grants nothing. Most files have no rule, and their way is
+// kept short.
+#[inline(never)]
 #[tactic(auto, unfolding(file_model::specs::Access::ruling_record))]
 fn is_granted<S: Store>(
     store: &mut S,

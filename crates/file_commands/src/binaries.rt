@@ -113,7 +113,7 @@ fn try_read<S: Store>(
         out.new (λ state. binary_read state seen.now selection.now command.now) }
     ensures refused { (status : StatusWord)
         → binary_to_read (descriptors_of loaded.now) selection.now command.now ≡ Err status
-        → result ≡ Ok (Err status) }
+        → (result ≡ Ok (Err status)) × (store.new ≡ store.old) }
     ensures ends { EndsTry result (memory S.Store store.old loaded.now) (memory S.Store store.new loaded.now)
         out.old out.new }
     ensures reads { Reads (memory S.Store store.old loaded.now) (memory S.Store store.new loaded.now) result }
@@ -179,7 +179,7 @@ fn try_update<S: Store>(
         selection.now (λ state. binary_updated state seen.now selection.now command.now) }
     ensures refused { (status : StatusWord)
         → binary_to_update (descriptors_of loaded.now) selection.now command.now ≡ Err status
-        → result ≡ Ok (Err status) }
+        → (result ≡ Ok (Err status)) × (store.new ≡ store.old) }
     ensures ends { EndsTry result (memory S.Store store.old loaded.now) (memory S.Store store.new loaded.now)
         out.old out.new }
 {
@@ -212,7 +212,7 @@ pub fn read_binary<S: Store>(
     ensures reads { Reads (memory S.Store store.old loaded.old) (memory S.Store store.new loaded.new) result }
     ensures refused { (status : StatusWord)
         → binary_to_read (descriptors_of loaded.old) selection.old command.now ≡ Err status
-        → IsOk result × IsRefused status out.new selection.old selection.new }
+        → IsOk result × IsRefused status out.new selection.old selection.new × (store.new ≡ store.old) }
 {
     out.body.clear();
     let tried = try_read(store, loaded, selection, seen, command, out)?;
@@ -242,7 +242,7 @@ pub fn update_binary<S: Store>(
     ensures table { loaded.new ≡ loaded.old }
     ensures refused { (status : StatusWord)
         → binary_to_update (descriptors_of loaded.old) selection.old command.now ≡ Err status
-        → IsOk result × IsRefused status out.new selection.old selection.new }
+        → IsOk result × IsRefused status out.new selection.old selection.new × (store.new ≡ store.old) }
 {
     out.body.clear();
     let tried = try_update(store, loaded, selection, seen, command, out)?;

@@ -239,6 +239,7 @@ pub fn select<S: Store>(
     ensures answers { (state : Persistent) → IsTold loaded.old state
         → IsAnswer (settled_file selection.old (file_selected state selection.old command.now)) out.new selection.new }
     ensures done { IsOk result }
+    ensures unread { store.new ≡ store.old }
 {
     out.body.clear();
     is_card_table(store, loaded);
@@ -270,6 +271,7 @@ pub fn status<S: Store>(
     ensures answers { (state : Persistent) → IsTold loaded.old state
         → IsAnswer (settled_file selection.old (status_told state selection.old command.now)) out.new selection.new }
     ensures done { IsOk result }
+    ensures unread { store.new ≡ store.old }
 {
     out.body.clear();
     is_card_table(store, loaded);

@@ -158,6 +158,7 @@ fn put_rest(out: &mut AnswerData, loaded: &Loaded, file: &Descriptor)
 }
 
 /// Puts the file control parameters of a file into an answer that is empty before.
+#[inline(never)]
 #[tactic(auto, unfolding(file_model::specs::Fcp::fcp))]
 pub fn put_parameters(out: &mut AnswerData, loaded: &Loaded, file: &Descriptor)
     requires short { file.now.short ≤ 30 }

@@ -44,12 +44,32 @@ impl Channels {
         let _basic = self.basic;
     }
 
+    /// The basic channel is open. Does nothing.
+    pub fn basic_is_open(&self)
+        ensures { is_open self.now 0 ≡ true }
+    {
+        let _basic = self.basic;
+    }
+
     /// What is selected on a channel, if it is open.
     pub fn selected(&self, n: u8) -> Option<Selection>
         ensures { result ≡ selected_on self.now n }
     {
+        // Most commands come on the basic channel.
+        if n == 0 {
+            Some(self.basic)
+        } else {
+            self.selected_beside(n)
+        }
+    }
+
+    // What is selected on a channel other than the basic one, if it is open.
+    #[inline(never)]
+    fn selected_beside(&self, n: u8) -> Option<Selection>
+        requires { 1 ≤ n }
+        ensures { result ≡ selected_on self.now n }
+    {
         match n {
-            0 => Some(self.basic),
             1 => self.first,
             2 => self.second,
             3 => self.third,
@@ -124,8 +144,21 @@ impl Channels {
         requires { is_open self.old n ≡ true }
         ensures { self.new ≡ slice_set self.old n (Some selection) }
     {
+        if n == 0 {
+            self.basic = selection;
+        } else {
+            self.set_beside(n, selection);
+        }
+    }
+
+    // Selects this on an open channel other than the basic one.
+    #[inline(never)]
+    fn set_beside(&mut self, n: u8, selection: Selection)
+        requires other { 1 ≤ n }
+        requires open { is_open self.old n ≡ true }
+        ensures { self.new ≡ slice_set self.old n (Some selection) }
+    {
         match n {
-            0 => self.basic = selection,
             1 => self.first = Some(selection),
             2 => self.second = Some(selection),
             _ => self.third = Some(selection),

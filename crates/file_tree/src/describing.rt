@@ -34,8 +34,8 @@ fn records_of(node: &Node) -> (u8, u8)
     }
 }
 
-/// What is known of the file of an entry. The records of an EF fill it.
-#[inline(never)]
+/// What is known of the file of an entry. The records of an EF fill it. Where it is laid out, what isn't asked of a file costs nothing.
+#[inline(always)]
 #[tactic(auto, unfolding(file_model::specs::Files::descriptor_of))]
 pub fn descriptor_of(number: u8, node: &Node) -> Descriptor
     requires { IsTrue (has_records node.now.kind) → HasFullRecords node.now }

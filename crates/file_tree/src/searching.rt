@@ -116,8 +116,7 @@ fn is_in_run(nodes: &[Node], first: usize, id: FileId) -> bool
         || nodes[first + 7].id == id
 }
 
-/// A number below which no entry has the identifier, and 128 where none has. Most entries are passed over here, a run at a
-/// time.
+/// A number below which no entry has the identifier. Most entries are passed over here, a run at a time.
 pub fn first_with(loaded: &Loaded, id: FileId) -> u8
     ensures before { HasNoneBetween loaded.now.nodes id.0 0 result }
     ensures within { result ≤ NODE_COUNT }

@@ -13,6 +13,7 @@ use Rattle.card_layout.specs.Standing.{Agrees}
 use Rattle.card_layout.specs.States.{pins_of}
 use Rattle.file_model.specs.declared.commands.PinCommand.{PinCommand}
 use Rattle.file_model.specs.declared.commands.PinCommand.TheVariants.{Verify, Change, Disable, Enable, Unblock}
+use Rattle.file_model.specs.Commands.{pin_settled}
 use Rattle.file_model.specs.Outcomes.{PinOutcome, last_of, has_no_data}
 use Rattle.file_model.specs.Pins.{pin_found, tries_left}
 use Rattle.file_model.specs.Guards.{guard_of, tries_by, TakesATry}
@@ -86,3 +87,7 @@ pin_by_byte ins =
     else if ins == 0x26 then Disable
     else if ins == 0x28 then Enable
     else Unblock
+
+-- what it comes to, refused or not
+abbrev pub settled_by_byte : List Pin → Verified → Apdu → PinOutcome
+settled_by_byte pins verified apdu = pin_settled (pin_by_byte apdu.ins) pins verified apdu

@@ -5,7 +5,7 @@ ghost use Rattle.card_layout.specs.Memory.{IsMounted, memory};
 ghost use Rattle.card_layout.specs.States.{pins_of};
 ghost use Rattle.file_model.specs.Commands.{pin_outcome, pin_settled};
 ghost use Rattle.card_memory.specs.Model.{PerformsPin};
-ghost use Rattle.pin_rules.specs.Outcomes.{IsCarriedOut, LeavesOneLess, IsPinRefused, IsPinCutShort, IsTried, ChangesPins, AnswersPins, pin_by_byte};
+ghost use Rattle.pin_rules.specs.Outcomes.{IsCarriedOut, LeavesOneLess, IsPinRefused, IsPinCutShort, IsTried, ChangesPins, AnswersPins, pin_by_byte, settled_by_byte};
 ghost use Rattle.pin_rules.specs.Trials.{IsTrial, OnlyTells, comes_to};
 
 use crate::marks::{marked, tries_left};
@@ -115,19 +115,21 @@ pub fn pin_command<S: Store>(
     out: &mut Answer,
 ) -> Result<(), StoreFault>
     requires mounted { IsMounted (memory S.Store store.old loaded.old) }
-    ensures comes { OnOk result (IsCarriedOut (pin_settled (pin_by_byte command.now.ins) (pins_of loaded.old) verified.old command.now)
+    ensures comes { OnOk result (IsCarriedOut (settled_by_byte (pins_of loaded.old) verified.old command.now)
         (pins_of loaded.old) out.new.status verified.new (pins_of loaded.new)) }
     ensures commits { OnOk result (S.Store.commits store.new
-        ≡ raised_by (length (pin_settled (pin_by_byte command.now.ins) (pins_of loaded.old) verified.old command.now).passed)
+        ≡ raised_by (length (settled_by_byte (pins_of loaded.old) verified.old command.now).passed)
         (S.Store.commits store.old)) }
     ensures performs { PerformsPin result (memory S.Store store.old loaded.old) (memory S.Store store.new loaded.new)
-        out.new verified.new (λ state. pin_settled (pin_by_byte command.now.ins) state.pins verified.old command.now) }
-    ensures guessed { OnOk result (LeavesOneLess (pin_by_byte command.now.ins) command.now out.new.status (pins_of loaded.old) (pins_of loaded.new)) }
-    ensures refused { (status : StatusWord) → pin_outcome (pin_by_byte command.now.ins) (pins_of loaded.old) verified.old command.now ≡ Err status
+        out.new verified.new (λ state. settled_by_byte state.pins verified.old command.now) }
+    ensures guessed { OnOk result (LeavesOneLess (pin_by_byte command.now.ins) command.now out.new.status
+        (pins_of loaded.old) (pins_of loaded.new)) }
+    ensures refused { (status : StatusWord)
+        → pin_outcome (pin_by_byte command.now.ins) (pins_of loaded.old) verified.old command.now ≡ Err status
         → IsOk result × IsPinRefused status out.new verified.old verified.new × (loaded.new ≡ loaded.old) }
-    ensures still { (pin_settled (pin_by_byte command.now.ins) (pins_of loaded.old) verified.old command.now).passed ≡ []
+    ensures still { (settled_by_byte (pins_of loaded.old) verified.old command.now).passed ≡ []
         → IsOk result × (store.new ≡ store.old) × (loaded.new ≡ loaded.old) }
-    ensures stops { OnErr result (IsPinCutShort (pin_settled (pin_by_byte command.now.ins) (pins_of loaded.old) verified.old command.now)
+    ensures stops { OnErr result (IsPinCutShort (settled_by_byte (pins_of loaded.old) verified.old command.now)
         (memory S.Store store.old loaded.old) (memory S.Store store.new loaded.new) verified.old verified.new) }
     ensures ends { AnswersPins (memory S.Store store.old loaded.old) (memory S.Store store.new loaded.new)
         out.new result }

@@ -174,7 +174,7 @@ fn try_increase<S: Store>(
         selection.now (λ state. increased state seen.now selection.now command.now) }
     ensures refused { (status : StatusWord)
         → file_to_increase (descriptors_of loaded.old) selection.now command.now ≡ Err status
-        → (result ≡ Ok (Err status)) × (loaded.new ≡ loaded.old) }
+        → (result ≡ Ok (Err status)) × (loaded.new ≡ loaded.old) × (store.new ≡ store.old) }
     ensures ends { EndsTry result (memory S.Store store.old loaded.old) (memory S.Store store.new loaded.new)
         out.old out.new }
     ensures files { KeepsDescriptors loaded.old loaded.new }
@@ -209,7 +209,8 @@ pub fn increase<S: Store>(
     ensures files { KeepsDescriptors loaded.old loaded.new }
     ensures refused { (status : StatusWord)
         → file_to_increase (descriptors_of loaded.old) selection.old command.now ≡ Err status
-        → IsOk result × IsRefused status out.new selection.old selection.new × (loaded.new ≡ loaded.old) }
+        → IsOk result × IsRefused status out.new selection.old selection.new × (loaded.new ≡ loaded.old)
+        × (store.new ≡ store.old) }
 {
     out.body.clear();
     let tried = try_increase(store, loaded, selection, seen, command, out)?;

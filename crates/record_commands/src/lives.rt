@@ -113,7 +113,7 @@ fn try_change<S: Store>(
         selection.now (λ state. life_changed change.op change.life state seen.now selection.now command.now) }
     ensures refused { (status : StatusWord)
         → life_file (descriptors_of loaded.old) selection.now command.now ≡ Err status
-        → (result ≡ Ok (Err status)) × (loaded.new ≡ loaded.old) }
+        → (result ≡ Ok (Err status)) × (loaded.new ≡ loaded.old) × (store.new ≡ store.old) }
     ensures ends { EndsTry result (memory S.Store store.old loaded.old) (memory S.Store store.new loaded.new)
         out.old out.new }
     ensures files { KeepsOtherFiles loaded.old loaded.new }
@@ -147,7 +147,8 @@ pub fn deactivate<S: Store>(
     ensures files { KeepsOtherFiles loaded.old loaded.new }
     ensures refused { (status : StatusWord)
         → life_file (descriptors_of loaded.old) selection.old command.now ≡ Err status
-        → IsOk result × IsRefused status out.new selection.old selection.new × (loaded.new ≡ loaded.old) }
+        → IsOk result × IsRefused status out.new selection.old selection.new × (loaded.new ≡ loaded.old)
+        × (store.new ≡ store.old) }
 {
     out.body.clear();
     let change = Change {
@@ -180,7 +181,8 @@ pub fn activate<S: Store>(
     ensures files { KeepsOtherFiles loaded.old loaded.new }
     ensures refused { (status : StatusWord)
         → life_file (descriptors_of loaded.old) selection.old command.now ≡ Err status
-        → IsOk result × IsRefused status out.new selection.old selection.new × (loaded.new ≡ loaded.old) }
+        → IsOk result × IsRefused status out.new selection.old selection.new × (loaded.new ≡ loaded.old)
+        × (store.new ≡ store.old) }
 {
     out.body.clear();
     let change = Change {

@@ -92,7 +92,7 @@ fn try_read<S: Store>(
         out.new (λ state. record_read state seen.now selection.now command.now) }
     ensures refused { (status : StatusWord)
         → file_to_read (descriptors_of loaded.now) selection.now command.now ≡ Err status
-        → result ≡ Ok (Err status) }
+        → (result ≡ Ok (Err status)) × (store.new ≡ store.old) }
     ensures ends { EndsTry result (memory S.Store store.old loaded.now) (memory S.Store store.new loaded.now)
         out.old out.new }
     ensures reads { Reads (memory S.Store store.old loaded.now) (memory S.Store store.new loaded.now) result }
@@ -124,7 +124,7 @@ pub fn read_record<S: Store>(
     ensures reads { Reads (memory S.Store store.old loaded.old) (memory S.Store store.new loaded.new) result }
     ensures refused { (status : StatusWord)
         → file_to_read (descriptors_of loaded.old) selection.old command.now ≡ Err status
-        → IsOk result × IsRefused status out.new selection.old selection.new }
+        → IsOk result × IsRefused status out.new selection.old selection.new × (store.new ≡ store.old) }
 {
     out.body.clear();
     let tried = try_read(store, loaded, selection, seen, command, out)?;

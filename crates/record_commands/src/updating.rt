@@ -125,7 +125,7 @@ fn try_update<S: Store>(
         selection.now (λ state. record_updated state seen.now selection.now command.now) }
     ensures refused { (status : StatusWord)
         → file_to_update (descriptors_of loaded.old) selection.now command.now ≡ Err status
-        → (result ≡ Ok (Err status)) × (loaded.new ≡ loaded.old) }
+        → (result ≡ Ok (Err status)) × (loaded.new ≡ loaded.old) × (store.new ≡ store.old) }
     ensures ends { EndsTry result (memory S.Store store.old loaded.old) (memory S.Store store.new loaded.new)
         out.old out.new }
     ensures files { KeepsDescriptors loaded.old loaded.new }
@@ -159,7 +159,8 @@ pub fn update_record<S: Store>(
     ensures files { KeepsDescriptors loaded.old loaded.new }
     ensures refused { (status : StatusWord)
         → file_to_update (descriptors_of loaded.old) selection.old command.now ≡ Err status
-        → IsOk result × IsRefused status out.new selection.old selection.new × (loaded.new ≡ loaded.old) }
+        → IsOk result × IsRefused status out.new selection.old selection.new × (loaded.new ≡ loaded.old)
+        × (store.new ≡ store.old) }
 {
     out.body.clear();
     let tried = try_update(store, loaded, selection, seen, command, out)?;

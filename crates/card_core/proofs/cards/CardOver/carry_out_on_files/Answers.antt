@@ -13,12 +13,12 @@ use Rattle.file_model.specs.declared.selections.TheConstants.Selection.{AT_START
 use Rattle.card_model.specs.Channels.{channel_of, selected_on}
 use Rattle.card_memory.specs.Laws.{IsTold}
 use Rattle.card_core.specs.AnyStore.{RefusesFile, NeedsNoContents}
-use Rattle.card_core.specs.Cards.{parts_of, card_of}
+use Rattle.card_core.specs.Cards.{parts_of, card_of, memory_of}
 use Rattle.file_making.specs.Lawful.{AreSelected}
 use Rattle.file_model.specs.Commands.{file_outcome}
 use Rattle.file_model.specs.declared.commands.FileCommand.{FileCommand}
 use Rattle.record_commands.specs.Tables.{HasOtherFiles}
-use Rattle.card_core.proofs.Denied.{refused_stays}
+use Rattle.card_core.proofs.Denied.{all_stays}
 use Rattle.card_core.proofs.Kept.{kept_selected, rows_beside_files, set_after}
 use Rattle.card_core.proofs.Restarts.{toolkit_kept}
 use Rattle.card_core.proofs.Selecting.{set_selected}
@@ -131,29 +131,16 @@ returns-in-Ok-clause-acts g c =
     (λ status refused.
     let told = subst (λ (table : Loaded). RefusesFile c.args.command (descriptors_of table) c.in-Some.selection c.args.apdu.now status) (sym c.deref_mut.ensures.value)
     (subst (λ (found : Option Selection). RefusesFile c.args.command (descriptors_of c.args.self.now.loaded.value) (unwrap_or found AT_START) c.args.apdu.now status) there refused) in
-    let gives = c.in-Ok.ensures.tells.denied status told in
-    let stays = refused_stays c.tables_tell_states.ensures (memory g.S.Store c.args.self.now.store c.deref_mut.result.now) (memory g.S.Store c.on_files.new.store c.on_files.new.loaded)
-    (subst (λ (table : Loaded). Agrees (g.S.Store.store_mark c.args.self.now.store) (g.S.Store.stable c.args.self.now.store) table) (sym c.deref_mut.ensures.value) c.requires.underway.running.mounted.agrees) c.requires.underway.set.card
-    c.on_files.ensures.ends.keeps.told c.args.command (keys_seen (pins_of c.deref_mut.result.now) c.args.self.now.verified) c.in-Some.selection c.args.apdu.now status told
-    c.on_files.new.selection c.on_files.new.out c.in-Ok.ensures.performs c.on_files.ensures.still in (
+    let gives = c.in-Ok.ensures.tells.denied status told in (
       refl,
       record {
         refused = record { body = gives.1.body; status_is = gives.1.status_is };
-        table = gives.2 ∙ c.deref_mut.ensures.value;
-        channels =
-            c.set.ensures ∙ ap (λ (at : ℕ). slice_set c.args.self.now.channels at (Some c.on_files.new.selection)) channel
+        stays =
+            all_stays (parts_of g.S.Store g.B.Applet c.args.self.now) (memory g.S.Store c.on_files.new.store c.on_files.new.loaded) _
+            (gives.2 ∙ ap (λ (table : Loaded). record (memory_of (parts_of g.S.Store g.B.Applet c.args.self.now)) { table = table }) c.deref_mut.ensures.value)
+            (c.set.ensures ∙ ap (λ (at : ℕ). slice_set c.args.self.now.channels at (Some c.on_files.new.selection)) channel
             ∙ ap (λ (next : Selection). slice_set c.args.self.now.channels (channel_of c.args.apdu.now.class) (Some next)) gives.1.selected
-            ∙ put_back c.args.self.now.channels (channel_of c.args.apdu.now.class) c.in-Some.selection there;
-        verified = refl;
-        session = refl;
-        boxes = refl;
-        is_on = refl;
-        is_due = refl;
-        index = refl;
-        leaving = refl;
-        told = stays.0;
-        mark = c.on_files.ensures.ends.keeps.mark;
-        commits = stays.1;
+            ∙ put_back c.args.self.now.channels (channel_of c.args.apdu.now.class) c.in-Some.selection there);
       },
     ))
     (files_moved (channel_of c.args.apdu.now.class) c.channel_of-channel.result (parts_of g.S.Store g.B.Applet c.args.self.now) _ (Some c.on_files.new.selection)

@@ -16,8 +16,9 @@ use Rattle.pin_rules.specs.Outcomes.{IsCarriedOut}
 use Rattle.card_core.specs.Cards.{parts_of, card_of}
 use Rattle.file_making.specs.Lawful.{AreSelected}
 use Rattle.card_opening.proofs.Started.{holds_card}
-use Rattle.general_laws.specs.Optional.{if_some}
-use Rattle.card_core.proofs.Denied.{pins_refused}
+use Rattle.access_rules.specs.declared.rules.Verified.{Verified}
+use Rattle.card_layout.specs.Memory.{memory}
+use Rattle.card_core.proofs.Denied.{all_stays, pins_refused}
 use Rattle.card_core.proofs.Kept.{rows_beside_pins, files_beside_pins, holds_passed, set_after}
 use Rattle.card_core.proofs.Lost.{fault_left, card_boxes}
 use Rattle.card_core.proofs.Served.{cards_in_order}
@@ -32,7 +33,7 @@ returns-in-Ok-clause-settled g c = record {
       pins_settle c.args.command (parts_of g.S.Store g.B.Applet c.args.self.now) c.requires.underway.rests c.args.apdu.now _ _ c.named_pin_command.new.out c.in-Ok.ensures.performs c.requires.underway.rests refl refl refl;
   counts =
       pins_counts c.args.command (parts_of g.S.Store g.B.Applet c.args.self.now) c.requires.underway.rests c.args.apdu.now _ c.deref_mut.result.now c.named_pin_command.new.loaded c.tables_tell_states.ensures c.requires.underway.running.mounted.agrees c.deref_mut.ensures.value
-      _ c.named_pin_command.new.out c.in-Ok.ensures.performs (λ none. ap g.S.Store.stable (c.named_pin_command.ensures.still none).1);
+      _ c.named_pin_command.new.out c.in-Ok.ensures.performs c.in-Ok.ensures.stops (λ none. ap g.S.Store.stable (c.named_pin_command.ensures.still none).1);
   usual = search rules;
   empty = search rules;
 }
@@ -64,7 +65,7 @@ returns-in-Err-clause-settled g c = record {
       (standing (g.S.Store.store_mark c.named_pin_command.new.store) (g.S.Store.stable c.named_pin_command.new.store)) c.in-Err.ensures.performs.passes);
   counts =
       pins_counts c.args.command (parts_of g.S.Store g.B.Applet c.args.self.now) c.requires.underway.rests c.args.apdu.now _ c.deref_mut.result.now c.named_pin_command.new.loaded c.tables_tell_states.ensures c.requires.underway.running.mounted.agrees c.deref_mut.ensures.value
-      _ c.named_pin_command.new.out c.in-Err.ensures.performs (λ none. ap g.S.Store.stable (c.named_pin_command.ensures.still none).1);
+      _ c.named_pin_command.new.out c.in-Err.ensures.performs c.in-Err.ensures.stops (λ none. ap g.S.Store.stable (c.named_pin_command.ensures.still none).1);
   usual = search rules;
   empty = search rules;
 }
@@ -104,22 +105,15 @@ returns-in-Ok-clause-acts g c =
     (c.named_pin_command.ensures.ends.others ∙ ap (λ (table : Loaded). record table { pins = c.named_pin_command.new.loaded.pins }) c.deref_mut.ensures.value) refl refl refl)
     (λ status refused.
     let gives = c.in-Ok.ensures.refused status (ap (λ (table : Loaded). pin_outcome c.args.command (pins_of table) c.args.self.now.verified c.args.apdu.now) c.deref_mut.ensures.value ∙ refused) in
-    let stays = (c.named_pin_command.ensures.still (pins_refused _ _ _ _ status (ap (λ (table : Loaded). pin_outcome c.args.command (pins_of table) c.args.self.now.verified c.args.apdu.now) c.deref_mut.ensures.value ∙ refused))).1 in (
+    let stays = c.named_pin_command.ensures.still (pins_refused _ _ _ _ status (ap (λ (table : Loaded). pin_outcome c.args.command (pins_of table) c.args.self.now.verified c.args.apdu.now) c.deref_mut.ensures.value ∙ refused)) in
+    let old = parts_of g.S.Store g.B.Applet c.args.self.now in (
       refl,
       record {
         refused = record { body = gives.1.body; status_is = gives.1.status_is };
-        table = gives.2 ∙ c.deref_mut.ensures.value;
-        channels = refl;
-        verified = gives.1.verified;
-        session = refl;
-        boxes = refl;
-        is_on = refl;
-        is_due = refl;
-        index = refl;
-        leaving = refl;
-        told = ap g.S.Store.stable stays;
-        mark = ap g.S.Store.store_mark stays;
-        commits = if_some (g.S.Store.stable c.args.self.now.store) _ (λ bytes tells. ap g.S.Store.commits stays);
+        stays =
+            all_stays (record old { verified = c.named_pin_command.new.verified }) (memory g.S.Store c.named_pin_command.new.store c.named_pin_command.new.loaded) old.channels
+            (ap (λ store. memory g.S.Store store c.named_pin_command.new.loaded) stays.1 ∙ ap (memory g.S.Store c.args.self.now.store) (stays.2 ∙ c.deref_mut.ensures.value)) refl
+            ∙ ap (λ (marks : Verified). record old { verified = marks }) gives.1.verified;
       },
     ))
     (record {

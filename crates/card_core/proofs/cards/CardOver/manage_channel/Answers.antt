@@ -19,7 +19,7 @@ returns-in-Ok-Some-clause-settled g c = record {
       counts_none _ (parts_of g.S.Store g.B.Applet c.args.self.now) _ c.requires.underway.rests _
       (channels_pass (parts_of g.S.Store g.B.Applet c.args.self.now) c.manage.new.channels c.args.apdu.now (Ok (Some c.in-Ok-Some.number))
       (c.manage.ensures.tried ∙ ap (λ (came : Result (Option ℕ) StatusWord). channels_managed came c.manage.new.channels) (c.in-Ok-Some.is ∙ ap Ok c.in-Ok-Some.field-0-is)))
-      refl refl;
+      refl refl refl;
   usual = search rules;
   empty = search rules;
 }
@@ -34,7 +34,7 @@ returns-in-Ok-None-clause-settled g c = record {
       counts_none _ (parts_of g.S.Store g.B.Applet c.args.self.now) _ c.requires.underway.rests _
       (channels_pass (parts_of g.S.Store g.B.Applet c.args.self.now) c.manage.new.channels c.args.apdu.now (Ok None)
       (c.manage.ensures.tried ∙ ap (λ (came : Result (Option ℕ) StatusWord). channels_managed came c.manage.new.channels) (c.in-Ok-None.is ∙ ap Ok c.in-Ok-None.field-0-is)))
-      refl refl;
+      refl refl refl;
   usual = search rules;
   empty = search rules;
 }
@@ -49,7 +49,7 @@ returns-in-Err-clause-settled g c = record {
       counts_none _ (parts_of g.S.Store g.B.Applet c.args.self.now) _ c.requires.underway.rests _
       (channels_pass (parts_of g.S.Store g.B.Applet c.args.self.now) c.manage.new.channels c.args.apdu.now (Err c.in-Err.status)
       (c.manage.ensures.tried ∙ ap (λ (came : Result (Option ℕ) StatusWord). channels_managed came c.manage.new.channels) c.in-Err.is))
-      refl refl;
+      refl refl refl;
   usual = search rules;
   empty = search rules;
 }

@@ -1,19 +1,18 @@
-use Rattle.std.proofs.Common.{◌≡◌, [], length, Option, sym, ◌∙◌, ap, subst, rules}
+use Rattle.std.proofs.Common.{◌≡◌, ℕ, [], Option, sym, ◌∙◌, ap, subst, rules}
 use Rattle.std.proofs.lemmas.Bool.{false≢true}
 use Rattle.std.specs.Prelude.{IfSome, IsSomeAnd, is_some}
-use Rattle.card_memory.specs.Performing.{CommitsAtMost}
+use Rattle.card_layout.specs.Standing.{standing}
 use Rattle.card_model.specs.States.{CardState, IsGood}
 use Rattle.card_model.specs.Answers.{answer, passed}
 use Rattle.card_model.specs.Runs.{IsLeft}
 use Rattle.card_core.specs.Acting.{in_whole, ActsAs}
 use Rattle.card_core.specs.AnyStore.{command_named}
 use Rattle.card_core.specs.Cards.{parts_of, card_of, card_due}
-use Rattle.card_core.proofs.AtMost.{no_commits}
 use Rattle.card_core.proofs.Standing.{card_told, due_told}
 use Rattle.card_core.proofs.Restarts.{due_is}
 use Rattle.card_core.proofs.Staying.{acts_anew}
 use Rattle.card_core.proofs.Leaving.{comes_from, good_comes, on_ok_of, on_err_of, left_restarted}
-use Rattle.card_core.proofs.Counting.{counts_from, if_any}
+use Rattle.card_core.proofs.Counting.{counts_from, if_any, stops_unmoved}
 use Rattle.card_core.proofs.cards.CardOver.perform.Goals as goal
 
 pub returns-in-Ok-clause-answered : goal.returns-in-Ok-clause-answered
@@ -51,8 +50,8 @@ returns-in-Err-clause-answered g c = record {
       (left_restarted (parts_of g.S.Store g.B.Applet c.catch_up.new.self) c.args.apdu.now c.in-Err.ensures.due);
   counts = record {
     commits = tt;
-    stopped = if_any (card_of (parts_of g.S.Store g.B.Applet c.args.self.now)) (λ card. CommitsAtMost (length (answer card c.args.apdu.now).commits) (parts_of g.S.Store g.B.Applet c.args.self.now).commits (parts_of g.S.Store g.B.Applet c.catch_up.new.self).commits)
-        (λ card. no_commits (length (answer card c.args.apdu.now).commits) _ _ c.catch_up.ensures.bytes.commits);
+    stopped = stops_unmoved (parts_of g.S.Store g.B.Applet c.args.self.now) (parts_of g.S.Store g.B.Applet c.catch_up.new.self) (λ card. (answer card c.args.apdu.now).commits) c.catch_up.ensures.bytes.commits
+        (ap (λ (mark : ℕ). standing mark (parts_of g.S.Store g.B.Applet c.catch_up.new.self).told) c.catch_up.ensures.rests.mark ∙ ap (standing (parts_of g.S.Store g.B.Applet c.args.self.now).store_mark) c.catch_up.ensures.bytes.told);
     stable = if_any (card_of (parts_of g.S.Store g.B.Applet c.args.self.now)) (λ card. (answer card c.args.apdu.now).commits ≡ [] → (parts_of g.S.Store g.B.Applet c.catch_up.new.self).told ≡ (parts_of g.S.Store g.B.Applet c.args.self.now).told) (λ card none. c.catch_up.ensures.bytes.told);
   };
   usual = search rules;

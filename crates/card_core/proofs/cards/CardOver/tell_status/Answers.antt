@@ -8,7 +8,7 @@ use Rattle.card_core.proofs.Polling.{status_both, status_so, status_silent_on, s
 use Rattle.card_core.proofs.Staying.{status_moved, status_kept}
 use Rattle.card_core.proofs.Calm.{status_calm}
 use Rattle.card_core.proofs.Levels.{status_acts}
-use Rattle.card_core.proofs.Counting.{status_counts, status_counts_other, status_stays, status_at_most}
+use Rattle.card_core.proofs.Counting.{status_counts, status_counts_other, status_stays, status_stops}
 use Rattle.card_core.proofs.Taking.{status_commits, status_commits_other}
 use Rattle.card_core.proofs.cards.CardOver.tell_status.Goals as goal
 
@@ -42,7 +42,7 @@ returns-in-Ok-2-clause-settled g c = record {
   settles = status_silent_on (card_of (parts_of g.S.Store g.B.Applet c.args.self.now)) c.args.apdu.now c.carry_out_on_files.new.out (card_of (parts_of g.S.Store g.B.Applet c.carry_out_on_files.new.self)) (ne_eqb c.carry_out_on_files.new.out.status.0 DONE.0 c.if-out.false) c.in-Ok.ensures.settled.settles;
   counts =
       status_counts_other c.args.apdu.now (parts_of g.S.Store g.B.Applet c.args.self.now) (parts_of g.S.Store g.B.Applet c.carry_out_on_files.new.self) c.carry_out_on_files.new.out c.in-Ok.ensures.settled.settles c.in-Ok.ensures.settled.counts.commits c.in-Ok.ensures.settled.counts.stable
-      _ (ne_eqb c.carry_out_on_files.new.out.status.0 DONE.0 c.if-out.false);
+      c.in-Ok.field-0 (ne_eqb c.carry_out_on_files.new.out.status.0 DONE.0 c.if-out.false);
   usual = search rules;
   empty = search rules;
 }
@@ -62,7 +62,7 @@ returns-in-Err-clause-settled g c = record {
   settles = status_stopped (card_of (parts_of g.S.Store g.B.Applet c.args.self.now)) c.args.apdu.now (card_due (parts_of g.S.Store g.B.Applet c.carry_out_on_files.new.self)) c.in-Err.ensures.settled.settles;
   counts = record {
     commits = tt;
-    stopped = status_at_most c.args.apdu.now (parts_of g.S.Store g.B.Applet c.args.self.now) (parts_of g.S.Store g.B.Applet c.carry_out_on_files.new.self) c.in-Err.ensures.settled.counts.stopped;
+    stopped = status_stops c.args.apdu.now (parts_of g.S.Store g.B.Applet c.args.self.now) (parts_of g.S.Store g.B.Applet c.carry_out_on_files.new.self) c.in-Err.ensures.settled.counts.stopped;
     stable = status_stays c.args.apdu.now (parts_of g.S.Store g.B.Applet c.args.self.now) (parts_of g.S.Store g.B.Applet c.carry_out_on_files.new.self) c.in-Err.ensures.settled.counts.stable;
   };
   usual = search rules;

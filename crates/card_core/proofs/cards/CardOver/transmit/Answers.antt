@@ -8,8 +8,9 @@ use Rattle.card_model.specs.States.{CardState}
 use Rattle.card_model.specs.Answers.{passed, answer}
 use Rattle.card_model.specs.Runs.{IsLeft}
 use Rattle.card_core.specs.AnyStore.{MovesItsOwn}
-use Rattle.card_core.specs.Cards.{parts_of, card_of, IsCardReady}
-use Rattle.card_core.proofs.AtMost.{all_commits, no_commits}
+use Rattle.card_core.specs.Cards.{parts_of, card_of, held_by, IsCardReady}
+use Rattle.card_core.specs.Moves.{StopsAt}
+use Rattle.card_core.proofs.AtMost.{all_commits}
 use Rattle.card_core.proofs.Restarts.{due_same, failed_ready, fail_power, not_lost}
 use Rattle.card_core.proofs.Leaving.{fail_moves}
 use Rattle.card_core.proofs.Refusing.{failed_first, ok_not_err}
@@ -17,7 +18,7 @@ use Rattle.card_core.proofs.Staying.{still_its_own, refused_anew, left_alone}
 use Rattle.card_core.proofs.Telling.{answered_so, stood_so}
 use Rattle.card_core.proofs.Named.{acts_named}
 use Rattle.card_core.proofs.Calm.{calm_may, calm_stands}
-use Rattle.card_core.proofs.Counting.{if_any, at_most}
+use Rattle.card_core.proofs.Counting.{if_any, stops_unmoved}
 use Rattle.card_core.proofs.Taking.{so_may, so_stands}
 use Rattle.card_core.proofs.cards.CardOver.transmit.Goals as goal
 
@@ -104,16 +105,16 @@ returns-in-Err-clause-anew g c = λ due. record {
 pub returns-in-Ok-clause-counts : goal.returns-in-Ok-clause-counts
 returns-in-Ok-clause-counts g c = record {
   commits = λ other. c.in-Ok.ensures.answered.counts.commits;
-  at_most = at_most c.perform.result (parts_of g.S.Store g.B.Applet c.args.self.now) (parts_of g.S.Store g.B.Applet c.perform.new.self) (λ card. (answer card c.args.apdu.now).commits) c.perform.ensures.answered.counts;
+  stopped = inl (refl, (λ is. c.in-Ok.ensures.answered.usual (ap (λ (word : StatusWord). word.0) is)));
   stable = c.in-Ok.ensures.answered.counts.stable;
 }
 
 pub returns-in-Err-clause-counts : goal.returns-in-Err-clause-counts
 returns-in-Err-clause-counts g c = record {
   commits = failed_first _ c.in-Err.fault c.fail.result c.fail.new.out.status c.fail.ensures.failed c.fail.ensures.lost;
-  at_most =
-      subst (λ card. IfSome (card_of (parts_of g.S.Store g.B.Applet c.args.self.now)) (λ each. CommitsAtMost (length (answer each c.args.apdu.now).commits) (parts_of g.S.Store g.B.Applet c.args.self.now).commits (parts_of g.S.Store g.B.Applet card).commits)) (sym c.fail.ensures.others)
-      (at_most c.perform.result (parts_of g.S.Store g.B.Applet c.args.self.now) (parts_of g.S.Store g.B.Applet c.perform.new.self) (λ card. (answer card c.args.apdu.now).commits) c.perform.ensures.answered.counts);
+  stopped =
+      inr (subst (λ card. IfSome (card_of (parts_of g.S.Store g.B.Applet c.args.self.now)) (λ each. StopsAt each.persistent (answer each c.args.apdu.now).commits (parts_of g.S.Store g.B.Applet c.args.self.now).commits (parts_of g.S.Store g.B.Applet card).commits (held_by (parts_of g.S.Store g.B.Applet card)))) (sym c.fail.ensures.others)
+      c.in-Err.ensures.answered.counts.stopped);
   stable =
       subst (λ card. IfSome (card_of (parts_of g.S.Store g.B.Applet c.args.self.now)) (λ each. (answer each c.args.apdu.now).commits ≡ [] → (parts_of g.S.Store g.B.Applet card).told ≡ (parts_of g.S.Store g.B.Applet c.args.self.now).told)) (sym c.fail.ensures.others) c.in-Err.ensures.answered.counts.stable;
 }
@@ -121,7 +122,7 @@ returns-in-Err-clause-counts g c = record {
 pub returns-then-not-self-clause-counts : goal.returns-then-not-self-clause-counts
 returns-then-not-self-clause-counts g c = record {
   commits = tt;
-  at_most = if_any (card_of (parts_of g.S.Store g.B.Applet c.args.self.now)) (λ card. CommitsAtMost (length (answer card c.args.apdu.now).commits) (parts_of g.S.Store g.B.Applet c.args.self.now).commits (parts_of g.S.Store g.B.Applet c.args.self.now).commits) (λ card. no_commits (length (answer card c.args.apdu.now).commits) _ _ refl);
+  stopped = inr (stops_unmoved (parts_of g.S.Store g.B.Applet c.args.self.now) (parts_of g.S.Store g.B.Applet c.args.self.now) (λ card. (answer card c.args.apdu.now).commits) refl refl);
   stable = if_any (card_of (parts_of g.S.Store g.B.Applet c.args.self.now)) (λ card. (answer card c.args.apdu.now).commits ≡ [] → (parts_of g.S.Store g.B.Applet c.args.self.now).told ≡ (parts_of g.S.Store g.B.Applet c.args.self.now).told) (λ card none. refl);
 }
 
