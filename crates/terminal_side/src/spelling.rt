@@ -326,7 +326,8 @@ fn spell_call(apdu: &mut ApduBytes, digits: &Digits)
 
 /// ENVELOPE with a timer that has run down, and the value that it was started with.
 fn spell_expired(apdu: &mut ApduBytes, timer: u8, value: &TimeValue)
-    ensures { apdu.new ≡ toolkit_apdu 0xC2 (tagged TIMER_EXPIRATION (spellings (from TERMINAL ∷ timer_object timer ∷ timer_value value.now ∷ []))) }
+    ensures { apdu.new ≡ toolkit_apdu 0xC2 (tagged TIMER_EXPIRATION
+        (spellings (from TERMINAL ∷ timer_object timer ∷ timer_value value.now ∷ []))) }
 {
     let mut objects = TlvWriter::new();
     put_device(&mut objects, TERMINAL);
