@@ -5,16 +5,18 @@ ghost use Rattle.handset_model.specs.Legal.{IsBounded, item_of, next_item};
 ghost use Rattle.terminal_side.specs.Kept.{after_note, doing, hearing, hearing_answer, kept, losing_power, shows, starting, taking, taking_fetched, unstarted, with_next};
 ghost use Rattle.terminal_side.specs.Stages.{Asks, shown_if, step_of, text_of_held, text_shown};
 ghost use Rattle.handset_model.specs.Sending.{apdu_of};
+ghost use Rattle.handset_model.specs.declared.commands.Command.TheVariants.{AskStatus, Fetch, Respond};
+ghost use Rattle.handset_model.specs.declared.commands.Reply.TheVariants.{Result};
 ghost use Rattle.handset_model.specs.declared.known.Duty.TheVariants.{Transmit};
 ghost use Rattle.script_form.specs.declared.handset.Note.TheVariants.{Text};
 ghost use Rattle.toolkit_commands.specs.Reading.{details_found, proactive_of};
 
-use crate::knowing::{NONE_LISTED, forget, hear, hold, send, take_status};
+use crate::knowing::{NONE_LISTED, count, forget, hear, hold, send, take_status};
 use crate::reactions::said_at;
 use crate::sessions::{after_call, carried_out, followed, noted, refused};
-use crate::spelling::spell_command;
+use crate::spelling::{spell_command, spell_fetch, spell_result, spell_status};
 use crate::stages::Stage;
-use handset_model::{Command, Duty, Held, Known, LastSent, Reply};
+use handset_model::{Command, Duty, Held, Known, LastSent};
 use script_form::{HandsetLine, Note};
 use std::marker::Model;
 use std::mem;
@@ -226,12 +228,9 @@ impl Phone {
     {
         match self.stage {
             Stage::Resting | Stage::Awaiting => Next::Nothing,
-            Stage::Fetching(length) => self.transmit(&Command::Fetch { length }, apdu),
-            Stage::Polling => self.transmit(&Command::AskStatus, apdu),
-            Stage::Responding(details, general) => {
-                let reply = Reply::Result(general);
-                self.transmit(&Command::Respond { details, reply }, apdu)
-            }
+            Stage::Fetching(length) => self.fetch(length, apdu),
+            Stage::Polling => self.poll(apdu),
+            Stage::Responding(details, general) => self.respond(details, general, apdu),
             Stage::Showing => self.show_text(note),
             Stage::Asked => match &self.duty {
                 Duty::Rest | Duty::Await => Next::Nothing,
@@ -250,20 +249,48 @@ impl Phone {
         }
     }
 
-    /// This command is sent next.
+    /// A command of so many bytes is fetched next.
     #[tactic(auto, unfolding(crate::specs::Kept::with_sent))]
-    fn transmit(&mut self, command: &Command, apdu: &mut ApduBytes) -> Next
+    fn fetch(&mut self, length: u8, apdu: &mut ApduBytes) -> Next
         ensures sends { result ≡ Next.Send }
-        ensures item { apdu.new ≡ apdu_of command.now }
-        ensures after { self.new ≡ doing (Transmit command.now) self.old.known }
+        ensures item { apdu.new ≡ apdu_of (Fetch length) }
+        ensures after { self.new ≡ doing (Transmit (Fetch length)) self.old.known }
     {
-        send(&mut self.known, command);
-        spell_command(apdu, command);
+        count(&mut self.known, LastSent::Fetching);
+        spell_fetch(apdu, length);
+        self.stage = Stage::Awaiting;
+        Next::Send
+    }
+
+    /// The card is asked next how it is.
+    #[tactic(auto, unfolding(crate::specs::Kept::with_sent))]
+    fn poll(&mut self, apdu: &mut ApduBytes) -> Next
+        ensures sends { result ≡ Next.Send }
+        ensures item { apdu.new ≡ apdu_of AskStatus }
+        ensures after { self.new ≡ doing (Transmit AskStatus) self.old.known }
+    {
+        count(&mut self.known, LastSent::Another);
+        spell_status(apdu);
+        self.stage = Stage::Awaiting;
+        Next::Send
+    }
+
+    /// The result of a command is told next.
+    #[tactic(auto, unfolding(crate::specs::Kept::with_sent))]
+    fn respond(&mut self, details: Details, general: u8, apdu: &mut ApduBytes) -> Next
+        ensures sends { result ≡ Next.Send }
+        ensures item { apdu.new ≡ apdu_of (Respond details (Result general)) }
+        ensures after { self.new ≡ doing (Transmit (Respond details (Result general))) self.old.known }
+    {
+        self.known.held = None;
+        count(&mut self.known, LastSent::Another);
+        spell_result(apdu, &details, general);
         self.stage = Stage::Awaiting;
         Next::Send
     }
 
     /// The text of the held command is shown next.
+    #[inline(never)]
     fn show_text(&mut self, note: &mut Note) -> Next
         ensures item { (apdu : List ℕ) → step_of result apdu note.new ≡ item_of (text_of_held self.old.known.held) }
         ensures after { self.old.asked ≡ text_of_held self.old.known.held

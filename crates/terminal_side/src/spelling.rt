@@ -3,6 +3,8 @@ ghost use Rattle.std.specs.Prelude.{◌≡◌, ◌+◌, ◌≤◌, ◌<◌, ◌+
 ghost use Rattle.comprehension_tlv.specs.Writing.{spellings, tagged};
 ghost use Rattle.toolkit_commands.specs.Table.{required, timer_value, two_digits, text_string};
 ghost use Rattle.handset_model.specs.Sending.{apdu_of, event, from, envelope, packed, performed, reply_objects, response_objects, timer_object, toolkit_apdu};
+ghost use Rattle.handset_model.specs.declared.commands.Command.TheVariants.{AskStatus, Fetch, Respond};
+ghost use Rattle.handset_model.specs.declared.commands.Reply.TheVariants.{Result};
 ghost use Rattle.handset_model.specs.declared.commands.Report.TheVariants.{CallControl, Location};
 
 use comprehension_tlv::TlvWriter;
@@ -143,35 +145,58 @@ fn spell_toolkit(apdu: &mut ApduBytes, instruction: u8, content: &[u8])
     }
 }
 
+/// FETCH of so many bytes.
+#[tactic(auto, unfolding(handset_model::specs::Sending::apdu_of))]
+pub fn spell_fetch(apdu: &mut ApduBytes, length: u8)
+    ensures { apdu.new ≡ apdu_of (Fetch length) }
+{
+    spell(apdu, &[0x80, 0x12, 0x00, 0x00, length])
+}
+
+/// STATUS.
+#[tactic(auto, unfolding(handset_model::specs::Sending::apdu_of))]
+pub fn spell_status(apdu: &mut ApduBytes)
+    ensures { apdu.new ≡ apdu_of AskStatus }
+{
+    spell(apdu, &[0x80, 0xF2, 0x00, 0x0C])
+}
+
+/// TERMINAL RESPONSE with a result and no more. Most are of this kind, and their objects have their bytes at once.
+#[tactic(auto, unfolding(comprehension_tlv::specs::Writing::tagged, handset_model::specs::Sending::apdu_of))]
+pub fn spell_result(apdu: &mut ApduBytes, details: &Details, general: u8)
+    ensures { apdu.new ≡ apdu_of (Respond details.now (Result general)) }
+{
+    spell(
+        apdu,
+        &[
+            0x80,
+            0x14,
+            0x00,
+            0x00,
+            12,
+            DETAILS_BYTE,
+            3,
+            details.number,
+            details.kind,
+            details.qualifier,
+            DEVICES_BYTE,
+            2,
+            TERMINAL,
+            CARD,
+            RESULT_BYTE,
+            1,
+            general,
+        ],
+    )
+}
+
 /// TERMINAL RESPONSE.
-#[tactic(auto, unfolding(comprehension_tlv::specs::Writing::tagged))]
+#[tactic(auto, unfolding(handset_model::specs::Sending::apdu_of))]
 fn spell_response(apdu: &mut ApduBytes, details: &Details, reply: &Reply)
-    ensures { apdu.new ≡ toolkit_apdu 0x14 (spellings (response_objects details.now reply.now)) }
+    ensures { apdu.new ≡ apdu_of (Respond details.now reply.now) }
 {
     match reply {
-        // Mostly there is a result and no more, and the objects have their bytes at once.
-        Reply::Result(general) => spell(
-            apdu,
-            &[
-                0x80,
-                0x14,
-                0x00,
-                0x00,
-                12,
-                DETAILS_BYTE,
-                3,
-                details.number,
-                details.kind,
-                details.qualifier,
-                DEVICES_BYTE,
-                2,
-                TERMINAL,
-                CARD,
-                RESULT_BYTE,
-                1,
-                *general,
-            ],
-        ),
+        Reply::Result(general) => spell_result(apdu, details, *general),
         _ => spell_long_response(apdu, details, reply),
     }
 }
@@ -368,9 +393,9 @@ pub fn spell_command(apdu: &mut ApduBytes, command: &Command)
                 0x80, 0x10, 0x00, 0x00, 0x08, 0x29, 0x00, 0xBF, 0x61, 0x71, 0x00, 0x00, 0x13,
             ],
         ),
-        Command::Fetch { length } => spell(apdu, &[0x80, 0x12, 0x00, 0x00, *length]),
+        Command::Fetch { length } => spell_fetch(apdu, *length),
         Command::Respond { details, reply } => spell_response(apdu, details, reply),
         Command::Tell(report) => spell_envelope(apdu, report),
-        Command::AskStatus => spell(apdu, &[0x80, 0xF2, 0x00, 0x0C]),
+        Command::AskStatus => spell_status(apdu),
     }
 }
