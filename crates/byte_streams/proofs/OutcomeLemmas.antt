@@ -7,11 +7,11 @@ use Rattle.std.proofs.lemmas.Bool.{false≢true, ne_eqb}
 use Rattle.std.proofs.lemmas.List.{append-nil, length-take-le}
 use Rattle.byte_streams.specs.declared.next_line.NextLine.{NextLine}
 use Rattle.byte_streams.specs.declared.next_line.NextLine.TheVariants.{Line, End, TooLong, Failed}
-use Rattle.byte_streams.specs.Lines.{LineList, admitted, last_line, lines, lines_of, lines_within, parts}
+use Rattle.byte_streams.specs.Lines.{LineList, admitted, last_line, lines_of, lines_within, parts}
 use Rattle.byte_streams.specs.declared.limits.TheConstants.{LONGEST_LINE}
 use Rattle.byte_streams.specs.declared.window.TheConstants.{SIZE}
-use Rattle.byte_streams.specs.Reading.{BeginsBad, HasRead, IsTextCutShort, OnLine, OnTooLong, Reading, lines_left, pending}
-use Rattle.byte_streams.specs.ReaderSteps.{Continues, PassesLast, PassesLine}
+use Rattle.byte_streams.specs.Reading.{BeginsBad, Found, HasRead, IsTextCutShort, Leaves, OnLine, Reading, lines_left, pending}
+use Rattle.byte_streams.specs.ReaderSteps.{Continues, PassesLast, PassesLine, after_line}
 use Rattle.byte_streams.specs.Search.{IsFirstEnd, NoEndBelow}
 use Rattle.byte_streams.proofs.BadLemmas.{IsBad, known_none}
 use Rattle.byte_streams.proofs.LineLemmas.{held_at, lines_of_at, none_before, parts_none}
@@ -60,19 +60,21 @@ passes_last old new step = record {
   };
 }
 
+-- a line was found: it was handed out, or it is bad
+abbrev pub Handed : NextLine → Type 0 → Type 0 → Type 0
+Handed Line P Q = P
+Handed End P Q = ⊥
+Handed TooLong P Q = Q
+Handed Failed P Q = ⊥
+
 -- a result that a test decides
 decided : (test : Bool) (P Q : Type 0) (result : NextLine) → result ≡ cond test Line TooLong → (test ≡ true → P) → (test ≡ false → Q)
-    → OnLine result P × OnTooLong result Q
-decided true P Q result is fits bad = subst (λ (r : NextLine). OnLine r P × OnTooLong r Q) (sym is) (fits refl, tt)
-decided false P Q result is fits bad = subst (λ (r : NextLine). OnLine r P × OnTooLong r Q) (sym is) (tt, bad refl)
+    → Handed result P Q
+decided true P Q result is fits bad = subst (λ (r : NextLine). Handed r P Q) (sym is) (fits refl)
+decided false P Q result is fits bad = subst (λ (r : NextLine). Handed r P Q) (sym is) (bad refl)
 
 on_line : (test : Bool) (P : Type 0) (result : NextLine) → result ≡ cond test Line TooLong → test ≡ true → OnLine result P → P
 on_line test P result is fits = let at = is ∙ ap (λ (b : Bool). cond b Line TooLong) fits in subst (λ (r : NextLine). OnLine r P) at
-
--- what a reader that hands out so many bytes holds afterwards
-abbrev pub after_line : Reading → ℕ → ℕ → Reading
-after_line reading line size =
-    record { line = take line reading.held; held = drop size reading.held; room = reading.room - size; ended = reading.ended }
 
 abbrev pub is_admitted : ℕ → ℕ → ℕ → Bool
 is_admitted room line size = leb line LONGEST_LINE && leb size room
@@ -86,7 +88,7 @@ pub ended_line : (old new : Reading) (place line : ℕ) (result : NextLine) → 
     → take line old.held ≡ strip_carriage_return (take place old.held)
     → result ≡ cond (is_admitted old.room line (place + 1)) Line TooLong
     → OnLine result (new ≡ after_line old line (place + 1))
-    → OnLine result (Passes old new) × OnTooLong result (IsBad old)
+    → Handed result (Passes old new) (IsBad old)
 ended_line old new place line result found ordered stripped is after =
     let body = take place old.held in
     let inside : place < length old.held = found.inside in
@@ -121,7 +123,7 @@ pub final_line : (old new : Reading) (size : ℕ) (result : NextLine) → old.en
     → size ≡ length old.held → 0 < size
     → result ≡ cond (is_admitted old.room size size) Line TooLong
     → OnLine result (new ≡ after_line old size size)
-    → OnLine result (Passes old new) × OnTooLong result (IsBad old)
+    → Handed result (Passes old new) (IsBad old)
 final_line old new size result ended none all some is after =
     let by_test : (test : Bool) → is_admitted old.room size size ≡ test
     → admitted old.room (length old.held) old.held ≡ cond test (Some old.held) None =
@@ -141,18 +143,6 @@ final_line old new size result ended none all some is after =
     })
     (λ unfit rest. ([], held_lines old rest ended none not_empty ∙ ap (λ (l : Option (List ℕ)). l ∷ []) (by_test false unfit)))
 
-on_line_map : (result : NextLine) (P Q : Type 0) → (P → Q) → OnLine result P → OnLine result Q
-on_line_map Line P Q f fact = f fact
-on_line_map End P Q f fact = tt
-on_line_map TooLong P Q f fact = tt
-on_line_map Failed P Q f fact = tt
-
-on_too_long_map : (result : NextLine) (P Q : Type 0) → (P → Q) → OnTooLong result P → OnTooLong result Q
-on_too_long_map Line P Q f fact = tt
-on_too_long_map End P Q f fact = tt
-on_too_long_map TooLong P Q f fact = f fact
-on_too_long_map Failed P Q f fact = tt
-
 left_after : (old new : Reading) (left : Option (List ℕ)) → Passes old new
     → lines_left old left ≡ option_map (λ more. Some new.line ∷ more) (lines_left new left)
 left_after old new None passes = refl
@@ -162,29 +152,26 @@ left_bad : (reading : Reading) (left : Option (List ℕ)) → IsBad reading → 
 left_bad reading None bad = tt
 left_bad reading (Some rest) bad = bad rest
 
--- what `next` ensures of a line that was found, be it handed out or bad
+-- what a search for the next line says of the lines that were still to come, and of a text
 pub record Outcome (old new : Reading) (left left_then : Option (List ℕ)) (result : NextLine) : Type 0 where
-  pub line : OnLine result (lines_left old left ≡ option_map (λ more. Some new.line ∷ more) (lines_left new left_then))
-  pub too_long : OnTooLong result (IfSome (lines_left old left) BeginsBad)
-  pub one_more : OnLine result ((text : List ℕ) (given : LineList) → HasRead text given old left → HasRead text (given ++ (Some new.line ∷ [])) new left_then)
-  pub bad : OnTooLong result ((text : List ℕ) (given : LineList) → HasRead text given old left → (more : LineList) × (lines text ≡ given ++ (None ∷ more)))
+  pub leaves : Leaves result new.line (lines_left old left) (lines_left new left_then)
+  pub found : (text : List ℕ) (given : LineList) → HasRead text given old left → Found result text given new left_then
 
+-- where a line was found, be it handed out or bad
 pub outcome : (old mid new : Reading) (left left_then : Option (List ℕ)) (result : NextLine) → Continues old left mid left_then
-    → OnLine result (Passes mid new) × OnTooLong result (IsBad mid) → Outcome old new left left_then result
-outcome old mid new left left_then result step found =
-    let same = lines_left_same old mid left left_then step in
-    record {
-      line = on_line_map result _ _ (λ passes. same ∙ left_after mid new left_then passes) found.0;
-      too_long = on_too_long_map result _ _ (λ bad. subst (λ (o : Option LineList). IfSome o BeginsBad) (sym same) (left_bad mid left_then bad)) found.1;
-      one_more = on_line_map result _ _
-          (λ passes text given read. passes.reads text given left_then (HasRead_same text given old mid left left_then step read))
-          found.0;
-      bad = on_too_long_map result _ _
-          (λ bad text given read.
-          let then = HasRead_same text given old mid left left_then step read in
-          let first = bad then.rest in (first.0, then.lines_are ∙ ap (λ (found : LineList). given ++ found) first.1))
-          found.1;
-    }
+    → Handed result (Passes mid new) (IsBad mid) → Outcome old new left left_then result
+outcome old mid new left left_then Line step passes = record {
+  leaves = lines_left_same old mid left left_then step ∙ left_after mid new left_then passes;
+  found = λ text given read. passes.reads text given left_then (HasRead_same text given old mid left left_then step read);
+}
+outcome old mid new left left_then TooLong step bad = record {
+  leaves = subst (λ (found : Option LineList). IfSome found BeginsBad) (sym (lines_left_same old mid left left_then step)) (left_bad mid left_then bad);
+  found = λ text given read.
+      let then = HasRead_same text given old mid left left_then step read in
+      let first = bad then.rest in (first.0, then.lines_are ∙ ap (λ (found : LineList). given ++ found) first.1);
+}
+outcome old mid new left left_then End step none = absurd none
+outcome old mid new left left_then Failed step none = absurd none
 
 -- no line is known in what is held, and the source failed
 pub cut_short : (old new : Reading) (left left_then : Option (List ℕ)) → Continues old left new left_then

@@ -1,14 +1,14 @@
 -- How much a reader has taken of a text.
-use Rattle.std.proofs.Common.{◌≡◌, ◌≢◌, ℕ, ◌+◌, ◌≤◌, ◌⊎◌, min, Bool, true, false, List, [], ◌∷◌, ◌++◌, length, Option, Some, None, inl, inr, refl, sym, ap, subst, ◌∙◌, append_assoc, arith}
+use Rattle.std.proofs.Common.{◌≡◌, ◌≢◌, ℕ, ◌+◌, ◌≤◌, ◌<◌, ◌⊎◌, min, Bool, true, false, List, [], ◌∷◌, ◌++◌, length, Option, Some, None, inl, inr, refl, sym, ap, subst, ◌∙◌, append_assoc, arith}
 use Rattle.std.proofs.lemmas.List.{append-nil, length-append, length-drop}
 use Rattle.byte_streams.specs.Lines.{LineList, known}
-use Rattle.byte_streams.specs.Reading.{HasRead, IsReadOut, IsSpent, IsTakenFor, IsWithin, OnLine, Reading}
-use Rattle.byte_streams.specs.ReaderSteps.{Continues}
+use Rattle.byte_streams.specs.Reading.{HasRead, IsReadOut, IsSpent, IsTakenFor, IsWithin, OnLine, Reading, UsesRoom}
+use Rattle.byte_streams.specs.ReaderSteps.{Continues, after_line}
 use Rattle.byte_streams.specs.declared.next_line.NextLine.{NextLine}
 use Rattle.byte_streams.specs.declared.next_line.NextLine.TheVariants.{Line, End, TooLong, Failed}
 use Rattle.byte_streams.specs.declared.window.TheConstants.{SIZE}
 use Rattle.byte_streams.proofs.BadLemmas.{known_none}
-use Rattle.byte_streams.proofs.OutcomeLemmas.{after_line, nothing_left}
+use Rattle.byte_streams.proofs.OutcomeLemmas.{nothing_left}
 use Rattle.byte_streams.proofs.ReadingLemmas.{HasRead_same, some_is}
 
 -- more was taken
@@ -41,6 +41,14 @@ within_after text mid new left line size Line after fits stays inside within =
 within_after text mid new left line size End after fits stays inside within = subst (λ (r : Reading). IsWithin text r left) (sym (stays (λ e. cc))) within
 within_after text mid new left line size TooLong after fits stays inside within = subst (λ (r : Reading). IsWithin text r left) (sym (stays (λ e. cc))) within
 within_after text mid new left line size Failed after fits stays inside within = subst (λ (r : Reading). IsWithin text r left) (sym (stays (λ e. cc))) within
+
+-- a line takes up its bytes and its end
+pub room_after : (mid new : Reading) (line size : ℕ) (result : NextLine) → OnLine result (new ≡ after_line mid line size) → OnLine result (size ≤ mid.room) → (result ≢ Line → new ≡ mid)
+    → 0 < size → UsesRoom result mid.room new.room
+room_after mid new line size Line after fits stays some = rw after (omega arith)
+room_after mid new line size End after fits stays some = ap (λ (r : Reading). r.room) (stays (λ e. cc))
+room_after mid new line size TooLong after fits stays some = ap (λ (r : Reading). r.room) (stays (λ e. cc))
+room_after mid new line size Failed after fits stays some = ap (λ (r : Reading). r.room) (stays (λ e. cc))
 
 -- the lines that were handed out alone are known without what is held, or they are all
 known_at : (text : List ℕ) (given : LineList) (mid : Reading) (left : Option (List ℕ)) (read : HasRead text given mid left) → (IsSpent mid → ⊥) → known read.passed ≡ given

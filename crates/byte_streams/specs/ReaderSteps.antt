@@ -1,5 +1,5 @@
 -- The steps in which a reader finds a line. No public clause cites this module.
-use Rattle.std.specs.Prelude.{◌≡◌, ℕ, ◌+◌, ◌-◌, ◌<◌, ◌⊎◌, true, List, [], ◌∷◌, ◌++◌, length, Option, Some}
+use Rattle.std.specs.Prelude.{◌≡◌, ℕ, ◌+◌, ◌-◌, ◌<◌, ◌⊎◌, true, List, [], ◌∷◌, ◌++◌, length, take, drop, Option, Some}
 use Rattle.std.specs.Io.KnownBytes.{prepend_known, IsAtEnd}
 use Rattle.std.specs.Str.Lines.{strip_carriage_return}
 use Rattle.byte_streams.specs.Lines.{admitted}
@@ -33,3 +33,8 @@ pub record PassesLast (old new : Reading) : Type 0 where
   pub nothing_held : new.held ≡ []
   pub stays : new.ended ≡ true
   pub line : admitted old.room (length old.held) old.held ≡ Some new.line
+
+-- a line of so many bytes was handed out, which takes up so many with its end
+abbrev pub after_line : Reading → ℕ → ℕ → Reading
+after_line reading line size =
+    record { line = take line reading.held; held = drop size reading.held; room = reading.room - size; ended = reading.ended }

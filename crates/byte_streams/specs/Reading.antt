@@ -1,5 +1,5 @@
 -- Where a reader of lines stands in a text, and what has been and what is still to be handed out.
-use Rattle.std.specs.Prelude.{◌≡◌, ◌⊎◌, ◌+◌, ◌≤◌, length, ℕ, Bool, true, false, List, [], ◌∷◌, ◌++◌, Option, Some, None, option_map, if◌then◌else◌}
+use Rattle.std.specs.Prelude.{◌≡◌, ◌⊎◌, ◌+◌, ◌≤◌, ◌<◌, length, ℕ, Bool, true, false, List, [], ◌∷◌, ◌++◌, Option, Some, None, IfSome, option_map, if◌then◌else◌}
 use Rattle.byte_streams.specs.declared.limits.TheConstants.{LONGEST_LINE, MOST_BYTES}
 use Rattle.byte_streams.specs.declared.next_line.NextLine.{NextLine}
 use Rattle.byte_streams.specs.declared.next_line.NextLine.TheVariants.{Line, End, TooLong, Failed}
@@ -23,24 +23,6 @@ OnLine Line P = P
 OnLine End P = Unit {0}
 OnLine TooLong P = Unit {0}
 OnLine Failed P = Unit {0}
-
-abbrev pub OnEnd : NextLine → Type 0 → Type 0
-OnEnd Line P = Unit {0}
-OnEnd End P = P
-OnEnd TooLong P = Unit {0}
-OnEnd Failed P = Unit {0}
-
-abbrev pub OnTooLong : NextLine → Type 0 → Type 0
-OnTooLong Line P = Unit {0}
-OnTooLong End P = Unit {0}
-OnTooLong TooLong P = P
-OnTooLong Failed P = Unit {0}
-
-abbrev pub OnFailed : NextLine → Type 0 → Type 0
-OnFailed Line P = Unit {0}
-OnFailed End P = Unit {0}
-OnFailed TooLong P = Unit {0}
-OnFailed Failed P = P
 
 -- the bytes that are still to be handed out, where the source has this left
 abbrev pub pending : Reading → List ℕ → List ℕ
@@ -67,6 +49,21 @@ pub record Stays (old : Reading) (left : Option (List ℕ)) (new : Reading) (lef
 -- the first of these lines is bad
 abbrev pub BeginsBad : LineList → Type 0
 BeginsBad found = (more : LineList) × (found ≡ None ∷ more)
+
+-- what became of the lines that were still to come, in the search for this one: it is gone from them, or there are none, or the
+-- first is bad, or they are what they were
+abbrev pub Leaves : NextLine → List ℕ → Option LineList → Option LineList → Type 0
+Leaves Line line before after = before ≡ option_map (λ more. Some line ∷ more) after
+Leaves End line before after = before ≡ option_map (λ _. []) after
+Leaves TooLong line before after = IfSome before BeginsBad
+Leaves Failed line before after = after ≡ before
+
+-- a line takes up room, and nothing else does
+abbrev pub UsesRoom : NextLine → ℕ → ℕ → Type 0
+UsesRoom Line before after = after < before
+UsesRoom End before after = after ≡ before
+UsesRoom TooLong before after = after ≡ before
+UsesRoom Failed before after = after ≡ before
 
 -- Of this text, these lines have been handed out, the reader holds what follows them, and the source has the rest.
 pub record HasRead (text : List ℕ) (given : LineList) (reading : Reading) (left : Option (List ℕ)) : Type 0 where
@@ -121,3 +118,15 @@ pub record IsTakenFor (text : List ℕ) (given : LineList) (left : Option (List 
   pub whole : text ≡ first ++ (piece ++ rest)
   pub short : length piece ≤ LONGEST_LINE + 2
   pub known_are : (known first ≡ given) ⊎ IsReadOut text given left
+
+-- what a search for the next line found of this text, where these lines were handed out before
+abbrev pub Found : NextLine → List ℕ → LineList → Reading → Option (List ℕ) → Type 0
+Found Line text given reading left = HasRead text (given ++ Some reading.line ∷ []) reading left
+Found End text given reading left = IsReadOut text given left
+Found TooLong text given reading left = (more : LineList) × (lines text ≡ given ++ None ∷ more)
+Found Failed text given reading left = IsTextCutShort text given left
+
+-- that, and no more was taken than it needs to know it
+pub record FindsNext (text : List ℕ) (given : LineList) (reading : Reading) (left : Option (List ℕ)) (result : NextLine) : Type 0 where
+  pub found : Found result text given reading left
+  pub reach : IsTakenFor text given left

@@ -38,9 +38,9 @@ impl Model for LineReader {
 impl LineReader {
     ghost use Rattle.std.specs.Prelude.{◌≡◌, ◌≢◌, ◌≤◌, ◌<◌, ◌+◌, ◌-◌, ◌⊎◌, ◌++◌, ◌∷◌, ◌&&◌, [], List, ℕ, Some, None, true, false, IsErr, IfOk, IfSome, OnErr, option_map, length, take, drop, min, nat_le, if◌then◌else◌};
     ghost use Rattle.uicc_types.specs.Counts.{CountsFailure};
-    ghost use Rattle.byte_streams.specs.Lines.{LineList, lines};
-    ghost use Rattle.byte_streams.specs.Reading.{BeginsBad, HasRead, IsTextCutShort, IsReadOut, IsTakenFor, IsWithin, OnEnd, OnFailed, OnLine, OnTooLong, Stays, at_start, lines_left};
-    ghost use Rattle.byte_streams.specs.ReaderSteps.{Continues};
+    ghost use Rattle.byte_streams.specs.Lines.{LineList};
+    ghost use Rattle.byte_streams.specs.Reading.{FindsNext, HasRead, IsWithin, Leaves, OnLine, Stays, UsesRoom, at_start, lines_left};
+    ghost use Rattle.byte_streams.specs.ReaderSteps.{Continues, after_line};
     ghost use Rattle.byte_streams.specs.Search.{Finds, NoEndBelow};
 
     /// A reader that has taken nothing.
@@ -68,40 +68,22 @@ impl LineReader {
     /// end was taken. After `Failed` all that was taken is held, and the next call goes on from there.
     pub fn next<R: Source>(&mut self, source: &mut R) -> NextLine
         // The lines that are still to come lose the one that was found, and no other.
-        ensures line { OnLine result (lines_left self.old (R.left source.old)
-            ≡ option_map (λ more. Some self.new.line ∷ more) (lines_left self.new (R.left source.new))) }
-        ensures end { OnEnd result (lines_left self.old (R.left source.old) ≡ option_map (λ _. [])
-            (R.left source.new)) }
-        ensures too_long { OnTooLong result (IfSome (lines_left self.old (R.left source.old)) BeginsBad) }
-        ensures failed { OnFailed result (lines_left self.new (R.left source.new) ≡ lines_left self.old
-            (R.left source.old)) }
+        ensures left { Leaves result self.new.line (lines_left self.old (R.left source.old))
+            (lines_left self.new (R.left source.new)) }
 
-        // After the other three answers what is left to read is what it was: nothing of it was dropped or passed over.
+        // Where no line was found, what is left to read is what it was: nothing of it was dropped or passed over.
         ensures stays { result ≢ NextLine.Line → Stays self.old (R.left source.old) self.new (R.left source.new) }
 
         // The same of a whole text, with the lines that were handed out before.
-        ensures one_more { OnLine result ((text : List ℕ) (given : LineList)
-            → HasRead text given self.old (R.left source.old)
-            → HasRead text (given ++ Some self.new.line ∷ []) self.new (R.left source.new)) }
-        ensures read_out { OnEnd result ((text : List ℕ) (given : LineList)
-            → HasRead text given self.old (R.left source.old)
-            → IsReadOut text given (R.left source.new)) }
-        ensures bad { OnTooLong result ((text : List ℕ) (given : LineList)
-            → HasRead text given self.old (R.left source.old)
-            → (more : LineList) × (lines text ≡ given ++ None ∷ more)) }
-        ensures cut_short { OnFailed result ((text : List ℕ) (given : LineList)
-            → HasRead text given self.old (R.left source.old)
-            → IsTextCutShort text given (R.left source.new)) }
+        ensures found { (text : List ℕ) (given : LineList) → HasRead text given self.old (R.left source.old)
+            → FindsNext text given self.new (R.left source.new) result }
 
-        // At most one byte more is taken than lines may take up, and none once the next line is known.
+        // At most one byte more is taken than lines may take up.
         ensures within { (text : List ℕ) → IsWithin text self.old (R.left source.old)
             → IsWithin text self.new (R.left source.new) }
-        ensures reach { (text : List ℕ) (given : LineList) → HasRead text given self.old (R.left source.old)
-            → IsTakenFor text given (R.left source.new) }
 
         // Each line takes up room, so there are no more lines than bytes.
-        ensures room { OnLine result (self.new.room < self.old.room) }
-        ensures no_more { self.new.room ≤ self.old.room }
+        ensures room { UsesRoom result self.old.room self.new.room }
         ensures idle { self.old.ended ≡ true → source.new ≡ source.old }
         ensures cause { CountsFailure (R.faults source.old) (R.faults source.new) (result ≡ NextLine.Failed) }
     {
@@ -153,14 +135,11 @@ impl LineReader {
     fn hand_out(&mut self, line: usize, size: usize) -> NextLine
         requires ordered { line ≤ size }
         requires within { size ≤ length self.old.held }
-        ensures less { self.new.room ≤ self.old.room }
         ensures fits { OnLine result (size ≤ self.old.room) }
         ensures value { result ≡
             (if nat_le line LONGEST_LINE && nat_le size self.old.room then NextLine.Line else NextLine.TooLong) }
         ensures stays { result ≢ NextLine.Line → self.new ≡ self.old }
-        ensures line { OnLine result
-            (self.new
-            ≡ record { line = take line self.old.held; held = drop size self.old.held; room = self.old.room - size; ended = self.old.ended }) }
+        ensures line { OnLine result (self.new ≡ after_line self.old line size) }
     {
         if line > LONGEST_LINE || size > self.room {
             return NextLine::TooLong;

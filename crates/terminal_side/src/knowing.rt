@@ -1,5 +1,5 @@
 //! What the handset knows, moved on by what happens.
-ghost use Rattle.std.specs.Prelude.{◌≡◌, ◌+◌, ◌<◌, ◌^◌, Some};
+ghost use Rattle.std.specs.Prelude.{◌≡◌, ◌+◌, ◌<◌, ◌^◌, Some, min, suc};
 ghost use Rattle.handset_model.specs.History.{has, held_after, kind_of, kind_of_report, lets_time_pass, listed_after, listed_by, menu_by, moment_after, place_by, refreshed_by, span_of, announced_by, ends_all};
 ghost use Rattle.handset_model.specs.Legal.{IsBounded};
 ghost use Rattle.terminal_side.specs.Kept.{timers_after, timers_by, with_found, with_line, with_reset, with_sent, with_status};
@@ -127,8 +127,15 @@ pub fn send(known: &mut Known, command: &Command)
     let_go(&mut known.held, command);
     stop_reported(&mut known.timers, command);
     known.moment = moment_after(command, known.clock, known.moment);
+    count(known, kind_of(command));
+}
+
+/// A command of this kind was sent.
+pub fn count(known: &mut Known, kind: LastSent)
+    ensures { known.new ≡ record known.old { commands = min (suc known.old.commands) MOST_COMMANDS; last_sent = kind } }
+{
     known.commands = known.commands.saturating_add(1);
-    known.last_sent = kind_of(command);
+    known.last_sent = kind;
 }
 
 // ---- answers

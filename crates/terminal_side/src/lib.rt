@@ -7,6 +7,7 @@ mod phone;
 mod reactions;
 mod sessions;
 mod spelling;
+mod stages;
 mod timers;
 
 pub use phone::{Next, Phone};

@@ -1,22 +1,27 @@
 //! The handset, step by step.
-ghost use Rattle.std.specs.Prelude.{◌≡◌, ◌∷◌, ◌+◌, ◌<◌, ◌≤◌, ◌^◌, List, [], length, true};
+ghost use Rattle.std.specs.Prelude.{◌≡◌, ◌∷◌, ◌+◌, ◌<◌, ◌≤◌, ◌^◌, List, [], length, true, ℕ};
 ghost use Rattle.handset_model.specs.History.{Happened, Said, Answered, Restarted, PowerCut, FoundOff, span_of};
 ghost use Rattle.handset_model.specs.Legal.{IsBounded, item_of, next_item};
 ghost use Rattle.terminal_side.specs.Kept.{after_note, doing, hearing, hearing_answer, kept, losing_power, shows, starting, taking, taking_fetched, unstarted, with_next};
-ghost use Rattle.terminal_side.specs.Stages.{asked_at, given, step_of};
-ghost use Rattle.handset_model.specs.declared.known.Duty.{Duty as ADuty};
+ghost use Rattle.terminal_side.specs.Stages.{Asks, shown_if, step_of, text_of_held, text_shown};
+ghost use Rattle.handset_model.specs.Sending.{apdu_of};
+ghost use Rattle.handset_model.specs.declared.commands.Command.TheVariants.{AskStatus, Fetch, Respond};
+ghost use Rattle.handset_model.specs.declared.commands.Reply.TheVariants.{Result};
+ghost use Rattle.handset_model.specs.declared.known.Duty.TheVariants.{Transmit};
+ghost use Rattle.script_form.specs.declared.handset.Note.TheVariants.{Text};
 ghost use Rattle.toolkit_commands.specs.Reading.{details_found, proactive_of};
 
-use crate::knowing::{NONE_LISTED, forget, hear, hold, send, take_status};
+use crate::knowing::{NONE_LISTED, count, forget, hear, hold, send, take_status};
 use crate::reactions::said_at;
 use crate::sessions::{after_call, carried_out, followed, noted, refused};
-use crate::spelling::spell_command;
+use crate::spelling::{spell_command, spell_fetch, spell_result, spell_status};
+use crate::stages::Stage;
 use handset_model::{Command, Duty, Held, Known, LastSent};
 use script_form::{HandsetLine, Note};
 use std::marker::Model;
 use std::mem;
 use toolkit_commands::{Details, Items, Proactive, read_command};
-use uicc_types::{Answer, ApduBytes, StatusWord};
+use uicc_types::{Answer, ApduBytes, Full, Octets, StatusWord};
 
 /// The details of a command that wasn't read yet.
 const NO_DETAILS: Details = Details {
@@ -46,24 +51,13 @@ pub enum Next {
     Show,
 }
 
-/// Whether something is asked of the handset. A duty is large, so none is written where nothing is asked.
-#[derive(Clone, Copy)]
-enum Stage {
-    /// Nothing more for this line.
-    Resting,
-    /// To wait for the answer to a command.
-    Awaiting,
-    /// The duty that is kept.
-    Asked,
-}
-
 impl Model for Phone {
     ghost use Rattle.terminal_side.specs.Kept.{IsInTime, Kept};
     ghost use Rattle.terminal_side.specs.Stages.{asked_at};
 
     ghost Value = { Kept };
 
-    ghost view = { λ phone. record { known = phone.known; asked = asked_at phone.stage phone.duty } };
+    ghost view = { λ phone. record { known = phone.known; asked = asked_at phone.stage phone.duty phone.known.held } };
 
     ghost invariant = { λ phone. IsInTime phone.known };
 }
@@ -160,8 +154,7 @@ impl Phone {
         ensures { self.new ≡ hearing line.now self.old }
     {
         hear(&mut self.known, line);
-        let is_asked = said_at(self.known.is_silent, line, &self.known, &mut self.duty);
-        self.stage = stage_of(is_asked);
+        self.stage = said_at(self.known.is_silent, line, &self.known, &mut self.duty);
     }
 
     #[tactic(auto, unfolding(crate::specs::Kept::with_answer, crate::specs::Kept::with_status, crate::specs::Kept::with_found))]
@@ -193,12 +186,10 @@ impl Phone {
                 self.stage = Stage::Asked;
             }
             LastSent::Calling => {
-                let is_asked = after_call(answer, &self.known, &mut self.duty);
-                self.stage = stage_of(is_asked);
+                self.stage = after_call(answer, &self.known, &mut self.duty);
             }
             LastSent::Reporting | LastSent::Another => {
-                let is_asked = followed(answer, &self.known, &mut self.duty);
-                self.stage = stage_of(is_asked);
+                self.stage = followed(answer, &self.known, &mut self.duty);
             }
         }
     }
@@ -216,14 +207,10 @@ impl Phone {
         match read_command(bytes, &mut held.command) {
             Ok(details) => {
                 held.details = details;
-                let is_asked = carried_out(&held, &self.known, &mut self.duty);
-                self.stage = stage_of(is_asked);
+                self.stage = carried_out(&held, &self.known, &mut self.duty);
                 hold(&mut self.known, held);
             }
-            Err(fault) => {
-                let is_asked = refused(bytes, fault, &mut self.duty);
-                self.stage = stage_of(is_asked);
-            }
+            Err(fault) => self.stage = refused(bytes, fault),
         }
     }
 
@@ -241,6 +228,10 @@ impl Phone {
     {
         match self.stage {
             Stage::Resting | Stage::Awaiting => Next::Nothing,
+            Stage::Fetching(length) => self.fetch(length, apdu),
+            Stage::Polling => self.poll(apdu),
+            Stage::Responding(details, general) => self.respond(details, general, apdu),
+            Stage::Showing => self.show_text(note),
             Stage::Asked => match &self.duty {
                 Duty::Rest | Duty::Await => Next::Nothing,
                 Duty::ResetCard => Next::Reset,
@@ -251,37 +242,120 @@ impl Phone {
                     Next::Send
                 }
                 Duty::Show(_) => {
-                    let is_asked = show(&mut self.duty, &self.known, note);
-                    self.stage = stage_of(is_asked);
+                    self.stage = show(&mut self.duty, &self.known, note);
                     Next::Show
                 }
             },
         }
     }
-}
 
-/// The stage where something is asked, or nothing.
-fn stage_of(is_asked: bool) -> Stage
-    ensures { (duty : ADuty) → asked_at result duty ≡ given is_asked duty }
-{
-    if is_asked {
-        Stage::Asked
-    } else {
-        Stage::Resting
+    /// A command of so many bytes is fetched next.
+    #[tactic(auto, unfolding(crate::specs::Kept::with_sent))]
+    fn fetch(&mut self, length: u8, apdu: &mut ApduBytes) -> Next
+        ensures sends { result ≡ Next.Send }
+        ensures item { apdu.new ≡ apdu_of (Fetch length) }
+        ensures after { self.new ≡ doing (Transmit (Fetch length)) self.old.known }
+    {
+        count(&mut self.known, LastSent::Fetching);
+        spell_fetch(apdu, length);
+        self.stage = Stage::Awaiting;
+        Next::Send
+    }
+
+    /// The card is asked next how it is.
+    #[tactic(auto, unfolding(crate::specs::Kept::with_sent))]
+    fn poll(&mut self, apdu: &mut ApduBytes) -> Next
+        ensures sends { result ≡ Next.Send }
+        ensures item { apdu.new ≡ apdu_of AskStatus }
+        ensures after { self.new ≡ doing (Transmit AskStatus) self.old.known }
+    {
+        count(&mut self.known, LastSent::Another);
+        spell_status(apdu);
+        self.stage = Stage::Awaiting;
+        Next::Send
+    }
+
+    /// The result of a command is told next.
+    #[tactic(auto, unfolding(crate::specs::Kept::with_sent))]
+    fn respond(&mut self, details: Details, general: u8, apdu: &mut ApduBytes) -> Next
+        ensures sends { result ≡ Next.Send }
+        ensures item { apdu.new ≡ apdu_of (Respond details (Result general)) }
+        ensures after { self.new ≡ doing (Transmit (Respond details (Result general))) self.old.known }
+    {
+        self.known.held = None;
+        count(&mut self.known, LastSent::Another);
+        spell_result(apdu, &details, general);
+        self.stage = Stage::Awaiting;
+        Next::Send
+    }
+
+    /// The text of the held command is shown next.
+    #[inline(never)]
+    fn show_text(&mut self, note: &mut Note) -> Next
+        ensures item { (apdu : List ℕ) → step_of result apdu note.new ≡ item_of (text_of_held self.old.known.held) }
+        ensures after { self.old.asked ≡ text_of_held self.old.known.held
+            → self.new ≡ doing (text_of_held self.old.known.held) self.old.known }
+    {
+        let Some(held) = &self.known.held else {
+            return Next::Nothing;
+        };
+        if write_text(&held.command, note) {
+            self.stage = noted(note, &self.known, &mut self.duty);
+            Next::Show
+        } else {
+            Next::Nothing
+        }
     }
 }
 
-/// A note is to be shown next. Whether anything is asked then.
-fn show(duty: &mut Duty, known: &Known, note: &mut Note) -> bool
+/// Puts the text of a command in the place of a note, and answers whether there is one to be shown.
+fn write_text(command: &Proactive, note: &mut Note) -> bool
+    ensures { shown_if result note.new ≡ text_shown command.now }
+{
+    match command {
+        Proactive::DisplayText { text } => {
+            write_display(text, note);
+            true
+        }
+        Proactive::GetInkey { text } | Proactive::GetInput { text, .. } => {
+            *note = Note::Ask(text.copy());
+            true
+        }
+        Proactive::IdleText { text } => {
+            *note = Note::Idle(text.copy());
+            true
+        }
+        _ => false,
+    }
+}
+
+/// A text is to be shown. Mostly the last note was one too, and has the place for it.
+fn write_display(text: &Octets, note: &mut Note)
+    ensures { note.new ≡ Text text.now }
+{
+    match note {
+        Note::Text(shown) => {
+            shown.clear();
+            match shown.append(text.as_slice()) {
+                Ok(()) => {}
+                Err(Full) => unreachable!(),
+            }
+        }
+        _ => *note = Note::Text(text.copy()),
+    }
+}
+
+/// A note is to be shown next. What is asked then.
+fn show(duty: &mut Duty, known: &Known, note: &mut Note) -> Stage
     requires { shows duty.old ≡ true }
     ensures item { item_of duty.old ≡ step_of Next.Show [] note.new }
-    ensures after { given result duty.new ≡ after_note duty.old known.now }
+    ensures after { Asks result duty.new (after_note duty.old known.now) }
 {
     match mem::replace(duty, Duty::Rest) {
         Duty::Show(shown) => {
-            let is_asked = noted(&shown, known, duty);
+            let stage = noted(&shown, known, duty);
             *note = shown;
-            is_asked
+            stage
         }
         _ => unreachable!(),
     }

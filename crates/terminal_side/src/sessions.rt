@@ -1,14 +1,15 @@
 //! What the handset does with what the card answers.
-ghost use Rattle.std.specs.Prelude.{◌≡◌, ◌≤◌, length};
+ghost use Rattle.std.specs.Prelude.{◌≡◌, ◌≤◌, Some, length};
+ghost use Rattle.handset_model.specs.declared.known.Duty.{Duty as ADuty};
 ghost use Rattle.handset_model.specs.Rules.{after_call, carried_out, fault_result, fetch_or_settle, followed, left_of, local_information, located, noted, refresh, report_due, respond, respond_done, ripe, settled, tell, timer_reply};
-ghost use Rattle.script_form.specs.declared.handset.Note.TheVariants.{Ask};
 ghost use Rattle.handset_model.specs.declared.known.Duty.TheVariants.{ResetCard, Show, Transmit};
 ghost use Rattle.handset_model.specs.declared.commands.Command.TheVariants.{Fetch, Respond};
 ghost use Rattle.handset_model.specs.declared.commands.Reply.TheVariants.{Result};
 ghost use Rattle.toolkit_commands.specs.Reading.{details_found};
-ghost use Rattle.terminal_side.specs.Stages.{given};
+ghost use Rattle.terminal_side.specs.Stages.{Asks, asked_at};
 
 use crate::knowing::announced_by;
+use crate::stages::Stage;
 use crate::timers::{soonest, time_of, timer_in};
 use handset_model::{Command, Due, Duty, Held, Known, Place, Reply, Report, Running};
 use script_form::Note;
@@ -17,23 +18,30 @@ use toolkit_commands::results::{
     BEYOND_CAPABILITIES, DATA_NOT_UNDERSTOOD, PERFORMED, TYPE_NOT_UNDERSTOOD, VALUES_MISSING,
 };
 use toolkit_commands::{Items, Proactive, ProactiveFault, found_details};
-use uicc_types::{Answer, Octets};
+use uicc_types::Answer;
 
-pub fn tell(report: Report, duty: &mut Duty) -> bool
-    ensures { given result duty.new ≡ tell report }
+pub fn tell(report: Report, duty: &mut Duty) -> Stage
+    ensures { Asks result duty.new (tell report) }
 {
     *duty = Duty::Transmit(Command::Tell(report));
-    true
+    Stage::Asked
 }
 
-pub fn respond(held: &Held, reply: Reply, duty: &mut Duty) -> bool
-    ensures { given result duty.new ≡ respond held.now reply }
+pub fn respond(held: &Held, reply: Reply, duty: &mut Duty) -> Stage
+    ensures { Asks result duty.new (respond held.now reply) }
 {
     *duty = Duty::Transmit(Command::Respond {
         details: held.details,
         reply,
     });
-    true
+    Stage::Asked
+}
+
+/// To respond with a result and no more.
+pub fn respond_with(held: &Held, general: u8) -> Stage
+    ensures { (duty : ADuty) → Asks result duty (respond held.now (Result general)) }
+{
+    Stage::Responding(held.details, general)
 }
 
 // ---- between two sessions
@@ -47,42 +55,41 @@ fn ripe(clock: u64, first: Option<Due>) -> Option<Due>
 
 /// The session is over: the next timer is reported that is due in this line, or the line is done.
 #[tactic(auto, unfolding(handset_model::specs::Rules::settled))]
-pub fn settled(known: &Known, duty: &mut Duty) -> bool
-    ensures { given result duty.new ≡ settled known.now }
+pub fn settled(known: &Known, duty: &mut Duty) -> Stage
+    ensures { Asks result duty.new (settled known.now) }
 {
     if !known.is_timed {
-        return false;
+        return Stage::Resting;
     }
     match ripe(known.clock, soonest(1, &known.timers)) {
-        None => false,
+        None => Stage::Resting,
         Some(Due { timer, due, value }) => tell(Report::Expired { timer, value, due }, duty),
     }
 }
 
-fn fetch(length: u8, duty: &mut Duty) -> bool
-    ensures { given result duty.new ≡ Transmit (Fetch length) }
+fn fetch(length: u8) -> Stage
+    ensures { (duty : ADuty) → Asks result duty (Transmit (Fetch length)) }
 {
-    *duty = Duty::Transmit(Command::Fetch { length });
-    true
+    Stage::Fetching(length)
 }
 
-fn fetch_or_settle(announced: Option<u8>, known: &Known, duty: &mut Duty) -> bool
-    ensures { given result duty.new ≡ fetch_or_settle announced known.now }
+fn fetch_or_settle(announced: Option<u8>, known: &Known, duty: &mut Duty) -> Stage
+    ensures { Asks result duty.new (fetch_or_settle announced known.now) }
 {
     match announced {
         None => settled(known, duty),
-        Some(length) => fetch(length, duty),
+        Some(length) => fetch(length),
     }
 }
 
 // ---- proactive commands
 
 /// The card is to be reset.
-pub fn reset_card(duty: &mut Duty) -> bool
-    ensures { given result duty.new ≡ ResetCard }
+pub fn reset_card(duty: &mut Duty) -> Stage
+    ensures { Asks result duty.new ResetCard }
 {
     *duty = Duty::ResetCard;
-    true
+    Stage::Asked
 }
 
 fn located(place: &Option<Place>) -> Reply
@@ -118,11 +125,11 @@ fn timer_reply(action: u8, timer: u8, known: &Known) -> Reply
     left_of(timer, known.moment, timer_in(&known.timers, timer))
 }
 
-fn refresh(mode: u8, held: &Held, known: &Known, duty: &mut Duty) -> bool
-    ensures { given result duty.new ≡ refresh mode held.now known.now }
+fn refresh(mode: u8, held: &Held, known: &Known, duty: &mut Duty) -> Stage
+    ensures { Asks result duty.new (refresh mode held.now known.now) }
 {
     if mode != CARD_RESET {
-        respond(held, Reply::Result(PERFORMED), duty)
+        respond_with(held, PERFORMED)
     } else if known.is_refreshed {
         respond(held, Reply::Unable, duty)
     } else {
@@ -146,33 +153,27 @@ fn count_of(items: &Items) -> u8
     items.as_slice().len() as u8
 }
 
-fn show(note: Note, duty: &mut Duty) -> bool
-    ensures { given result duty.new ≡ Show note }
+fn show(note: Note, duty: &mut Duty) -> Stage
+    ensures { Asks result duty.new (Show note) }
 {
     *duty = Duty::Show(note);
-    true
-}
-
-fn ask(text: &Octets, duty: &mut Duty) -> bool
-    ensures { given result duty.new ≡ Show (Ask text.now) }
-{
-    show(Note::Ask(text.copy()), duty)
+    Stage::Asked
 }
 
 /// What becomes of a command that was fetched.
-pub fn carried_out(held: &Held, known: &Known, duty: &mut Duty) -> bool
-    ensures { given result duty.new ≡ carried_out held.now.command held.now known.now }
+pub fn carried_out(held: &Held, known: &Known, duty: &mut Duty) -> Stage
+    ensures { asked_at result duty.new (Some held.now) ≡ carried_out held.now.command held.now known.now }
 {
     match &held.command {
-        Proactive::DisplayText { text } => show(Note::Text(text.copy()), duty),
-        Proactive::GetInkey { text } => ask(text, duty),
-        Proactive::GetInput { text, .. } => ask(text, duty),
+        Proactive::DisplayText { .. }
+        | Proactive::GetInkey { .. }
+        | Proactive::GetInput { .. }
+        | Proactive::IdleText { .. } => Stage::Showing,
         Proactive::SelectItem { items, .. } => show(Note::Choose(count_of(items)), duty),
         Proactive::SetUpMenu { items, .. } => show(Note::Menu(count_of(items)), duty),
-        Proactive::SetUpEventList { .. } => respond(held, Reply::Result(PERFORMED), duty),
+        Proactive::SetUpEventList { .. } => respond_with(held, PERFORMED),
         Proactive::PlayTone { tone } => show(Note::Tone(*tone), duty),
-        Proactive::IdleText { text } => show(Note::Idle(text.copy()), duty),
-        Proactive::MoreTime => respond(held, Reply::Result(PERFORMED), duty),
+        Proactive::MoreTime => respond_with(held, PERFORMED),
         Proactive::PollInterval { seconds } => {
             respond(held, Reply::Interval { seconds: *seconds }, duty)
         }
@@ -200,27 +201,24 @@ fn fault_result(fault: ProactiveFault) -> u8
 }
 
 /// What becomes of a command that cannot be read.
-pub fn refused(bytes: &[u8], fault: ProactiveFault, duty: &mut Duty) -> bool
-    ensures { given result duty.new ≡ Transmit (Respond (details_found bytes.now) (Result (fault_result fault))) }
+pub fn refused(bytes: &[u8], fault: ProactiveFault) -> Stage
+    ensures { (duty : ADuty) → Asks result duty
+        (Transmit (Respond (details_found bytes.now) (Result (fault_result fault)))) }
 {
-    *duty = Duty::Transmit(Command::Respond {
-        details: found_details(bytes),
-        reply: Reply::Result(fault_result(fault)),
-    });
-    true
+    Stage::Responding(found_details(bytes), fault_result(fault))
 }
 
 // ---- answers
 
-pub fn followed(answer: &Answer, known: &Known, duty: &mut Duty) -> bool
-    ensures { given result duty.new ≡ followed answer.now known.now }
+pub fn followed(answer: &Answer, known: &Known, duty: &mut Duty) -> Stage
+    ensures { Asks result duty.new (followed answer.now known.now) }
 {
     fetch_or_settle(announced_by(answer), known, duty)
 }
 
 /// What the card says of a call.
-pub fn after_call(answer: &Answer, known: &Known, duty: &mut Duty) -> bool
-    ensures { given result duty.new ≡ after_call answer.now.body (followed answer.now known.now) }
+pub fn after_call(answer: &Answer, known: &Known, duty: &mut Duty) -> Stage
+    ensures { Asks result duty.new (after_call answer.now.body (followed answer.now known.now)) }
 {
     match answer.body.as_slice() {
         [0x00, 0x00] => show(Note::Call, duty),
@@ -231,22 +229,22 @@ pub fn after_call(answer: &Answer, known: &Known, duty: &mut Duty) -> bool
 
 // ---- notes
 
-fn respond_done(held: &Option<Held>, duty: &mut Duty) -> bool
-    ensures { given result duty.new ≡ respond_done held.now }
+fn respond_done(held: &Option<Held>) -> Stage
+    ensures { (duty : ADuty) → Asks result duty (respond_done held.now) }
 {
     match held {
-        None => false,
-        Some(held) => respond(held, Reply::Result(PERFORMED), duty),
+        None => Stage::Resting,
+        Some(held) => respond_with(held, PERFORMED),
     }
 }
 
 /// What follows a note.
-pub fn noted(note: &Note, known: &Known, duty: &mut Duty) -> bool
-    ensures { given result duty.new ≡ noted note.now known.now }
+pub fn noted(note: &Note, known: &Known, duty: &mut Duty) -> Stage
+    ensures { Asks result duty.new (noted note.now known.now) }
 {
     match note {
         Note::Text(_) | Note::Ask(_) | Note::Choose(_) | Note::Busy => settled(known, duty),
-        Note::Menu(_) | Note::Tone(_) | Note::Idle(_) => respond_done(&known.held, duty),
+        Note::Menu(_) | Note::Tone(_) | Note::Idle(_) => respond_done(&known.held),
         Note::Call | Note::Barred => fetch_or_settle(known.announced, known, duty),
     }
 }

@@ -2,7 +2,10 @@
 ghost use Rattle.std.specs.Prelude.{◌≡◌, ◌+◌, ◌≤◌, ◌<◌, ◌++◌, ◌∷◌, [], length};
 ghost use Rattle.comprehension_tlv.specs.Writing.{spellings, tagged};
 ghost use Rattle.toolkit_commands.specs.Table.{required, timer_value, two_digits, text_string};
-ghost use Rattle.handset_model.specs.Sending.{apdu_of, event, from, envelope, packed, performed, reply_objects, report_objects, response_objects, template_of, toolkit_apdu};
+ghost use Rattle.handset_model.specs.Sending.{apdu_of, event, from, envelope, packed, performed, reply_objects, response_objects, timer_object, toolkit_apdu};
+ghost use Rattle.handset_model.specs.declared.commands.Command.TheVariants.{AskStatus, Fetch, Respond};
+ghost use Rattle.handset_model.specs.declared.commands.Reply.TheVariants.{Result};
+ghost use Rattle.handset_model.specs.declared.commands.Report.TheVariants.{CallControl, Location};
 
 use comprehension_tlv::TlvWriter;
 use handset_model::{Command, Digits, Place, Reply, Report};
@@ -11,8 +14,8 @@ use toolkit_commands::qualifiers::{EIGHT_BITS, IN_SECONDS};
 use toolkit_commands::results::{AGAINST_TIMER_STATE, PERFORMED, UNABLE_TO_PROCESS};
 use toolkit_commands::tags::{
     ADDRESS, CALL_CONTROL, COMMAND_DETAILS, DEVICE_IDENTITIES, DURATION, EVENT_DOWNLOAD,
-    EVENT_LIST, ITEM_IDENTIFIER, LOCATION_INFORMATION, LOCATION_STATUS, MENU_SELECTION, RESULT,
-    TEXT_STRING, TIMER_EXPIRATION, TIMER_IDENTIFIER, TIMER_VALUE,
+    ITEM_IDENTIFIER, LOCATION_INFORMATION, MENU_SELECTION, RESULT, TEXT_STRING, TIMER_EXPIRATION,
+    TIMER_IDENTIFIER, TIMER_VALUE,
 };
 use toolkit_commands::{Details, TimeValue};
 use uicc_types::events::{IDLE_SCREEN, LOCATION_STATUS as LOCATION_EVENT, USER_ACTIVITY};
@@ -142,8 +145,65 @@ fn spell_toolkit(apdu: &mut ApduBytes, instruction: u8, content: &[u8])
     }
 }
 
+/// FETCH of so many bytes.
+#[tactic(auto, unfolding(handset_model::specs::Sending::apdu_of))]
+pub fn spell_fetch(apdu: &mut ApduBytes, length: u8)
+    ensures { apdu.new ≡ apdu_of (Fetch length) }
+{
+    spell(apdu, &[0x80, 0x12, 0x00, 0x00, length])
+}
+
+/// STATUS.
+#[tactic(auto, unfolding(handset_model::specs::Sending::apdu_of))]
+pub fn spell_status(apdu: &mut ApduBytes)
+    ensures { apdu.new ≡ apdu_of AskStatus }
+{
+    spell(apdu, &[0x80, 0xF2, 0x00, 0x0C])
+}
+
+/// TERMINAL RESPONSE with a result and no more. Most are of this kind, and their objects have their bytes at once.
+#[tactic(auto, unfolding(comprehension_tlv::specs::Writing::tagged, handset_model::specs::Sending::apdu_of))]
+pub fn spell_result(apdu: &mut ApduBytes, details: &Details, general: u8)
+    ensures { apdu.new ≡ apdu_of (Respond details.now (Result general)) }
+{
+    spell(
+        apdu,
+        &[
+            0x80,
+            0x14,
+            0x00,
+            0x00,
+            12,
+            DETAILS_BYTE,
+            3,
+            details.number,
+            details.kind,
+            details.qualifier,
+            DEVICES_BYTE,
+            2,
+            TERMINAL,
+            CARD,
+            RESULT_BYTE,
+            1,
+            general,
+        ],
+    )
+}
+
 /// TERMINAL RESPONSE.
+#[tactic(auto, unfolding(handset_model::specs::Sending::apdu_of))]
 fn spell_response(apdu: &mut ApduBytes, details: &Details, reply: &Reply)
+    ensures { apdu.new ≡ apdu_of (Respond details.now reply.now) }
+{
+    match reply {
+        Reply::Result(general) => spell_result(apdu, details, *general),
+        _ => spell_long_response(apdu, details, reply),
+    }
+}
+
+/// The same, with any reply.
+#[inline(never)]
+fn spell_long_response(apdu: &mut ApduBytes, details: &Details, reply: &Reply)
     ensures { apdu.new ≡ toolkit_apdu 0x14 (spellings (response_objects details.now reply.now)) }
 {
     let mut objects = TlvWriter::new();
@@ -158,26 +218,45 @@ fn spell_response(apdu: &mut ApduBytes, details: &Details, reply: &Reply)
 }
 
 /// ENVELOPE with a template that holds the objects.
-#[tactic(auto, using(toolkit_commands::proofs::Sizes::short_tagged))]
-fn spell_enveloped(apdu: &mut ApduBytes, template: u8, objects: TlvWriter)
-    requires { length objects ≤ 100 }
-    ensures { apdu.new ≡ toolkit_apdu 0xC2 (tagged template objects) }
+#[tactic(auto, using(crate::proofs::Spelled::enveloped))]
+fn spell_enveloped(apdu: &mut ApduBytes, template: u8, objects: &[u8])
+    requires { length objects.now ≤ 100 }
+    ensures { apdu.new ≡ toolkit_apdu 0xC2 (tagged template objects.now) }
 {
-    match objects.finish(template) {
-        Ok(content) => spell_toolkit(apdu, 0xC2, content.as_slice()),
+    let size = objects.len() as u8;
+    spell(apdu, &[0x80, 0xC2, 0x00, 0x00, size + 2, template, size]);
+    match apdu.append(objects) {
+        Ok(()) => {}
         Err(Full) => unreachable!(),
     }
 }
 
-/// The code of an event, and the device that it comes from.
-fn put_event(objects: &mut TlvWriter, code: u8, device: u8)
-    requires { length objects.old ≤ 100 }
-    ensures put { objects.new ≡ objects.old ++ spellings (event code device) }
-    ensures size { length objects.new ≡ length objects.old + 7 }
+/// ENVELOPE with the code of an event, and the device that it comes from.
+#[tactic(auto, unfolding(comprehension_tlv::specs::Writing::tagged))]
+fn spell_event(apdu: &mut ApduBytes, code: u8, device: u8)
+    ensures { apdu.new ≡ toolkit_apdu 0xC2 (tagged EVENT_DOWNLOAD (spellings (event code device))) }
 {
-    put(objects, EVENT_LIST, &[code]);
-    put_device(objects, device);
+    spell_enveloped(
+        apdu,
+        EVENT_DOWNLOAD,
+        &[EVENT_BYTE, 1, code, DEVICES_BYTE, 2, device, CARD],
+    )
 }
+
+/// The first byte of an object: its tag with the comprehension flag.
+const DETAILS_BYTE: u8 = 0x81;
+
+const DEVICES_BYTE: u8 = 0x82;
+
+const RESULT_BYTE: u8 = 0x83;
+
+const ITEM_BYTE: u8 = 0x90;
+
+const PLACE_BYTE: u8 = 0x93;
+
+const EVENT_BYTE: u8 = 0x99;
+
+const STATUS_BYTE: u8 = 0x9B;
 
 /// An international number (TS 102 223, 8.1).
 const INTERNATIONAL: u8 = 0x81;
@@ -223,63 +302,82 @@ fn put_number(objects: &mut TlvWriter, digits: &Digits)
     put(objects, ADDRESS, value.as_slice())
 }
 
-fn put_place(objects: &mut TlvWriter, place: &Place)
-    requires { length objects.old ≤ 50 }
-    ensures put { objects.new ≡ objects.old ++ spellings (required LOCATION_INFORMATION place.now ∷ []) }
-    ensures fits { length objects.new ≤ length objects.old + 34 }
+/// ENVELOPE with a location.
+#[tactic(auto, using(crate::proofs::Spelled::located))]
+fn spell_location(apdu: &mut ApduBytes, place: &Place)
+    ensures { apdu.new ≡ toolkit_apdu 0xC2 (envelope (Location place.now)) }
 {
-    put(objects, LOCATION_INFORMATION, place.as_slice())
-}
-
-/// The objects of an envelope.
-fn put_report(objects: &mut TlvWriter, report: &Report)
-    requires { objects.old ≡ [] }
-    ensures put { objects.new ≡ spellings (report_objects report.now) }
-    ensures fits { length objects.new ≤ 100 }
-{
-    match report {
-        Report::MenuSelection { item } => {
-            put_device(objects, KEYPAD);
-            put(objects, ITEM_IDENTIFIER, &[*item])
-        }
-        Report::UserActivity => put_event(objects, USER_ACTIVITY, TERMINAL),
-        Report::IdleScreen => put_event(objects, IDLE_SCREEN, DISPLAY),
-        Report::Location { place } => {
-            put_event(objects, LOCATION_EVENT, TERMINAL);
-            put(objects, LOCATION_STATUS, &[NORMAL_SERVICE]);
-            put_place(objects, place)
-        }
-        Report::CallControl { digits } => {
-            put_device(objects, TERMINAL);
-            put_number(objects, digits)
-        }
-        Report::Expired { timer, value, .. } => {
-            put_device(objects, TERMINAL);
-            put(objects, TIMER_IDENTIFIER, &[*timer]);
-            put_time(objects, value)
-        }
+    let place = place.as_slice();
+    let size = place.len() as u8;
+    spell(
+        apdu,
+        &[
+            0x80,
+            0xC2,
+            0x00,
+            0x00,
+            size + 14,
+            EVENT_DOWNLOAD,
+            size + 12,
+            EVENT_BYTE,
+            1,
+            LOCATION_EVENT,
+            DEVICES_BYTE,
+            2,
+            TERMINAL,
+            CARD,
+            STATUS_BYTE,
+            1,
+            NORMAL_SERVICE,
+            PLACE_BYTE,
+            size,
+        ],
+    );
+    match apdu.append(place) {
+        Ok(()) => {}
+        Err(Full) => unreachable!(),
     }
 }
 
-/// The template of an envelope.
-fn template_of(report: &Report) -> u8
-    ensures { result ≡ template_of report.now }
+/// ENVELOPE with a number to be called.
+fn spell_call(apdu: &mut ApduBytes, digits: &Digits)
+    ensures { apdu.new ≡ toolkit_apdu 0xC2 (envelope (CallControl digits.now)) }
 {
-    match report {
-        Report::MenuSelection { .. } => MENU_SELECTION,
-        Report::UserActivity | Report::IdleScreen | Report::Location { .. } => EVENT_DOWNLOAD,
-        Report::CallControl { .. } => CALL_CONTROL,
-        Report::Expired { .. } => TIMER_EXPIRATION,
-    }
+    let mut objects = TlvWriter::new();
+    put_device(&mut objects, TERMINAL);
+    put_number(&mut objects, digits);
+    spell_enveloped(apdu, CALL_CONTROL, objects.as_slice())
+}
+
+/// ENVELOPE with a timer that has run down, and the value that it was started with.
+fn spell_expired(apdu: &mut ApduBytes, timer: u8, value: &TimeValue)
+    ensures { apdu.new ≡ toolkit_apdu 0xC2 (tagged TIMER_EXPIRATION
+        (spellings (from TERMINAL ∷ timer_object timer ∷ timer_value value.now ∷ []))) }
+{
+    let mut objects = TlvWriter::new();
+    put_device(&mut objects, TERMINAL);
+    put(&mut objects, TIMER_IDENTIFIER, &[timer]);
+    put_time(&mut objects, value);
+    spell_enveloped(apdu, TIMER_EXPIRATION, objects.as_slice())
 }
 
 /// ENVELOPE.
+#[tactic(auto, unfolding(comprehension_tlv::specs::Writing::tagged))]
 fn spell_envelope(apdu: &mut ApduBytes, report: &Report)
     ensures { apdu.new ≡ toolkit_apdu 0xC2 (envelope report.now) }
 {
-    let mut objects = TlvWriter::new();
-    put_report(&mut objects, report);
-    spell_enveloped(apdu, template_of(report), objects)
+    match report {
+        Report::MenuSelection { item } => spell_enveloped(
+            apdu,
+            MENU_SELECTION,
+            &[DEVICES_BYTE, 2, KEYPAD, CARD, ITEM_BYTE, 1, *item],
+        ),
+        Report::UserActivity => spell_event(apdu, USER_ACTIVITY, TERMINAL),
+        Report::IdleScreen => spell_event(apdu, IDLE_SCREEN, DISPLAY),
+        Report::Location { place } => spell_location(apdu, place),
+        Report::CallControl { digits } => spell_call(apdu, digits),
+        Report::Expired { timer, value, .. } => spell_expired(apdu, *timer, value),
+    }
 }
 
 /// Puts the bytes of a command in the place of those that were there.
@@ -295,9 +393,9 @@ pub fn spell_command(apdu: &mut ApduBytes, command: &Command)
                 0x80, 0x10, 0x00, 0x00, 0x08, 0x29, 0x00, 0xBF, 0x61, 0x71, 0x00, 0x00, 0x13,
             ],
         ),
-        Command::Fetch { length } => spell(apdu, &[0x80, 0x12, 0x00, 0x00, *length]),
+        Command::Fetch { length } => spell_fetch(apdu, *length),
         Command::Respond { details, reply } => spell_response(apdu, details, reply),
         Command::Tell(report) => spell_envelope(apdu, report),
-        Command::AskStatus => spell(apdu, &[0x80, 0xF2, 0x00, 0x0C]),
+        Command::AskStatus => spell_status(apdu),
     }
 }

@@ -86,9 +86,19 @@ pub fn soonest(timer: u8, timers: &[Option<Running>]) -> Option<Due>
     requires { timer + length timers.now ≤ 255 }
     ensures { result ≡ soonest timer timers.now }
 {
-    match timers {
-        [] => None,
-        [None, others @ ..] => soonest(timer + 1, others),
-        [slot, others @ ..] => sooner(due_of(timer, slot), soonest(timer + 1, others)),
+    let mut number = timer;
+    let mut rest = timers;
+    // Mostly no timer runs.
+    loop {
+        match rest {
+            [] => return None,
+            [None, others @ ..] => {
+                number += 1;
+                rest = others;
+            }
+            [slot, others @ ..] => {
+                return sooner(due_of(number, slot), soonest(number + 1, others));
+            }
+        }
     }
 }

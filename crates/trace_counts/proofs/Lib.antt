@@ -4,4 +4,4 @@ mod Heads
 mod LineEnds
 mod Walks
 mod WalkLemmas
-mod Passing
+mod WholeLines

@@ -10,12 +10,8 @@ use Rattle.script_form.specs.declared.handset.Note.{Note as ANote}
 use Rattle.script_form.specs.declared.handset.Note.TheVariants as note
 use Rattle.script_form.specs.declared.trace.TraceLine.{TraceLine}
 use Rattle.script_form.specs.declared.trace.TraceLine.TheVariants as line
+use Rattle.trace_counts.specs.Lines.{IsOneLine}
 use Rattle.uicc_types.specs.Answers.{answer_bytes}
-
--- none of these bytes is 0A
-abbrev pub IsOneLine : List ℕ → Type 0
-IsOneLine [] = Unit {0}
-IsOneLine (byte ∷ others) = (byte ≢ 10) × IsOneLine others
 
 pub one_line-append : (first second : List ℕ) → IsOneLine first → IsOneLine second → IsOneLine (first ++ second)
 one_line-append [] second none rest = rest

@@ -8,11 +8,12 @@ use Rattle.std.specs.List.{flat_map}
 use Rattle.std.specs.Prelude.{fold, ◌==◌, nat_lt}
 use Rattle.script_form.specs.Traces.{message, trace_text}
 use Rattle.script_form.specs.declared.trace.TraceLine.{TraceLine}
+use Rattle.trace_counts.specs.Lines.{IsOneLine, IsWholeLine}
 use Rattle.trace_counts.specs.Walks.{grown, step, counts_with}
 use Rattle.trace_counts.specs.declared.counts.Counts.{Counts}
 use Rattle.trace_counts.specs.declared.walk.Walk.{Walk}
 use Rattle.trace_counts.proofs.Heads.{line_head, with}
-use Rattle.trace_counts.proofs.LineEnds.{IsOneLine, message_line}
+use Rattle.trace_counts.proofs.LineEnds.{message_line}
 
 abbrev pub at : List ℕ → Counts → Walk
 at head counts = record { head = head; counts = counts }
@@ -45,17 +46,25 @@ inside_line head counts (byte ∷ text) fits inside =
     let first = grown_first head text byte fits in
     ap (λ w. fold step w text) (step_inside head counts byte inside.0) ∙ inside_line (grown head byte) counts text first.1 inside.1 ∙ ap (λ h. at h counts) first.0
 
--- over a whole line
-whole_line : (said : TraceLine) (counts : Counts) → fold step (at [] counts) (trace_text said) ≡ at [] (with said counts)
+-- over a line and its end
+over_line : (line : List ℕ) (counts : Counts) → IsOneLine line → fold step (at [] counts) (line ++ (10 ∷ [])) ≡ at [] (counts_with (take 6 line) counts)
+over_line line counts one =
+    fold-append step (at [] counts) line (10 ∷ [])
+    ∙ ap (λ w. fold step w (10 ∷ [])) (inside_line [] counts line (omega arith) one)
+
+-- over bytes that are a line and its end
+pub whole_line : (walk : Walk) (bytes line : List ℕ) → walk.head ≡ [] → IsWholeLine bytes line → fold step walk bytes ≡ at [] (counts_with (take 6 line) walk.counts)
+whole_line walk bytes line fresh whole =
+    ap (λ (head : List ℕ). fold step (at head walk.counts) bytes) fresh ∙ ap (fold step (at [] walk.counts)) whole.ends ∙ over_line line walk.counts whole.one
+
+-- over a line of a trace
+said_line : (said : TraceLine) (counts : Counts) → fold step (at [] counts) (trace_text said) ≡ at [] (with said counts)
 unfolding trace_text
-whole_line said counts =
-    fold-append step (at [] counts) (message said) (10 ∷ [])
-    ∙ ap (λ w. fold step w (10 ∷ [])) (inside_line [] counts (message said) (omega arith) (message_line said))
-    ∙ ap (at []) (line_head said counts)
+said_line said counts = over_line (message said) counts (message_line said) ∙ ap (at []) (line_head said counts)
 
 -- over all lines
 pub all_lines : (lines : List TraceLine) (counts : Counts) → fold step (at [] counts) (flat_map trace_text lines) ≡ at [] (fold (λ c said. with said c) counts lines)
 all_lines [] counts = refl
 all_lines (said ∷ lines) counts =
     fold-append step (at [] counts) (trace_text said) (flat_map trace_text lines)
-    ∙ ap (λ w. fold step w (flat_map trace_text lines)) (whole_line said counts) ∙ all_lines lines (with said counts)
+    ∙ ap (λ w. fold step w (flat_map trace_text lines)) (said_line said counts) ∙ all_lines lines (with said counts)

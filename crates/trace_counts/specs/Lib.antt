@@ -1,4 +1,4 @@
 pub mod Counts
 pub mod Walks
 pub mod Laws
-pub mod Heads
+pub mod Lines

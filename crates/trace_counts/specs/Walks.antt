@@ -20,6 +20,16 @@ counts_with head counts = record {
   busy = more (starts_with nat_eq head (codes "* busy")) counts.busy;
 }
 
+-- the counts with a command of the toolkit's class whose instruction has these digits
+abbrev pub with_instruction : ℕ → ℕ → Counts → Counts
+with_instruction high low counts = record {
+  commands = counts.commands;
+  fetches = more (starts_with nat_eq (high ∷ low ∷ []) (codes "12")) counts.fetches;
+  responses = more (starts_with nat_eq (high ∷ low ∷ []) (codes "14")) counts.responses;
+  envelopes = more (starts_with nat_eq (high ∷ low ∷ []) (codes "C2")) counts.envelopes;
+  busy = counts.busy;
+}
+
 -- the first bytes of a line with one more, if there is room
 abbrev pub grown : List ℕ → ℕ → List ℕ
 grown head byte = if nat_lt (length head) HEAD then head ++ byte ∷ [] else head

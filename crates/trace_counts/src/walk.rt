@@ -1,10 +1,10 @@
 //! A walk over the bytes of a trace.
-ghost use Rattle.std.specs.Prelude.{◌≡◌, ◌≤◌, ◌<◌, true, fold, length};
-ghost use Rattle.trace_counts.specs.Walks.{grown, more as one_more, start, step, counts_with};
-ghost use Rattle.trace_counts.specs.Heads.{HasWholeHead};
-ghost use Rattle.trace_counts.specs.declared.walk.Walk.{Walk as AWalk};
+ghost use Rattle.std.specs.Prelude.{◌≡◌, IfSome, fold};
+ghost use Rattle.trace_counts.specs.Lines.{IsWholeLine};
+ghost use Rattle.trace_counts.specs.Walks.{counts_with, more as one_more, start, step, with_instruction};
 
 use crate::counts::Counts;
+use memchr::memchr;
 use uicc_types::{ByteList, Full};
 
 /// The most bytes that a line's kind is known by.
@@ -40,72 +40,49 @@ impl Walk {
     pub fn follow(&mut self, part: &[u8])
         ensures { self.new ≡ fold step self.old part.now }
     {
-        let mut rest = part;
-        while !rest.is_empty() {
-            rest = self.go_on(rest);
+        // Mostly a line comes whole, and none of its bytes is kept.
+        match whole_line(part) {
+            Some(line) if self.head.as_slice().is_empty() => {
+                count_line(&mut self.counts, &line[..line.len().min(HEAD)])
+            }
+            _ => self.follow_bytes(part),
         }
     }
 
-    /// Takes some bytes, of which there are some, and answers the others.
-    #[tactic(auto, using(crate::proofs::Passing::head_passed))]
-    fn go_on<'a>(&mut self, bytes: &'a [u8]) -> &'a [u8]
-        requires { 0 < length bytes.now }
-        ensures taken { fold step self.new result.now ≡ fold step self.old bytes.now }
-        ensures shorter { length result.now < length bytes.now }
+    /// Goes on over these bytes, one after the other.
+    #[inline(never)]
+    fn follow_bytes(&mut self, part: &[u8])
+        ensures { self.new ≡ fold step self.old part.now }
     {
-        // Mostly a line comes whole, and its first bytes are kept at once.
-        if self.head.as_slice().is_empty() && has_whole_head(bytes) {
-            self.head = ByteList::from_slice(&bytes[..HEAD]);
-            return line_end(&bytes[HEAD..]);
+        for byte in part {
+            self.take(*byte);
         }
-        self.take(bytes[0], &bytes[1..])
     }
 
-    /// Takes a byte, and the bytes behind it that make no difference then. The others are left.
-    #[tactic(auto, using(crate::proofs::Passing::step_full))]
-    fn take<'a>(&mut self, byte: u8, others: &'a [u8]) -> &'a [u8]
-        ensures taken { fold step self.new result.now ≡ fold step (step self.old byte) others.now }
-        ensures shorter { length result.now ≤ length others.now }
+    fn take(&mut self, byte: u8)
+        ensures { self.new ≡ step self.old byte }
     {
         if byte == b'\n' {
             count_line(&mut self.counts, self.head.as_slice());
             self.head = ByteList::new();
-            return others;
-        }
-        match self.head.push(byte) {
-            Ok(()) => others,
-            Err(Full) => line_end(others),
+        } else {
+            match self.head.push(byte) {
+                Ok(()) => {}
+                // What comes behind the head makes no difference.
+                Err(Full) => {}
+            }
         }
     }
 }
 
-/// Whether there are enough bytes for the head of a line, in which it doesn't end.
-fn has_whole_head(bytes: &[u8]) -> bool
-    ensures { result ≡ true → HasWholeHead bytes.now }
+/// The bytes before the end of a line, if these are a line with its end and no more.
+fn whole_line(bytes: &[u8]) -> Option<&[u8]>
+    ensures { IfSome result (λ line. IsWholeLine bytes.now line.now) }
 {
-    bytes.len() >= HEAD
-        && bytes[0] != b'\n'
-        && bytes[1] != b'\n'
-        && bytes[2] != b'\n'
-        && bytes[3] != b'\n'
-        && bytes[4] != b'\n'
-        && bytes[5] != b'\n'
-}
-
-/// The bytes from where the line ends, or from three places before.
-fn line_end(bytes: &[u8]) -> &[u8]
-    ensures same { (walk : AWalk) → HEAD ≤ length walk.head → fold step walk result.now ≡ fold step walk bytes.now }
-    ensures shorter { length result.now ≤ length bytes.now }
-{
-    let mut rest = bytes;
-    // Four at a time, since most bytes of a trace are passed over here.
-    while rest.len() >= 4 {
-        if rest[0] == b'\n' || rest[1] == b'\n' || rest[2] == b'\n' || rest[3] == b'\n' {
-            return rest;
-        }
-        rest = &rest[4..];
+    match memchr(b'\n', bytes) {
+        Some(place) if place + 1 == bytes.len() => Some(&bytes[..place]),
+        _ => None,
     }
-    rest
 }
 
 /// Counts a line that begins so.
@@ -113,13 +90,24 @@ fn count_line(counts: &mut Counts, head: &[u8])
     ensures { counts.new ≡ counts_with head.now counts.old }
 {
     match head {
-        [b'>', ..] => {
-            counts.commands = more(head.starts_with(b"> "), counts.commands);
-            counts.fetches = more(head.starts_with(b"> 8012"), counts.fetches);
-            counts.responses = more(head.starts_with(b"> 8014"), counts.responses);
-            counts.envelopes = more(head.starts_with(b"> 80C2"), counts.envelopes);
+        [b'>', b' ', b'8', b'0', high, low, ..] => {
+            counts.commands = counts.commands.saturating_add(1);
+            count_command(counts, *high, *low)
         }
+        [b'>', b' ', ..] => counts.commands = counts.commands.saturating_add(1),
         [b'*', ..] => counts.busy = more(head.starts_with(b"* busy"), counts.busy),
+        _ => {}
+    }
+}
+
+/// Counts a command of the toolkit's class whose instruction has these digits.
+fn count_command(counts: &mut Counts, high: u8, low: u8)
+    ensures { counts.new ≡ with_instruction high low counts.old }
+{
+    match (high, low) {
+        (b'1', b'2') => counts.fetches = counts.fetches.saturating_add(1),
+        (b'1', b'4') => counts.responses = counts.responses.saturating_add(1),
+        (b'C', b'2') => counts.envelopes = counts.envelopes.saturating_add(1),
         _ => {}
     }
 }
