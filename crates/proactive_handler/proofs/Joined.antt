@@ -132,6 +132,13 @@ tells_told (Some stimulus) sent = refl
 tells_told None (Some command) = refl
 tells_told None None = refl
 
+-- what is sent just where there is a command is that command
+pub as_sent : (command : Option Proactive) (sent : Bool) → sent ≡ is_some command → cond sent command None ≡ command
+as_sent None true is = refl
+as_sent None false is = refl
+as_sent (Some command) true is = refl
+as_sent (Some command) false is = cc is
+
 pub sends_sent : (tells : Option Stimulus) (sent : Option Proactive) → tells ≡ None → sent_of (next_of tells sent) ≡ sent
 sends_sent (Some stimulus) sent is = cc is
 sends_sent None (Some command) is = refl

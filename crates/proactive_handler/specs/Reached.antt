@@ -3,7 +3,8 @@ use Rattle.std.proofs.Common.{◌≡◌, sym, ap, ◌∙◌, subst, ℕ, List, [
 use Rattle.std.specs.Prelude.{◌≢◌, Bool, All, Option, Result, Ok, Err, IfOk}
 use Rattle.std.specs.Result.{IsErr}
 use Rattle.std.proofs.lemmas.List.{append_assoc}
-use Rattle.std.proofs.lemmas.List.Elements.{All-cons, All-head, All-nil, All-tail, filter_map-append}
+use Rattle.std.proofs.lemmas.List.Elements.{filter_map-append}
+use Rattle.general_laws.specs.Members.{front_of, back_of}
 use Rattle.uicc_types.specs.Counts.{raised_by}
 use Rattle.store_form.specs.declared.store.StoreFault.{StoreFault}
 use Rattle.card_layout.specs.Memory.{Memory}
@@ -49,23 +50,15 @@ pub record Tells {B : Type 0} (step : ToolkitState → Passed) (old new : Scene)
 
 -- ---- no turn in one part and in the other
 
-all_first : {X : Type 0} (P : X → Type 0) (xs ys : List X) → All P (xs ++ ys) → All P xs
-all_first P [] ys all = All-nil P
-all_first P (x ∷ xs) ys all = All-cons P x xs (All-head P x (xs ++ ys) all) (all_first P xs ys (All-tail P x (xs ++ ys) all))
-
-all_later : {X : Type 0} (P : X → Type 0) (xs ys : List X) → All P (xs ++ ys) → All P ys
-all_later P [] ys all = all
-all_later P (x ∷ xs) ys all = all_later P xs ys (All-tail P x (xs ++ ys) all)
-
 module _ (shelf : ℕ) (first second : List Happening) (none : HasNoTurn shelf (first ++ second)) where
   both : All (λ (turn : ShelfTurn). turn.shelf ≢ shelf) (turns first ++ turns second)
   both = subst (All (λ (turn : ShelfTurn). turn.shelf ≢ shelf)) (filter_map-append turn_in first second) none
 
   pub no_first : HasNoTurn shelf first
-  no_first = all_first (λ (turn : ShelfTurn). turn.shelf ≢ shelf) (turns first) (turns second) both
+  no_first = front_of (λ (turn : ShelfTurn). turn.shelf ≢ shelf) (turns first) (turns second) both
 
   pub no_later : HasNoTurn shelf second
-  no_later = all_later (λ (turn : ShelfTurn). turn.shelf ≢ shelf) (turns first) (turns second) both
+  no_later = back_of (λ (turn : ShelfTurn). turn.shelf ≢ shelf) (turns first) (turns second) both
 
 -- ---- one step after the other
 

@@ -1,12 +1,12 @@
 //! A run: act after act.
-ghost use Rattle.std.specs.Prelude.{◌≡◌, IfOk, IfSome};
+ghost use Rattle.std.specs.Prelude.{◌≡◌, is_some, IfOk, IfSome};
 ghost use Rattle.card_layout.specs.States.{rows_of};
 ghost use Rattle.applet_trait.specs.Laws.{GivesTimer};
 ghost use Rattle.applet_trait.specs.Minds.{fresh};
 ghost use Rattle.card_memory.specs.Model.{HasRowOn};
 ghost use Rattle.toolkit_model.specs.Orderly.{CanBeSent};
 ghost use Rattle.toolkit_model.specs.Running.{kept_on, run_on};
-ghost use Rattle.proactive_handler.specs.Acts.{setting_of, stage};
+ghost use Rattle.proactive_handler.specs.Acts.{setting_of, command_of, stage};
 ghost use Rattle.proactive_handler.specs.Runs.{answer_of, ended_by, run_of, Runs, MayRun, KeepsRows};
 ghost use Rattle.card_layout.specs.Memory.{memory};
 
@@ -46,6 +46,13 @@ fn answer_of(act: &Act) -> Option<bool>
     }
 }
 
+// Whether an act has a command for the handset.
+fn sends(act: &Act) -> bool
+    ensures { result ≡ is_some (command_of act.now) }
+{
+    matches!(act, Act::Send(_))
+}
+
 // So many acts at most, after which the applet wakes. The last act stays in its place.
 fn run_on<S: Store, B: Applet>(
     store: &mut S,
@@ -63,6 +70,7 @@ fn run_on<S: Store, B: Applet>(
     ensures runs { Runs (run_on acts (setting_of at.now) stimulus.now)
         (stage (memory S.Store store.old loaded.old) timers.old (B.mind applet.old))
         (stage (memory S.Store store.new loaded.new) timers.new (B.mind applet.new)) does.new result }
+    ensures exact { IfOk result (λ ending. ending.is_sent ≡ is_some (ended_by does.new ending).sent) }
     ensures sendable { IfOk result (λ ending. IfSome (ended_by does.new ending).sent CanBeSent) }
     ensures same_kind { (B.mind applet.new).kind ≡ (B.mind applet.old).kind }
     ensures keeps { KeepsRows (memory S.Store store.old loaded.old)
@@ -86,7 +94,7 @@ fn run_on<S: Store, B: Applet>(
             answer,
         }),
         Next::Sent => Ok(Ending {
-            is_sent: true,
+            is_sent: sends(does),
             answer,
         }),
         Next::Told(reply) => {
@@ -133,6 +141,7 @@ pub fn run_row<S: Store, B: Applet>(
     ensures runs { Runs (run_of at.now stimulus.now)
         (stage (memory S.Store store.old loaded.old) timers.old (B.mind applet.old))
         (stage (memory S.Store store.new loaded.new) timers.new (B.mind applet.new)) does.new result }
+    ensures exact { IfOk result (λ ending. ending.is_sent ≡ is_some (ended_by does.new ending).sent) }
     ensures sendable { IfOk result (λ ending. IfSome (ended_by does.new ending).sent CanBeSent) }
     ensures same_kind { (B.mind applet.new).kind ≡ (B.mind applet.old).kind }
     ensures keeps { KeepsRows (memory S.Store store.old loaded.old)

@@ -18,7 +18,7 @@ use toolkit_session::Session;
 use trigger_index::Index;
 
 // So many late triggers at most, the first whose applet is idle each time.
-fn catch_up<S: Store, B: Applet>(
+fn catch_each<S: Store, B: Applet>(
     store: &mut S,
     loaded: &mut Loaded,
     index: &mut Index,
@@ -50,10 +50,41 @@ fn catch_up<S: Store, B: Applet>(
             let Trigger { shelf, code, body } = trigger;
             let event = Stimulus::Event { code, body };
             run_alone(store, loaded, index, cast, session, shelf, &event, false)?;
-            catch_up(store, loaded, index, cast, session, count - 1)
+            catch_each(store, loaded, index, cast, session, count - 1)
         }
         None => Ok(()),
     }
+}
+
+// The same. Mostly there is none, so that is tested before the places for one are made.
+fn catch_up<S: Store, B: Applet>(
+    store: &mut S,
+    loaded: &mut Loaded,
+    index: &mut Index,
+    cast: &mut [Option<B>],
+    session: &mut Session,
+    count: usize,
+) -> Result<(), StoreFault>
+    requires service { IsInService
+        (scene (memory S.Store store.old loaded.old) index.old session.old (minds_of B.mind cast.old)) cast.old }
+    ensures moves { Moves (caught_up count)
+        (scene (memory S.Store store.old loaded.old) index.old session.old (minds_of B.mind cast.old))
+        (scene (memory S.Store store.new loaded.new) index.new session.new (minds_of B.mind cast.new)) result }
+    ensures turns { TurnsOnly (caught_up count)
+        (scene (memory S.Store store.old loaded.old) index.old session.old (minds_of B.mind cast.old))
+        (scene (memory S.Store store.new loaded.new) index.new session.new (minds_of B.mind cast.new))
+        cast.old cast.new result }
+    ensures untold { (other : ℕ) → AreForOthers other session.old.late → IsSameBox other cast.old cast.new }
+    ensures keeps { KeepsScene
+        (scene (memory S.Store store.old loaded.old) index.old session.old (minds_of B.mind cast.old))
+        (scene (memory S.Store store.new loaded.new) index.new session.new (minds_of B.mind cast.new)) result }
+{
+    // This call is a law, and does nothing.
+    tables_tell_states();
+    if count == 0 {
+        return Ok(());
+    }
+    catch_each(store, loaded, index, cast, session, count)
 }
 
 /// Ends a command that moved the toolkit. Applets that wait for no answer any more catch up with the events that came late for

@@ -1,5 +1,6 @@
 //! The response of the handset to the command that is outstanding.
-ghost use Rattle.std.specs.Prelude.{ℕ, ◌≡◌, ◌≢◌, true, IfSome, Some, is_some};
+ghost use Rattle.std.specs.Prelude.{ℕ, ◌≡◌, ◌≢◌, ◌≤◌, length, true, IfSome, Some, is_some};
+ghost use Rattle.handset_reports.specs.Replies.{replied};
 ghost use Rattle.proactive_handler.specs.Boxes.{minds_of, IsSameBox, AreForOthers};
 ghost use Rattle.toolkit_model.specs.Commands.{unanswered, answered, responded};
 ghost use Rattle.proactive_handler.specs.Steps.{scene, Moves};
@@ -12,10 +13,11 @@ use crate::running::run_alone;
 use applet_trait::{Applet, Stimulus};
 use card_layout::Loaded;
 use card_memory::tables_tell_states;
+use handset_reports::Reply;
 use store_form::{Store, StoreFault};
-use toolkit_commands::Response;
 use toolkit_session::Session;
 use trigger_index::Index;
+use uicc_types::Octets;
 
 // Nothing is outstanding any more, and the applet that sent the command goes on with the response.
 fn answer<S: Store, B: Applet>(
@@ -24,15 +26,16 @@ fn answer<S: Store, B: Applet>(
     index: &mut Index,
     cast: &mut [Option<B>],
     session: &mut Session,
-    response: &Response,
+    response: &Reply<'_>,
 ) -> Result<(), StoreFault>
     requires service { IsInService
         (scene (memory S.Store store.old loaded.old) index.old session.old (minds_of B.mind cast.old)) cast.old }
     requires fetched { is_some (unanswered session.old) ≡ true }
-    ensures moves { IfSome (unanswered session.old) (λ out. Moves (answered out response.now)
+    requires short { length response.now.text.now ≤ 255 }
+    ensures moves { IfSome (unanswered session.old) (λ out. Moves (answered out (replied response.now))
         (scene (memory S.Store store.old loaded.old) index.old session.old (minds_of B.mind cast.old))
         (scene (memory S.Store store.new loaded.new) index.new session.new (minds_of B.mind cast.new)) result) }
-    ensures turns { IfSome (unanswered session.old) (λ out. TurnsOnly (answered out response.now)
+    ensures turns { IfSome (unanswered session.old) (λ out. TurnsOnly (answered out (replied response.now))
         (scene (memory S.Store store.old loaded.old) index.old session.old (minds_of B.mind cast.old))
         (scene (memory S.Store store.new loaded.new) index.new session.new (minds_of B.mind cast.new))
         cast.old cast.new result) }
@@ -49,7 +52,7 @@ fn answer<S: Store, B: Applet>(
             let stimulus = Stimulus::Response {
                 result: response.result,
                 item: response.item,
-                text: response.text.copy(),
+                text: Octets::from_slice(response.text),
             };
             run_alone(store, loaded, index, cast, session, shelf, &stimulus, true)?;
             Ok(())
@@ -71,15 +74,16 @@ pub fn respond<S: Store, B: Applet>(
     index: &mut Index,
     cast: &mut [Option<B>],
     session: &mut Session,
-    response: &Response,
+    response: &Reply<'_>,
 ) -> Result<(), StoreFault>
     requires service { IsInService
         (scene (memory S.Store store.old loaded.old) index.old session.old (minds_of B.mind cast.old)) cast.old }
     requires fetched { is_some (unanswered session.old) ≡ true }
-    ensures moves { IfSome (unanswered session.old) (λ out. Moves (responded out response.now)
+    requires short { length response.now.text.now ≤ 255 }
+    ensures moves { IfSome (unanswered session.old) (λ out. Moves (responded out (replied response.now))
         (scene (memory S.Store store.old loaded.old) index.old session.old (minds_of B.mind cast.old))
         (scene (memory S.Store store.new loaded.new) index.new session.new (minds_of B.mind cast.new)) result) }
-    ensures turns { IfSome (unanswered session.old) (λ out. TurnsOnly (responded out response.now)
+    ensures turns { IfSome (unanswered session.old) (λ out. TurnsOnly (responded out (replied response.now))
         (scene (memory S.Store store.old loaded.old) index.old session.old (minds_of B.mind cast.old))
         (scene (memory S.Store store.new loaded.new) index.new session.new (minds_of B.mind cast.new))
         cast.old cast.new result) }

@@ -1,8 +1,10 @@
 //! An event, for the applets that are registered for it.
-ghost use Rattle.std.specs.Prelude.{[], ℕ, ◌≡◌, ◌≢◌, List, ◌∷◌, map, true, All, AllPairs, OnOk};
+ghost use Rattle.std.specs.Prelude.{[], ℕ, ◌≡◌, ◌≢◌, ◌≤◌, ◌<◌, List, ◌∷◌, ◌++◌, length, map, true, All, AllPairs, OnOk};
 ghost use Rattle.card_memory.specs.Model.{HasRowOn};
 ghost use Rattle.proactive_handler.specs.Boxes.{minds_of, IsSameBox};
 ghost use Rattle.applet_trait.specs.declared.stimuli.Stimulus.TheVariants.{Event};
+ghost use Rattle.toolkit_model.specs.Commands.{late_places};
+ghost use Rattle.toolkit_model.specs.Driving.{trigger_for};
 ghost use Rattle.toolkit_model.specs.Passing.{in_turn};
 ghost use Rattle.proactive_handler.specs.Serving.{HasPlaces, triggered_one};
 ghost use Rattle.proactive_handler.specs.Steps.{scene};
@@ -20,6 +22,16 @@ use toolkit_session::Session;
 use trigger_index::Index;
 use uicc_types::{Octets, Shelf};
 
+// Keeps an event for an applet that waits for an answer. It seldom does, so the place for the bytes is made in here alone.
+#[inline(never)]
+fn keep_late(session: &mut Session, shelf: Shelf, code: u8, body: &[u8])
+    requires short { length body.now ≤ 255 }
+    requires room { length session.old.late < late_places }
+    ensures { session.new ≡ record session.old { late = session.old.late ++ trigger_for code body.now shelf.0 ∷ [] } }
+{
+    session.keep_late(shelf, code, &Octets::from_slice(body));
+}
+
 // Runs the applet of a row on an event, where it is idle. Where it waits for an answer, the event is kept for it, if it is to be.
 fn trigger_one<S: Store, B: Applet>(
     store: &mut S,
@@ -29,7 +41,7 @@ fn trigger_one<S: Store, B: Applet>(
     session: &mut Session,
     shelf: Shelf,
     code: u8,
-    body: &Octets,
+    body: &[u8],
     event: &Stimulus,
     kept: bool,
     does: &mut Act,
@@ -38,6 +50,7 @@ fn trigger_one<S: Store, B: Applet>(
         (scene (memory S.Store store.old loaded.old) index.old session.old (minds_of B.mind cast.old)) cast.old }
     requires row { HasRowOn loaded.old shelf.0 }
     requires event { event.now ≡ Event code body.now }
+    requires short { length body.now ≤ 255 }
     requires room { kept ≡ true → HasPlaces session.old (shelf.0 ∷ []) }
     ensures tells { Tells (triggered_one kept code body.now shelf.0)
         (scene (memory S.Store store.old loaded.old) index.old session.old (minds_of B.mind cast.old))
@@ -58,7 +71,7 @@ fn trigger_one<S: Store, B: Applet>(
         );
     }
     if kept {
-        session.keep_late(shelf, code, body);
+        keep_late(session, shelf, code, body);
     }
     Ok(None)
 }
@@ -72,7 +85,7 @@ fn trigger_each<S: Store, B: Applet>(
     session: &mut Session,
     to: &[Shelf],
     code: u8,
-    body: &Octets,
+    body: &[u8],
     event: &Stimulus,
     kept: bool,
     does: &mut Act,
@@ -82,6 +95,7 @@ fn trigger_each<S: Store, B: Applet>(
     requires rows { All (λ shelf. HasRowOn loaded.old shelf.0) to.now }
     requires apart { AllPairs (λ a b. a.0 ≢ b.0) to.now }
     requires event { event.now ≡ Event code body.now }
+    requires short { length body.now ≤ 255 }
     requires room { kept ≡ true → HasPlaces session.old (map (λ shelf. shelf.0) to.now) }
     ensures tells { Tells (in_turn (triggered_one kept code body.now) (map (λ shelf. shelf.0) to.now))
         (scene (memory S.Store store.old loaded.old) index.old session.old (minds_of B.mind cast.old))
@@ -113,7 +127,8 @@ fn trigger_each<S: Store, B: Applet>(
 /// answer to call control that they gave, none where they gave none. The boxes on all other shelves are left as they are, also
 /// where a commit meets a fault; then those of applets too that took no turn before it, as those behind the one that met it.
 ///
-/// The shelves are different ones, with rows; there is room among the late triggers for each that is kept.
+/// The shelves are different ones, with rows; there is room among the late triggers for each that is kept. What is told has at most
+/// 255 bytes.
 ///
 /// Where a commit meets a fault, the table has the rows before that commit, and the memory these or those after it; of the index,
 /// the session and the minds of the applets that took a turn nothing is said then. Applets without a row stay as they are.
@@ -125,7 +140,7 @@ pub fn trigger<S: Store, B: Applet>(
     session: &mut Session,
     to: &Shelves,
     code: u8,
-    body: &Octets,
+    body: &[u8],
     kept: bool,
 ) -> Result<Option<bool>, StoreFault>
     requires service { IsInService
@@ -133,6 +148,7 @@ pub fn trigger<S: Store, B: Applet>(
     requires rows { All (HasRowOn loaded.old) to.now }
     requires apart { AllPairs (λ a b. a ≢ b) to.now }
     requires room { kept ≡ true → HasPlaces session.old to.now }
+    requires short { length body.now ≤ 255 }
     ensures tells { Tells (in_turn (triggered_one kept code body.now) to.now)
         (scene (memory S.Store store.old loaded.old) index.old session.old (minds_of B.mind cast.old))
         (scene (memory S.Store store.new loaded.new) index.new session.new (minds_of B.mind cast.new))
@@ -144,7 +160,7 @@ pub fn trigger<S: Store, B: Applet>(
 {
     let event = Stimulus::Event {
         code,
-        body: body.copy(),
+        body: Octets::from_slice(body),
     };
     let mut does = Act::Done;
     trigger_each(

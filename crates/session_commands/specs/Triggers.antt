@@ -1,5 +1,5 @@
 -- What an envelope triggers, as it is found.
-use Rattle.std.specs.Prelude.{◌≡◌, ◌≢◌, All, AllPairs}
+use Rattle.std.specs.Prelude.{◌≡◌, ◌≢◌, ◌≤◌, length, All, AllPairs}
 use Rattle.card_layout.specs.declared.entries.Loaded.{Loaded}
 use Rattle.card_memory.specs.Model.{HasRowOn}
 use Rattle.toolkit_model.specs.Commands.{Trigger as Event}
@@ -9,6 +9,7 @@ use Rattle.session_commands.specs.declared.triggers.Trigger.{Trigger}
 pub record IsTriggerOf (table : Loaded) (event : Event) (trigger : Trigger) : Type 0 where
   pub shelves : trigger.shelves ≡ event.shelves
   pub code : trigger.code ≡ event.code
-  pub body : trigger.body ≡ event.body
+  pub body : trigger.body.now ≡ event.body
+  pub short : length trigger.body.now ≤ 255
   pub rows : All (HasRowOn table) trigger.shelves
   pub apart : AllPairs (λ a b. a ≢ b) trigger.shelves

@@ -25,6 +25,11 @@ use Rattle.toolkit_model.specs.Driving.{is_idle}
 use Rattle.toolkit_model.specs.Registry.{installed_row, deleted_row}
 use Rattle.card_model.specs.Toolkit.{has_zero_parameters, has_shelf, row_or_status}
 
+-- what was found by value, without where it lies
+abbrev pub seen : {T U : Type 0} → (T → U) → Result T StatusWord → Result U StatusWord
+seen view (Ok x) = Ok (view x)
+seen view (Err status) = Err status
+
 -- ---- the commands of the handset
 
 -- P1 and P2 are 00, and there are data

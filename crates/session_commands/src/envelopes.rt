@@ -1,6 +1,7 @@
 //! ENVELOPE.
 ghost use Rattle.std.specs.Prelude.{◌≡◌, ◌≢◌, ◌≤◌, [], ◌∷◌, ℕ, length, false, All, Ok, IfOk};
 ghost use Rattle.toolkit_commands.specs.declared.envelopes.Envelope.{Envelope};
+ghost use Rattle.handset_reports.specs.Reports.{reported};
 ghost use Rattle.card_layout.specs.States.{rows_of};
 ghost use Rattle.toolkit_model.specs.Commands.{enveloped, triggered, trigger_of, is_busy, last_answer};
 ghost use Rattle.proactive_handler.specs.Boxes.{minds_of, IsSameBox, AreForOthers};
@@ -20,19 +21,19 @@ use apdu_form::Command;
 use applet_trait::Applet;
 use card_layout::Loaded;
 use card_memory::tables_tell_states;
+use handset_reports::Report;
 use proactive_handler::sessions_are_served;
 use store_form::{Store, StoreFault};
-use toolkit_commands::Envelope;
 use toolkit_laws::sessions_stay_in_order;
 use toolkit_session::Session;
 use trigger_index::Index;
 use uicc_types::{Answer, AnswerData, Full, StatusWord};
 
 // User activity and the idle screen are reported once.
-fn note_reported(session: &mut Session, envelope: &Envelope)
-    ensures { session.new ≡ reported_in envelope.now session.old }
+fn note_reported(session: &mut Session, envelope: &Report<'_>)
+    ensures { session.new ≡ reported_in (reported envelope.now) session.old }
 {
-    if let Envelope::Event { code, .. } = envelope {
+    if let Report::Event { code, .. } = envelope {
         session.reported(*code);
     }
 }
@@ -44,20 +45,20 @@ fn report<S: Store, B: Applet>(
     index: &mut Index,
     cast: &mut [Option<B>],
     session: &mut Session,
-    envelope: &Envelope,
-    trigger: &Trigger,
+    envelope: &Report<'_>,
+    trigger: &Trigger<'_>,
 ) -> Result<Option<bool>, StoreFault>
     requires rests { IsBetweenCommands
         (scene (memory S.Store store.old loaded.old) index.old session.old (minds_of B.mind cast.old)) cast.old }
     requires trigger { IsTriggerOf loaded.old
-        (trigger_of (rows_of loaded.old) session.old.timers envelope.now) trigger.now }
-    requires room { is_busy envelope.now
+        (trigger_of (rows_of loaded.old) session.old.timers (reported envelope.now)) trigger.now }
+    requires room { is_busy (reported envelope.now)
         (toolkit (scene (memory S.Store store.old loaded.old) index.old session.old (minds_of B.mind cast.old)))
         ≡ false }
-    ensures moves { Moves (enveloped envelope.now)
+    ensures moves { Moves (enveloped (reported envelope.now))
         (scene (memory S.Store store.old loaded.old) index.old session.old (minds_of B.mind cast.old))
         (scene (memory S.Store store.new loaded.new) index.new session.new (minds_of B.mind cast.new)) result }
-    ensures answer { IfOk result (λ answer. answer ≡ last_answer (triggered envelope.now
+    ensures answer { IfOk result (λ answer. answer ≡ last_answer (triggered (reported envelope.now)
         (toolkit (scene (memory S.Store store.old loaded.old) index.old session.old (minds_of B.mind cast.old)))).log) }
     ensures untold { (other : ℕ) → All (λ shelf. shelf ≢ other) trigger.now.shelves
         → AreForOthers other session.old.late → IsSameBox other cast.old cast.new }
@@ -76,7 +77,7 @@ fn report<S: Store, B: Applet>(
         session,
         &trigger.shelves,
         trigger.code,
-        &trigger.body,
+        trigger.body,
         true,
     )
 }
@@ -94,9 +95,9 @@ fn put_result(body: &mut AnswerData, permission: u8)
 
 // Call control is answered that the call is not allowed, or that it is (ETSI TS 102 223, 7.3.1.6), in an answer that is empty before.
 // Other envelopes are answered without data.
-fn put_data(envelope: &Envelope, answer: Option<bool>, body: &mut AnswerData)
+fn put_data(envelope: &Report<'_>, answer: Option<bool>, body: &mut AnswerData)
     requires { body.old ≡ [] }
-    ensures { body.new ≡ data_for envelope.now answer }
+    ensures { body.new ≡ data_for (reported envelope.now) answer }
 {
     if !is_call(envelope) {
         return;

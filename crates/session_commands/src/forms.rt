@@ -1,12 +1,15 @@
 //! What the parameters, the lengths and the data of a command are tested for, in the written order.
-ghost use Rattle.std.specs.Prelude.{◌≡◌, ◌≢◌, ◌≤◌, ◌==◌, ◌||◌, length, unwrap_or, IfErr};
+ghost use Rattle.std.specs.Prelude.{◌≡◌, ◌≢◌, ◌≤◌, ◌==◌, ◌||◌, length, unwrap_or, IfOk, IfErr};
+ghost use Rattle.handset_reports.specs.Replies.{replied};
+ghost use Rattle.handset_reports.specs.Reports.{reported, bytes_in};
 ghost use Rattle.card_model.specs.Toolkit.{has_zero_parameters, row_status};
-ghost use Rattle.session_commands.specs.Trying.{data_tried, fetch_tried, response_given, response_tried, envelope_given, envelope_tried};
+ghost use Rattle.session_commands.specs.Trying.{seen, data_tried, fetch_tried, response_given, response_tried, envelope_given, envelope_tried};
 
 use apdu_form::Command;
 use applet_registry::RowFault;
 use file_model::{has_data, has_le_alone};
-use toolkit_commands::{Details, Envelope, Response, read_envelope, read_response};
+use handset_reports::{Reply, Report, read_reply, read_report};
+use toolkit_commands::Details;
 use uicc_types::StatusWord;
 
 fn has_zero_parameters(command: &Command<'_>) -> bool
@@ -66,13 +69,14 @@ pub(crate) fn try_fetch(pending: Option<u8>, command: &Command<'_>) -> Result<()
 
 // What the data answer to the command with these details.
 #[tactic(auto, unfolding(file_model::specs::Chains::given))]
-fn response_in(details: Option<Details>, bytes: &[u8]) -> Result<Response, StatusWord>
+fn response_in(details: Option<Details>, bytes: &[u8]) -> Result<Reply<'_>, StatusWord>
     requires { length bytes.now ≤ 255 }
-    ensures value { result ≡ response_given details bytes.now }
+    ensures value { seen replied result ≡ response_given details bytes.now }
+    ensures fits { IfOk result (λ response. length response.text.now ≤ 255) }
     ensures usual { IfErr result (λ status. status.0 ≢ StatusWord.MEMORY_PROBLEM.0) }
 {
     match details {
-        Some(details) => match read_response(bytes, &details) {
+        Some(details) => match read_reply(bytes, &details) {
             Ok(response) => Ok(response),
             Err(_) => Err(StatusWord::WRONG_DATA),
         },
@@ -82,12 +86,13 @@ fn response_in(details: Option<Details>, bytes: &[u8]) -> Result<Response, Statu
 
 /// The response to the command with these details, if one was fetched.
 #[tactic(auto, unfolding(crate::specs::Trying::response_tried, file_model::specs::Chains::and_given))]
-pub(crate) fn try_response(
+pub(crate) fn try_response<'a>(
     details: Option<Details>,
-    command: &Command<'_>,
-) -> Result<Response, StatusWord>
+    command: &Command<'a>,
+) -> Result<Reply<'a>, StatusWord>
     requires { length command.now.body ≤ 255 }
-    ensures value { result ≡ response_tried details command.now }
+    ensures value { seen replied result ≡ response_tried details command.now }
+    ensures fits { IfOk result (λ response. length response.text.now ≤ 255) }
     ensures usual { IfErr result (λ status. status.0 ≢ StatusWord.MEMORY_PROBLEM.0) }
 {
     match try_data(command) {
@@ -98,12 +103,13 @@ pub(crate) fn try_response(
 
 // What the data report.
 #[tactic(auto, unfolding(file_model::specs::Chains::given))]
-fn envelope_in(bytes: &[u8]) -> Result<Envelope, StatusWord>
+fn envelope_in(bytes: &[u8]) -> Result<Report<'_>, StatusWord>
     requires { length bytes.now ≤ 255 }
-    ensures value { result ≡ envelope_given bytes.now }
+    ensures value { seen reported result ≡ envelope_given bytes.now }
+    ensures fits { IfOk result (λ envelope. length (bytes_in envelope) ≤ 255) }
     ensures usual { IfErr result (λ status. status.0 ≢ StatusWord.MEMORY_PROBLEM.0) }
 {
-    match read_envelope(bytes) {
+    match read_report(bytes) {
         Ok(envelope) => Ok(envelope),
         Err(_) => Err(StatusWord::WRONG_DATA),
     }
@@ -111,9 +117,10 @@ fn envelope_in(bytes: &[u8]) -> Result<Envelope, StatusWord>
 
 /// What an envelope reports.
 #[tactic(auto, unfolding(crate::specs::Trying::envelope_tried, file_model::specs::Chains::and_given))]
-pub(crate) fn try_envelope(command: &Command<'_>) -> Result<Envelope, StatusWord>
+pub(crate) fn try_envelope<'a>(command: &Command<'a>) -> Result<Report<'a>, StatusWord>
     requires { length command.now.body ≤ 255 }
-    ensures value { result ≡ envelope_tried command.now }
+    ensures value { seen reported result ≡ envelope_tried command.now }
+    ensures fits { IfOk result (λ envelope. length (bytes_in envelope) ≤ 255) }
     ensures usual { IfErr result (λ status. status.0 ≢ StatusWord.MEMORY_PROBLEM.0) }
 {
     match try_data(command) {

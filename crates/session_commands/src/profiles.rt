@@ -26,7 +26,7 @@ use toolkit_laws::sessions_stay_in_order;
 use toolkit_session::Session;
 use trigger_index::Index;
 use uicc_types::events::{PROFILE_DOWNLOAD, STATUS_COMMAND};
-use uicc_types::{Answer, Octets, StatusWord};
+use uicc_types::{Answer, StatusWord};
 
 // The handset has this profile, of which the applets are told that are registered for it.
 fn profile<S: Store, B: Applet>(
@@ -53,7 +53,6 @@ fn profile<S: Store, B: Applet>(
     sessions_are_served();
     session.set_profile(bytes);
     let to = targets_of(loaded, index, PROFILE_DOWNLOAD);
-    let body = Octets::from_slice(bytes);
     tell(
         store,
         loaded,
@@ -62,7 +61,7 @@ fn profile<S: Store, B: Applet>(
         session,
         &to,
         PROFILE_DOWNLOAD,
-        &body,
+        bytes,
         false,
     )?;
     Ok(())
@@ -148,7 +147,7 @@ fn tell_status<S: Store, B: Applet>(
         session,
         &to,
         STATUS_COMMAND,
-        &Octets::new(),
+        &[],
         false,
     )?;
     Ok(())

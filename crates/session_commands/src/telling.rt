@@ -1,5 +1,5 @@
 //! An event for some applets, and the end of its command.
-ghost use Rattle.std.specs.Prelude.{◌≡◌, ◌≢◌, ℕ, true, All, AllPairs, IfOk};
+ghost use Rattle.std.specs.Prelude.{◌≡◌, ◌≢◌, ◌≤◌, ℕ, length, true, All, AllPairs, IfOk};
 ghost use Rattle.card_memory.specs.Model.{HasRowOn};
 ghost use Rattle.toolkit_model.specs.Commands.{last_answer};
 ghost use Rattle.toolkit_model.specs.Driving.{driven};
@@ -17,7 +17,6 @@ use proactive_handler::{drive, trigger};
 use store_form::{Store, StoreFault};
 use toolkit_session::Session;
 use trigger_index::Index;
-use uicc_types::Octets;
 
 /// An event for the applets on these shelves, as by `trigger`, and then the end of the command, as by `drive`.
 pub(crate) fn tell<S: Store, B: Applet>(
@@ -28,7 +27,7 @@ pub(crate) fn tell<S: Store, B: Applet>(
     session: &mut Session,
     to: &Shelves,
     code: u8,
-    body: &Octets,
+    body: &[u8],
     kept: bool,
 ) -> Result<Option<bool>, StoreFault>
     requires service { IsInService
@@ -36,6 +35,7 @@ pub(crate) fn tell<S: Store, B: Applet>(
     requires rows { All (HasRowOn loaded.old) to.now }
     requires apart { AllPairs (λ a b. a ≢ b) to.now }
     requires room { kept ≡ true → HasPlaces session.old to.now }
+    requires short { length body.now ≤ 255 }
     ensures moves { Moves (λ state. before (in_turn (triggered_one kept code body.now) to.now state) driven)
         (scene (memory S.Store store.old loaded.old) index.old session.old (minds_of B.mind cast.old))
         (scene (memory S.Store store.new loaded.new) index.new session.new (minds_of B.mind cast.new)) result }

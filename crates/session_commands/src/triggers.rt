@@ -1,7 +1,8 @@
 //! Which applets an event triggers, and an envelope.
-ghost use Rattle.std.specs.Prelude.{◌≡◌, ◌≢◌, All, AllPairs, length, filter, not};
+ghost use Rattle.std.specs.Prelude.{◌≡◌, ◌≢◌, ◌≤◌, All, AllPairs, length, filter, not};
 ghost use Rattle.card_layout.specs.States.{rows_of};
 ghost use Rattle.card_memory.specs.Model.{HasRowOn};
+ghost use Rattle.handset_reports.specs.Reports.{reported, bytes_in};
 ghost use Rattle.trigger_index.specs.Indexes.{StandsFor};
 ghost use Rattle.toolkit_model.specs.Commands.{selected, holders, trigger_of, is_call};
 ghost use Rattle.toolkit_model.specs.Driving.{is_idle};
@@ -13,18 +14,19 @@ ghost use Rattle.session_commands.specs.Triggers.{IsTriggerOf};
 
 use card_layout::{Loaded, states_are_of_entries};
 use event_dispatch::Shelves;
-use toolkit_commands::Envelope;
+use handset_reports::Report;
+use std::slice::from_ref;
 use toolkit_session::Session;
 use trigger_index::Index;
+use uicc_types::Shelf;
 use uicc_types::events::{CALL_CONTROL, MENU_SELECTION, TIMER_EXPIRATION};
-use uicc_types::{Octets, Shelf};
 
-/// The shelves of the applets that an event triggers, its code, and what is told of it.
+/// The shelves of the applets that an event triggers, its code, and what is told of it, where it stands.
 #[derive(Drop)]
-pub(crate) struct Trigger {
+pub(crate) struct Trigger<'a> {
     pub(crate) shelves: Shelves,
     pub(crate) code: u8,
-    pub(crate) body: Octets,
+    pub(crate) body: &'a [u8],
 }
 
 /// The applets that are registered for the event of this code.
@@ -83,47 +85,48 @@ fn holder_of(loaded: &Loaded, session: &Session, timer: u8) -> Shelves
 }
 
 /// What an envelope triggers.
-pub(crate) fn trigger_of(
+pub(crate) fn trigger_of<'a>(
     loaded: &Loaded,
     index: &Index,
     session: &Session,
-    envelope: &Envelope,
-) -> Trigger
+    envelope: &'a Report<'_>,
+) -> Trigger<'a>
     requires indexed { StandsFor index.now (rows_of loaded.now) }
     requires listed { AreRows (rows_of loaded.now) }
     requires underway { IsUnderway (rows_of loaded.now) session.now }
+    requires short { length (bytes_in envelope.now) ≤ 255 }
     ensures found { IsTriggerOf loaded.now
-        (trigger_of (rows_of loaded.now) session.now.timers envelope.now) result }
+        (trigger_of (rows_of loaded.now) session.now.timers (reported envelope.now)) result }
 {
     match envelope {
-        Envelope::Menu { item } => Trigger {
+        Report::Menu { item } => Trigger {
             shelves: selected_of(loaded, *item),
             code: MENU_SELECTION,
-            body: Octets::from_slice(&[*item]),
+            body: from_ref(item),
         },
-        Envelope::CallControl { address } => Trigger {
+        Report::CallControl { address } => Trigger {
             shelves: targets_of(loaded, index, CALL_CONTROL),
             code: CALL_CONTROL,
-            body: address.copy(),
+            body: address,
         },
-        Envelope::Event { code, body } => Trigger {
+        Report::Event { code, body } => Trigger {
             shelves: targets_of(loaded, index, *code),
             code: *code,
-            body: body.copy(),
+            body,
         },
-        Envelope::Timer { timer } => Trigger {
+        Report::Timer { timer } => Trigger {
             shelves: holder_of(loaded, session, *timer),
             code: TIMER_EXPIRATION,
-            body: Octets::from_slice(&[*timer]),
+            body: from_ref(timer),
         },
     }
 }
 
 /// Whether an envelope reports a call.
-pub(crate) fn is_call(envelope: &Envelope) -> bool
-    ensures { result ≡ is_call envelope.now }
+pub(crate) fn is_call(envelope: &Report<'_>) -> bool
+    ensures { result ≡ is_call (reported envelope.now) }
 {
-    matches!(envelope, Envelope::CallControl { .. })
+    matches!(envelope, Report::CallControl { .. })
 }
 
 // How many of the applets on these shelves wait for an answer.
@@ -138,8 +141,8 @@ fn suspended_count(session: &Session, shelves: &[Shelf]) -> usize
 
 /// Whether the applets on these shelves that wait for an answer are more than there is room for among the late triggers, or call
 /// control is not answered now.
-pub(crate) fn is_busy(session: &Session, envelope: &Envelope, shelves: &Shelves) -> bool
-    ensures { result ≡ is_busy_with (asks session.now) (length session.now.late) envelope.now shelves.now }
+pub(crate) fn is_busy(session: &Session, envelope: &Report<'_>, shelves: &Shelves) -> bool
+    ensures { result ≡ is_busy_with (asks session.now) (length session.now.late) (reported envelope.now) shelves.now }
 {
     let suspended = suspended_count(session, shelves.as_slice());
     suspended > session.late_free() || is_call(envelope) && suspended > 0

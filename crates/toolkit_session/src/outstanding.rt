@@ -8,7 +8,7 @@ ghost use Rattle.toolkit_session.specs.Spelled.{IsSpelled, command_in, shelf_of}
 
 use std::marker::Model;
 use toolkit_commands::{Details, Proactive, details_of, spell};
-use uicc_types::{Answer, AnswerData, Octets, Shelf, StatusWord};
+use uicc_types::{Answer, Full, Octets, Shelf, StatusWord};
 
 /// A command that the handset was told of and has not answered yet. It is kept as it is spelled, with its details.
 #[derive(Drop)]
@@ -105,7 +105,11 @@ impl Outstanding {
         ensures status { answer.new.status ≡ StatusWord.DONE }
         ensures state { self.new ≡ as_fetched self.old }
     {
-        answer.body = AnswerData::from_slice(self.bytes.as_slice());
+        answer.body.clear();
+        match answer.body.append(self.bytes.as_slice()) {
+            Ok(()) => {}
+            Err(Full) => unreachable!(),
+        }
         answer.status = StatusWord::DONE;
         self.is_fetched = true;
     }

@@ -1,9 +1,9 @@
 //! What the card itself has to tell the handset.
-ghost use Rattle.std.specs.Prelude.{◌≡◌, ◌≤◌, ◌<◌, ◌+◌, ◌++◌, ◌∷◌, [], if◌then◌else◌, length, count_by, All, Some, None, IfSome, true};
+ghost use Rattle.std.specs.Prelude.{◌≡◌, ◌≤◌, ◌<◌, ◌+◌, ◌++◌, ◌∷◌, [], if◌then◌else◌, length, slice_index_or, count_by, All, Some, None, IfSome, true};
 ghost use Rattle.card_layout.specs.Sections.{has_text};
 ghost use Rattle.card_layout.specs.States.{rows_of};
 ghost use Rattle.toolkit_model.specs.Orderly.{CanBeSent};
-ghost use Rattle.toolkit_model.specs.Driving.{if_allowed, event_list_wanted, menu_wanted, polling_wanted, wanted};
+ghost use Rattle.toolkit_model.specs.Driving.{download_codes, if_allowed, event_list_wanted, menu_wanted, polling_wanted, wanted};
 ghost use Rattle.trigger_index.specs.Indexes.{StandsFor};
 ghost use Rattle.toolkit_session.specs.Events.{is_heard, is_asked_for, events_in};
 
@@ -46,21 +46,26 @@ fn is_heard(index: &Index, code: u8) -> bool
     index.targets(code).len() != 0
 }
 
-/// Whether the handset is to report an event: a row is registered for it, and this handset can report it.
-fn is_asked_for(profile: &Profile, index: &Index, code: u8) -> bool
-    ensures { result ≡ is_asked_for profile.now index.now code }
+/// Whether the handset is to report the event at a place of the codes, which is its place in the index too: a row is registered for
+/// it, and this handset can report it.
+fn is_asked_for(profile: &Profile, index: &Index, at: usize) -> bool
+    requires { at < 9 }
+    ensures { result ≡ is_asked_for profile.now index.now (slice_index_or download_codes at 0) }
 {
-    is_heard(index, code) && profile.allows_event(code)
+    index.has_any_at(at) && profile.allows_event(DOWNLOAD_CODES[at])
 }
 
-/// Adds a code, if the handset is to report its event.
-fn consider(profile: &Profile, index: &Index, code: u8, events: &mut Codes)
-    requires { length events.old < 9 }
-    ensures value { events.new ≡ events.old ++ (if is_asked_for profile.now index.now code then code ∷ [] else []) }
+/// Adds the code at a place, if the handset is to report its event.
+fn consider(profile: &Profile, index: &Index, at: usize, events: &mut Codes)
+    requires room { length events.old < 9 }
+    requires low { at < 9 }
+    ensures value { events.new ≡ events.old
+        ++ (let code = slice_index_or download_codes at 0 in
+        if is_asked_for profile.now index.now code then code ∷ [] else []) }
     ensures long { length events.new ≤ length events.old + 1 }
 {
-    if is_asked_for(profile, index, code) {
-        match events.push(code) {
+    if is_asked_for(profile, index, at) {
+        match events.push(DOWNLOAD_CODES[at]) {
             Ok(()) => {}
             Err(Full) => unreachable!(),
         }
@@ -75,7 +80,7 @@ fn events_for(profile: &Profile, index: &Index) -> Codes
 {
     let mut events = Codes::new();
     for at in 0..DOWNLOAD_CODES.len() {
-        consider(profile, index, DOWNLOAD_CODES[at], &mut events);
+        consider(profile, index, at, &mut events);
     }
     events
 }

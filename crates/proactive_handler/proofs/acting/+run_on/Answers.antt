@@ -1,5 +1,8 @@
 use Rattle.std.proofs.Common.{refl, sym, ap, ◌∙◌, subst, ◌-◌, Bool, Option, None, arith}
+use Rattle.std.specs.Prelude.{is_some, IfSome}
 use Rattle.std.specs.Option.{option_or}
+use Rattle.toolkit_commands.specs.declared.commands.Proactive.{Proactive}
+use Rattle.toolkit_model.specs.Orderly.{CanBeSent}
 use Rattle.applet_trait.specs.declared.stimuli.Stimulus.{Stimulus}
 use Rattle.applet_trait.specs.Minds.{AppletState}
 use Rattle.card_layout.specs.States.{rows_of}
@@ -7,7 +10,7 @@ use Rattle.toolkit_model.specs.Running.{Works}
 use Rattle.proactive_handler.specs.Acts.{Told, setting_of, stage, next_of, command_of, after, IsCarriedOut}
 use Rattle.proactive_handler.specs.Runs.{ended_by}
 use Rattle.proactive_handler.specs.declared.endings.Next.{Next}
-use Rattle.proactive_handler.proofs.Joined.{told_of, sent_of, tells_told, sends_sent, each_sent, stepped, ended, can_be_sent, stopped_at, went_on, cut_later, woke, cut_runs}
+use Rattle.proactive_handler.proofs.Joined.{told_of, sent_of, as_sent, tells_told, sends_sent, each_sent, stepped, ended, can_be_sent, stopped_at, went_on, cut_later, woke, cut_runs}
 use Rattle.proactive_handler.specs.Moved.{has_rows}
 use Rattle.card_layout.specs.Memory.{memory}
 use Rattle.proactive_handler.proofs.acting.+run_on.Goals as goal
@@ -42,13 +45,18 @@ pub returns-in-Sent-clause-runs : goal.returns-in-Sent-clause-runs
 returns-in-Sent-clause-runs g t c =
     ended (setting_of c.args.at.now) c.args.stimulus.now c.args.acts (c.args.acts - 1) (omega (arith, c.if-acts-eq0.false))
     (stage (memory g.S.Store c.args.store.now c.args.loaded.now) c.args.timers.now (g.B.Applet.mind c.args.applet.now)) c.step_into.new.does (g.B.Applet.mind c.step_into.new.self) c.step_into.ensures.acted c.step_into.ensures.moved
-    (stage (memory g.S.Store c.carry_out.new.store c.carry_out.new.loaded) c.carry_out.new.timers (g.B.Applet.mind c.step_into.new.self)) (after c.step_into.new.does c.in_ok-carry_out.field-0) (c.in_ok-carry_out.ensures.carries (g.B.Applet.mind c.step_into.new.self)) (ap (λ (n : Next). told_of (after c.step_into.new.does n)) c.in-Sent.is ∙ tells_told None (command_of c.step_into.new.does)) _ (sym (ap (λ (n : Next). sent_of (after c.step_into.new.does n)) c.in-Sent.is ∙ sends_sent None (command_of c.step_into.new.does) refl)) c.answer_of-answer.ensures
+    (stage (memory g.S.Store c.carry_out.new.store c.carry_out.new.loaded) c.carry_out.new.timers (g.B.Applet.mind c.step_into.new.self)) (after c.step_into.new.does c.in_ok-carry_out.field-0) (c.in_ok-carry_out.ensures.carries (g.B.Applet.mind c.step_into.new.self)) (ap (λ (n : Next). told_of (after c.step_into.new.does n)) c.in-Sent.is ∙ tells_told None (command_of c.step_into.new.does)) _ (as_sent (command_of c.step_into.new.does) c.sends.result c.sends.ensures ∙ sym (ap (λ (n : Next). sent_of (after c.step_into.new.does n)) c.in-Sent.is ∙ sends_sent None (command_of c.step_into.new.does) refl)) c.answer_of-answer.ensures
 
 pub returns-in-Sent-clause-sendable : goal.returns-in-Sent-clause-sendable
 returns-in-Sent-clause-sendable g t c =
-    each_sent (command_of c.step_into.new.does) (λ command some. can_be_sent (setting_of c.args.at.now) c.args.stimulus.now c.args.acts (c.args.acts - 1) (omega (arith, c.if-acts-eq0.false))
+    subst (λ (sent : Option Proactive). IfSome sent CanBeSent) (sym (as_sent (command_of c.step_into.new.does) c.sends.result c.sends.ensures))
+    (each_sent (command_of c.step_into.new.does) (λ command some. can_be_sent (setting_of c.args.at.now) c.args.stimulus.now c.args.acts (c.args.acts - 1) (omega (arith, c.if-acts-eq0.false))
     (stage (memory g.S.Store c.args.store.now c.args.loaded.now) c.args.timers.now (g.B.Applet.mind c.args.applet.now)) c.step_into.new.does (g.B.Applet.mind c.step_into.new.self) c.step_into.ensures.acted c.step_into.ensures.moved
-    (stage (memory g.S.Store c.carry_out.new.store c.carry_out.new.loaded) c.carry_out.new.timers (g.B.Applet.mind c.step_into.new.self)) (after c.step_into.new.does c.in_ok-carry_out.field-0) (c.in_ok-carry_out.ensures.carries (g.B.Applet.mind c.step_into.new.self)) (ap (λ (n : Next). told_of (after c.step_into.new.does n)) c.in-Sent.is ∙ tells_told None (command_of c.step_into.new.does)) command (ap (after c.step_into.new.does) c.in-Sent.is ∙ ap (next_of None) some) c.lengths_of_commands.ensures.any_number (c.step_into.ensures.proper c.requires.one_of_eight))
+    (stage (memory g.S.Store c.carry_out.new.store c.carry_out.new.loaded) c.carry_out.new.timers (g.B.Applet.mind c.step_into.new.self)) (after c.step_into.new.does c.in_ok-carry_out.field-0) (c.in_ok-carry_out.ensures.carries (g.B.Applet.mind c.step_into.new.self)) (ap (λ (n : Next). told_of (after c.step_into.new.does n)) c.in-Sent.is ∙ tells_told None (command_of c.step_into.new.does)) command (ap (after c.step_into.new.does) c.in-Sent.is ∙ ap (next_of None) some) c.lengths_of_commands.ensures.any_number (c.step_into.ensures.proper c.requires.one_of_eight)))
+
+pub returns-in-Sent-clause-exact : goal.returns-in-Sent-clause-exact
+returns-in-Sent-clause-exact g t c =
+    c.sends.ensures ∙ ap (λ (sent : Option Proactive). is_some sent) (sym (as_sent (command_of c.step_into.new.does) c.sends.result c.sends.ensures))
 
 pub returns-in_ok-rest-in-Told-clause-runs : goal.returns-in_ok-rest-in-Told-clause-runs
 returns-in_ok-rest-in-Told-clause-runs g t c =

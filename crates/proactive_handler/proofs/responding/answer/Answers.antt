@@ -1,4 +1,5 @@
 use Rattle.std.proofs.Common.{sym, ap, ◌∙◌, subst, ℕ, Some, rules}
+use Rattle.handset_reports.specs.Replies.{replied}
 use Rattle.proactive_handler.specs.Boxes.{minds_of}
 use Rattle.proactive_handler.specs.Serving.{IsSessionServed}
 use Rattle.proactive_handler.specs.Steps.{scene}
@@ -31,21 +32,21 @@ pub returns-in_err-run_alone-in-Some-clause-moves : goal.returns-in_err-run_alon
 returns-in_err-run_alone-in-Some-clause-moves g c =
     let waits = awaited c.args.session.now c.requires.fetched in
     of_awaited c.args.session.now waits _
-    (owner_stops (scene (memory g.S.Store c.args.store.now c.args.loaded.now) c.args.index.now c.args.session.now (minds_of g.B.Applet.mind c.args.cast.now)) waits c.answered.new.self c.args.response.now c.in-Some.ensures.state (scene (memory g.S.Store c.run_alone.new.store c.run_alone.new.loaded) c.run_alone.new.index c.run_alone.new.session (minds_of g.B.Applet.mind c.run_alone.new.cast)) c.from_residual.result c.from_residual.ensures.0 c.in-Some.shelf.0 c.copy.result c.copy.ensures
+    (owner_stops (scene (memory g.S.Store c.args.store.now c.args.loaded.now) c.args.index.now c.args.session.now (minds_of g.B.Applet.mind c.args.cast.now)) waits c.answered.new.self (replied c.args.response.now) c.in-Some.ensures.state (scene (memory g.S.Store c.run_alone.new.store c.run_alone.new.loaded) c.run_alone.new.index c.run_alone.new.session (minds_of g.B.Applet.mind c.run_alone.new.cast)) c.from_residual.result c.from_residual.ensures.0 c.in-Some.shelf.0 c.from_slice.result c.from_slice.ensures.value
     (sym (awaited_of c.args.session.now waits _ c.in-Some.ensures.owner)) c.in_err-run_alone-in-Some.ensures.tells.moves)
 
 pub returns-in_ok-run_alone-in-Some-clause-moves : goal.returns-in_ok-run_alone-in-Some-clause-moves
 returns-in_ok-run_alone-in-Some-clause-moves g c =
     let waits = awaited c.args.session.now c.requires.fetched in
     of_awaited c.args.session.now waits _
-    (owner_done (scene (memory g.S.Store c.args.store.now c.args.loaded.now) c.args.index.now c.args.session.now (minds_of g.B.Applet.mind c.args.cast.now)) waits c.answered.new.self c.args.response.now c.in-Some.ensures.state (scene (memory g.S.Store c.run_alone.new.store c.run_alone.new.loaded) c.run_alone.new.index c.run_alone.new.session (minds_of g.B.Applet.mind c.run_alone.new.cast)) c.in-Some.shelf.0 c.copy.result c.copy.ensures
+    (owner_done (scene (memory g.S.Store c.args.store.now c.args.loaded.now) c.args.index.now c.args.session.now (minds_of g.B.Applet.mind c.args.cast.now)) waits c.answered.new.self (replied c.args.response.now) c.in-Some.ensures.state (scene (memory g.S.Store c.run_alone.new.store c.run_alone.new.loaded) c.run_alone.new.index c.run_alone.new.session (minds_of g.B.Applet.mind c.run_alone.new.cast)) c.in-Some.shelf.0 c.from_slice.result c.from_slice.ensures.value
     (sym (awaited_of c.args.session.now waits _ c.in-Some.ensures.owner)) c.in_ok-run_alone-in-Some.ensures.tells.moves)
 
 pub returns-in-None-clause-moves : goal.returns-in-None-clause-moves
 returns-in-None-clause-moves g c =
     let waits = awaited c.args.session.now c.requires.fetched in
     of_awaited c.args.session.now waits _
-    (own_done (scene (memory g.S.Store c.args.store.now c.args.loaded.now) c.args.index.now c.args.session.now (minds_of g.B.Applet.mind c.args.cast.now)) waits c.answered.new.self c.args.response.now c.in-None.ensures.state
+    (own_done (scene (memory g.S.Store c.args.store.now c.args.loaded.now) c.args.index.now c.args.session.now (minds_of g.B.Applet.mind c.args.cast.now)) waits c.answered.new.self (replied c.args.response.now) c.in-None.ensures.state
     (has_rows c.tables_tell_states.ensures _ _ c.args.loaded.now c.requires.service.mounted.agrees) (sym (awaited_of c.args.session.now waits _ c.in-None.ensures.owner)))
 
 pub returns-in-None-clause-keeps : goal.returns-in-None-clause-keeps
@@ -75,17 +76,17 @@ pub returns-in_err-run_alone-in-Some-clause-turns : goal.returns-in_err-run_alon
 returns-in_err-run_alone-in-Some-clause-turns g c =
     let waits = awaited c.args.session.now c.requires.fetched in
     of_awaited c.args.session.now waits _
-    (owner_leaves (scene (memory g.S.Store c.args.store.now c.args.loaded.now) c.args.index.now c.args.session.now (minds_of g.B.Applet.mind c.args.cast.now)) waits c.answered.new.self c.args.response.now c.in-Some.ensures.state (scene (memory g.S.Store c.run_alone.new.store c.run_alone.new.loaded) c.run_alone.new.index c.run_alone.new.session (minds_of g.B.Applet.mind c.run_alone.new.cast)) c.args.cast.now c.run_alone.new.cast c.from_residual.result c.from_residual.ensures.0 c.in-Some.shelf.0 c.copy.result c.copy.ensures
+    (owner_leaves (scene (memory g.S.Store c.args.store.now c.args.loaded.now) c.args.index.now c.args.session.now (minds_of g.B.Applet.mind c.args.cast.now)) waits c.answered.new.self (replied c.args.response.now) c.in-Some.ensures.state (scene (memory g.S.Store c.run_alone.new.store c.run_alone.new.loaded) c.run_alone.new.index c.run_alone.new.session (minds_of g.B.Applet.mind c.run_alone.new.cast)) c.args.cast.now c.run_alone.new.cast c.from_residual.result c.from_residual.ensures.0 c.in-Some.shelf.0 c.from_slice.result c.from_slice.ensures.value
     (sym (awaited_of c.args.session.now waits _ c.in-Some.ensures.owner)) c.in_err-run_alone-in-Some.ensures.tells.turns)
 
 pub returns-in_ok-run_alone-in-Some-clause-turns : goal.returns-in_ok-run_alone-in-Some-clause-turns
 returns-in_ok-run_alone-in-Some-clause-turns g c =
     let waits = awaited c.args.session.now c.requires.fetched in
     of_awaited c.args.session.now waits _
-    (owner_left (scene (memory g.S.Store c.args.store.now c.args.loaded.now) c.args.index.now c.args.session.now (minds_of g.B.Applet.mind c.args.cast.now)) waits c.answered.new.self c.args.response.now c.in-Some.ensures.state (scene (memory g.S.Store c.run_alone.new.store c.run_alone.new.loaded) c.run_alone.new.index c.run_alone.new.session (minds_of g.B.Applet.mind c.run_alone.new.cast)) c.args.cast.now c.run_alone.new.cast c.in-Some.shelf.0 c.copy.result c.copy.ensures
+    (owner_left (scene (memory g.S.Store c.args.store.now c.args.loaded.now) c.args.index.now c.args.session.now (minds_of g.B.Applet.mind c.args.cast.now)) waits c.answered.new.self (replied c.args.response.now) c.in-Some.ensures.state (scene (memory g.S.Store c.run_alone.new.store c.run_alone.new.loaded) c.run_alone.new.index c.run_alone.new.session (minds_of g.B.Applet.mind c.run_alone.new.cast)) c.args.cast.now c.run_alone.new.cast c.in-Some.shelf.0 c.from_slice.result c.from_slice.ensures.value
     (sym (awaited_of c.args.session.now waits _ c.in-Some.ensures.owner)) c.in_ok-run_alone-in-Some.ensures.tells.turns)
 
 pub returns-in-None-clause-turns : goal.returns-in-None-clause-turns
 returns-in-None-clause-turns g c =
     let waits = awaited c.args.session.now c.requires.fetched in
-    of_awaited c.args.session.now waits _ (own_left (scene (memory g.S.Store c.args.store.now c.args.loaded.now) c.args.index.now c.args.session.now (minds_of g.B.Applet.mind c.args.cast.now)) waits c.answered.new.self c.args.response.now c.in-None.ensures.state c.args.cast.now)
+    of_awaited c.args.session.now waits _ (own_left (scene (memory g.S.Store c.args.store.now c.args.loaded.now) c.args.index.now c.args.session.now (minds_of g.B.Applet.mind c.args.cast.now)) waits c.answered.new.self (replied c.args.response.now) c.in-None.ensures.state c.args.cast.now)

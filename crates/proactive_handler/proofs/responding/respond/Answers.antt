@@ -1,3 +1,4 @@
+use Rattle.handset_reports.specs.Replies.{replied}
 use Rattle.proactive_handler.specs.Boxes.{minds_of, AreForOthers}
 use Rattle.proactive_handler.specs.Scenes.{scene_then}
 use Rattle.proactive_handler.specs.Steps.{scene, toolkit}
@@ -13,7 +14,7 @@ pub returns-in_err-answer-clause-moves : goal.returns-in_err-answer-clause-moves
 returns-in_err-answer-clause-moves g c =
     let waits = awaited c.args.session.now c.requires.fetched in
     of_awaited c.args.session.now waits _
-    (responded_stops waits.out c.args.response.now (scene (memory g.S.Store c.args.store.now c.args.loaded.now) c.args.index.now c.args.session.now (minds_of g.B.Applet.mind c.args.cast.now))
+    (responded_stops waits.out (replied c.args.response.now) (scene (memory g.S.Store c.args.store.now c.args.loaded.now) c.args.index.now c.args.session.now (minds_of g.B.Applet.mind c.args.cast.now))
     (scene (memory g.S.Store c.answer.new.store c.answer.new.loaded) c.answer.new.index c.answer.new.session (minds_of g.B.Applet.mind c.answer.new.cast))
     c.from_residual.result c.from_residual.ensures.0 (awaited_of c.args.session.now waits _ c.in_err-answer.ensures.moves))
 
@@ -21,7 +22,7 @@ pub returns-clause-moves : goal.returns-clause-moves
 returns-clause-moves g c =
     let waits = awaited c.args.session.now c.requires.fetched in
     of_awaited c.args.session.now waits _
-    (responded_moves waits.out c.args.response.now (scene (memory g.S.Store c.args.store.now c.args.loaded.now) c.args.index.now c.args.session.now (minds_of g.B.Applet.mind c.args.cast.now))
+    (responded_moves waits.out (replied c.args.response.now) (scene (memory g.S.Store c.args.store.now c.args.loaded.now) c.args.index.now c.args.session.now (minds_of g.B.Applet.mind c.args.cast.now))
     (scene (memory g.S.Store c.answer.new.store c.answer.new.loaded) c.answer.new.index c.answer.new.session (minds_of g.B.Applet.mind c.answer.new.cast))
     _ c.drive.result (awaited_of c.args.session.now waits _ c.in_ok-answer.ensures.moves) c.drive.ensures.moves)
 
@@ -36,14 +37,14 @@ returns-clause-untold g c = λ other owner apart.
     let waits = awaited c.args.session.now c.requires.fetched in
     let late =
     ap (λ (s : ToolkitState). s.session.late) (awaited_of c.args.session.now waits _ c.in_ok-answer.ensures.moves).state_is
-    ∙ answered_late waits.out c.args.response.now (toolkit (scene (memory g.S.Store c.args.store.now c.args.loaded.now) c.args.index.now c.args.session.now (minds_of g.B.Applet.mind c.args.cast.now))) in
+    ∙ answered_late waits.out (replied c.args.response.now) (toolkit (scene (memory g.S.Store c.args.store.now c.args.loaded.now) c.args.index.now c.args.session.now (minds_of g.B.Applet.mind c.args.cast.now))) in
     c.drive.ensures.untold other (subst (λ (l : List LateTrigger). AreForOthers other l) (sym late) apart) ∙ c.answer.ensures.untold other owner
 
 pub returns-in_err-answer-clause-turns : goal.returns-in_err-answer-clause-turns
 returns-in_err-answer-clause-turns g c =
     let waits = awaited c.args.session.now c.requires.fetched in
     of_awaited c.args.session.now waits _
-    (responded_leaves waits.out c.args.response.now (scene (memory g.S.Store c.args.store.now c.args.loaded.now) c.args.index.now c.args.session.now (minds_of g.B.Applet.mind c.args.cast.now))
+    (responded_leaves waits.out (replied c.args.response.now) (scene (memory g.S.Store c.args.store.now c.args.loaded.now) c.args.index.now c.args.session.now (minds_of g.B.Applet.mind c.args.cast.now))
     (scene (memory g.S.Store c.answer.new.store c.answer.new.loaded) c.answer.new.index c.answer.new.session (minds_of g.B.Applet.mind c.answer.new.cast))
     c.args.cast.now c.answer.new.cast c.from_residual.result c.from_residual.ensures.0 (awaited_of c.args.session.now waits _ c.in_err-answer.ensures.turns))
 
@@ -51,6 +52,6 @@ pub returns-clause-turns : goal.returns-clause-turns
 returns-clause-turns g c =
     let waits = awaited c.args.session.now c.requires.fetched in
     of_awaited c.args.session.now waits _
-    (responded_turns waits.out c.args.response.now (scene (memory g.S.Store c.args.store.now c.args.loaded.now) c.args.index.now c.args.session.now (minds_of g.B.Applet.mind c.args.cast.now))
+    (responded_turns waits.out (replied c.args.response.now) (scene (memory g.S.Store c.args.store.now c.args.loaded.now) c.args.index.now c.args.session.now (minds_of g.B.Applet.mind c.args.cast.now))
     (scene (memory g.S.Store c.answer.new.store c.answer.new.loaded) c.answer.new.index c.answer.new.session (minds_of g.B.Applet.mind c.answer.new.cast))
     (scene (memory g.S.Store c.drive.new.store c.drive.new.loaded) c.drive.new.index c.drive.new.session (minds_of g.B.Applet.mind c.drive.new.cast)) c.args.cast.now c.answer.new.cast c.drive.new.cast c.drive.result (awaited_of c.args.session.now waits _ c.in_ok-answer.ensures.moves) (awaited_of c.args.session.now waits _ c.in_ok-answer.ensures.turns) c.drive.ensures.turns)

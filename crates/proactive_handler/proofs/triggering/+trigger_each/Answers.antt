@@ -32,7 +32,7 @@ trigger_each-requires g t c κs within =
     room_later c.args.to.now c.in-Some.others.now c.in-Some.shelf.now is c.args.kept c.args.session.now c.trigger_one.new.session c.requires.room
     (c.in_ok-answer-in-Some.ensures.places (map (λ (s : Shelf). s.0) c.in-Some.others.now) (first_apart c.args.to.now c.in-Some.others.now c.in-Some.shelf.now is c.requires.apart)) in (
       omega (arith, c.decreases, c.in-Some.ensures.cases.1),
-      (within.0, (within.1, (service, (rows, (apart, (c.requires.event, room)))))),
+      (within.0, (within.1, (service, (rows, (apart, (c.requires.event, (c.requires.short, room))))))),
     )
 
 pub returns-in_err-later-in-Some-clause-tells : goal.returns-in_err-later-in-Some-clause-tells

@@ -25,7 +25,7 @@ returns-in_err-tell-clause-moves g c =
     let early = (scene (memory g.S.Store c.args.store.now c.args.loaded.now) c.args.index.now c.set_profile.new.self (minds_of g.B.Applet.mind c.args.cast.now)) in
     let new = (scene (memory g.S.Store c.tell.new.store c.tell.new.loaded) c.tell.new.index c.tell.new.session (minds_of g.B.Applet.mind c.tell.new.cast)) in
     as_err (profiled c.args.bytes.now (toolkit old)) old new c.from_residual.result c.from_residual.ensures.0
-    (profile_moves c.args.bytes.now c.targets_of-to.result c.from_slice-body.result old early new c.targets_of-to.ensures.value c.from_slice-body.ensures.value
+    (profile_moves c.args.bytes.now c.targets_of-to.result c.args.bytes.now old early new c.targets_of-to.ensures.value refl
     (ap (λ (s : SessionState). toolkit (record old { session = s })) c.set_profile.ensures) refl {X = Unit} (Err Failed) c.in_err-tell.ensures.moves)
 
 pub returns-clause-moves : goal.returns-clause-moves
@@ -33,7 +33,7 @@ returns-clause-moves g c =
     let old = (scene (memory g.S.Store c.args.store.now c.args.loaded.now) c.args.index.now c.args.session.now (minds_of g.B.Applet.mind c.args.cast.now)) in
     let early = (scene (memory g.S.Store c.args.store.now c.args.loaded.now) c.args.index.now c.set_profile.new.self (minds_of g.B.Applet.mind c.args.cast.now)) in
     let new = (scene (memory g.S.Store c.tell.new.store c.tell.new.loaded) c.tell.new.index c.tell.new.session (minds_of g.B.Applet.mind c.tell.new.cast)) in
-    profile_moves c.args.bytes.now c.targets_of-to.result c.from_slice-body.result old early new c.targets_of-to.ensures.value c.from_slice-body.ensures.value
+    profile_moves c.args.bytes.now c.targets_of-to.result c.args.bytes.now old early new c.targets_of-to.ensures.value refl
     (ap (λ (s : SessionState). toolkit (record old { session = s })) c.set_profile.ensures) refl {X = Unit} (Ok tt) c.in_ok-tell.ensures.moves
 
 pub returns-in_err-tell-clause-untold : goal.returns-in_err-tell-clause-untold

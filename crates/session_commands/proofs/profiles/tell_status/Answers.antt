@@ -1,10 +1,10 @@
-use Rattle.std.proofs.Common.{ℕ, sym, subst}
+use Rattle.std.proofs.Common.{ℕ, sym, subst, refl, []}
 use Rattle.std.specs.Prelude.{◌≢◌, All, Ok, Err}
 use Rattle.store_form.specs.declared.store.StoreFault.TheVariants.{Failed}
 use Rattle.card_layout.specs.Memory.{memory}
 use Rattle.toolkit_model.specs.Commands.{polled}
 use Rattle.proactive_handler.specs.Boxes.{minds_of}
-use Rattle.proactive_handler.specs.Scenes.{scene_done}
+use Rattle.proactive_handler.specs.Scenes.{scene_done, scene_fault}
 use Rattle.proactive_handler.specs.Steps.{scene, toolkit}
 use Rattle.session_commands.proofs.Resting.{in_service}
 use Rattle.session_commands.proofs.Told.{as_err, poll_moves}
@@ -19,11 +19,11 @@ returns-in_err-tell-clause-moves g c =
     let old = (scene (memory g.S.Store c.args.store.now c.args.loaded.now) c.args.index.now c.args.session.now (minds_of g.B.Applet.mind c.args.cast.now)) in
     let new = (scene (memory g.S.Store c.tell.new.store c.tell.new.loaded) c.tell.new.index c.tell.new.session (minds_of g.B.Applet.mind c.tell.new.cast)) in
     as_err (polled (toolkit old)) old new c.from_residual.result c.from_residual.ensures.0
-    (poll_moves {X = Unit} c.targets_of-to.result c.new.result old new (Err Failed) c.targets_of-to.ensures.value c.new.ensures c.in_err-tell.ensures.moves)
+    (poll_moves {X = Unit} c.targets_of-to.result [] old new (Err Failed) c.targets_of-to.ensures.value refl c.in_err-tell.ensures.moves)
 
 pub returns-clause-moves : goal.returns-clause-moves
 returns-clause-moves g c =
-    poll_moves {X = Unit} c.targets_of-to.result c.new.result (scene (memory g.S.Store c.args.store.now c.args.loaded.now) c.args.index.now c.args.session.now (minds_of g.B.Applet.mind c.args.cast.now)) (scene (memory g.S.Store c.tell.new.store c.tell.new.loaded) c.tell.new.index c.tell.new.session (minds_of g.B.Applet.mind c.tell.new.cast)) (Ok tt) c.targets_of-to.ensures.value c.new.ensures c.in_ok-tell.ensures.moves
+    poll_moves {X = Unit} c.targets_of-to.result [] (scene (memory g.S.Store c.args.store.now c.args.loaded.now) c.args.index.now c.args.session.now (minds_of g.B.Applet.mind c.args.cast.now)) (scene (memory g.S.Store c.tell.new.store c.tell.new.loaded) c.tell.new.index c.tell.new.session (minds_of g.B.Applet.mind c.tell.new.cast)) (Ok tt) c.targets_of-to.ensures.value refl c.in_ok-tell.ensures.moves
 
 pub returns-in_err-tell-clause-untold : goal.returns-in_err-tell-clause-untold
 returns-in_err-tell-clause-untold g c =
@@ -36,3 +36,8 @@ returns-clause-untold g c =
 pub returns-clause-keeps : goal.returns-clause-keeps
 returns-clause-keeps g c =
     scene_done (scene (memory g.S.Store c.args.store.now c.args.loaded.now) c.args.index.now c.args.session.now (minds_of g.B.Applet.mind c.args.cast.now)) (scene (memory g.S.Store c.tell.new.store c.tell.new.loaded) c.tell.new.index c.tell.new.session (minds_of g.B.Applet.mind c.tell.new.cast)) _ _ c.in_ok-tell.ensures.keeps
+
+pub returns-in_err-tell-clause-keeps : goal.returns-in_err-tell-clause-keeps
+returns-in_err-tell-clause-keeps g c =
+    scene_fault (scene (memory g.S.Store c.args.store.now c.args.loaded.now) c.args.index.now c.args.session.now (minds_of g.B.Applet.mind c.args.cast.now)) (scene (memory g.S.Store c.tell.new.store c.tell.new.loaded) c.tell.new.index c.tell.new.session (minds_of g.B.Applet.mind c.tell.new.cast)) _
+    c.from_residual.result c.from_residual.ensures.0 c.from_residual.ensures.1 c.in_err-tell.ensures.keeps

@@ -6,7 +6,7 @@ use Rattle.toolkit_model.specs.Sessions.{LateTrigger}
 use Rattle.proactive_handler.specs.Boxes.{minds_of, AreForOthers}
 use Rattle.proactive_handler.specs.Joining.{both_done}
 use Rattle.proactive_handler.specs.Late.{turns_apart}
-use Rattle.proactive_handler.specs.Scenes.{scene_then, scene_done}
+use Rattle.proactive_handler.specs.Scenes.{scene_then, scene_done, scene_fault}
 use Rattle.proactive_handler.specs.Serving.{triggered_one}
 use Rattle.proactive_handler.specs.Steps.{scene, toolkit}
 use Rattle.session_commands.proofs.Ending.{step_stops, end_stops}
@@ -51,3 +51,10 @@ returns-clause-keeps g c =
     let mid = (scene (memory g.S.Store c.trigger.new.store c.trigger.new.loaded) c.trigger.new.index c.trigger.new.session (minds_of g.B.Applet.mind c.trigger.new.cast)) in
     let new = (scene (memory g.S.Store c.drive.new.store c.drive.new.loaded) c.drive.new.index c.drive.new.session (minds_of g.B.Applet.mind c.drive.new.cast)) in
     scene_then (scene (memory g.S.Store c.args.store.now c.args.loaded.now) c.args.index.now c.args.session.now (minds_of g.B.Applet.mind c.args.cast.now)) mid new c.in_ok-answer.answer _ c.in_ok-answer.ensures.keeps (scene_done mid new _ _ c.in_ok-drive.ensures.keeps)
+
+pub returns-in_err-drive-clause-keeps : goal.returns-in_err-drive-clause-keeps
+returns-in_err-drive-clause-keeps g c =
+    let mid = (scene (memory g.S.Store c.trigger.new.store c.trigger.new.loaded) c.trigger.new.index c.trigger.new.session (minds_of g.B.Applet.mind c.trigger.new.cast)) in
+    let new = (scene (memory g.S.Store c.drive.new.store c.drive.new.loaded) c.drive.new.index c.drive.new.session (minds_of g.B.Applet.mind c.drive.new.cast)) in
+    scene_then (scene (memory g.S.Store c.args.store.now c.args.loaded.now) c.args.index.now c.args.session.now (minds_of g.B.Applet.mind c.args.cast.now)) mid new c.in_ok-answer.answer _ c.in_ok-answer.ensures.keeps
+    (scene_fault mid new _ c.from_residual-in_err-drive.result c.from_residual-in_err-drive.ensures.0 c.from_residual-in_err-drive.ensures.1 c.in_err-drive.ensures.keeps)

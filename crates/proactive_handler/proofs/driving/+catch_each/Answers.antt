@@ -11,7 +11,7 @@ use Rattle.applet_trait.specs.declared.stimuli.Stimulus.TheVariants.{Event}
 use Rattle.toolkit_model.specs.Passing.{ToolkitState}
 use Rattle.card_layout.specs.Memory.{memory}
 use Rattle.toolkit_laws.proofs.Asks.{run_late}
-use Rattle.proactive_handler.proofs.driving.+catch_up.Goals as goal
+use Rattle.proactive_handler.proofs.driving.+catch_each.Goals as goal
 
 pub returns-then-count-eq0-clause-moves : goal.returns-then-count-eq0-clause-moves
 returns-then-count-eq0-clause-moves g t c =
@@ -42,7 +42,7 @@ pub returns-in_ok-run_alone-in-Some-clause-moves : goal.returns-in_ok-run_alone-
 returns-in_ok-run_alone-in-Some-clause-moves g t c =
     more_moves c.args.count (c.args.count - 1) (scene (memory g.S.Store c.args.store.now c.args.loaded.now) c.args.index.now c.args.session.now (minds_of g.B.Applet.mind c.args.cast.now)) c.take_late.new.self (kept c.in-Some.trigger)
     (scene (memory g.S.Store c.run_alone.new.store c.run_alone.new.loaded) c.run_alone.new.index c.run_alone.new.session (minds_of g.B.Applet.mind c.run_alone.new.cast))
-    (omega (arith, c.if-count-eq0.false)) c.in-Some.ensures.0 c.in-Some.ensures.1 _ c.catch_up.result c.in_ok-run_alone-in-Some.ensures.tells.moves c.catch_up.ensures.moves
+    (omega (arith, c.if-count-eq0.false)) c.in-Some.ensures.0 c.in-Some.ensures.1 _ c.catch_each.result c.in_ok-run_alone-in-Some.ensures.tells.moves c.catch_each.ensures.moves
 
 pub returns-in-None-clause-moves : goal.returns-in-None-clause-moves
 returns-in-None-clause-moves g t c =
@@ -55,8 +55,8 @@ returns-in_ok-run_alone-in-Some-clause-keeps g t c =
     let old = (scene (memory g.S.Store c.args.store.now c.args.loaded.now) c.args.index.now c.args.session.now (minds_of g.B.Applet.mind c.args.cast.now)) in
     let mid = (scene (memory g.S.Store c.run_alone.new.store c.run_alone.new.loaded) c.run_alone.new.index c.run_alone.new.session (minds_of g.B.Applet.mind c.run_alone.new.cast)) in
     scene_then old mid
-    (scene (memory g.S.Store c.catch_up.new.store c.catch_up.new.loaded) c.catch_up.new.index c.catch_up.new.session (minds_of g.B.Applet.mind c.catch_up.new.cast)) _ c.catch_up.result
-    (scene_since old (record old { session = c.take_late.new.self }) mid _ refl refl c.in_ok-run_alone-in-Some.ensures.keeps) c.catch_up.ensures.keeps
+    (scene (memory g.S.Store c.catch_each.new.store c.catch_each.new.loaded) c.catch_each.new.index c.catch_each.new.session (minds_of g.B.Applet.mind c.catch_each.new.cast)) _ c.catch_each.result
+    (scene_since old (record old { session = c.take_late.new.self }) mid _ refl refl c.in_ok-run_alone-in-Some.ensures.keeps) c.catch_each.ensures.keeps
 
 pub returns-in_err-run_alone-in-Some-clause-untold : goal.returns-in_err-run_alone-in-Some-clause-untold
 returns-in_err-run_alone-in-Some-clause-untold g t c = λ other apart.
@@ -68,7 +68,7 @@ returns-in_ok-run_alone-in-Some-clause-untold g t c = λ other apart.
     let late =
     ap (λ (s : ToolkitState). s.session.late) c.in_ok-run_alone-in-Some.ensures.tells.moves.state_is
     ∙ run_late c.in-Some.trigger.shelf.0 (Event c.in-Some.trigger.code c.in-Some.trigger.body) false (toolkit (scene (memory g.S.Store c.args.store.now c.args.loaded.now) c.args.index.now c.take_late.new.self (minds_of g.B.Applet.mind c.args.cast.now))) in
-    c.catch_up.ensures.untold other (subst (λ (l : List LateTrigger). AreForOthers other l) (sym late) two.1) ∙ c.run_alone.ensures.untold other two.0
+    c.catch_each.ensures.untold other (subst (λ (l : List LateTrigger). AreForOthers other l) (sym late) two.1) ∙ c.run_alone.ensures.untold other two.0
 
 pub returns-then-count-eq0-clause-turns : goal.returns-then-count-eq0-clause-turns
 returns-then-count-eq0-clause-turns g t c = λ shelf none. refl
@@ -85,7 +85,7 @@ returns-in_ok-run_alone-in-Some-clause-turns g t c =
     more_leaves c.args.count (c.args.count - 1) (scene (memory g.S.Store c.args.store.now c.args.loaded.now) c.args.index.now c.args.session.now (minds_of g.B.Applet.mind c.args.cast.now)) c.take_late.new.self (kept c.in-Some.trigger)
     (scene (memory g.S.Store c.run_alone.new.store c.run_alone.new.loaded) c.run_alone.new.index c.run_alone.new.session (minds_of g.B.Applet.mind c.run_alone.new.cast))
     (omega (arith, c.if-count-eq0.false)) c.in-Some.ensures.0 c.in-Some.ensures.1
-    (scene (memory g.S.Store c.catch_up.new.store c.catch_up.new.loaded) c.catch_up.new.index c.catch_up.new.session (minds_of g.B.Applet.mind c.catch_up.new.cast)) c.args.cast.now c.run_alone.new.cast c.catch_up.new.cast c.catch_up.result c.in_ok-run_alone-in-Some.ensures.tells.moves c.in_ok-run_alone-in-Some.ensures.tells.turns c.catch_up.ensures.turns
+    (scene (memory g.S.Store c.catch_each.new.store c.catch_each.new.loaded) c.catch_each.new.index c.catch_each.new.session (minds_of g.B.Applet.mind c.catch_each.new.cast)) c.args.cast.now c.run_alone.new.cast c.catch_each.new.cast c.catch_each.result c.in_ok-run_alone-in-Some.ensures.tells.moves c.in_ok-run_alone-in-Some.ensures.tells.turns c.catch_each.ensures.turns
 
 pub returns-in-None-clause-turns : goal.returns-in-None-clause-turns
 returns-in-None-clause-turns g t c = λ shelf none. refl
