@@ -10,7 +10,7 @@ use Rattle.card_model.specs.Runs.{Commands, IsLeft, MeetsNoPower, StepGives}
 use Rattle.card_model.specs.States.{CardState, Machine, powered, unpowered, restarted}
 use Rattle.card_steps.specs.Runs.{is_calm, machine_of}
 use Rattle.card_steps.specs.Standing.{card_stands, is_machine, machine_is}
-use Rattle.card_steps.specs.Stepping.{Resets, Sends}
+use Rattle.card_steps.specs.Stepping.{IsBare, IsReply, Resets, Sends}
 use Rattle.card_steps.specs.declared.steps.ResetOutcome.TheVariants as restart
 use Rattle.uicc_types.specs.Counts.{Caused, Meter}
 use Rattle.uicc_types.specs.declared.answers.Answer.{Answer}
@@ -32,6 +32,20 @@ gives_on old new apdu items on commands = subst (λ (b : Bool). MatchBool b (Com
 
 gives_off : (old new : Machine) (apdu : List ℕ) (items : List TraceItem) → old.on ≡ false → MeetsNoPower old apdu items new → StepGives old (step.Apdu apdu) items new
 gives_off old new apdu items off none = subst (λ (b : Bool). MatchBool b (Commands old apdu items new) (MeetsNoPower old apdu items new)) (sym off) none
+
+-- a card that is not off has power
+pub on_or_off : (b : Bool) → (b ≡ false → ⊥) → b ≡ true
+on_or_off true no_off = refl
+on_or_off false no_off = absurd (no_off refl)
+
+-- a failure has no data
+pub bare_reply : (on after : Bool) (shown : TraceItem) → IsReply on shown after → IsBare shown
+bare_reply on after (item.Answer body status) replies = replies.1
+bare_reply on after item.Cut replies = tt
+bare_reply on after item.Off replies = tt
+bare_reply on after (item.Command apdu) replies = tt
+bare_reply on after item.Reset replies = tt
+bare_reply on after item.EepromFailed replies = tt
 
 -- a state that is left
 left_in : (after : Option CardState) (P : CardState → Type 0) → IsSomeAnd after P → (card : CardState) × (after ≡ Some card) × P card
@@ -69,10 +83,6 @@ sends_answer from to apdu out old is power stays rests moves =
     let machine = machine_is from old is in
     answered old apdu out to (sym machine.on ∙ on_or_off from.is_on power) stays (λ calm. rests (calm_usual out.status calm))
     (if_some_at (card_of from) (λ card. Answers (answer card apdu) out (card_of to) ⊎ Fails card apdu out (card_of to)) old.card moves machine.card)
-  where
-    on_or_off : (b : Bool) → (b ≡ false → ⊥) → b ≡ true
-    on_or_off true no_off = refl
-    on_or_off false no_off = absurd (no_off refl)
 
 pub sends_cut : (from to : CardParts) (apdu : List ℕ) (old : Machine) → machine_of from ≡ Some old → (from.is_on ≡ false → ⊥) → to.is_on ≡ false
     → IfSome (card_of from) (λ card. IsSomeAnd (card_of to) (IsLeft card (passed card apdu))) → Sends old apdu item.Cut to
@@ -85,10 +95,6 @@ sends_cut from to apdu old is power goes moves =
       gives = gives_on old _ apdu _ (sym machine.on ∙ on_or_off from.is_on power) (inr (inr (record { seen = refl; card = left.0; left = left.2; moved = refl })));
       rests = λ calm. absurd (cc);
     }
-  where
-    on_or_off : (b : Bool) → (b ≡ false → ⊥) → b ≡ true
-    on_or_off true no_off = refl
-    on_or_off false no_off = absurd (no_off refl)
 
 pub sends_off : (from to : CardParts) (apdu : List ℕ) (old : Machine) → machine_of from ≡ Some old → from.is_on ≡ false → machine_of to ≡ machine_of from → Sends old apdu item.Off to
 sends_off from to apdu old is off same = record {

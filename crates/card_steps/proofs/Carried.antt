@@ -1,19 +1,19 @@
 -- A terminal's command that comes to the card, by itself or over a link.
-use Rattle.std.proofs.Common.{◌≡◌, ℕ, true, false, List, [], ◌∷◌, Option, Some, None, Result, Ok, Err, refl, sym, ap, ◌∙◌, subst, arith}
+use Rattle.std.proofs.Common.{◌≡◌, ℕ, Bool, true, false, List, [], ◌∷◌, Option, Some, None, Result, Ok, Err, refl, sym, ap, ◌∙◌, subst, arith}
 use Rattle.std.specs.Prelude.{IfSome, IsTrue, ⊤}
 use Rattle.general_laws.specs.Optional.{if_some_at}
 use Rattle.apdu_form.specs.Model.{Apdu, command_in}
 use Rattle.card_core.specs.Cards.{IsCardReady, card_of}
 use Rattle.card_model.specs.Counts.{IsCounted}
 use Rattle.card_model.specs.States.{IsGood, Machine}
-use Rattle.card_steps.proofs.CardLemmas.{sends_off}
+use Rattle.card_steps.proofs.CardLemmas.{bare_reply, sends_off}
 use Rattle.card_steps.proofs.Delivered.{off_counted}
-use Rattle.card_steps.proofs.LinkCounts.{IsShownAsOne, command_shown, counted_over, cut, cut_over, failed}
+use Rattle.card_steps.proofs.LinkCounts.{IsShownAs, IsShownAsOne, command_shown, counted_over, cut, cut_over, failed}
 use Rattle.card_steps.proofs.StepLemmas.{idle_counted}
 use Rattle.card_steps.specs.Ends.{Comes, End, Meets, MeetsAnswer, MeetsCut, end_words, reply_for}
 use Rattle.card_steps.specs.Runs.{is_calm, machine_of}
 use Rattle.card_steps.specs.Standing.{machine_is}
-use Rattle.card_steps.specs.Stepping.{Sends, seen}
+use Rattle.card_steps.specs.Stepping.{IsBare, IsReply, Sends, seen}
 use Rattle.link_laws.specs.Shown.{item_of, shown_over, without_bytes}
 use Rattle.link_laws.specs.Stepped.{GivesOwnStep, LinkChangesNoStep}
 use Rattle.t0_link.proofs.Passed.{carried_gives}
@@ -33,13 +33,14 @@ use Rattle.uicc_types.specs.declared.runs.TraceItem.TheVariants as item
 
 -- it met the card
 met_so : (old new : End) (apdu : List ℕ) (shown : TraceItem) → Meets old apdu shown new → Comes old apdu shown new
-met_so old new apdu shown met = record { sends = met.takes.sends; counted = met.takes.counted; kept = met.takes.kept; waits = met.waits }
+met_so old new apdu shown met = record { sends = met.takes.sends; counted = met.takes.counted; replies = met.takes.replies; kept = met.takes.kept; waits = met.waits }
 
 -- the card was off
 off_so : (old new : End) (apdu : List ℕ) → old.parts.is_on ≡ false → new ≡ old → Comes old apdu item.Off new
 off_so old new apdu off same = record {
   sends = λ machine is. sends_off old.parts new.parts apdu machine is off (ap (λ (e : End). machine_of e.parts) same);
   counted = subst (λ (e : End). IsCounted old.parts.meter e.parts.meter [] (item.Off ∷ [])) (sym same) (off_counted old.parts.meter (idle_counted old.parts.meter));
+  replies = (off, ap (λ (e : End). e.parts.is_on) same ∙ off);
   kept = let stays : new.parts.meter.faults ≡ old.parts.meter.faults = ap (λ (e : End). e.parts.meter.faults) same in omega arith;
   waits = ap (λ (e : End). e.waiting) same;
 }
@@ -77,17 +78,27 @@ calm_by_status item.EepromFailed = refl
 calm_alike : (shown other : TraceItem) → without_bytes other ≡ without_bytes shown → is_calm other ≡ true → is_calm shown ≡ true
 calm_alike shown other alike calm = sym (calm_by_status shown) ∙ ap is_calm (sym alike) ∙ calm_by_status other ∙ calm
 
+-- what may come of a command may come of it over a link that shows a failure without data
+replies_over : (make : Answer → Linked) (on after : Bool) (shown : TraceItem) → IsBare (shown_over make shown) → IsReply on shown after → IsReply on (shown_over make shown) after
+replies_over make on after (item.Answer body status) bare replies = (replies.0, bare, replies.2)
+replies_over make on after item.Cut bare replies = replies
+replies_over make on after item.Off bare replies = replies
+replies_over make on after (item.Command apdu) bare replies = absurd replies
+replies_over make on after item.Reset bare replies = absurd replies
+replies_over make on after item.EepromFailed bare replies = absurd replies
+
 module _ (old new : End) (bytes : List ℕ) where
   -- the link passed an APDU, which met the card, and of what that showed it made this
   passed_so : (apdu : List ℕ) (make : Answer → Linked) (shown other : TraceItem) → ((machine : Machine) → machine_of old.parts ≡ Some machine → GivesOwnStep machine bytes (Passes apdu make)) → IsShownAsOne (Passes apdu make)
       → Meets old apdu shown new → other ≡ shown_over make shown → Comes old bytes other new
-  passed_so apdu make shown other own once met made = record {
+  passed_so apdu make shown other own once met made = let seen_as : IsShownAs shown (shown_over make shown) = once shown (bare_reply old.parts.is_on new.parts.is_on shown met.takes.replies) in record {
     sends = λ machine is.
         let sent : Sends machine apdu shown new.parts = met.takes.sends machine is in
         let step = own machine is shown sent.machine sent.gives in
         subst (λ (i : TraceItem). Sends machine bytes i new.parts) (sym made)
         (record { machine = sent.machine; told = sent.told; gives = step.gives; rests = λ calm. sent.rests (calm_alike shown (shown_over make shown) step.alike calm) });
-    counted = counted_over old.parts.meter new.parts.meter [] shown other (ap failed made ∙ once shown met.takes.bare) (ap cut made ∙ cut_over make shown) met.takes.counted;
+    counted = counted_over old.parts.meter new.parts.meter [] shown other (ap failed made ∙ seen_as.failed_as) (ap cut made ∙ cut_over make shown) met.takes.counted;
+    replies = subst (λ (i : TraceItem). IsReply old.parts.is_on i new.parts.is_on) (sym made) (replies_over make old.parts.is_on new.parts.is_on shown seen_as.bare met.takes.replies);
     kept = met.takes.kept;
     waits = met.waits;
   }

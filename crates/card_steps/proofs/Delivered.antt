@@ -10,7 +10,7 @@ use Rattle.card_model.specs.Runs.{due}
 use Rattle.card_model.specs.States.{Machine}
 use Rattle.card_steps.specs.Runs.{machine_of}
 use Rattle.card_steps.specs.Stepping.{IsBare, Sends, seen}
-use Rattle.card_steps.proofs.CardLemmas.{sends_off}
+use Rattle.card_steps.proofs.CardLemmas.{bare_reply, sends_off}
 use Rattle.card_steps.proofs.StepLemmas.{counted_after, disarmed_machine, idle_counted, machine_set, with_command}
 use Rattle.t0_link.specs.declared.endpoint.Endpoint.{Ghosts as EndpointWords}
 use Rattle.t0_link.specs.declared.endpoint.LinkFault.{LinkFault}
@@ -111,11 +111,11 @@ module _ (words : EndpointWords End) (old : Machine) (from set sent to : End) (p
   delivers (Answers linked) (Err fault) left is_given given same exchanged none = absurd exchanged
   delivers (Passes apdu make) (Ok done) left is_given given same exchanged none =
       let met : MeetsAnswer set apdu exchanged.answer sent = meets apdu (Ok done) exchanged.answer exchanged.transmitted in
-      passed_on plans apdu make old from set sent to (item_of exchanged.answer) (item_of left.answer) left.kept given.0 (back_so is_given given.1 same) (met.takes.sends old (set_so given.0)) met.takes.bare met.takes.counted met.waits
+      passed_on plans apdu make old from set sent to (item_of exchanged.answer) (item_of left.answer) left.kept given.0 (back_so is_given given.1 same) (met.takes.sends old (set_so given.0)) (bare_reply set.parts.is_on sent.parts.is_on (item_of exchanged.answer) met.takes.replies) met.takes.counted met.waits
       (ap (λ (l : Linked). item_of l.answer) exchanged.answered) (ap (λ (l : Linked). l.kept) exchanged.answered)
   delivers (Passes apdu make) (Err PowerLost) left is_given given same exchanged none =
       let met : MeetsCut set apdu sent = (meets apdu (Err PowerLost) exchanged.answer exchanged.transmitted).0 in
-      passed_on plans apdu make old from set sent to item.Cut item.Cut left.kept given.0 (back_so is_given given.1 same) (met.takes.sends old (set_so given.0)) met.takes.bare met.takes.counted met.waits refl none
+      passed_on plans apdu make old from set sent to item.Cut item.Cut left.kept given.0 (back_so is_given given.1 same) (met.takes.sends old (set_so given.0)) tt met.takes.counted met.waits refl none
   delivers (Passes apdu make) (Err NoPower) left is_given given same exchanged none =
       let off : (set.parts.is_on ≡ false) × (sent ≡ set) = meets apdu (Err NoPower) exchanged.answer exchanged.transmitted in
       passed_on plans apdu make old from set sent to item.Off item.Off left.kept given.0 (back_so is_given given.1 same)

@@ -1,12 +1,13 @@
 -- A link shows a failure of the card's memory, and a loss of power, as one, and keeps none.
 use Rattle.std.proofs.Common.{◌≡◌, ℕ, ◌+◌, ◌*◌, ◌≤◌, ◌<◌, Bool, true, false, List, [], ◌∷◌, length, Option, Some, None, refl, sym, ap, ◌∙◌, arith, mod-lt}
 use Rattle.std.proofs.lemmas.Bool.{eqb-true, false≢true, ne_eqb}
+use Rattle.std.proofs.lemmas.List.{take_all}
 use Rattle.std.specs.Prelude.{◌/◌, ◌%◌, ◌==◌, cond, count_by, if◌then◌else◌, ⊤}
 use Rattle.apdu_form.specs.Model.{Apdu, ne_of}
 use Rattle.card_model.specs.Counts.{IsCounted, is_cut, is_failure}
 use Rattle.card_steps.specs.Stepping.{IsBare}
 use Rattle.link_laws.specs.Shown.{item_of, kept_over, shown_over}
-use Rattle.t0_link.specs.Carrying.{command_answer, followed, received, then_received, tpdu_of}
+use Rattle.t0_link.specs.Carrying.{command_answer, followed, front_of, received, then_received, tpdu_of}
 use Rattle.t0_link.specs.Linking.{Answers, Course, Linked, Passes, counting, course_of, fetched, given, kept_back, link_answer, status_alone}
 use Rattle.t0_link.specs.Tpdus.{transfer_in}
 use Rattle.t0_link.specs.declared.answers.TheConstants.{MORE_DATA, WRONG_LE}
@@ -149,25 +150,65 @@ kept_followed_by answer false calm = waiting_by answer ((waiting_data answer).an
 kept_followed : (answer : Answer) → IsBare (item_of answer) → failed (item_of (followed (kept_back answer)).answer) ≡ failed (item_of answer)
 kept_followed answer bare = kept_followed_by answer (length answer.body == 0) (λ some. with_data answer.body answer.status bare some)
 
--- the terminal is shown a failure of the card as one
+-- ---- a failure has no data there either
+
+abbrev IsBareLinked : Linked → Type 0
+IsBareLinked linked = IsBare (item_of linked.answer)
+
+fetched_bare : (p3 : ℕ) (answer : Answer) → IsBare (item_of answer) → IsBareLinked (fetched p3 (Some answer))
+fetched_bare p3 answer bare = by_length (length answer.body == ne_of p3) where
+  by_length : (b : Bool) → IsBareLinked (if b then record { answer = answer; kept = None } else record { answer = status_alone (counting WRONG_LE (length answer.body)); kept = Some answer })
+  by_length true = bare
+  by_length false = λ fails. refl
+
+given_bare : (answer : Answer) → IsBare (item_of answer) → IsBareLinked (followed (given answer))
+given_bare answer bare = by_status (answer.status.0 / 256 == MORE_DATA) where
+  by_status : (b : Bool) → IsBareLinked (if b then fetched (answer.status.0 % 256) None else given answer)
+  by_status true = λ fails. refl
+  by_status false = bare
+
+kept_bare : (answer : Answer) → IsBare (item_of answer) → IsBareLinked (followed (kept_back answer))
+kept_bare answer bare = by_data (length answer.body == 0) where
+  by_status : (b : Bool) → IsBareLinked (if b then fetched ((waiting_data answer).answer.status.0 % 256) (Some answer) else waiting_data answer)
+  by_status true = fetched_bare ((waiting_data answer).answer.status.0 % 256) answer bare
+  by_status false = λ fails. refl
+
+  by_data : (b : Bool) → IsBareLinked (followed (kept_linked answer b))
+  by_data true = given_bare answer bare
+  by_data false = by_status ((waiting_data answer).answer.status.0 / 256 == MORE_DATA)
+
+none_in : (expected : Option ℕ) → front_of expected [] ≡ []
+none_in None = refl
+none_in (Some most) = take_all most [] (omega arith)
+
+received_bare : (expected : Option ℕ) (linked : Linked) → IsBareLinked (followed linked) → IsBareLinked (received expected linked)
+received_bare expected linked bare = λ fails. ap (front_of expected) (bare fails) ∙ none_in expected
+
+-- the terminal is shown a failure of the card as one, without data
+pub record IsShownAs (shown other : TraceItem) : Type 0 where
+  pub failed_as : failed other ≡ failed shown
+  pub bare : IsBare other
+
 abbrev pub IsShownAsOne : Course → Type 0
 IsShownAsOne (Answers linked) = ⊤
-IsShownAsOne (Passes apdu make) = (shown : TraceItem) → IsBare shown → failed (shown_over make shown) ≡ failed shown
+IsShownAsOne (Passes apdu make) = (shown : TraceItem) → IsBare shown → IsShownAs shown (shown_over make shown)
 
 received_shown : (expected : Option ℕ) (make : Answer → Linked) → ((answer : Answer) → IsBare (item_of answer) → failed (item_of (followed (make answer)).answer) ≡ failed (item_of answer))
-    → (shown : TraceItem) → IsBare shown → failed (shown_over (λ answer. received expected (make answer)) shown) ≡ failed shown
-received_shown expected make follows (item.Answer body status) bare = follows (record { body = body; status = status }) bare
-received_shown expected make follows (item.Command apdu) bare = refl
-received_shown expected make follows item.Reset bare = refl
-received_shown expected make follows item.Cut bare = refl
-received_shown expected make follows item.Off bare = refl
-received_shown expected make follows item.EepromFailed bare = refl
+    → ((answer : Answer) → IsBare (item_of answer) → IsBareLinked (followed (make answer))) → (shown : TraceItem) → IsBare shown → IsShownAs shown (shown_over (λ answer. received expected (make answer)) shown)
+received_shown expected make follows bares (item.Answer body status) bare =
+    let answer : Answer = record { body = body; status = status } in
+    record { failed_as = follows answer bare; bare = received_bare expected (make answer) (bares answer bare) }
+received_shown expected make follows bares (item.Command apdu) bare = record { failed_as = refl; bare = tt }
+received_shown expected make follows bares item.Reset bare = record { failed_as = refl; bare = tt }
+received_shown expected make follows bares item.Cut bare = record { failed_as = refl; bare = tt }
+received_shown expected make follows bares item.Off bare = record { failed_as = refl; bare = tt }
+received_shown expected make follows bares item.EepromFailed bare = record { failed_as = refl; bare = tt }
 
 received_by : (expected : Option ℕ) (kept : Option Answer) (tpdu : List ℕ) (way : Option Transfer) → IsShownAsOne (then_received expected (course_of kept tpdu way))
 received_by expected kept tpdu None = tt
 received_by expected kept tpdu (Some GetResponse) = tt
-received_by expected kept tpdu (Some Outgoing) = received_shown expected given (λ answer bare. given_followed answer)
-received_by expected kept tpdu (Some Incoming) = received_shown expected kept_back kept_followed
+received_by expected kept tpdu (Some Outgoing) = received_shown expected given (λ answer bare. given_followed answer) given_bare
+received_by expected kept tpdu (Some Incoming) = received_shown expected kept_back kept_followed kept_bare
 
 pub command_shown : (kept : Option Answer) (command : Apdu) → IsShownAsOne (command_answer kept command)
 unfolding command_answer link_answer

@@ -6,16 +6,16 @@ use Rattle.std.specs.Io.KnownBytes.{append_known}
 use Rattle.byte_streams.specs.Streams.{TakesFront}
 use Rattle.card_model.specs.Counts.{IsCounted}
 use Rattle.card_model.specs.Laws.{PlansAreCounted}
-use Rattle.card_model.specs.Runs.{armed_after, due, joined, waiting_after}
+use Rattle.card_model.specs.Runs.{armed_after, due, joined}
+use Rattle.card_steps.proofs.CardLemmas.{bare_reply}
 use Rattle.card_steps.proofs.Delivered.{off_counted}
 use Rattle.card_steps.proofs.StepLemmas.{ToldFront, WithPlan, counted_after, idle_counted, in_one_line, none_waits, text_of_one, text_of_two, told_front, told_more, with_command}
 use Rattle.card_steps.specs.Ends.{End, MeetsAnswer, MeetsCut, moment_at, reply_for, with_plan_set, without_plan}
+use Rattle.card_steps.specs.RunLaws.{shows_one}
 use Rattle.card_steps.specs.Runs.{item_text}
-use Rattle.card_steps.specs.Showing.{CourseShows, CutsOffStep, CutsOffTpdu, IsReply, MayBreakOff, MayShow, Shows, ShowsAny, ShowsCourse, ShowsLast, ShowsStep, ShowsTpdu}
-use Rattle.card_steps.specs.Stepping.{IsBare, Moment, seen}
+use Rattle.card_steps.specs.Showing.{CutsOffStep, CutsOffTpdu, MayShow, Shows, ShowsAny, ShowsCourse, ShowsLast, ShowsTpdu}
+use Rattle.card_steps.specs.Stepping.{IsReply, seen}
 use Rattle.card_steps.specs.Tpdus.{IsPrepared, steps_of}
-use Rattle.card_steps.specs.declared.steps.Reply.{Reply}
-use Rattle.card_steps.specs.declared.steps.Reply.TheVariants as reply
 use Rattle.card_steps.specs.declared.steps.StepEnd.{StepEnd}
 use Rattle.card_steps.specs.declared.steps.StepEnd.TheVariants.{SinkFailed, ResetFailed}
 use Rattle.link_laws.specs.Shown.{item_of, kept_over, shown_for, shown_over}
@@ -31,30 +31,32 @@ use Rattle.uicc_types.specs.Counts.{names_fault}
 use Rattle.uicc_types.specs.Told.{Becomes}
 use Rattle.uicc_types.specs.declared.answers.Answer.{Answer}
 use Rattle.uicc_types.specs.declared.plans.Plan.{Plan}
-use Rattle.uicc_types.specs.declared.runs.Step.{Step}
 use Rattle.uicc_types.specs.declared.runs.Step.TheVariants as step
 use Rattle.uicc_types.specs.declared.runs.TraceItem.{TraceItem}
 use Rattle.uicc_types.specs.declared.runs.TraceItem.TheVariants as item
 
 -- ---- a step
 
-pub is_reply : (outcome : Reply) (answer : Answer) → IsReply (seen outcome answer)
-is_reply reply.Answered answer = tt
-is_reply reply.Cut answer = tt
-is_reply reply.Off answer = tt
-
 -- a plan was set, something was done, and the plan was taken back
 pub counted_with_plan : PlansAreCounted → (from set sent after : End) (shown : TraceItem) → WithPlan from set sent after → IsCounted set.parts.meter sent.parts.meter [] (shown ∷ []) → IsCounted from.parts.meter after.parts.meter (due from.waiting ++ []) (shown ∷ [])
 counted_with_plan plans from set sent after shown done counts =
     counted_after plans from.parts.meter set.parts.meter sent.parts.meter after.parts.meter from.waiting (shown ∷ []) (ap (λ (e : End). e.parts.meter) done.given) (ap (λ (e : End). e.parts.meter) done.back) counts
 
+-- and neither of the two touched the card's power
+powered_as : (P : Bool → Bool → Type 0) (from set sent after : End) → WithPlan from set sent after → P set.parts.is_on sent.parts.is_on → P from.parts.is_on after.parts.is_on
+powered_as P from set sent after done so =
+    subst (λ b. P from.parts.is_on b) (sym (ap (λ (e : End). e.parts.is_on) done.back)) (subst (λ b. P b sent.parts.is_on) (ap (λ (e : End). e.parts.is_on) done.given) so)
+
+abbrev replies_so : (shown : TraceItem) (from set sent after : End) → WithPlan from set sent after → IsReply set.parts.is_on shown sent.parts.is_on → IsReply from.parts.is_on shown after.parts.is_on
+replies_so shown from set sent after done replies = powered_as (λ on behind. IsReply on shown behind) from set sent after done replies
+
 -- a command and what came of it
 pub exchange_shows : (result : Result (Unit {0}) StepEnd) (apdu before : List ℕ) (from set sent after : End) (taken mid now : Option (List ℕ)) (shown : TraceItem)
-    → PlansAreCounted → taken ≡ Some before → WithPlan from set sent after → mid ≡ append_known taken (trace_text (line.Command apdu)) → IsReply shown → IsCounted set.parts.meter sent.parts.meter [] (shown ∷ [])
+    → PlansAreCounted → taken ≡ Some before → WithPlan from set sent after → mid ≡ append_known taken (trace_text (line.Command apdu)) → IsReply set.parts.is_on shown sent.parts.is_on → IsCounted set.parts.meter sent.parts.meter [] (shown ∷ [])
     → OnOk result (now ≡ append_known mid (item_text shown)) → OnErr result (Becomes (TakesFront (item_text shown)) mid now) → OnErr result (result ≡ Err SinkFailed)
     → Shows result (λ done. item.Command apdu ∷ shown ∷ []) before (step.Apdu apdu) (moment_at from taken) (moment_at after now)
 exchange_shows (Ok done) apdu before from set sent after taken mid now shown plans told with_it command replies counts ok err sink = record {
-  may = (shown, replies, refl);
+  may = (shown, replies_so shown from set sent after with_it replies, refl);
   written = told_more mid now (item_text shown) _ ok (told_more taken mid (trace_text (line.Command apdu)) before command told) ∙ ap Some (text_of_two (item.Command apdu) shown before);
   counted = with_command _ _ _ apdu shown (counted_with_plan plans from set sent after shown with_it counts);
   waits = none_waits from set sent after with_it;
@@ -65,7 +67,7 @@ exchange_shows (Err SinkFailed) apdu before from set sent after taken mid now sh
       pending = item.Command apdu ∷ shown ∷ [];
       front = item_text (item.Command apdu) ++ front.front;
       set = due from.waiting ++ [];
-      may = inr ((shown, replies, refl), refl);
+      may = inr (after.parts.is_on, (shown, replies_so shown from set sent after with_it replies, refl), refl);
       cut_off = record {
         whole = item.Command apdu ∷ [];
         last = shown;
@@ -97,11 +99,11 @@ command_cut_off apdu before end taken now told broken =
 
 -- a reset that is shown in this line, and in which the memory did not fail
 pub restart_shows : (result : Result (Unit {0}) StepEnd) (before : List ℕ) (from set sent after : End) (taken now : Option (List ℕ)) (shown : TraceItem)
-    → PlansAreCounted → taken ≡ Some before → WithPlan from set sent after → MayShow step.Reset (shown ∷ []) → IsCounted set.parts.meter sent.parts.meter [] (shown ∷ [])
+    → PlansAreCounted → taken ≡ Some before → WithPlan from set sent after → MayShow set.parts.is_on step.Reset (shown ∷ []) sent.parts.is_on → IsCounted set.parts.meter sent.parts.meter [] (shown ∷ [])
     → OnOk result (now ≡ append_known taken (item_text shown)) → OnErr result (Becomes (TakesFront (item_text shown)) taken now) → OnErr result (result ≡ Err SinkFailed)
     → Shows result (λ done. shown ∷ []) before step.Reset (moment_at from taken) (moment_at after now)
 restart_shows (Ok done) before from set sent after taken now shown plans told with_it may counts ok err sink = record {
-  may = may;
+  may = powered_as (λ on behind. MayShow on step.Reset (shown ∷ []) behind) from set sent after with_it may;
   written = told_more taken now (item_text shown) before ok told ∙ ap (λ back. Some (before ++ back)) (sym (text_of_one shown));
   counted = counted_with_plan plans from set sent after shown with_it counts;
   waits = none_waits from set sent after with_it;
@@ -112,7 +114,7 @@ restart_shows (Err SinkFailed) before from set sent after taken now shown plans 
       pending = shown ∷ [];
       front = front.front;
       set = due from.waiting ++ [];
-      may = (inl may, refl);
+      may = (inl (after.parts.is_on, powered_as (λ on behind. MayShow on step.Reset (shown ∷ []) behind) from set sent after with_it may), refl);
       cut_off = in_one_line shown before now front;
       written = front.written;
       counted = counted_with_plan plans from set sent after shown with_it counts;
@@ -149,16 +151,17 @@ pub plan_shows : (before : List ℕ) (from to : End) (taken : Option (List ℕ))
 plan_shows before from to taken plan told joins =
     let later : End = record from { waiting = joined from.waiting plan } in
     subst (λ (e : End). ShowsAny (Ok tt) before (step.Plan plan) (moment_at from taken) (moment_at e taken)) (sym joins)
-    ([], record { may = refl; written = told ∙ ap Some (sym (append-nil before)); counted = idle_counted from.parts.meter; waits = refl })
+    ([], record { may = (refl, refl); written = told ∙ ap Some (sym (append-nil before)); counted = idle_counted from.parts.meter; waits = refl })
 
 -- ---- a TPDU that was given to the link
 
 -- an APDU was passed
 passed_shows : PlansAreCounted → (apdu : List ℕ) (make : Answer → Linked) (from set sent to : End) (shown seen_so : TraceItem) (kept : Option Answer)
-    → WithPlan from set sent to → IsReply shown → IsBare shown → IsCounted set.parts.meter sent.parts.meter [] (shown ∷ []) → seen_so ≡ shown_over make shown → kept ≡ kept_over make shown → ShowsCourse (Passes apdu make) seen_so kept from to
-passed_shows plans apdu make from set sent to shown seen_so kept with_it replies bare counts made keeps = record {
+    → WithPlan from set sent to → IsReply set.parts.is_on shown sent.parts.is_on → IsCounted set.parts.meter sent.parts.meter [] (shown ∷ []) → seen_so ≡ shown_over make shown → kept ≡ kept_over make shown → ShowsCourse (Passes apdu make) seen_so kept from to
+passed_shows plans apdu make from set sent to shown seen_so kept with_it replies counts made keeps = record {
   own = item.Command apdu ∷ shown ∷ [];
-  shows = record { shown = shown; came = refl; replies = replies; bare = bare; seen = made; keeps = keeps };
+  may = shows_one from.parts.is_on to.parts.is_on (step.Apdu apdu) _ (shown, replies_so shown from set sent to with_it replies, refl);
+  shows = record { shown = shown; came = refl; bare = bare_reply set.parts.is_on sent.parts.is_on shown replies; seen = made; keeps = keeps };
   counted = with_command _ _ _ apdu shown (counted_with_plan plans from set sent to shown with_it counts);
   waits = none_waits from set sent to with_it;
 }
@@ -174,6 +177,7 @@ module _ (words : EndpointWords End) (from set sent to : End) (plans : PlansAreC
       let stays : to ≡ from = same ∙ ap (λ b. without_plan b sent) given.1 ∙ exchanged.0 ∙ given.0 in
       record {
         own = [];
+        may = (refl, ap (λ (e : End). e.parts.is_on) stays);
         shows = (refl, ap (λ (l : Linked). item_of l.answer) exchanged.1, ap (λ (l : Linked). l.kept) exchanged.1);
         counted = subst (λ (e : End). IsCounted from.parts.meter e.parts.meter [] []) (sym stays) (idle_counted from.parts.meter);
         waits = ap (λ (e : End). e.waiting) stays;
@@ -181,14 +185,14 @@ module _ (words : EndpointWords End) (from set sent to : End) (plans : PlansAreC
   course_shows (Answers linked) (Err fault) left is_given given same exchanged none = absurd exchanged
   course_shows (Passes apdu make) (Ok done) left is_given given same exchanged none =
       let met : MeetsAnswer set apdu exchanged.answer sent = meets apdu (Ok done) exchanged.answer exchanged.transmitted in
-      passed_shows plans apdu make from set sent to (item_of exchanged.answer) (item_of left.answer) left.kept (with_it is_given given.0 given.1 met.waits same) tt met.takes.bare met.takes.counted
+      passed_shows plans apdu make from set sent to (item_of exchanged.answer) (item_of left.answer) left.kept (with_it is_given given.0 given.1 met.waits same) met.takes.replies met.takes.counted
       (ap (λ (l : Linked). item_of l.answer) exchanged.answered) (ap (λ (l : Linked). l.kept) exchanged.answered)
   course_shows (Passes apdu make) (Err PowerLost) left is_given given same exchanged none =
       let met : MeetsCut set apdu sent = (meets apdu (Err PowerLost) exchanged.answer exchanged.transmitted).0 in
-      passed_shows plans apdu make from set sent to item.Cut item.Cut left.kept (with_it is_given given.0 given.1 met.waits same) tt met.takes.bare met.takes.counted refl none
+      passed_shows plans apdu make from set sent to item.Cut item.Cut left.kept (with_it is_given given.0 given.1 met.waits same) met.takes.replies met.takes.counted refl none
   course_shows (Passes apdu make) (Err NoPower) left is_given given same exchanged none =
       let off : (set.parts.is_on ≡ false) × (sent ≡ set) = meets apdu (Err NoPower) exchanged.answer exchanged.transmitted in
-      passed_shows plans apdu make from set sent to item.Off item.Off left.kept (with_it is_given given.0 given.1 (ap (λ (e : End). e.waiting) off.1) same) tt tt
+      passed_shows plans apdu make from set sent to item.Off item.Off left.kept (with_it is_given given.0 given.1 (ap (λ (e : End). e.waiting) off.1) same) (off.0, ap (λ (e : End). e.parts.is_on) off.1 ∙ off.0)
       (subst (λ (e : End). IsCounted set.parts.meter e.parts.meter [] (item.Off ∷ [])) (sym off.1) (off_counted set.parts.meter (idle_counted set.parts.meter)))
       refl none
 
@@ -201,6 +205,7 @@ module _ (tpdu before : List ℕ) (course : Course) (keeps kept : Option Answer)
   tpdu_shows from to taken mid now seen_so told shows command replied = record {
     own = shows.own;
     reply = seen_so;
+    may = shows.may;
     shows = shows.shows;
     written = told_more mid now (item_text seen_so) (before ++ item_text (item.Command tpdu)) replied (told_more taken mid (item_text (item.Command tpdu)) before command told) ∙ ap Some (text_of_two (item.Command tpdu) seen_so before);
     counted = shows.counted;
@@ -217,7 +222,7 @@ module _ (tpdu before : List ℕ) (course : Course) (keeps kept : Option Answer)
         pending = shown_for tpdu seen_so;
         front = item_text (item.Command tpdu) ++ front.front;
         set = armed_after from.waiting (steps_of course);
-        may = inr (seen_so, shows.shows, refl, refl);
+        may = inr (record { reply = seen_so; after = to.parts.is_on; may = shows.may; shows = shows.shows; pending_is = refl; set_is = refl });
         cut_off = record {
           whole = item.Command tpdu ∷ [];
           last = seen_so;

@@ -1,10 +1,10 @@
 -- A card's end of a link, and what becomes of a command that comes to it.
-use Rattle.std.specs.Prelude.{◌≡◌, ◌≤◌, Bool, true, if◌then◌else◌, ℕ, List, [], ◌∷◌, Option, Some, Result, Ok, Err, ⊤}
+use Rattle.std.specs.Prelude.{◌≡◌, ◌≤◌, Bool, true, false, if◌then◌else◌, ℕ, List, [], ◌∷◌, Option, Some, Result, Ok, Err, ⊤}
 use Rattle.card_core.specs.Parts.{CardParts}
 use Rattle.card_model.specs.Counts.{IsCounted, is_cut, is_failure}
 use Rattle.card_model.specs.States.{Machine}
 use Rattle.card_steps.specs.Runs.{machine_of}
-use Rattle.card_steps.specs.Stepping.{IsBare, Moment, Resets, Sends, moment, shown_of}
+use Rattle.card_steps.specs.Stepping.{IsReply, Moment, Resets, Sends, moment, shown_of}
 use Rattle.card_steps.specs.declared.steps.Reply.{Reply}
 use Rattle.card_steps.specs.declared.steps.Reply.TheVariants as reply
 use Rattle.card_steps.specs.declared.steps.ResetOutcome.{ResetOutcome}
@@ -53,19 +53,21 @@ abbrev pub IsShownCause : Meter → Meter → TraceItem → Type 0
 IsShownCause old new shown = Caused old new (is_failure shown ≡ true) (is_cut shown ≡ true)
 
 -- A card took a command, of which the trace shows this: over a store that tells its bytes it takes the step of that command, and over
--- any store its device counts what is shown, and no plan; an answer that tells of a failure has no data.
+-- any store its device counts what is shown, and no plan; and what is shown is what may come of it by the card's power.
 pub record TakesCommand (old : CardParts) (apdu : List ℕ) (shown : TraceItem) (new : CardParts) : Type 0 where
   pub sends : (machine : Machine) → machine_of old ≡ Some machine → Sends machine apdu shown new
   pub counted : IsCounted old.meter new.meter [] (shown ∷ [])
   pub caused : IsShownCause old.meter new.meter shown
-  pub bare : IsBare shown
+  pub replies : IsReply old.is_on shown new.is_on
   pub kept : old.meter.faults ≤ new.meter.faults
 
 -- A card was reset, with this outcome: over a store that tells its bytes it is then as a reset leaves it, and over any store its device
--- counts what is shown, and no plan.
+-- counts what is shown, and no plan, and the card has power or lost it.
 pub record TakesReset (old : CardParts) (outcome : ResetOutcome) (new : CardParts) : Type 0 where
   pub resets : (machine : Machine) → machine_of old ≡ Some machine → Resets outcome machine new
   pub counted : IsCounted old.meter new.meter [] (shown_of outcome ∷ [])
+  pub on : outcome ≡ outcomes.Done → new.is_on ≡ true
+  pub off : outcome ≡ outcomes.Cut → new.is_on ≡ false
   pub failed : outcome ≡ outcomes.Failed → new.meter.faults ≡ raised old.meter.faults
   pub kept : old.meter.faults ≤ new.meter.faults
 
@@ -75,11 +77,12 @@ pub record Meets (old : End) (apdu : List ℕ) (shown : TraceItem) (new : End) :
   pub waits : new.waiting ≡ old.waiting
 
 -- A terminal's command came to the card, by itself or over a link, and this is what the trace shows of it. Over a store that tells its
--- bytes the card has taken the step of that command, and over any store its device counts what is shown, and no plan. The plan that waits
--- goes on waiting.
+-- bytes the card has taken the step of that command, and over any store its device counts what is shown, and no plan, and that is what
+-- may come of it by the card's power. The plan that waits goes on waiting.
 pub record Comes (old : End) (apdu : List ℕ) (shown : TraceItem) (new : End) : Type 0 where
   pub sends : (machine : Machine) → machine_of old.parts ≡ Some machine → Sends machine apdu shown new.parts
   pub counted : IsCounted old.parts.meter new.parts.meter [] (shown ∷ [])
+  pub replies : IsReply old.parts.is_on shown new.parts.is_on
   pub kept : old.parts.meter.faults ≤ new.parts.meter.faults
   pub waits : new.waiting ≡ old.waiting
 

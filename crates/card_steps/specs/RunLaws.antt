@@ -1,10 +1,11 @@
 -- Runs behind runs, and what is seen of them.
-use Rattle.std.proofs.Common.{◌≡◌, true, List, [], ◌∷◌, ◌++◌, refl, sym, ap, ◌∙◌, append_assoc, subst, inl, inr}
+use Rattle.std.proofs.Common.{◌≡◌, Bool, true, List, [], ◌∷◌, ◌++◌, refl, sym, ap, ◌∙◌, append_assoc, subst, inl, inr}
 use Rattle.std.proofs.lemmas.List.{append-nil}
 use Rattle.std.proofs.lemmas.List.Concat.{flat_map-append}
 use Rattle.card_model.specs.Runs.{IsRun, StepEnds, StepGives}
 use Rattle.card_model.specs.States.{Machine}
 use Rattle.card_steps.specs.Runs.{GoesOn, ends_calm, item_text, text_of}
+use Rattle.card_steps.specs.Showing.{MayShow, MayShowAll}
 use Rattle.uicc_types.specs.declared.runs.Step.{Step}
 use Rattle.uicc_types.specs.declared.runs.TraceItem.{TraceItem}
 
@@ -63,6 +64,28 @@ run_ends (one ∷ first) step old middle new items last run ends = inl (record {
   rest = run_ends first step run.middle middle new run.back last run.rest ends;
   seen = ap (λ shown. shown ++ last) run.seen ∙ append_assoc run.front run.back last;
 })
+
+-- ---- the same of what may be shown, where nothing is known of the card but its power
+
+shows_same : (on between after : Bool) (more : List Step) (none items : List TraceItem) → none ≡ [] → between ≡ on → MayShowAll between more items after → MayShowAll on more (none ++ items) after
+shows_same on between after more none items nothing same may =
+    subst (λ b. MayShowAll b more (none ++ items) after) same (subst (λ shown. MayShowAll between more (shown ++ items) after) (sym nothing) may)
+
+pub shows_then : (first more : List Step) (on between after : Bool) (items others : List TraceItem) → MayShowAll on first items between → MayShowAll between more others after → MayShowAll on (first ++ more) (items ++ others) after
+shows_then [] more on between after items others may rest = shows_same on between after more items others may.0 may.1 rest
+shows_then (step ∷ first) more on between after items others may rest = record {
+  front = may.front;
+  between = may.between;
+  back = may.back ++ others;
+  first = may.first;
+  rest = shows_then first more may.between between after may.back others may.rest rest;
+  seen = ap (λ shown. shown ++ others) may.seen ∙ append_assoc may.front may.back others;
+}
+
+pub shows_one : (on after : Bool) (step : Step) (items : List TraceItem) → MayShow on step items after → MayShowAll on (step ∷ []) items after
+shows_one on after step items may = record { front = items; between = after; back = []; first = may; rest = (refl, refl); seen = sym (append-nil items) }
+
+-- ---- texts
 
 -- the text of one trace behind another
 pub text_of-append : (shown more : List TraceItem) → text_of (shown ++ more) ≡ text_of shown ++ text_of more

@@ -1,12 +1,12 @@
 -- What a step or a TPDU comes to over any store, also one that tells nothing: what is shown, what the sink has taken of that, what the
--- device has counted, and which plan waits. Nothing is said of the card.
-use Rattle.std.specs.Prelude.{◌≡◌, ◌⊎◌, ℕ, List, [], ◌∷◌, ◌++◌, Option, Some, Result, Ok, Err, ⊤}
+-- device has counted, and which plan waits. Of the card nothing is said but its power.
+use Rattle.std.specs.Prelude.{◌≡◌, ◌⊎◌, ℕ, Bool, true, false, List, [], ◌∷◌, ◌++◌, Option, Some, Result, Ok, Err, ⊤}
 use Rattle.byte_streams.specs.declared.streams.Failed.{Failed}
 use Rattle.card_model.specs.Counts.{IsCounted}
 use Rattle.card_model.specs.Runs.{armed_after, waiting_after}
 use Rattle.card_steps.specs.Ends.{End}
 use Rattle.card_steps.specs.Runs.{text_of}
-use Rattle.card_steps.specs.Stepping.{IsBare, IsCutOff, Moment}
+use Rattle.card_steps.specs.Stepping.{IsBare, IsCutOff, IsReply, Moment}
 use Rattle.card_steps.specs.Tpdus.{steps_of}
 use Rattle.card_steps.specs.declared.steps.StepEnd.{StepEnd}
 use Rattle.card_steps.specs.declared.steps.StepEnd.TheVariants.{SinkFailed, ResetFailed}
@@ -21,20 +21,26 @@ use Rattle.uicc_types.specs.declared.runs.TraceItem.TheVariants as item
 
 -- ---- what may be shown
 
--- what may come of a command: an answer, or that power was lost or was not there
-abbrev pub IsReply : TraceItem → Type 0
-IsReply (item.Answer body status) = ⊤
-IsReply item.Cut = ⊤
-IsReply item.Off = ⊤
-IsReply (item.Command apdu) = ⊥
-IsReply item.Reset = ⊥
-IsReply item.EepromFailed = ⊥
+-- By the power before a step and behind it: a command is shown with what came of it; a reset in one line, that it was done, or that power
+-- was lost; and a plan not at all.
+abbrev pub MayShow : Bool → Step → List TraceItem → Bool → Type 0
+MayShow on (step.Apdu apdu) items after = (reply : TraceItem) × IsReply on reply after × (items ≡ item.Command apdu ∷ reply ∷ [])
+MayShow on step.Reset items after = ((items ≡ item.Reset ∷ []) × (after ≡ true)) ⊎ ((items ≡ item.Cut ∷ []) × (after ≡ false))
+MayShow on (step.Plan plan) items after = (items ≡ []) × (after ≡ on)
 
--- a command is shown with what came of it, a reset in one line, and a plan not at all
-abbrev pub MayShow : Step → List TraceItem → Type 0
-MayShow (step.Apdu apdu) items = (reply : TraceItem) × IsReply reply × (items ≡ item.Command apdu ∷ reply ∷ [])
-MayShow step.Reset items = (items ≡ item.Reset ∷ []) ⊎ (items ≡ item.Cut ∷ [])
-MayShow (step.Plan plan) items = items ≡ []
+-- one thing is shown and then others, and between them there is power or not
+pub record ThenShows (First : List TraceItem → Bool → Type 0) (Rest : Bool → List TraceItem → Type 0) (items : List TraceItem) : Type 0 where
+  pub front : List TraceItem
+  pub between : Bool
+  pub back : List TraceItem
+  pub first : First front between
+  pub rest : Rest between back
+  pub seen : items ≡ front ++ back
+
+-- what may be shown of steps, one after the other, of which none is the last
+abbrev pub MayShowAll : Bool → List Step → List TraceItem → Bool → Type 0
+MayShowAll on [] items after = (items ≡ []) × (after ≡ on)
+MayShowAll on (step ∷ more) items after = ThenShows (MayShow on step) (λ between back. MayShowAll between more back after) items
 
 -- a reset in which the memory failed
 abbrev pub MayEnd : Step → List TraceItem → Type 0
@@ -42,18 +48,19 @@ MayEnd (step.Apdu apdu) items = ⊥
 MayEnd step.Reset items = items ≡ item.EepromFailed ∷ []
 MayEnd (step.Plan plan) items = ⊥
 
--- What was to be shown where the sink fails in the last line of it, the plan that was due, and those that were set: none where that
--- line is the command's own.
-abbrev pub MayBreakOff : Step → List TraceItem → List Plan → List Plan → Type 0
-MayBreakOff (step.Apdu apdu) items due set = ((items ≡ item.Command apdu ∷ []) × (set ≡ [])) ⊎ (MayShow (step.Apdu apdu) items × (set ≡ due))
-MayBreakOff step.Reset items due set = (MayShow step.Reset items ⊎ MayEnd step.Reset items) × (set ≡ due)
-MayBreakOff (step.Plan plan) items due set = ⊥
+-- By the power before it, what was to be shown where the sink fails in the last line of it, the plan that was due, and those that were
+-- set: none where that line is the command's own.
+abbrev pub MayBreakOff : Bool → Step → List TraceItem → List Plan → List Plan → Type 0
+MayBreakOff on (step.Apdu apdu) items due set =
+    ((items ≡ item.Command apdu ∷ []) × (set ≡ [])) ⊎ ((after : Bool) × MayShow on (step.Apdu apdu) items after × (set ≡ due))
+MayBreakOff on step.Reset items due set = (((after : Bool) × MayShow on step.Reset items after) ⊎ MayEnd step.Reset items) × (set ≡ due)
+MayBreakOff on (step.Plan plan) items due set = ⊥
 
 -- ---- a step
 
 -- it was taken, and this is what it shows
 pub record ShowsStep (shown : List TraceItem) (before : List ℕ) (step : Step) (from to : Moment) : Type 0 where
-  pub may : MayShow step shown
+  pub may : MayShow from.is_on step shown to.is_on
   pub written : to.taken ≡ Some (before ++ text_of shown)
   pub counted : IsCounted from.meter to.meter (armed_after from.waiting (step ∷ [])) shown
   pub waits : to.waiting ≡ waiting_after from.waiting (step ∷ [])
@@ -63,7 +70,7 @@ pub record CutsOffStep (before : List ℕ) (step : Step) (from to : Moment) : Ty
   pub pending : List TraceItem
   pub front : List ℕ
   pub set : List Plan
-  pub may : MayBreakOff step pending (armed_after from.waiting (step ∷ [])) set
+  pub may : MayBreakOff from.is_on step pending (armed_after from.waiting (step ∷ [])) set
   pub cut_off : IsCutOff pending front
   pub written : to.taken ≡ Some (before ++ front)
   pub counted : IsCounted from.meter to.meter set pending
@@ -97,7 +104,6 @@ ShowsAny (Err end) before step from to = ShowsStepEnd end before step from to
 pub record ShowsPassed (apdu : List ℕ) (make : Answer → Linked) (own : List TraceItem) (reply : TraceItem) (kept : Option Answer) : Type 0 where
   pub shown : TraceItem
   pub came : own ≡ item.Command apdu ∷ shown ∷ []
-  pub replies : IsReply shown
   pub bare : IsBare shown
   pub seen : reply ≡ shown_over make shown
   pub keeps : kept ≡ kept_over make shown
@@ -107,16 +113,27 @@ abbrev pub CourseShows : Course → List TraceItem → TraceItem → Option Answ
 CourseShows (Answers linked) own reply kept = (own ≡ []) × (reply ≡ item_of linked.answer) × (kept ≡ linked.kept)
 CourseShows (Passes apdu make) own reply kept = ShowsPassed apdu make own reply kept
 
--- the same where the sink fails in the last line of it
-abbrev pub MayBreakOffTpdu : List ℕ → Course → List TraceItem → List TraceItem → List Plan → List Plan → Option Answer → Option Answer → Type 0
-MayBreakOffTpdu tpdu course own pending due set before kept =
-    ((own ≡ []) × (pending ≡ item.Command tpdu ∷ []) × (set ≡ []) × (kept ≡ before))
-    ⊎ ((reply : TraceItem) × CourseShows course own reply kept × (pending ≡ shown_for tpdu reply) × (set ≡ due))
+-- The same where the sink fails in the last line of it: of the TPDU's own line, or of the reply, by the power before it.
+abbrev pub TpduUnsent : List ℕ → List TraceItem → List TraceItem → List Plan → Option Answer → Option Answer → Type 0
+TpduUnsent tpdu own pending set before kept = (own ≡ []) × (pending ≡ item.Command tpdu ∷ []) × (set ≡ []) × (kept ≡ before)
+
+pub record TpduUnanswered (on : Bool) (tpdu : List ℕ) (course : Course) (own pending : List TraceItem) (due set : List Plan) (kept : Option Answer) : Type 0 where
+  pub reply : TraceItem
+  pub after : Bool
+  pub may : MayShowAll on (steps_of course) own after
+  pub shows : CourseShows course own reply kept
+  pub pending_is : pending ≡ shown_for tpdu reply
+  pub set_is : set ≡ due
+
+abbrev pub MayBreakOffTpdu : Bool → List ℕ → Course → List TraceItem → List TraceItem → List Plan → List Plan → Option Answer → Option Answer → Type 0
+MayBreakOffTpdu on tpdu course own pending due set before kept =
+    TpduUnsent tpdu own pending set before kept ⊎ TpduUnanswered on tpdu course own pending due set kept
 
 -- it was taken, and both its lines were written
 pub record ShowsTpdu (before tpdu : List ℕ) (course : Course) (kept : Option Answer) (from to : Moment) : Type 0 where
   pub own : List TraceItem
   pub reply : TraceItem
+  pub may : MayShowAll from.is_on (steps_of course) own to.is_on
   pub shows : CourseShows course own reply kept
   pub written : to.taken ≡ Some (before ++ text_of (shown_for tpdu reply))
   pub counted : IsCounted from.meter to.meter (armed_after from.waiting (steps_of course)) own
@@ -128,7 +145,7 @@ pub record CutsOffTpdu (before tpdu : List ℕ) (course : Course) (keeps kept : 
   pub pending : List TraceItem
   pub front : List ℕ
   pub set : List Plan
-  pub may : MayBreakOffTpdu tpdu course own pending (armed_after from.waiting (steps_of course)) set keeps kept
+  pub may : MayBreakOffTpdu from.is_on tpdu course own pending (armed_after from.waiting (steps_of course)) set keeps kept
   pub cut_off : IsCutOff pending front
   pub written : to.taken ≡ Some (before ++ front)
   pub counted : IsCounted from.meter to.meter set own
@@ -140,6 +157,7 @@ TpduShows (Err failed) before tpdu course keeps kept from to = CutsOffTpdu befor
 -- inside it: the link was given it
 pub record ShowsCourse (course : Course) (reply : TraceItem) (kept : Option Answer) (from to : End) : Type 0 where
   pub own : List TraceItem
+  pub may : MayShowAll from.parts.is_on (steps_of course) own to.parts.is_on
   pub shows : CourseShows course own reply kept
   pub counted : IsCounted from.parts.meter to.parts.meter (armed_after from.waiting (steps_of course)) own
   pub waits : to.waiting ≡ waiting_after from.waiting (steps_of course)

@@ -25,11 +25,13 @@ use Rattle.uicc_types.specs.declared.runs.Step.TheVariants as step
 use Rattle.uicc_types.specs.declared.runs.TraceItem.{TraceItem}
 use Rattle.uicc_types.specs.declared.runs.TraceItem.TheVariants as item
 
--- the card with its power and what its store stands for, where that tells its bytes; what the sink has taken; the counts of the
--- device; the minds in the boxes; whether the card still has to wake them, as after a fault; and the plan that waits
+-- the card with its power and what its store stands for, where that tells its bytes; whether it has power, which is known over any
+-- store; what the sink has taken; the counts of the device; the minds in the boxes; whether the card still has to wake them, as after a
+-- fault; and the plan that waits
 pub record Moment : Type 0 where
   pub machine : Option Machine
   pub held : Option Persistent
+  pub is_on : Bool
   pub taken : Option (List ℕ)
   pub meter : Meter
   pub boxes : List (Option AppletState)
@@ -37,7 +39,7 @@ pub record Moment : Type 0 where
   pub waiting : Plan
 
 abbrev pub moment : CardParts → Option (List ℕ) → Plan → Moment
-moment parts taken waiting = record { machine = machine_of parts; held = held_by parts; taken = taken; meter = parts.meter; boxes = parts.boxes; is_due = parts.is_due; waiting = waiting }
+moment parts taken waiting = record { machine = machine_of parts; held = held_by parts; is_on = parts.is_on; taken = taken; meter = parts.meter; boxes = parts.boxes; is_due = parts.is_due; waiting = waiting }
 
 -- of these items the sink has taken the lines of all but the last, and the beginning of that one's, be it none or all
 pub record IsCutOff (pending : List TraceItem) (front : List ℕ) : Type 0 where
@@ -129,6 +131,16 @@ IsBare item.Reset = ⊤
 IsBare item.Cut = ⊤
 IsBare item.Off = ⊤
 IsBare item.EepromFailed = ⊤
+
+-- What may come of a command, by the power before it and behind it: with power an answer, or that it was lost; and without, that there
+-- was none.
+abbrev pub IsReply : Bool → TraceItem → Bool → Type 0
+IsReply on (item.Answer body status) after = (on ≡ true) × IsBare (item.Answer body status) × (after ≡ true)
+IsReply on item.Cut after = (on ≡ true) × (after ≡ false)
+IsReply on item.Off after = (on ≡ false) × (after ≡ false)
+IsReply on (item.Command apdu) after = ⊥
+IsReply on item.Reset after = ⊥
+IsReply on item.EepromFailed after = ⊥
 
 -- ---- inside a step
 

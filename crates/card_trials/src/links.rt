@@ -9,7 +9,7 @@ use card_core::{CardOver, OpenFault};
 use card_steps::{CardEnd, Carrier};
 use eeprom_model::BenchEeprom;
 use layout_section::{Section, format};
-use phone_runs::{PhoneMove, play_on_phone, start_phone};
+use phone_runs::{PhoneMove, Places, play_on_phone, start_phone};
 use script_form::{HandsetLine, Note};
 use std::alloc::Global;
 use std::test::Fail;
@@ -167,8 +167,9 @@ fn polled<S: Store + Drop, B: Applet, W: Sink>(
 ) -> Option<StatusWord> {
     let mut phone = Phone::new();
     let mut answer = Answer::new();
+    let mut places = Places::new();
     let mut link = Link::new();
-    start_phone(card, &mut Carrier::Direct, &mut phone, &mut answer, trace).ok()?;
+    start_phone(card, &mut Carrier::Direct, &mut phone, &mut places, trace).ok()?;
     link.exchange(card, b"\x00\xA4\x00\x04\x02\x3F\x00", &mut answer)
         .ok()?;
     let length = answer.status.0.checked_sub(0x6100)?;
@@ -176,7 +177,7 @@ fn polled<S: Store + Drop, B: Applet, W: Sink>(
     let poll = PhoneMove::Hears(&HandsetLine::NetPoll);
     if is_linked {
         let mut carrier = Carrier::Link(link);
-        play_on_phone(card, &mut carrier, &mut phone, poll, &mut answer, trace).ok()?;
+        play_on_phone(card, &mut carrier, &mut phone, poll, &mut places, trace).ok()?;
         match carrier {
             Carrier::Link(behind) => link = behind,
             Carrier::Direct => return None,
@@ -187,7 +188,7 @@ fn polled<S: Store + Drop, B: Applet, W: Sink>(
             &mut Carrier::Direct,
             &mut phone,
             poll,
-            &mut answer,
+            &mut places,
             trace,
         )
         .ok()?;

@@ -13,11 +13,10 @@ ghost use Rattle.uicc_types.specs.Counts.{Rose};
 use crate::lines::LoadLines;
 use applet_trait::Applet;
 use card_steps::{CardEnd, Carrier, StepEnd};
-use phone_runs::{PhoneMove, play_on_phone, start_phone};
+use phone_runs::{PhoneMove, Places, play_on_phone, start_phone};
 use store_form::Store;
 use terminal_side::Phone;
 use trace_counts::{CountingSink, Counts, counts_are_those_of_the_lines};
-use uicc_types::Answer;
 
 /// The memory failed in a reset.
 #[derive(Clone, Copy, Debug, PartialEq, Eq)]
@@ -37,10 +36,10 @@ pub fn count_lines<S: Store, B: Applet>(
 {
     counts_are_those_of_the_lines();
     let mut carrier = Carrier::Direct;
-    let mut answer = Answer::new();
+    let mut places = Places::new();
     let mut phone = Phone::new();
     let mut sink = CountingSink::new();
-    match start_phone(card, &mut carrier, &mut phone, &mut answer, &mut sink) {
+    match start_phone(card, &mut carrier, &mut phone, &mut places, &mut sink) {
         Ok(()) => {
             let mut lines = LoadLines::new(start, count);
             match serve_all(
@@ -48,7 +47,7 @@ pub fn count_lines<S: Store, B: Applet>(
                 &mut lines,
                 &mut carrier,
                 &mut phone,
-                &mut answer,
+                &mut places,
                 &mut sink,
             ) {
                 Ok(()) => Ok(sink.counts()),
@@ -66,7 +65,7 @@ fn serve_all<S: Store, B: Applet>(
     lines: &mut LoadLines,
     carrier: &mut Carrier,
     phone: &mut Phone,
-    answer: &mut Answer,
+    places: &mut Places,
     sink: &mut CountingSink,
 ) -> Result<(), MemoryFailed>
     requires rest { IsAtRest phone.old }
@@ -78,7 +77,7 @@ fn serve_all<S: Store, B: Applet>(
     ensures failed { IsErr result → Rose card.old.parts.meter.faults card.new.parts.meter.faults }
 {
     loop {
-        match serve_next(card, lines, carrier, phone, answer, sink) {
+        match serve_next(card, lines, carrier, phone, places, sink) {
             Ok(true) => {}
             Ok(false) => return Ok(()),
             Err(failed) => return Err(failed),
@@ -92,7 +91,7 @@ fn serve_next<S: Store, B: Applet>(
     lines: &mut LoadLines,
     carrier: &mut Carrier,
     phone: &mut Phone,
-    answer: &mut Answer,
+    places: &mut Places,
     sink: &mut CountingSink,
 ) -> Result<bool, MemoryFailed>
     requires rest { IsAtRest phone.old }
@@ -109,7 +108,7 @@ fn serve_next<S: Store, B: Applet>(
     match lines.next() {
         None => Ok(false),
         Some(line) => {
-            match play_on_phone(card, carrier, phone, PhoneMove::Hears(&line), answer, sink) {
+            match play_on_phone(card, carrier, phone, PhoneMove::Hears(&line), places, sink) {
                 Ok(()) => Ok(true),
                 Err(StepEnd::ResetFailed) => Err(MemoryFailed),
                 Err(StepEnd::SinkFailed) => unreachable!(),

@@ -1,6 +1,6 @@
 -- From one event of a run to the next, and from one line to the next, whatever the memory tells.
-use Rattle.std.proofs.Common.{◌≡◌, ℕ, true, false, List, [], ◌∷◌, ◌++◌, Option, Some, None, Err, refl, sym, ap, ◌∙◌, append_assoc, subst}
-use Rattle.std.proofs.lemmas.List.{append-nil, reverse-append}
+use Rattle.std.proofs.Common.{◌≡◌, ℕ, true, List, [], ◌∷◌, ◌++◌, Option, Some, None, refl, sym, ap, ◌∙◌, append_assoc, subst}
+use Rattle.std.proofs.lemmas.List.{append-nil}
 use Rattle.std.specs.Io.KnownBytes.{append_known}
 use Rattle.byte_streams.specs.Lines.{LineList}
 use Rattle.byte_streams.specs.Streams.{TakesFront}
@@ -14,17 +14,17 @@ use Rattle.card_sections.specs.declared.behind.PlayEnd.TheVariants.{Finished, Ba
 use Rattle.card_sections.specs.declared.script_reader.ScriptReader.{ScriptReader}
 use Rattle.card_steps.proofs.StepLemmas.{told_more}
 use Rattle.card_steps.specs.Ends.{End, moment_at}
+use Rattle.card_steps.specs.RunLaws.{shows_one, shows_then}
 use Rattle.card_steps.specs.Runs.{text_of}
-use Rattle.card_steps.specs.Showing.{CutsOffStep, MayBreakOff, ShowsLast, ShowsStep, ShowsStepEnd}
+use Rattle.card_steps.specs.Showing.{CutsOffStep, MayBreakOff, MayShowAll, ShowsLast, ShowsStep, ShowsStepEnd}
 use Rattle.card_steps.specs.Stepping.{Moment, exchanged, restarted_by}
 use Rattle.card_steps.specs.declared.steps.Reply.{Reply}
 use Rattle.card_steps.specs.declared.steps.Restarted.{Restarted as AReset}
 use Rattle.card_steps.specs.declared.steps.StepEnd.{StepEnd}
 use Rattle.card_steps.specs.declared.steps.StepEnd.TheVariants.{SinkFailed, ResetFailed}
 use Rattle.handset_model.specs.History.{Happened, Noted, Said, Sent}
-use Rattle.handset_model.specs.Legal.{IsOrderly, Seen}
+use Rattle.handset_model.specs.Legal.{Seen}
 use Rattle.handset_model.specs.Rules.{asked}
-use Rattle.handset_model.specs.Sending.{apdu_of}
 use Rattle.handset_model.specs.declared.known.Duty.{Duty}
 use Rattle.handset_model.specs.declared.known.Duty.TheVariants.{Rest, Transmit, Show, ResetCard}
 use Rattle.handset_model.specs.declared.steps.PhoneStep.{PhoneStep}
@@ -34,8 +34,8 @@ use Rattle.phone_runs.proofs.LineLemmas.{served_more, served_none, told_none, to
 use Rattle.phone_runs.proofs.Logging.{GoesOnBy, IsFrontTaken, lines_reset, lines_sent, plans_behind, resets_on, sends_on, shown_noted, steps_planned, text-append, text_noted, waiting_behind, with_reply, with_reset}
 use Rattle.phone_runs.proofs.Serves.{IsAskedOf, at_rest, front_taken, note_keeps, note_so, reset_keeps, reset_so, sent_so, stays}
 use Rattle.phone_runs.specs.Effects.{may_be_heard, phone_lines_of}
-use Rattle.phone_runs.specs.Lines.{EndsAmid, told_back}
-use Rattle.phone_runs.specs.Logs.{Event, Happens, Plans, AreInTurn, PhoneLine, history, lines_back, shown, steps, trace}
+use Rattle.phone_runs.specs.Lines.{EndsAmid}
+use Rattle.phone_runs.specs.Logs.{Event, Happens, Plans, PhoneLine, history, lines_back, shown, steps, trace}
 use Rattle.phone_runs.specs.Serving.{IsPhoneServed, replied, reset_by}
 use Rattle.phone_runs.specs.Showing.{BeginsShowing, CutsIn, CutsInStep, CutsOff, IsShowing, Outset, PhoneShows, PhoneShowsTo, ServesShowing, ShowsAll, ShowsEnd, ShowsFailure, ShowsMore, StartsShowing, StopsShowing}
 use Rattle.phone_runs.specs.Traces.{entries_text, note_line}
@@ -60,8 +60,12 @@ shows_by : CountsJoin → PlansAreSetInOrder → (given : Outset) (log later : L
 shows_by join order given log later step items phone mid from to goes keeps takes at =
     let taken = takes (given.before ++ entries_text (trace log)) at.written in
     record {
-      orderly = goes.orderly at.orderly;
-      in_turn = goes.in_turn at.in_turn;
+      happens = record {
+        orderly = goes.orderly at.happens.orderly;
+        in_turn = goes.in_turn at.happens.in_turn;
+        may = subst (λ s. MayShowAll true s (shown later) to.is_on) (sym goes.steps_are) (subst (λ i. MayShowAll true (steps log ++ step ∷ []) i to.is_on) (sym goes.shown_is)
+            (shows_then (steps log) (step ∷ []) true from.is_on to.is_on (shown log) items at.happens.may (shows_one from.is_on to.is_on step items taken.may)));
+      };
       keeps = keeps;
       written = taken.written ∙ ap Some (append_assoc given.before (entries_text (trace log)) (text_of items) ∙ ap (λ rest. given.before ++ rest) (sym goes.text_is));
       counted = subst (λ s. IsCounted given.meter to.meter (plan_given s) (shown later)) (sym goes.steps_are)
@@ -78,9 +82,9 @@ fails_as join order given log phone from to last is resets at written counted =
     let says : List TraceItem = item.EepromFailed ∷ [] in
     record {
       log = log;
+      on = from.is_on;
       lines_are = refl;
-      orderly = at.orderly;
-      in_turn = at.in_turn;
+      happens = at.happens;
       resets = resets;
       written = subst (λ l. to.taken ≡ Some ((given.before ++ entries_text (trace log)) ++ text_of l)) is written
           ∙ ap Some (append_assoc given.before (entries_text (trace log)) (text_of says) ∙ ap (λ rest. given.before ++ rest) (sym (text-append (trace log) (Seen item.EepromFailed ∷ []))));
@@ -96,21 +100,21 @@ fails_by join order given log phone from to resets ends at =
     fails_as join order given log phone from to last.shown last.may resets at last.written last.counted
 
 -- the sink failed in a step
-cuts_by : CountsJoin → (given : Outset) (log : List Event) (phone : Kept) (step : Step) (from to : Moment) → ((before : List ℕ) → from.taken ≡ Some before → CutsOffStep before step from to) → IsShowing given log phone from → CutsInStep given log step to
+cuts_by : CountsJoin → (given : Outset) (log : List Event) (phone : Kept) (step : Step) (from to : Moment) → ((before : List ℕ) → from.taken ≡ Some before → CutsOffStep before step from to) → IsShowing given log phone from → CutsInStep given log from.is_on step to
 cuts_by join given log phone step from to cuts at =
     let broken = cuts (given.before ++ entries_text (trace log)) at.written in
     record {
       pending = broken.pending;
       front = broken.front;
       set = broken.set;
-      may = subst (λ w. MayBreakOff step broken.pending (armed_after w (step ∷ [])) broken.set) at.waits broken.may;
+      may = subst (λ w. MayBreakOff from.is_on step broken.pending (armed_after w (step ∷ [])) broken.set) at.waits broken.may;
       cut_off = broken.cut_off;
       written = broken.written;
       counted = join given.meter from.meter to.meter (plan_given (steps log)) broken.set (shown log) broken.pending at.counted broken.counted;
     }
 
-cut_at : (given : Outset) (log : List Event) (phone : Kept) (from now : Moment) (duty : Duty) → asked (history log) ≡ duty → IsShowing given log phone from → CutsIn given log now duty → CutsOff given (lines_back log) now
-cut_at given log phone from now duty is at cut = record { log = log; lines_are = refl; orderly = at.orderly; in_turn = at.in_turn; cut = subst (λ d. CutsIn given log now d) (sym is) cut }
+cut_at : (given : Outset) (log : List Event) (phone : Kept) (from now : Moment) (duty : Duty) → asked (history log) ≡ duty → IsShowing given log phone from → CutsIn given log from.is_on now duty → CutsOff given (lines_back log) now
+cut_at given log phone from now duty is at cut = record { log = log; on = from.is_on; lines_are = refl; happens = at.happens; cut = subst (λ d. CutsIn given log from.is_on now d) (sym is) cut }
 
 -- ---- what is asked for
 
@@ -120,7 +124,7 @@ none_shows old mid given log now asking served at =
     record {
       log = log;
       lines_are = refl;
-      at = record { orderly = at.orderly; in_turn = at.in_turn; keeps = stays old mid (history log) asking rest at.keeps; written = at.written; counted = at.counted; waits = at.waits };
+      at = record { happens = at.happens; keeps = stays old mid (history log) asking rest at.keeps; written = at.written; counted = at.counted; waits = at.waits };
       done = rest;
     }
 
@@ -137,7 +141,7 @@ sent_shows join order old mid new found apdu outcome answer given log from to as
           (subst Takes (sym sent.bytes) takes) at;
     }
 
-sent_end : CountsJoin → (given : Outset) (log : List Event) (apdu : List ℕ) (duty : Duty) (end : StepEnd) (phone : Kept) (from to : Moment) → asked (history log) ≡ duty → (CutsInStep given log (step.Apdu apdu) to → CutsIn given log to duty)
+sent_end : CountsJoin → (given : Outset) (log : List Event) (apdu : List ℕ) (duty : Duty) (end : StepEnd) (phone : Kept) (from to : Moment) → asked (history log) ≡ duty → (CutsInStep given log from.is_on (step.Apdu apdu) to → CutsIn given log from.is_on to duty)
     → ((before : List ℕ) → from.taken ≡ Some before → ShowsStepEnd end before (step.Apdu apdu) from to) → IsShowing given log phone from → ShowsEnd given (lines_back log) to end
 sent_end join given log apdu duty SinkFailed phone from to is so gives at = cut_at given log phone from to duty is at (so (cuts_by join given log phone (step.Apdu apdu) from to gives at))
 sent_end join given log apdu duty ResetFailed phone from to is so gives at = let last = gives (given.before ++ entries_text (trace log)) at.written in absurd last.may
@@ -146,7 +150,7 @@ pub sent_shows_end : CountsJoin → (old mid : Kept) (found : Option PhoneStep) 
     → ((before : List ℕ) → from.taken ≡ Some before → ShowsStepEnd end before (step.Apdu apdu) from to) → IsShowing given log old from → ShowsEnd given (lines_back log) to end
 sent_shows_end join old mid found apdu end given log from to asking is gives at =
     let sent = sent_so old mid found apdu (history log) asking is at.keeps in
-    sent_end join given log apdu (Transmit sent.command) end old from to sent.asked_is (λ cut. subst (λ a. CutsInStep given log (step.Apdu a) to) (sym sent.bytes) cut) gives at
+    sent_end join given log apdu (Transmit sent.command) end old from to sent.asked_is (λ cut. subst (λ a. CutsInStep given log from.is_on (step.Apdu a) to) (sym sent.bytes) cut) gives at
 
 pub reset_shows : CountsJoin → PlansAreSetInOrder → (old mid new : Kept) (found : Option PhoneStep) (outcome : AReset) (given : Outset) (log : List Event) (from to : Moment) → IsAskedOf old mid found → found ≡ Some wish.Reset
     → ((h : List Happened) → mid ≡ kept h → new ≡ kept (reset_by outcome ∷ h)) → ((before : List ℕ) → from.taken ≡ Some before → ShowsStep (restarted_by outcome) before step.Reset from to)
@@ -176,8 +180,7 @@ note_shows old mid found note given log from taken asking is more at =
       log = Happens (Noted note) ∷ log;
       lines_are = refl;
       at = record {
-        orderly = (shows, at.orderly);
-        in_turn = at.in_turn;
+        happens = record { orderly = (shows, at.happens.orderly); in_turn = at.happens.in_turn; may = subst (λ i. MayShowAll true (steps log) i from.is_on) (sym (shown_noted note log)) at.happens.may };
         keeps = note_keeps old mid found note (history log) asking shows at.keeps;
         written = told_more from.taken taken (note_line note) (given.before ++ entries_text (trace log)) more at.written
             ∙ ap Some (append_assoc given.before (entries_text (trace log)) (note_line note) ∙ ap (λ rest. given.before ++ rest) (sym (text_noted note log)));
@@ -207,12 +210,16 @@ end_again given told other now end same ended = subst (λ t. ShowsEnd given t no
 -- ---- lines
 
 pub line_heard : (given : Outset) (log : List Event) (line : HandsetLine) (old new : Kept) (now : Moment) → asked (history log) ≡ Rest → new ≡ kept (Said line ∷ history log) → IsShowing given log old now → IsShowing given (Happens (Said line) ∷ log) new now
-line_heard given log line old new now rest keeps at = record { orderly = (rest, at.orderly); in_turn = at.in_turn; keeps = keeps; written = at.written; counted = at.counted; waits = at.waits }
+line_heard given log line old new now rest keeps at = record { happens = record { orderly = (rest, at.happens.orderly); in_turn = at.happens.in_turn; may = at.happens.may }; keeps = keeps; written = at.written; counted = at.counted; waits = at.waits }
 
 plan_so : PlansAreSetInOrder → (given : Outset) (log : List Event) (plan : Plan) (phone : Kept) (now : Moment) → asked (history log) ≡ Rest → IsShowing given log phone now → IsShowing given (Plans plan ∷ log) phone (record now { waiting = joined now.waiting plan })
 plan_so order given log plan phone now rest at = record {
-  orderly = at.orderly;
-  in_turn = (rest, at.in_turn);
+  happens = record {
+    orderly = at.happens.orderly;
+    in_turn = (rest, at.happens.in_turn);
+    may = subst (λ s. MayShowAll true s (shown log) now.is_on) (sym (steps_planned plan log)) (subst (λ i. MayShowAll true (steps log ++ step.Plan plan ∷ []) i now.is_on) (append-nil (shown log))
+        (shows_then (steps log) (step.Plan plan ∷ []) true now.is_on now.is_on (shown log) [] at.happens.may (shows_one now.is_on now.is_on (step.Plan plan) [] (refl, refl))));
+  };
   keeps = at.keeps;
   written = at.written;
   counted = subst (λ l. IsCounted given.meter now.meter l (shown log)) (sym (append-nil (plan_given (steps log))) ∙ sym (order NONE (steps log) (step.Plan plan ∷ [])).0 ∙ ap (λ s. plan_given s) (sym (steps_planned plan log))) at.counted;
@@ -230,8 +237,7 @@ plan_heard order given log plan phone from to taken rest joins at = record {
 
 pub empty_shows : (given : Outset) (phone : Kept) (now : Moment) → phone ≡ kept [] → BeginsShowing given now → IsShowing given [] phone now
 empty_shows given phone now keeps begins = record {
-  orderly = tt;
-  in_turn = tt;
+  happens = record { orderly = tt; in_turn = tt; may = (refl, begins.on) };
   keeps = keeps;
   written = begins.written ∙ ap Some (sym (append-nil given.before));
   counted = begins.counted;
@@ -318,8 +324,8 @@ lines_show text opening given script left left_then end phone now cause serving 
   log = serving.log;
   are_served = serving.are_served;
   told = serving.told;
-  in_turn = serving.at.in_turn;
-  legal = record { history = history serving.log; is_of = is_of serving.log serving.at.orderly; rests = serving.rests };
+  happens = serving.at.happens;
+  legal = record { history = history serving.log; is_of = is_of serving.log serving.at.happens.orderly; rests = serving.rests };
   cause = cause serving.found serving.follows;
   written = serving.at.written;
   counted = serving.at.counted;

@@ -1,4 +1,4 @@
--- What a handset's run shows, whatever the card's memory tells: as in `Runs` and `Lines`, with nothing said of the card itself.
+-- What a handset's run shows, whatever the card's memory tells: as in `Runs` and `Lines`, with nothing said of the card itself but its power.
 use Rattle.std.specs.Prelude.{◌≡◌, ℕ, true, false, List, [], ◌∷◌, ◌++◌, Option, Some, Result, Ok, Err, Bool}
 use Rattle.byte_streams.specs.Lines.{LineList, lines as text_lines}
 use Rattle.card_model.specs.Counts.{IsCounted}
@@ -9,7 +9,7 @@ use Rattle.card_sections.specs.Script.{AreRead}
 use Rattle.card_sections.specs.declared.behind.PlayEnd.{PlayEnd}
 use Rattle.card_sections.specs.declared.behind.PlayEnd.TheVariants.{Finished, BadLine, ReadFailed, SinkFailed as SinkEnded, ResetFailed as ResetEnded}
 use Rattle.card_sections.specs.declared.script_reader.ScriptReader.{ScriptReader}
-use Rattle.card_steps.specs.Showing.{MayBreakOff}
+use Rattle.card_steps.specs.Showing.{MayBreakOff, MayShowAll}
 use Rattle.card_steps.specs.Stepping.{IsCutOff, Moment}
 use Rattle.card_steps.specs.declared.steps.StepEnd.{StepEnd}
 use Rattle.card_steps.specs.declared.steps.StepEnd.TheVariants.{SinkFailed, ResetFailed}
@@ -39,18 +39,25 @@ pub record Outset : Type 0 where
   pub before : List ℕ
   pub meter : Meter
 
--- This has happened so far, each thing as it was asked for, all that it shows was taken, the device has counted what is seen of the card,
--- and this is what the handset keeps.
-pub record IsShowing (given : Outset) (log : List Event) (phone : Kept) (now : Moment) : Type 0 where
+-- This happened at a handset over a card that has this power behind it: each event is one that was asked for, a plan stands between two
+-- lines, and what is seen of the card is what its commands, resets and plans may show.
+pub record MayHappen (log : List Event) (on : Bool) : Type 0 where
   pub orderly : IsOrderly (history log)
   pub in_turn : AreInTurn log
+  pub may : MayShowAll true (steps log) (shown log) on
+
+-- This has happened so far, all that it shows was taken, the device has counted what is seen of the card, and this is what the handset
+-- keeps.
+pub record IsShowing (given : Outset) (log : List Event) (phone : Kept) (now : Moment) : Type 0 where
+  pub happens : MayHappen log now.is_on
   pub keeps : phone ≡ kept (history log)
   pub written : now.taken ≡ Some (given.before ++ entries_text (trace log))
   pub counted : IsCounted given.meter now.meter (plan_given (steps log)) (shown log)
   pub waits : now.waiting ≡ waiting_after NONE (steps log)
 
--- nothing has happened yet
+-- nothing has happened yet, and the card has power
 pub record BeginsShowing (given : Outset) (now : Moment) : Type 0 where
+  pub on : now.is_on ≡ true
   pub written : now.taken ≡ Some given.before
   pub counted : IsCounted given.meter now.meter [] []
   pub waits : now.waiting ≡ NONE
@@ -58,11 +65,11 @@ pub record BeginsShowing (given : Outset) (now : Moment) : Type 0 where
 -- ---- how it ends before the handset rests
 
 -- the sink failed in a step, of which the trace shows its lines up to somewhere in the last of them
-pub record CutsInStep (given : Outset) (log : List Event) (step : Step) (now : Moment) : Type 0 where
+pub record CutsInStep (given : Outset) (log : List Event) (on : Bool) (step : Step) (now : Moment) : Type 0 where
   pub pending : List TraceItem
   pub front : List ℕ
   pub set : List Plan
-  pub may : MayBreakOff step pending (armed_after (waiting_after NONE (steps log)) (step ∷ [])) set
+  pub may : MayBreakOff on step pending (armed_after (waiting_after NONE (steps log)) (step ∷ [])) set
   pub cut_off : IsCutOff pending front
   pub written : now.taken ≡ Some (given.before ++ entries_text (trace log) ++ front)
   pub counted : IsCounted given.meter now.meter (plan_given (steps log) ++ set) (shown log ++ pending)
@@ -75,27 +82,27 @@ pub record CutsInNote (given : Outset) (log : List Event) (note : Note) (now : M
   pub counted : IsCounted given.meter now.meter (plan_given (steps log)) (shown log)
 
 -- the sink failed in what is asked for
-abbrev pub CutsIn : Outset → List Event → Moment → Duty → Type 0
-CutsIn given log now (Transmit command) = CutsInStep given log (step.Apdu (apdu_of command)) now
-CutsIn given log now ResetCard = CutsInStep given log step.Reset now
-CutsIn given log now (Show note) = CutsInNote given log note now
-CutsIn given log now Rest = ⊥
-CutsIn given log now Await = ⊥
+abbrev pub CutsIn : Outset → List Event → Bool → Moment → Duty → Type 0
+CutsIn given log on now (Transmit command) = CutsInStep given log on (step.Apdu (apdu_of command)) now
+CutsIn given log on now ResetCard = CutsInStep given log on step.Reset now
+CutsIn given log on now (Show note) = CutsInNote given log note now
+CutsIn given log on now Rest = ⊥
+CutsIn given log on now Await = ⊥
 
 -- The sink failed: it has taken all that these lines have shown before, and of what was asked for next the beginning.
 pub record CutsOff (given : Outset) (told : List PhoneLine) (now : Moment) : Type 0 where
   pub log : List Event
+  pub on : Bool
   pub lines_are : lines_back log ≡ told
-  pub orderly : IsOrderly (history log)
-  pub in_turn : AreInTurn log
-  pub cut : CutsIn given log now (asked (history log))
+  pub happens : MayHappen log on
+  pub cut : CutsIn given log on now (asked (history log))
 
 -- The memory failed in a reset that was asked for: the trace says so behind all that these lines have shown before.
 pub record ShowsFailure (given : Outset) (told : List PhoneLine) (now : Moment) : Type 0 where
   pub log : List Event
+  pub on : Bool
   pub lines_are : lines_back log ≡ told
-  pub orderly : IsOrderly (history log)
-  pub in_turn : AreInTurn log
+  pub happens : MayHappen log on
   pub resets : asked (history log) ≡ ResetCard
   pub written : now.taken ≡ Some (given.before ++ entries_text (trace log ++ Seen item.EepromFailed ∷ []))
   pub counted : IsCounted given.meter now.meter (plan_given (steps log ++ step.Reset ∷ [])) (shown log ++ item.EepromFailed ∷ [])
@@ -152,14 +159,14 @@ pub record StartsShowing (text : List ℕ) (opening : List ScriptLine) (given : 
   pub begins : BeginsShowing given now
 
 -- The lines ended so: the trace is one that the rules of the handset ask for by them, the sink has taken it, and the device has counted what is
--- seen of the card in it.
+-- seen of the card in it, which is what its steps may show.
 pub record PhoneShows (text : List ℕ) (opening : List ScriptLine) (given : Outset) (left : Option (List ℕ)) (end : PlayEnd) (now : Moment) : Type 0 where
   pub found : LineList
   pub played : List ScriptLine
   pub log : List Event
   pub are_served : AreServed opening found played
   pub told : lines_back log ≡ told_back played
-  pub in_turn : AreInTurn log
+  pub happens : MayHappen log now.is_on
   pub legal : IsLegal (heard (lines log)) (trace log)
   pub cause : StopsReading may_be_heard text found left end
   pub written : now.taken ≡ Some (given.before ++ entries_text (trace log))

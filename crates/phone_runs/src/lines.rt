@@ -14,6 +14,7 @@ ghost use Rattle.uicc_types.specs.Counts.{CountsFailure, Rose};
 
 use crate::effects::{PhoneEffect, effect_on_phone};
 use crate::playing::{play_on_phone, start_phone};
+use crate::serving::Places;
 use applet_trait::Applet;
 use byte_streams::{Sink, Source};
 use card_sections::{PlayEnd, ScriptReader, read_behind};
@@ -21,7 +22,6 @@ use card_steps::{CardEnd, Carrier, StepEnd};
 use script_form::ScriptLine;
 use store_form::Store;
 use terminal_side::Phone;
-use uicc_types::Answer;
 
 /// Starts a handset on a card that was just opened, carries out the lines after `start`, each as soon as its end was read, and
 /// answers why the run ends. What the handset sends goes to the card by the carrier, and the trace is the same over each. It takes no
@@ -52,16 +52,16 @@ pub fn serve_lines<S: Store, B: Applet, R: Source, W: Sink>(
     ensures source_cause { CountsFailure (R.faults source.old) (R.faults source.new)
         (result ≡ PlayEnd.ReadFailed) }
 {
-    let mut answer = Answer::new();
+    let mut places = Places::new();
     let mut phone = Phone::new();
-    match start_phone(card, carrier, &mut phone, &mut answer, trace) {
+    match start_phone(card, carrier, &mut phone, &mut places, trace) {
         Ok(()) => serve_on(
             script,
             source,
             card,
             carrier,
             &mut phone,
-            &mut answer,
+            &mut places,
             trace,
         ),
         Err(end) => end_of(end),
@@ -75,7 +75,7 @@ fn serve_on<S: Store, B: Applet, R: Source, W: Sink>(
     card: &mut CardEnd<S, B>,
     carrier: &mut Carrier,
     phone: &mut Phone,
-    answer: &mut Answer,
+    places: &mut Places,
     trace: &mut W,
 ) -> PlayEnd
     requires between { IsBetweenLines script.old phone.old }
@@ -102,7 +102,7 @@ fn serve_on<S: Store, B: Applet, R: Source, W: Sink>(
     let mut line = ScriptLine::Passed;
     loop {
         if let Err(end) = serve_line(
-            script, source, &mut line, card, carrier, phone, answer, trace,
+            script, source, &mut line, card, carrier, phone, places, trace,
         ) {
             return end;
         }
@@ -117,7 +117,7 @@ fn serve_line<S: Store, B: Applet, R: Source, W: Sink>(
     card: &mut CardEnd<S, B>,
     carrier: &mut Carrier,
     phone: &mut Phone,
-    answer: &mut Answer,
+    places: &mut Places,
     trace: &mut W,
 ) -> Result<(), PlayEnd>
     requires between { IsBetweenLines script.old phone.old }
@@ -150,7 +150,7 @@ fn serve_line<S: Store, B: Applet, R: Source, W: Sink>(
             PhoneEffect::Nothing => Ok(()),
             PhoneEffect::OutOfPlace => Err(PlayEnd::BadLine(script.number())),
             PhoneEffect::Takes(act) => {
-                match play_on_phone(card, carrier, phone, act, answer, trace) {
+                match play_on_phone(card, carrier, phone, act, places, trace) {
                     Ok(()) => Ok(()),
                     Err(end) => Err(end_of(end)),
                 }

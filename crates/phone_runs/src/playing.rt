@@ -12,7 +12,7 @@ ghost use Rattle.phone_runs.specs.Showing.{BeginsShowing, IsShowing, Outset, Sho
 ghost use Rattle.terminal_side.specs.Kept.{unstarted};
 ghost use Rattle.uicc_types.specs.Counts.{Rose};
 
-use crate::serving::settle;
+use crate::serving::{Places, settle};
 use applet_trait::Applet;
 use byte_streams::Sink;
 use card_model::plans_are_set_in_order;
@@ -20,7 +20,7 @@ use card_steps::{CardEnd, Carrier, StepEnd};
 use script_form::HandsetLine;
 use store_form::Store;
 use terminal_side::Phone;
-use uicc_types::{Answer, Plan};
+use uicc_types::Plan;
 
 /// What a line is for the handset.
 #[derive(Clone, Copy, Debug)]
@@ -38,7 +38,7 @@ pub fn start_phone<S: Store, B: Applet, W: Sink>(
     card: &mut CardEnd<S, B>,
     carrier: &mut Carrier,
     phone: &mut Phone,
-    answer: &mut Answer,
+    places: &mut Places,
     trace: &mut W,
 ) -> Result<(), StepEnd>
     requires new { phone.old ≡ unstarted }
@@ -54,7 +54,7 @@ pub fn start_phone<S: Store, B: Applet, W: Sink>(
         (result ≡ Err StepEnd.SinkFailed) }
 {
     phone.start();
-    settle(card, carrier, phone, answer, trace)
+    settle(card, carrier, phone, places, trace)
 }
 
 /// Carries out a line, and does all that the handset asks for then. Faults that are planned wait for the next command or reset.
@@ -63,7 +63,7 @@ pub fn play_on_phone<S: Store, B: Applet, W: Sink>(
     carrier: &mut Carrier,
     phone: &mut Phone,
     line: PhoneMove<'_>,
-    answer: &mut Answer,
+    places: &mut Places,
     trace: &mut W,
 ) -> Result<(), StepEnd>
     requires rest { IsAtRest phone.old }
@@ -85,8 +85,8 @@ pub fn play_on_phone<S: Store, B: Applet, W: Sink>(
 {
     plans_are_set_in_order();
     match line {
-        PhoneMove::Hears(line) => hear_line(card, carrier, phone, line, answer, trace),
-        PhoneMove::Reset => hear_line(card, carrier, phone, &HandsetLine::Reset, answer, trace),
+        PhoneMove::Hears(line) => hear_line(card, carrier, phone, line, places, trace),
+        PhoneMove::Reset => hear_line(card, carrier, phone, &HandsetLine::Reset, places, trace),
         PhoneMove::Plans(plan) => {
             card.plan(plan);
             Ok(())
@@ -100,7 +100,7 @@ fn hear_line<S: Store, B: Applet, W: Sink>(
     carrier: &mut Carrier,
     phone: &mut Phone,
     line: &HandsetLine,
-    answer: &mut Answer,
+    places: &mut Places,
     trace: &mut W,
 ) -> Result<(), StepEnd>
     requires rest { IsAtRest phone.old }
@@ -122,5 +122,5 @@ fn hear_line<S: Store, B: Applet, W: Sink>(
         (result ≡ Err StepEnd.SinkFailed) }
 {
     phone.input(line);
-    settle(card, carrier, phone, answer, trace)
+    settle(card, carrier, phone, places, trace)
 }

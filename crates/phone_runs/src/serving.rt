@@ -21,12 +21,33 @@ use store_form::Store;
 use terminal_side::{Next, Phone};
 use uicc_types::{Answer, ApduBytes};
 
+/// The places of what goes between a handset and its card, which are used again for each command.
+#[derive(Debug, Drop)]
+pub struct Places {
+    // What the handset sends, and what it notes.
+    apdu: ApduBytes,
+    note: Note,
+    // What the card answers.
+    answer: Answer,
+}
+
+impl Places {
+    /// The places of a run.
+    pub fn new() -> Places {
+        Places {
+            apdu: ApduBytes::new(),
+            note: Note::Call,
+            answer: Answer::new(),
+        }
+    }
+}
+
 /// Does all that the handset asks for, until it rests.
 pub fn settle<S: Store, B: Applet, W: Sink>(
     card: &mut CardEnd<S, B>,
     carrier: &mut Carrier,
     phone: &mut Phone,
-    answer: &mut Answer,
+    places: &mut Places,
     trace: &mut W,
 ) -> Result<(), StepEnd>
     requires served { IsPhoneServed phone.old }
@@ -43,10 +64,8 @@ pub fn settle<S: Store, B: Applet, W: Sink>(
     ensures tallies { Tallies (tally W.Sink card.old trace.old) (tally W.Sink card.new trace.new)
         (result ≡ Err StepEnd.SinkFailed) }
 {
-    let mut apdu = ApduBytes::new();
-    let mut note = Note::Call;
     loop {
-        match serve(card, carrier, phone, &mut apdu, &mut note, answer, trace) {
+        match serve(card, carrier, phone, places, trace) {
             Ok(true) => {}
             Ok(false) => return Ok(()),
             Err(end) => return Err(end),
@@ -54,15 +73,12 @@ pub fn settle<S: Store, B: Applet, W: Sink>(
     }
 }
 
-/// Does the next thing that the handset asks for, and answers whether there was one. What it sends and notes has its places in `apdu` and
-/// `note`.
+/// Does the next thing that the handset asks for, and answers whether there was one.
 fn serve<S: Store, B: Applet, W: Sink>(
     card: &mut CardEnd<S, B>,
     carrier: &mut Carrier,
     phone: &mut Phone,
-    apdu: &mut ApduBytes,
-    note: &mut Note,
-    answer: &mut Answer,
+    places: &mut Places,
     trace: &mut W,
 ) -> Result<bool, StepEnd>
     requires served { IsPhoneServed phone.old }
@@ -83,15 +99,18 @@ fn serve<S: Store, B: Applet, W: Sink>(
     runs_are_counted();
     plans_are_set_in_order();
     lines_end();
-    match phone.next(apdu, note) {
+    match phone.next(&mut places.apdu, &mut places.note) {
         Next::Nothing => Ok(false),
-        Next::Send => match exchange(card, carrier, apdu.as_slice(), answer, trace) {
-            Ok(reply) => {
-                hear(phone, reply, answer);
-                Ok(true)
+        Next::Send => {
+            let apdu = places.apdu.as_slice();
+            match exchange(card, carrier, apdu, &mut places.answer, trace) {
+                Ok(reply) => {
+                    hear(phone, reply, &places.answer);
+                    Ok(true)
+                }
+                Err(end) => Err(end),
             }
-            Err(end) => Err(end),
-        },
+        }
         Next::Reset => match restart(card, trace) {
             Ok(restarted) => {
                 begin_anew(phone, restarted);
@@ -99,7 +118,7 @@ fn serve<S: Store, B: Applet, W: Sink>(
             }
             Err(end) => Err(end),
         },
-        Next::Show => match write_note(trace, note) {
+        Next::Show => match write_note(trace, &places.note) {
             Ok(()) => Ok(true),
             Err(Failed) => Err(StepEnd::SinkFailed),
         },

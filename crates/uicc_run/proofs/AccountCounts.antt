@@ -1,13 +1,13 @@
 -- The trace shows as many failures and losses of power as the card had.
-use Rattle.std.proofs.Common.{◌≡◌, ℕ, ◌+◌, ◌≤◌, List, [], ◌∷◌, ◌++◌, Option, Some, None, inl, inr, refl, sym, ap, ◌∙◌, subst, arith}
+use Rattle.std.proofs.Common.{◌≡◌, ℕ, Bool, ◌+◌, ◌≤◌, List, [], ◌∷◌, ◌++◌, Option, Some, None, inl, inr, refl, sym, ap, ◌∙◌, subst, arith}
 use Rattle.std.proofs.lemmas.List.Sums.{sum_by-append}
-use Rattle.std.specs.Prelude.{cond, count_by}
+use Rattle.std.specs.Prelude.{◌⊎◌, count_by}
 use Rattle.card_model.specs.Counts.{is_cut, is_failure}
 use Rattle.card_steps.proofs.LinkCounts.{IsShownOnce, cut, cut_over, failed, fetched_fits, given_shown, kept_shown, left}
 use Rattle.card_steps.specs.Showing.{CourseShows, MayBreakOffTpdu}
 use Rattle.card_steps.specs.Stepping.{IsBare}
 use Rattle.link_laws.specs.Shown.{item_of, kept_over, shown_for, shown_over}
-use Rattle.t0_link.specs.Linking.{Answers, Linked, Passes, course_of, fetched, given, kept_back, link_answer, misformed}
+use Rattle.t0_link.specs.Linking.{Answers, Course, Linked, Passes, course_of, fetched, given, kept_back, link_answer, misformed}
 use Rattle.t0_link.specs.Tpdus.{apdu_of, p3_of, transfer_in}
 use Rattle.t0_link.specs.declared.tpdus.Transfer.{Transfer}
 use Rattle.t0_link.specs.declared.tpdus.Transfer.TheVariants.{GetResponse, Incoming, Outgoing}
@@ -128,6 +128,16 @@ of_alike after own shown alike = record { failures = alike.failures refl; cuts =
 pub shows_as_many : (deeds : List Deed) (after : Option Answer) (account : Account) → AreShown deeds None account after → ShowsAsMany account.own account.shown
 shows_as_many deeds after account told = of_alike after account.own account.shown (told_alike deeds None after account told)
 
+-- what was to be written of a TPDU: its own line alone, or that and the reply
+abbrev pub IsBroken : List ℕ → Course → List TraceItem → List TraceItem → Option Answer → Option Answer → Type 0
+IsBroken tpdu course own pending before kept =
+    ((own ≡ []) × (pending ≡ item.Command tpdu ∷ []) × (kept ≡ before)) ⊎ ((reply : TraceItem) × CourseShows course own reply kept × (pending ≡ shown_for tpdu reply))
+
+pub shown_broken : (on : Bool) (tpdu : List ℕ) (course : Course) (own pending : List TraceItem) (due set : List Plan) (kept after : Option Answer)
+    → MayBreakOffTpdu on tpdu course own pending due set kept after → IsBroken tpdu course own pending kept after
+shown_broken on tpdu course own pending due set kept after (inl unsent) = inl (unsent.0, unsent.1, unsent.3)
+shown_broken on tpdu course own pending due set kept after (inr sent) = inr (sent.reply, sent.shows, sent.pending_is)
+
 -- and so it is where the sink failed in a line behind them
 module _ (deeds : List Deed) (kept after : Option Answer) (account : Account) (told : AreShown deeds None account kept) where
   alike_before : Alike None kept account.shown account.own
@@ -148,8 +158,8 @@ module _ (deeds : List Deed) (kept after : Option Answer) (account : Account) (t
         cuts = let shown = cuts-append account.shown own in let mine = cuts-append account.own own in omega arith;
       }
 
-  pub shows_in_tpdu : (tpdu : List ℕ) (own pending : List TraceItem) (due set : List Plan) → MayBreakOffTpdu tpdu (link_answer kept tpdu) own pending due set kept after → ShowsAsMany (account.own ++ own) (account.shown ++ pending)
-  shows_in_tpdu tpdu own pending due set (inl unsent) =
-      with_more own pending (as_told kept after kept pending own (item.Command tpdu ∷ []) [] unsent.3 unsent.1 unsent.0 (record { failures = λ none. refl; none_left = λ none. none; cuts = refl }))
-  shows_in_tpdu tpdu own pending due set (inr sent) =
+  pub shows_in_tpdu : (tpdu : List ℕ) (own pending : List TraceItem) → IsBroken tpdu (link_answer kept tpdu) own pending kept after → ShowsAsMany (account.own ++ own) (account.shown ++ pending)
+  shows_in_tpdu tpdu own pending (inl unsent) =
+      with_more own pending (as_told kept after kept pending own (item.Command tpdu ∷ []) [] unsent.2 unsent.1 unsent.0 (record { failures = λ none. refl; none_left = λ none. none; cuts = refl }))
+  shows_in_tpdu tpdu own pending (inr sent) =
       with_more own pending (as_told kept after after pending own (shown_for tpdu sent.0) own refl sent.2 refl (tpdu_alike tpdu kept after own sent.0 sent.1))

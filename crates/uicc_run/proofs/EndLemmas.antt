@@ -1,5 +1,5 @@
 -- A run whose card was open ends as its lines do.
-use Rattle.std.proofs.Common.{◌≡◌, ℕ, Option, List, Result, Ok, Err, refl, sym, ◌∙◌, subst, inl}
+use Rattle.std.proofs.Common.{◌≡◌, ℕ, Result, Ok, Err, refl, sym, subst, inl}
 use Rattle.std.specs.Prelude.{is_some, IsErr}
 use Rattle.card_sections.specs.declared.behind.PlayEnd.{PlayEnd}
 use Rattle.card_sections.specs.declared.behind.PlayEnd.TheVariants as play
@@ -10,7 +10,7 @@ use Rattle.uicc_run.specs.Endings.{status_for}
 use Rattle.uicc_run.specs.Loading.{ending_for_load}
 use Rattle.uicc_run.specs.Scenes.{Scene}
 use Rattle.uicc_run.specs.declared.endings.Ending.{Ending}
-use Rattle.uicc_run.specs.declared.endings.Ending.TheVariants.{Played, Counted, LoadFailed, Usage}
+use Rattle.uicc_run.specs.declared.endings.Ending.TheVariants.{Played}
 use Rattle.uicc_types.specs.Counts.{CountsFailure, Meter, Rose}
 
 for_its_source : (end : PlayEnd) → status_for (Played end) ≡ 3 → end ≡ play.ReadFailed
@@ -54,7 +54,7 @@ ends_played end before after TraceIsSame BoxesAreSame source sink memory tells =
 ends_so : (lines : ℕ) (outcome : Result Counts MemoryFailed) (old new : Meter) (BoxesAreSame : Type 0) → (IsErr outcome → Rose old.faults new.faults) → EndsLoad (ending_for_load lines outcome) old new ⊥ BoxesAreSame
 ends_so lines (Ok counts) old new BoxesAreSame failed = record {
   used = λ is. cc is;
-  played = λ is. cc is;
+  played = λ end is. cc is;
   unread = λ is. cc is;
   unwritten = λ is. cc is;
   untouched = λ none. none;
@@ -63,7 +63,7 @@ ends_so lines (Ok counts) old new BoxesAreSame failed = record {
 }
 ends_so lines (Err fault) old new BoxesAreSame failed = record {
   used = λ is. cc is;
-  played = λ is. cc is;
+  played = λ end is. cc is;
   unread = λ is. cc is;
   unwritten = λ is. cc is;
   untouched = λ none. none;

@@ -1,5 +1,5 @@
 -- From one line after `start` to the next, and why the run ends there.
-use Rattle.std.proofs.Common.{◌≡◌, ℕ, true, false, Bool, List, [], ◌∷◌, ◌++◌, Option, Some, None, refl, sym, ap, ◌∙◌, append_assoc, subst}
+use Rattle.std.proofs.Common.{◌≡◌, ℕ, true, false, List, [], ◌∷◌, ◌++◌, Option, Some, None, refl, sym, ap, ◌∙◌, append_assoc, subst}
 use Rattle.std.proofs.lemmas.List.Elements.{All-push}
 use Rattle.byte_streams.specs.Lines.{LineList}
 use Rattle.card_layout.specs.Persistent.{Persistent}
@@ -17,7 +17,7 @@ use Rattle.script_form.specs.Forms.{IsLine}
 use Rattle.script_form.specs.Reads.{IsOnly}
 use Rattle.script_form.specs.declared.lines.ScriptLine.{ScriptLine}
 use Rattle.script_form.specs.declared.lines.ScriptLine.TheVariants.{Start}
-use Rattle.card_steps.specs.RunLaws.{calm_before, calm_behind, run_ends, run_of, text_of-append}
+use Rattle.card_steps.specs.RunLaws.{calm_before, calm_behind, run_ends, run_of}
 use Rattle.card_steps.specs.Runs.{GoesOn, ends_calm, text_of}
 use Rattle.card_steps.specs.Stepping.{BreaksOff, BreaksStep, EndsStep, Moment, TakesStep}
 use Rattle.card_steps.specs.Tpdus.{BreaksOffTpdu, BreaksTpdu, TakesTpdu, steps_of}
@@ -31,13 +31,10 @@ use Rattle.uicc_run.specs.Steps.{deeds, deeds_of, may_follow, may_stand}
 use Rattle.uicc_run.proofs.AccountCounts.{shows_in_step, shows_in_tpdu, shows_as_many}
 use Rattle.uicc_run.proofs.AccountLemmas.{goes_on, told_one, told_then}
 use Rattle.uicc_run.proofs.RunLemmas.{deeds_none, deeds_one}
-use Rattle.uicc_run.proofs.ShowLemmas.{behind, broken_shows, plans_then, stands_there, told_shows, waiting_then}
+use Rattle.uicc_run.proofs.ShowLemmas.{behind, plans_then, stands_there, told_broken, told_shows, waiting_then}
 use Rattle.uicc_types.specs.declared.answers.Answer.{Answer}
-use Rattle.uicc_types.specs.declared.plans.Plan.{Plan}
-use Rattle.uicc_types.specs.declared.plans.TheConstants.Plan.{NONE}
 use Rattle.uicc_types.specs.declared.runs.Step.{Step}
 use Rattle.uicc_types.specs.declared.runs.Step.TheVariants as step
-use Rattle.uicc_types.specs.declared.runs.TraceItem.{TraceItem}
 
 -- one more line behind `start`
 played_more : (given : Given) (found : LineList) (section played : List ScriptLine) (start : Persistent) (bytes : List ℕ) (line : ScriptLine) → IsPlayed given found section played start → IsOnly (IsLine bytes) line → may_stand given.is_served line ≡ true
@@ -245,8 +242,8 @@ breaks_in_tpdu given script next left left_then kept after from to line tpdu joi
       set = broken.set;
       after = after;
       broken = subst (λ w. BreaksOffTpdu playing.machine tpdu course broken.own broken.pending (armed_after w (steps_of course)) broken.set kept after broken.machine) playing.waits broken.broken;
-      shows = shows_in_tpdu (deeds playing.played) kept after playing.account (shown_so_far given script left kept from playing) tpdu broken.own broken.pending _ broken.set
-          (broken_shows playing.machine broken.machine tpdu course broken.own broken.pending _ broken.set kept after broken.broken);
+      shows = shows_in_tpdu (deeds playing.played) kept after playing.account (shown_so_far given script left kept from playing) tpdu broken.own broken.pending
+          (told_broken playing.machine broken.machine tpdu course broken.own broken.pending _ broken.set kept after broken.broken);
       cut_off = broken.cut_off;
       stands = broken.stands;
       written = broken.written;

@@ -1,14 +1,12 @@
 -- What lines after `start` show, one behind the other, whatever the memory tells.
-use Rattle.std.proofs.Common.{◌≡◌, ℕ, Bool, true, false, List, [], ◌∷◌, ◌++◌, Option, Some, None, Result, Ok, refl, sym, ap, ◌∙◌, subst, append_assoc, inl, inr}
-use Rattle.std.specs.Prelude.{MatchBool}
+use Rattle.std.proofs.Common.{◌≡◌, ℕ, Bool, true, false, List, [], ◌∷◌, ◌++◌, Option, Some, None, refl, sym, ap, ◌∙◌, subst, append_assoc, inl, inr}
 use Rattle.std.proofs.lemmas.List.{append-nil}
 use Rattle.std.proofs.lemmas.List.Elements.{All-nil, All-push}
 use Rattle.byte_streams.specs.Lines.{LineList}
 use Rattle.card_layout.specs.Persistent.{Persistent}
-use Rattle.card_model.specs.Answers.{answer}
 use Rattle.card_model.specs.Counts.{IsCounted}
 use Rattle.card_model.specs.Laws.{CountsJoin, PlansAreSetInOrder}
-use Rattle.card_model.specs.Runs.{Commands, MeetsNoPower, StepGives, armed_after, plan_given, waiting_after}
+use Rattle.card_model.specs.Runs.{armed_after, plan_given, waiting_after}
 use Rattle.card_model.specs.States.{Machine}
 use Rattle.card_opening.specs.declared.faults.OpenFault.{OpenFault}
 use Rattle.card_opening.specs.declared.faults.OpenFault.TheVariants as fault
@@ -18,9 +16,9 @@ use Rattle.card_sections.specs.Script.{AreRead}
 use Rattle.card_sections.specs.declared.behind.PlayEnd.{PlayEnd}
 use Rattle.card_sections.specs.declared.behind.PlayEnd.TheVariants.{Finished, BadLine, ReadFailed, SinkFailed, ResetFailed}
 use Rattle.card_sections.specs.declared.script_reader.ScriptReader.{ScriptReader}
-use Rattle.card_steps.specs.RunLaws.{text_of-append}
+use Rattle.card_steps.specs.RunLaws.{shows_one, shows_then, text_of-append}
 use Rattle.card_steps.specs.Runs.{text_of}
-use Rattle.card_steps.specs.Showing.{CourseShows, CutsOffStep, CutsOffTpdu, IsReply, MayBreakOff, MayBreakOffTpdu, MayEnd, MayShow, ShowsLast, ShowsStep, ShowsTpdu}
+use Rattle.card_steps.specs.Showing.{CourseShows, CutsOffStep, CutsOffTpdu, MayBreakOff, MayBreakOffTpdu, MayShowAll, ShowsLast, ShowsStep, ShowsTpdu}
 use Rattle.card_steps.specs.Stepping.{Moment}
 use Rattle.card_steps.specs.Tpdus.{BreaksOffTpdu, CourseGives, steps_of}
 use Rattle.link_laws.specs.Shown.{shown_for}
@@ -30,18 +28,17 @@ use Rattle.script_form.specs.Reads.{IsOnly}
 use Rattle.script_form.specs.declared.lines.ScriptLine.{ScriptLine}
 use Rattle.script_form.specs.declared.lines.ScriptLine.TheVariants.{Start}
 use Rattle.t0_link.specs.Linking.{Answers, Course, Passes, link_answer}
-use Rattle.uicc_run.proofs.AccountCounts.{shows_as_many, shows_in_step, shows_in_tpdu}
+use Rattle.uicc_run.proofs.AccountCounts.{IsBroken, shows_as_many, shows_in_step, shows_in_tpdu, shown_broken}
 use Rattle.uicc_run.proofs.AccountLemmas.{joined_assoc, joined_nothing}
 use Rattle.uicc_run.proofs.RunLemmas.{deeds_none, deeds_one}
 use Rattle.uicc_run.specs.Accounts.{Account, AreTold, Deed, IsTold, Takes, Transfers, joined, kept_behind, nothing}
 use Rattle.uicc_run.specs.Opening.{ending_for}
 use Rattle.uicc_run.specs.Playing.{Given, StopsPlaying}
 use Rattle.uicc_run.specs.Reading.{AreReadInPlace}
-use Rattle.uicc_run.specs.Showing.{AreShown, CutsOffSo, IsShowing, IsShown, LinesShow, MayBreakOffDeed, ShowsFailure, ShowsSo, ShowsTo, ShowsUpTo}
+use Rattle.uicc_run.specs.Showing.{AreShown, CutsOffSo, IsShowing, IsShown, LinesShow, ShowsFailure, ShowsSo, ShowsTo, ShowsUpTo}
 use Rattle.uicc_run.specs.Steps.{deeds, deeds_of, may_follow, may_stand}
 use Rattle.uicc_types.specs.Counts.{Meter}
 use Rattle.uicc_types.specs.declared.answers.Answer.{Answer}
-use Rattle.uicc_types.specs.declared.answers.TheConstants.StatusWord.{MEMORY_PROBLEM}
 use Rattle.uicc_types.specs.declared.plans.Plan.{Plan}
 use Rattle.uicc_types.specs.declared.plans.TheConstants.Plan.{NONE}
 use Rattle.uicc_types.specs.declared.runs.Step.{Step}
@@ -51,39 +48,18 @@ use Rattle.uicc_types.specs.declared.runs.TraceItem.TheVariants as item
 
 -- ---- what the card did is shown so
 
-step_shows : (old new : Machine) (step : Step) (items : List TraceItem) → StepGives old step items new → MayShow step items
-step_shows old new (step.Apdu apdu) items gives = by_power old.on gives where
-  by_power : (on : Bool) → MatchBool on (Commands old apdu items new) (MeetsNoPower old apdu items new) → MayShow (step.Apdu apdu) items
-  by_power true (inl exchanges) = (item.Answer (answer old.card apdu).body (answer old.card apdu).status, tt, exchanges.seen)
-  by_power true (inr (inl fails)) = (item.Answer [] MEMORY_PROBLEM, tt, fails.seen)
-  by_power true (inr (inr lost)) = (item.Cut, tt, lost.seen)
-  by_power false none = (item.Off, tt, none.seen)
-step_shows old new step.Reset items (inl restarts) = inl restarts.seen
-step_shows old new step.Reset items (inr lost) = inr lost.seen
-step_shows old new (step.Plan plan) items gives = gives.seen
-
--- what came of what was sent
-abbrev reply_in : List TraceItem → TraceItem
-reply_in [] = item.Reset
-reply_in (sent ∷ []) = item.Reset
-reply_in (sent ∷ reply ∷ more) = reply
-
-replies_so : (apdu : List ℕ) (own : List TraceItem) (shown : TraceItem) → own ≡ item.Command apdu ∷ shown ∷ [] → MayShow (step.Apdu apdu) own → IsReply shown
-replies_so apdu own shown came may = subst IsReply (sym (ap reply_in (sym came ∙ may.2))) may.1
-
 course_shows : (course : Course) (old new : Machine) (own : List TraceItem) (reply : TraceItem) (kept : Option Answer) → CourseGives course old own reply kept new → CourseShows course own reply kept
 course_shows (Answers linked) old new own reply kept gives = (gives.silent, gives.seen, gives.keeps)
 course_shows (Passes apdu make) old new own reply kept gives = record {
   shown = gives.shown;
   came = gives.came;
-  replies = replies_so apdu own gives.shown gives.came (step_shows old new (step.Apdu apdu) own gives.gives);
   bare = gives.bare;
   seen = gives.seen;
   keeps = gives.keeps;
 }
 
 deed_shows : (deed : Deed) (kept after : Option Answer) (old new : Machine) (account : Account) → IsTold deed kept old account after new → IsShown deed kept account after
-deed_shows (Takes step) kept after old new account told = record { steps_are = told.steps_are; may = step_shows old new step account.own told.gives; shown_is = told.shown_is; keeps = told.keeps }
+deed_shows (Takes step) kept after old new account told = record { steps_are = told.steps_are; shown_is = told.shown_is; keeps = told.keeps }
 deed_shows (Transfers tpdu) kept after old new account told =
     record { reply = told.reply; steps_are = told.steps_are; shows = course_shows (link_answer kept tpdu) old new account.own told.reply after told.gives; shown_is = told.shown_is }
 
@@ -98,10 +74,10 @@ told_shows (deed ∷ more) kept after old new account told = record {
   account_is = told.account_is;
 }
 
-pub broken_shows : (old new : Machine) (tpdu : List ℕ) (course : Course) (own pending : List TraceItem) (due set : List Plan) (kept after : Option Answer) → BreaksOffTpdu old tpdu course own pending due set kept after new
-    → MayBreakOffTpdu tpdu course own pending due set kept after
-broken_shows old new tpdu course own pending due set kept after (inl unsent) = inl (unsent.0, unsent.1, unsent.2, unsent.3)
-broken_shows old new tpdu course own pending due set kept after (inr sent) = inr (sent.0, course_shows course old new own sent.0 after sent.1, sent.2, sent.3)
+pub told_broken : (old new : Machine) (tpdu : List ℕ) (course : Course) (own pending : List TraceItem) (due set : List Plan) (kept after : Option Answer) → BreaksOffTpdu old tpdu course own pending due set kept after new
+    → IsBroken tpdu course own pending kept after
+told_broken old new tpdu course own pending due set kept after (inl unsent) = inl (unsent.0, unsent.1, unsent.3)
+told_broken old new tpdu course own pending due set kept after (inr sent) = inr (sent.0, course_shows course old new own sent.0 after sent.1, sent.2)
 
 -- ---- behind the lines before
 
@@ -160,6 +136,7 @@ waiting_then order steps more waiting waits = ap (λ w. waiting_after w more) wa
 pub record DoesShow (deed : Deed) (kept : Option Answer) (before : List ℕ) (from to : Moment) (after : Option Answer) : Type 0 where
   pub account : Account
   pub is_shown : IsShown deed kept account after
+  pub may : MayShowAll from.is_on account.steps account.own to.is_on
   pub written : to.taken ≡ Some (before ++ text_of account.shown)
   pub counted : IsCounted from.meter to.meter (armed_after from.waiting account.steps) account.own
   pub waits : to.waiting ≡ waiting_after from.waiting account.steps
@@ -167,7 +144,8 @@ pub record DoesShow (deed : Deed) (kept : Option Answer) (before : List ℕ) (fr
 pub step_does_show : (step : Step) (kept after : Option Answer) (before : List ℕ) (from to : Moment) → after ≡ kept_behind step kept → (shown : List TraceItem) × ShowsStep shown before step from to → DoesShow (Takes step) kept before from to after
 step_does_show step kept after before from to keeps taken = record {
   account = record { steps = step ∷ []; own = taken.0; shown = taken.0 };
-  is_shown = record { steps_are = refl; may = taken.1.may; shown_is = refl; keeps = keeps };
+  is_shown = record { steps_are = refl; shown_is = refl; keeps = keeps };
+  may = shows_one from.is_on to.is_on step taken.0 taken.1.may;
   written = taken.1.written;
   counted = taken.1.counted;
   waits = taken.1.waits;
@@ -177,6 +155,7 @@ pub tpdu_does_show : (tpdu : List ℕ) (kept after : Option Answer) (before : Li
 tpdu_does_show tpdu kept after before from to taken = record {
   account = record { steps = steps_of (link_answer kept tpdu); own = taken.own; shown = shown_for tpdu taken.reply };
   is_shown = record { reply = taken.reply; steps_are = refl; shows = taken.shows; shown_is = refl };
+  may = taken.may;
   written = taken.written;
   counted = taken.counted;
   waits = taken.waits;
@@ -198,6 +177,7 @@ module _ (given : Given) (first : Meter) (script next : ScriptReader) (left left
         unserved = showing.unserved;
         lines_are = read_more given showing.found showing.section showing.played showing.card finds.bytes line showing.lines_are finds.read (stands_there given line true showing.unserved may);
         are_shown = subst (λ d. AreShown d None showing.account kept) (sym (deeds_none showing.played line none)) showing.are_shown;
+        may = showing.may;
         follows = finds.follows;
         written = showing.written;
         counted = showing.counted;
@@ -222,6 +202,7 @@ module _ (given : Given) (first : Meter) (script next : ScriptReader) (left left
         lines_are = read_more given showing.found showing.section showing.played showing.card finds.bytes line showing.lines_are finds.read (stands_there given line true showing.unserved may);
         are_shown = subst (λ d. AreShown d None (joined showing.account done.account) after) (sym (deeds_one showing.played line deed one))
             (shown_then (deeds showing.played) (deed ∷ []) None kept after showing.account done.account showing.are_shown (shown_one deed kept after done.account done.is_shown));
+        may = shows_then showing.account.steps done.account.steps true from.is_on to.is_on showing.account.own done.account.own showing.may done.may;
         follows = finds.follows;
         written = done.written ∙ ap Some (behind given.before showing.account.shown done.account.shown);
         counted = subst (λ l. IsCounted first to.meter l (showing.account.own ++ done.account.own)) (plans_then order showing.account.steps done.account.steps from.waiting showing.waits)
@@ -241,8 +222,10 @@ module _ (given : Given) (first : Meter) (script next : ScriptReader) (left left
         card = showing.card;
         account = showing.account;
         kept = kept;
+        on = from.is_on;
         lines_are = showing.lines_are;
         are_shown = showing.are_shown;
+        may = showing.may;
         shows = shows_as_many (deeds showing.played) kept showing.account showing.are_shown;
         bytes = finds.bytes;
         more = finds.more;
@@ -259,12 +242,15 @@ module _ (given : Given) (first : Meter) (script next : ScriptReader) (left left
       → IsCounted from.meter to.meter (armed_after from.waiting (step.Reset ∷ [])) last → ShowsFailure given first to.taken to.meter
   fails_as kept from to line last join order search_so one is showing written counted =
       let says : List TraceItem = item.EepromFailed ∷ [] in
+      let in_it : IsCounted from.meter to.meter (armed_after from.waiting (step.Reset ∷ [])) says = subst (λ l. IsCounted from.meter to.meter (armed_after from.waiting (step.Reset ∷ [])) l) is counted in
       record {
         at = shows_up_to kept from line (Takes step.Reset) search_so one showing;
+        before_it = from.meter;
+        counted_before = showing.counted;
+        counted_in_it = subst (λ w. IsCounted from.meter to.meter (armed_after w (step.Reset ∷ [])) says) showing.waits in_it;
         written = subst (λ l. to.taken ≡ Some ((given.before ++ text_of showing.account.shown) ++ text_of l)) is written ∙ ap Some (behind given.before showing.account.shown says);
         counted = subst (λ l. IsCounted first to.meter l (showing.account.own ++ says)) (plans_then order showing.account.steps (step.Reset ∷ []) from.waiting showing.waits)
-            (join first from.meter to.meter (plan_given showing.account.steps) (armed_after from.waiting (step.Reset ∷ [])) showing.account.own says showing.counted
-            (subst (λ l. IsCounted from.meter to.meter (armed_after from.waiting (step.Reset ∷ [])) l) is counted));
+            (join first from.meter to.meter (plan_given showing.account.steps) (armed_after from.waiting (step.Reset ∷ [])) showing.account.own says showing.counted in_it);
       }
 
   -- a step was the last, which only a reset can be
@@ -291,7 +277,7 @@ module _ (given : Given) (first : Meter) (script next : ScriptReader) (left left
         front = broken.front;
         set = broken.set;
         after = after;
-        may = (refl, subst (λ w. MayBreakOff step broken.pending (armed_after w (step ∷ [])) broken.set) showing.waits broken.may);
+        may = (refl, subst (λ w. MayBreakOff from.is_on step broken.pending (armed_after w (step ∷ [])) broken.set) showing.waits broken.may);
         shows = shows_in_step (deeds showing.played) kept after showing.account showing.are_shown broken.pending;
         cut_off = broken.cut_off;
         written = broken.written;
@@ -313,8 +299,8 @@ module _ (given : Given) (first : Meter) (script next : ScriptReader) (left left
         front = broken.front;
         set = broken.set;
         after = after;
-        may = subst (λ w. MayBreakOffTpdu tpdu course broken.own broken.pending (armed_after w (steps_of course)) broken.set kept after) showing.waits broken.may;
-        shows = shows_in_tpdu (deeds showing.played) kept after showing.account showing.are_shown tpdu broken.own broken.pending _ broken.set broken.may;
+        may = subst (λ w. MayBreakOffTpdu from.is_on tpdu course broken.own broken.pending (armed_after w (steps_of course)) broken.set kept after) showing.waits broken.may;
+        shows = shows_in_tpdu (deeds showing.played) kept after showing.account showing.are_shown tpdu broken.own broken.pending (shown_broken from.is_on tpdu course broken.own broken.pending _ broken.set kept after broken.may);
         cut_off = broken.cut_off;
         written = broken.written;
         counted = join first from.meter to.meter (plan_given showing.account.steps) broken.set showing.account.own broken.own showing.counted broken.counted;
@@ -331,8 +317,10 @@ ends_showing given first script left left_then kept end now cause showing = reco
   card = showing.card;
   account = showing.account;
   kept = kept;
+  on = now.is_on;
   lines_are = showing.lines_are;
   are_shown = showing.are_shown;
+  may = showing.may;
   shows = shows_as_many (deeds showing.played) kept showing.account showing.are_shown;
   cause = cause showing.found showing.follows;
   written = showing.written;
@@ -351,8 +339,8 @@ shows_to_end given first left ResetFailed put now shows = absurd shows.cause
 
 -- `start` was read, and the card was opened
 pub shows_first : (given : Given) (first : Meter) (script : ScriptReader) (left : Option (List ℕ)) (card : Option Persistent) (now : Moment) → given.is_served ≡ false → AtStart given.boxes given.first given.text script left card
-    → now.taken ≡ Some given.before → IsCounted first now.meter [] [] → now.waiting ≡ NONE → IsShowing given first script left None now
-shows_first given first script left card now unserved at written counted waits = record {
+    → now.is_on ≡ true → now.taken ≡ Some given.before → IsCounted first now.meter [] [] → now.waiting ≡ NONE → IsShowing given first script left None now
+shows_first given first script left card now unserved at on written counted waits = record {
   found = at.given;
   section = at.section;
   played = [];
@@ -361,6 +349,7 @@ shows_first given first script left card now unserved at written counted waits =
   unserved = unserved;
   lines_are = record { read = at.read; described = at.described; in_place = All-nil (λ line. may_stand given.is_served line ≡ true) };
   are_shown = record { account_is = refl; keeps = refl };
+  may = (refl, on);
   follows = at.follows;
   written = written ∙ ap Some (sym (append-nil given.before));
   counted = counted;
@@ -371,12 +360,12 @@ abbrev pub outset : Given → Meter → Outset
 outset given first = record { before = given.before; meter = first }
 
 pub serves_shown_first : (given : Given) (first : Meter) (script : ScriptReader) (left : Option (List ℕ)) (card : Option Persistent) (now : Moment) → (at : AtStart given.boxes given.first given.text script left card)
-    → now.taken ≡ Some given.before → IsCounted first now.meter [] [] → now.waiting ≡ NONE → StartsShowing given.text (at.section ++ Start ∷ []) (outset given first) script left now
-serves_shown_first given first script left card now at written counted waits = record {
+    → now.is_on ≡ true → now.taken ≡ Some given.before → IsCounted first now.meter [] [] → now.waiting ≡ NONE → StartsShowing given.text (at.section ++ Start ∷ []) (outset given first) script left now
+serves_shown_first given first script left card now at on written counted waits = record {
   found = at.given;
   read = at.read;
   follows = at.follows;
-  begins = record { written = written; counted = counted; waits = waits };
+  begins = record { on = on; written = written; counted = counted; waits = waits };
 }
 
 -- it was not opened

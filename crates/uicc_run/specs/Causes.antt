@@ -1,10 +1,11 @@
 -- Why a run ends as it does, and what it leaves alone.
-use Rattle.std.specs.Prelude.{◌≡◌, ◌≢◌, ◌⊎◌, ◌≤◌, ◌+◌, ℕ, Bool, true, false, List, Option, Some, None, Ok, IfSome, is_some, length}
+use Rattle.std.specs.Prelude.{◌≡◌, ◌≢◌, ◌⊎◌, ◌≤◌, ◌+◌, ℕ, true, List, Option, Some, None, Ok, IfSome, is_some, length}
 use Rattle.byte_streams.specs.Reading.{IsTaken}
 use Rattle.byte_streams.specs.declared.limits.TheConstants.{MOST_BYTES}
 use Rattle.card_layout.specs.Persistent.{Persistent}
 use Rattle.card_layout.specs.Standing.{standing, stands_for}
 use Rattle.card_layout.specs.declared.sizes.TheConstants.{ROW_COUNT}
+use Rattle.card_sections.specs.declared.behind.PlayEnd.{PlayEnd}
 use Rattle.card_sections.specs.declared.behind.PlayEnd.TheVariants as play
 use Rattle.layout_section.specs.Laying.{KeepsFirstOr}
 use Rattle.run_words.specs.Model.{AskForRun}
@@ -71,11 +72,11 @@ pub record RefusesAtFirst (words : List (List ℕ)) (ending : Ending) (ScriptIsS
   pub unread : (AskForRun words → ⊥) → ScriptIsSame
   pub unused : (AskForRun words → ⊥) → TraceIsSame
 
--- A long run ends so: not for its words, its source or its sink, nor at a reset; and for its memory only where that failed. What it
--- is for the memory and the boxes to be as they were.
+-- A long run ends so: not for its words, its source or its sink, nor as the lines of a script do; and for its memory only where that
+-- failed. What it is for the memory and the boxes to be as they were.
 pub record EndsLoad (ending : Ending) (memory memory_then : Meter) (MemoryIsSame BoxesAreSame : Type 0) : Type 0 where
   pub used : ending ≢ Usage
-  pub played : ending ≢ Played play.ResetFailed
+  pub played : (end : PlayEnd) → ending ≢ Played end
   pub unread : status_for ending ≢ 3
   pub unwritten : status_for ending ≢ 4
   pub untouched : IsEarly ending → MemoryIsSame

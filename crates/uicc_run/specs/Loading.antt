@@ -30,7 +30,6 @@ use Rattle.uicc_run.specs.Stores.{mark_of, memory_in}
 use Rattle.uicc_run.specs.Unplanned.{IsUnplanned}
 use Rattle.uicc_run.specs.declared.endings.Ending.{Ending}
 use Rattle.uicc_run.specs.declared.endings.Ending.TheVariants.{Usage, NoMemory, Section, FormatFailed, EepromFailed, NotACard, NoApplet, Played, Counted, LoadFailed}
-use Rattle.uicc_types.specs.Counts.{Meter}
 
 -- the words ask for so many lines from this number, and the run is given the rest
 pub record LoadsFrom (given : Given) (start count : ℕ) (words : List (List ℕ)) (before : Scene) : Type 0 where

@@ -1,6 +1,6 @@
 -- What the lines after `start` show, whatever the card's memory tells: as in `Accounts` and `Playing`, with nothing said of
--- the card itself.
-use Rattle.std.specs.Prelude.{◌≡◌, ℕ, true, false, List, [], ◌∷◌, ◌++◌, Option, Some, None, Result, Ok, Err}
+-- the card itself but its power.
+use Rattle.std.specs.Prelude.{◌≡◌, ℕ, Bool, true, false, List, [], ◌∷◌, ◌++◌, Option, Some, None, Result, Ok, Err}
 use Rattle.byte_streams.specs.Lines.{LineList, lines}
 use Rattle.card_layout.specs.Persistent.{Persistent}
 use Rattle.card_model.specs.Counts.{IsCounted}
@@ -11,7 +11,7 @@ use Rattle.card_sections.specs.declared.behind.PlayEnd.{PlayEnd}
 use Rattle.card_sections.specs.declared.behind.PlayEnd.TheVariants.{Finished, BadLine, ReadFailed, SinkFailed, ResetFailed}
 use Rattle.card_sections.specs.declared.script_reader.ScriptReader.{ScriptReader}
 use Rattle.card_steps.specs.Runs.{text_of}
-use Rattle.card_steps.specs.Showing.{CourseShows, MayBreakOff, MayBreakOffTpdu, MayShow}
+use Rattle.card_steps.specs.Showing.{CourseShows, MayBreakOff, MayBreakOffTpdu, MayShowAll}
 use Rattle.card_steps.specs.Stepping.{IsCutOff, Moment}
 use Rattle.card_steps.specs.Tpdus.{steps_of}
 use Rattle.link_laws.specs.Shown.{shown_for}
@@ -38,10 +38,9 @@ use Rattle.uicc_types.specs.declared.runs.TraceItem.TheVariants as item
 
 -- ---- one line after the other
 
--- the card was given this step, and the trace shows what the card showed, which is of the kind of that step
+-- the card was given this step, and the trace shows what the card showed
 pub record StepIsShown (step : Step) (kept : Option Answer) (account : Account) (after : Option Answer) : Type 0 where
   pub steps_are : account.steps ≡ step ∷ []
-  pub may : MayShow step account.own
   pub shown_is : account.shown ≡ account.own
   pub keeps : after ≡ kept_behind step kept
 
@@ -74,15 +73,16 @@ abbrev pub AreShown : List Deed → Option Answer → Account → Option Answer 
 AreShown [] kept account after = NothingIsShown kept account after
 AreShown (deed ∷ more) kept account after = ThenShown deed (λ between others. AreShown more between others after) kept account
 
--- where the sink fails in the last line of what a line of the script has shown
-abbrev pub MayBreakOffDeed : Deed → Option Answer → List TraceItem → List TraceItem → Plan → List Plan → Option Answer → Type 0
-MayBreakOffDeed (Takes step) kept own pending waiting set after = (pending ≡ own) × MayBreakOff step own (armed_after waiting (step ∷ [])) set
-MayBreakOffDeed (Transfers tpdu) kept own pending waiting set after =
-    MayBreakOffTpdu tpdu (link_answer kept tpdu) own pending (armed_after waiting (steps_of (link_answer kept tpdu))) set kept after
+-- where the sink fails in the last line of what a line of the script has shown, over a card with this power
+abbrev pub MayBreakOffDeed : Bool → Deed → Option Answer → List TraceItem → List TraceItem → Plan → List Plan → Option Answer → Type 0
+MayBreakOffDeed on (Takes step) kept own pending waiting set after = (pending ≡ own) × MayBreakOff on step own (armed_after waiting (step ∷ [])) set
+MayBreakOffDeed on (Transfers tpdu) kept own pending waiting set after =
+    MayBreakOffTpdu on tpdu (link_answer kept tpdu) own pending (armed_after waiting (steps_of (link_answer kept tpdu))) set kept after
 
 -- ---- where a run stands, and how it ends
 
--- lines after `start` have been carried out over a device that had counted so much, all that they show was taken, and the link keeps this
+-- Lines after `start` have been carried out over a device that had counted so much, all that they show was taken, and the link keeps this.
+-- What the card showed of its own is what its steps may show, from a card with power on.
 pub record IsShowing (given : Given) (first : Meter) (script : ScriptReader) (left : Option (List ℕ)) (kept : Option Answer) (now : Moment) : Type 0 where
   pub found : LineList
   pub section : List ScriptLine
@@ -92,13 +92,15 @@ pub record IsShowing (given : Given) (first : Meter) (script : ScriptReader) (le
   pub unserved : given.is_served ≡ false
   pub lines_are : AreReadInPlace given found section played card
   pub are_shown : AreShown (deeds played) None account kept
+  pub may : MayShowAll true account.steps account.own now.is_on
   pub follows : Follows given.text found script left
   pub written : now.taken ≡ Some (given.before ++ text_of account.shown)
   pub counted : IsCounted first now.meter (plan_given account.steps) account.own
   pub waits : now.waiting ≡ waiting_after NONE account.steps
 
--- The run ended so: the sink has taken the text of what the lines behind `start` show, line by line. As many failures of the memory and losses
--- of power are shown as its device counted, and it was given just the plans that were due, of which its latest is the last.
+-- The run ended so: the sink has taken the text of what the lines behind `start` show, line by line, and what the card showed of its own is
+-- what its steps may show. As many failures of the memory and losses of power are shown as its device counted, and it was given just the
+-- plans that were due, of which its latest is the last.
 pub record ShowsSo (given : Given) (first : Meter) (left : Option (List ℕ)) (end : PlayEnd) (put : Option (List ℕ)) (now : Meter) : Type 0 where
   pub found : LineList
   pub section : List ScriptLine
@@ -106,8 +108,10 @@ pub record ShowsSo (given : Given) (first : Meter) (left : Option (List ℕ)) (e
   pub card : Option Persistent
   pub account : Account
   pub kept : Option Answer
+  pub on : Bool
   pub lines_are : AreReadInPlace given found section played card
   pub are_shown : AreShown (deeds played) None account kept
+  pub may : MayShowAll true account.steps account.own on
   pub shows : ShowsAsMany account.own account.shown
   pub cause : StopsPlaying given found left end
   pub written : put ≡ Some (given.before ++ text_of account.shown)
@@ -121,8 +125,10 @@ pub record ShowsUpTo (given : Given) (deed : Deed) : Type 0 where
   pub card : Option Persistent
   pub account : Account
   pub kept : Option Answer
+  pub on : Bool
   pub lines_are : AreReadInPlace given found section played card
   pub are_shown : AreShown (deeds played) None account kept
+  pub may : MayShowAll true account.steps account.own on
   pub shows : ShowsAsMany account.own account.shown
   pub bytes : List ℕ
   pub more : LineList
@@ -140,15 +146,19 @@ pub record CutsOffSo (given : Given) (first : Meter) (put : Option (List ℕ)) (
   pub front : List ℕ
   pub set : List Plan
   pub after : Option Answer
-  pub may : MayBreakOffDeed deed at.kept own pending (waiting_after NONE at.account.steps) set after
+  pub may : MayBreakOffDeed at.on deed at.kept own pending (waiting_after NONE at.account.steps) set after
   pub shows : ShowsAsMany (at.account.own ++ own) (at.account.shown ++ pending)
   pub cut_off : IsCutOff pending front
   pub written : put ≡ Some (given.before ++ text_of at.account.shown ++ front)
   pub counted : IsCounted first now (plan_given at.account.steps ++ set) (at.account.own ++ own)
 
--- The memory failed in the reset that the next line of the script asks for: the trace says so behind all that the lines before show.
+-- The memory failed in the reset that the next line of the script asks for: the trace says so behind all that the lines before show. A
+-- fault was counted for it in that reset itself, from what the memory had counted before it.
 pub record ShowsFailure (given : Given) (first : Meter) (put : Option (List ℕ)) (now : Meter) : Type 0 where
   pub at : ShowsUpTo given (Takes step.Reset)
+  pub before_it : Meter
+  pub counted_before : IsCounted first before_it (plan_given at.account.steps) at.account.own
+  pub counted_in_it : IsCounted before_it now (armed_after (waiting_after NONE at.account.steps) (step.Reset ∷ [])) (item.EepromFailed ∷ [])
   pub written : put ≡ Some (given.before ++ text_of (at.account.shown ++ item.EepromFailed ∷ []))
   pub counted : IsCounted first now (plan_given (at.account.steps ++ step.Reset ∷ [])) (at.account.own ++ item.EepromFailed ∷ [])
 

@@ -1,11 +1,11 @@
-use Rattle.std.proofs.Common.{ap, refl, inl, rules}
+use Rattle.std.proofs.Common.{ap, refl, inl, ◌∙◌, rules}
 use Rattle.std.proofs.lemmas.Bool.{eqb-true, false≢true}
 use Rattle.std.specs.Prelude.{◌==◌}
 use Rattle.uicc_types.specs.declared.answers.StatusWord.{StatusWord}
 use Rattle.uicc_types.specs.declared.answers.TheConstants.StatusWord.{MEMORY_PROBLEM}
 use Rattle.card_core.specs.Cards.{parts_of}
 use Rattle.card_steps.specs.Runs.{machine_of}
-use Rattle.card_steps.proofs.CardLemmas.{caused_as, sends_answer, sends_cut, sends_off}
+use Rattle.card_steps.proofs.CardLemmas.{caused_as, on_or_off, sends_answer, sends_cut, sends_off}
 use Rattle.card_steps.proofs.ends.send.Goals as goal
 
 pub returns-in-Ok-clause-takes : goal.returns-in-Ok-clause-takes
@@ -16,8 +16,11 @@ returns-in-Ok-clause-takes g c = record {
   counted = search rules;
   caused =
       caused_as _ _ c.transmit.ensures.keeps.cause (λ failed. record { answered = cc c.in-Ok.is; status = ap (λ (code : _). record { 0 = code }) (eqb-true c.transmit.new.out.status.0 _ failed) }) (λ (failure : _). ap (λ (status : StatusWord). status.0 == MEMORY_PROBLEM.0) failure.status) (λ cut. absurd (cc cut)) (λ lost. absurd (cc (lost, c.in-Ok.is)));
-  bare = λ failed.
-      c.transmit.ensures.faults.no_data (record { answered = cc c.in-Ok.is; status = ap (λ (code : _). record { 0 = code }) (eqb-true c.transmit.new.out.status.0 _ failed) });
+  replies = (
+    on_or_off (parts_of g.S.Store g.B.Applet c.args.card.now).is_on (λ off. let none = c.transmit.ensures.power.no_power.1 off in cc (none, c.in-Ok.is)),
+    (λ failed. c.transmit.ensures.faults.no_data (record { answered = cc c.in-Ok.is; status = ap (λ (code : _). record { 0 = code }) (eqb-true c.transmit.new.out.status.0 _ failed) })),
+    c.in-Ok.ensures.power.on,
+  );
   kept = search rules;
 }
 
@@ -30,7 +33,10 @@ returns-in-Err-PowerLost-clause-takes g c = record {
       (c.transmit.ensures.power.off (cc (c.in-Err-PowerLost.is, c.in-Err-PowerLost.field-0-is))) moves;
   counted = search rules;
   caused = caused_as _ _ c.transmit.ensures.keeps.cause (λ failed. absurd (cc failed)) (λ failure. absurd (false≢true (rw c.in-Err-PowerLost.is at failure.answered))) (λ cut. cc (c.in-Err-PowerLost.is, c.in-Err-PowerLost.field-0-is)) (λ lost. refl);
-  bare = search rules;
+  replies = (
+    on_or_off (parts_of g.S.Store g.B.Applet c.args.card.now).is_on (λ off. let none = c.transmit.ensures.power.no_power.1 off in cc (none, c.in-Err-PowerLost.is, c.in-Err-PowerLost.field-0-is)),
+    c.transmit.ensures.power.off (cc (c.in-Err-PowerLost.is, c.in-Err-PowerLost.field-0-is)),
+  );
   kept = search rules;
 }
 
@@ -42,6 +48,8 @@ returns-in-Err-NoPower-clause-takes g c = record {
       (ap (λ card. machine_of (parts_of g.S.Store g.B.Applet card)) (c.transmit.ensures.untouched (inl (c.transmit.ensures.power.no_power.0 (cc (c.in-Err-NoPower.is, c.in-Err-NoPower.field-0-is))))));
   counted = search rules;
   caused = caused_as _ _ c.transmit.ensures.keeps.cause (λ failed. absurd (cc failed)) (λ failure. absurd (false≢true (rw c.in-Err-NoPower.is at failure.answered))) (λ cut. absurd (cc cut)) (λ lost. absurd (cc (lost, c.in-Err-NoPower.is, c.in-Err-NoPower.field-0-is)));
-  bare = search rules;
+  replies =
+      let off = c.transmit.ensures.power.no_power.0 (cc (c.in-Err-NoPower.is, c.in-Err-NoPower.field-0-is)) in
+      (off, ap (λ card. (parts_of g.S.Store g.B.Applet card).is_on) (c.transmit.ensures.untouched (inl off)) ∙ off);
   kept = search rules;
 }

@@ -1,5 +1,5 @@
 use Rattle.std.proofs.Common.{Ok, Err, ◌∙◌, rules}
-use Rattle.card_steps.proofs.Shown.{command_cut_off, exchange_shows, is_reply}
+use Rattle.card_steps.proofs.Shown.{command_cut_off, exchange_shows}
 use Rattle.card_steps.proofs.StepLemmas.{breaks_command, exchanges_at, faults_behind, idle_counted, with_plan}
 use Rattle.card_steps.specs.Stepping.{seen}
 use Rattle.card_steps.specs.TellLaws.{tells_front, tells_whole}
@@ -46,13 +46,13 @@ pub returns-in-Ok-write_reply-clause-shows : goal.returns-in-Ok-write_reply-clau
 returns-in-Ok-write_reply-clause-shows g c = λ before told.
     exchange_shows (Ok c.in-Ok-write_reply.field-0) c.args.apdu.now before c.args.end.now c.set_plan-is_set.new.self c.send-reply.new.end c.clear_plan.new.self _ _ _ (seen c.send-reply.result c.send-reply.new.answer) c.runs_are_counted.ensures.plans told
     (with_plan c.args.end.now c.set_plan-is_set.new.self c.send-reply.new.end c.clear_plan.new.self c.set_plan-is_set.result c.set_plan-is_set.ensures.set c.set_plan-is_set.ensures.is_set c.send-reply.ensures.waits c.clear_plan.ensures)
-    c.in-Ok.ensures.ok (is_reply c.send-reply.result c.send-reply.new.answer) c.send-reply.ensures.counted c.in-Ok-write_reply.ensures.ok c.in-Ok-write_reply.ensures.err c.in-Ok-write_reply.ensures.sink
+    c.in-Ok.ensures.ok c.send-reply.ensures.replies c.send-reply.ensures.counted c.in-Ok-write_reply.ensures.ok c.in-Ok-write_reply.ensures.err c.in-Ok-write_reply.ensures.sink
 
 pub returns-in-Err-write_reply-clause-shows : goal.returns-in-Err-write_reply-clause-shows
 returns-in-Err-write_reply-clause-shows g c = λ before told.
     exchange_shows (Err c.in-Err-write_reply.why) c.args.apdu.now before c.args.end.now c.set_plan-is_set.new.self c.send-reply.new.end c.clear_plan.new.self _ _ _ (seen c.send-reply.result c.send-reply.new.answer) c.runs_are_counted.ensures.plans told
     (with_plan c.args.end.now c.set_plan-is_set.new.self c.send-reply.new.end c.clear_plan.new.self c.set_plan-is_set.result c.set_plan-is_set.ensures.set c.set_plan-is_set.ensures.is_set c.send-reply.ensures.waits c.clear_plan.ensures)
-    c.in-Ok.ensures.ok (is_reply c.send-reply.result c.send-reply.new.answer) c.send-reply.ensures.counted c.in-Err-write_reply.ensures.ok c.in-Err-write_reply.ensures.err c.in-Err-write_reply.ensures.sink
+    c.in-Ok.ensures.ok c.send-reply.ensures.replies c.send-reply.ensures.counted c.in-Err-write_reply.ensures.ok c.in-Err-write_reply.ensures.err c.in-Err-write_reply.ensures.sink
 
 pub returns-in-Err-clause-shows : goal.returns-in-Err-clause-shows
 returns-in-Err-clause-shows g c = λ before told. command_cut_off c.args.apdu.now before c.args.end.now _ _ told c.in-Err.ensures.err

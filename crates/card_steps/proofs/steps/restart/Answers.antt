@@ -116,25 +116,25 @@ pub returns-in-Ok-clause-shows : goal.returns-in-Ok-clause-shows
 returns-in-Ok-clause-shows g c = λ before told.
     restart_shows (Ok c.in-Ok.field-0) before c.args.end.now c.set_plan-is_set.new.self c.reset-outcome.new.self c.clear_plan.new.self _ _ item.Reset c.runs_are_counted.ensures.plans told
     (with_plan c.args.end.now c.set_plan-is_set.new.self c.reset-outcome.new.self c.clear_plan.new.self c.set_plan-is_set.result c.set_plan-is_set.ensures.set c.set_plan-is_set.ensures.is_set c.reset-outcome.ensures.waits c.clear_plan.ensures)
-    (inl refl) (counted_as c.reset-outcome.result restart.Done _ _ c.in-Done.is c.reset-outcome.ensures.takes.counted) c.in-Ok.ensures.ok c.in-Ok.ensures.err c.in-Ok.ensures.sink
+    (inl (refl, c.reset-outcome.ensures.takes.on c.in-Done.is)) (counted_as c.reset-outcome.result restart.Done _ _ c.in-Done.is c.reset-outcome.ensures.takes.counted) c.in-Ok.ensures.ok c.in-Ok.ensures.err c.in-Ok.ensures.sink
 
 pub returns-in-Err-clause-shows : goal.returns-in-Err-clause-shows
 returns-in-Err-clause-shows g c = λ before told.
     restart_shows (Err c.in-Err.why) before c.args.end.now c.set_plan-is_set.new.self c.reset-outcome.new.self c.clear_plan.new.self _ _ item.Reset c.runs_are_counted.ensures.plans told
     (with_plan c.args.end.now c.set_plan-is_set.new.self c.reset-outcome.new.self c.clear_plan.new.self c.set_plan-is_set.result c.set_plan-is_set.ensures.set c.set_plan-is_set.ensures.is_set c.reset-outcome.ensures.waits c.clear_plan.ensures)
-    (inl refl) (counted_as c.reset-outcome.result restart.Done _ _ c.in-Done.is c.reset-outcome.ensures.takes.counted) c.in-Err.ensures.ok c.in-Err.ensures.err c.in-Err.ensures.sink
+    (inl (refl, c.reset-outcome.ensures.takes.on c.in-Done.is)) (counted_as c.reset-outcome.result restart.Done _ _ c.in-Done.is c.reset-outcome.ensures.takes.counted) c.in-Err.ensures.ok c.in-Err.ensures.err c.in-Err.ensures.sink
 
 pub returns-in-Ok-write_step-clause-shows : goal.returns-in-Ok-write_step-clause-shows
 returns-in-Ok-write_step-clause-shows g c = λ before told.
     restart_shows (Ok c.in-Ok-write_step.field-0) before c.args.end.now c.set_plan-is_set.new.self c.reset-outcome.new.self c.clear_plan.new.self _ _ item.Cut c.runs_are_counted.ensures.plans told
     (with_plan c.args.end.now c.set_plan-is_set.new.self c.reset-outcome.new.self c.clear_plan.new.self c.set_plan-is_set.result c.set_plan-is_set.ensures.set c.set_plan-is_set.ensures.is_set c.reset-outcome.ensures.waits c.clear_plan.ensures)
-    (inr refl) (counted_as c.reset-outcome.result restart.Cut _ _ c.in-Cut.is c.reset-outcome.ensures.takes.counted) c.in-Ok-write_step.ensures.ok c.in-Ok-write_step.ensures.err c.in-Ok-write_step.ensures.sink
+    (inr (refl, c.reset-outcome.ensures.takes.off c.in-Cut.is)) (counted_as c.reset-outcome.result restart.Cut _ _ c.in-Cut.is c.reset-outcome.ensures.takes.counted) c.in-Ok-write_step.ensures.ok c.in-Ok-write_step.ensures.err c.in-Ok-write_step.ensures.sink
 
 pub returns-in-Err-write_step-clause-shows : goal.returns-in-Err-write_step-clause-shows
 returns-in-Err-write_step-clause-shows g c = λ before told.
     restart_shows (Err c.in-Err-write_step.why) before c.args.end.now c.set_plan-is_set.new.self c.reset-outcome.new.self c.clear_plan.new.self _ _ item.Cut c.runs_are_counted.ensures.plans told
     (with_plan c.args.end.now c.set_plan-is_set.new.self c.reset-outcome.new.self c.clear_plan.new.self c.set_plan-is_set.result c.set_plan-is_set.ensures.set c.set_plan-is_set.ensures.is_set c.reset-outcome.ensures.waits c.clear_plan.ensures)
-    (inr refl) (counted_as c.reset-outcome.result restart.Cut _ _ c.in-Cut.is c.reset-outcome.ensures.takes.counted) c.in-Err-write_step.ensures.ok c.in-Err-write_step.ensures.err c.in-Err-write_step.ensures.sink
+    (inr (refl, c.reset-outcome.ensures.takes.off c.in-Cut.is)) (counted_as c.reset-outcome.result restart.Cut _ _ c.in-Cut.is c.reset-outcome.ensures.takes.counted) c.in-Err-write_step.ensures.ok c.in-Err-write_step.ensures.err c.in-Err-write_step.ensures.sink
 
 pub returns-in-Ok-write_step-2-clause-shows : goal.returns-in-Ok-write_step-2-clause-shows
 returns-in-Ok-write_step-2-clause-shows g c = λ before told.

@@ -18,18 +18,18 @@ returns-in-Nothing-clause-same g c = λ same. none_same c.args.phone.now c.next.
 
 pub returns-in-Ok-clause-further : goal.returns-in-Ok-clause-further
 returns-in-Ok-clause-further g c = λ given log at.
-    sent_further c.runs_are_counted.ensures.join c.plans_are_set_in_order.ensures c.args.phone.now c.next.new.self c.hear.new.phone _ c.as_slice.result.now c.in-Ok.reply c.exchange.new.answer given log _ _
-    (record { item = c.next.ensures.item; after = c.next.ensures.after }) (asks_send c.next.result c.next.new.apdu c.as_slice.result.now c.next.new.note c.in-Send.is c.as_slice.ensures.value) c.hear.ensures c.in-Ok.ensures.gives at
+    sent_further c.runs_are_counted.ensures.join c.plans_are_set_in_order.ensures c.args.phone.now c.next.new.self c.hear.new.phone _ c.as_slice-apdu.result.now c.in-Ok.reply c.exchange.new.answer given log _ _
+    (record { item = c.next.ensures.item; after = c.next.ensures.after }) (asks_send c.next.result c.next.new.apdu c.as_slice-apdu.result.now c.next.new.note c.in-Send.is c.as_slice-apdu.ensures.value) c.hear.ensures c.in-Ok.ensures.gives at
 
 pub returns-in-Ok-clause-more : goal.returns-in-Ok-clause-more
 returns-in-Ok-clause-more g c = λ same.
-    sent_more c.lines_end.ensures c.args.phone.now c.next.new.self c.hear.new.phone _ c.as_slice.result.now c.in-Ok.reply c.exchange.new.answer
-    (record { item = c.next.ensures.item; after = c.next.ensures.after }) (asks_send c.next.result c.next.new.apdu c.as_slice.result.now c.next.new.note c.in-Send.is c.as_slice.ensures.value) c.hear.ensures c.requires.served
+    sent_more c.lines_end.ensures c.args.phone.now c.next.new.self c.hear.new.phone _ c.as_slice-apdu.result.now c.in-Ok.reply c.exchange.new.answer
+    (record { item = c.next.ensures.item; after = c.next.ensures.after }) (asks_send c.next.result c.next.new.apdu c.as_slice-apdu.result.now c.next.new.note c.in-Send.is c.as_slice-apdu.ensures.value) c.hear.ensures c.requires.served
 
 pub returns-in-Err-clause-further : goal.returns-in-Err-clause-further
 returns-in-Err-clause-further g c = λ given log at.
-    sent_ends c.runs_are_counted.ensures.join c.args.phone.now c.next.new.self _ c.as_slice.result.now c.in-Err.end given log _ _
-    (record { item = c.next.ensures.item; after = c.next.ensures.after }) (asks_send c.next.result c.next.new.apdu c.as_slice.result.now c.next.new.note c.in-Send.is c.as_slice.ensures.value) c.in-Err.ensures.gives at
+    sent_ends c.runs_are_counted.ensures.join c.args.phone.now c.next.new.self _ c.as_slice-apdu.result.now c.in-Err.end given log _ _
+    (record { item = c.next.ensures.item; after = c.next.ensures.after }) (asks_send c.next.result c.next.new.apdu c.as_slice-apdu.result.now c.next.new.note c.in-Send.is c.as_slice-apdu.ensures.value) c.in-Err.ensures.gives at
 
 pub returns-in-Ok-restart-clause-further : goal.returns-in-Ok-restart-clause-further
 returns-in-Ok-restart-clause-further g c = λ given log at.
@@ -75,13 +75,13 @@ returns-in-Nothing-clause-shows g c = λ given log at.
 
 pub returns-in-Ok-clause-shows : goal.returns-in-Ok-clause-shows
 returns-in-Ok-clause-shows g c = λ given log at.
-    sent_shows c.runs_are_counted.ensures.join c.plans_are_set_in_order.ensures c.args.phone.now c.next.new.self c.hear.new.phone _ c.as_slice.result.now c.in-Ok.reply c.exchange.new.answer given log _ _
-    (record { item = c.next.ensures.item; after = c.next.ensures.after }) (asks_send c.next.result c.next.new.apdu c.as_slice.result.now c.next.new.note c.in-Send.is c.as_slice.ensures.value) c.hear.ensures c.in-Ok.ensures.shows at
+    sent_shows c.runs_are_counted.ensures.join c.plans_are_set_in_order.ensures c.args.phone.now c.next.new.self c.hear.new.phone _ c.as_slice-apdu.result.now c.in-Ok.reply c.exchange.new.answer given log _ _
+    (record { item = c.next.ensures.item; after = c.next.ensures.after }) (asks_send c.next.result c.next.new.apdu c.as_slice-apdu.result.now c.next.new.note c.in-Send.is c.as_slice-apdu.ensures.value) c.hear.ensures c.in-Ok.ensures.shows at
 
 pub returns-in-Err-clause-shows : goal.returns-in-Err-clause-shows
 returns-in-Err-clause-shows g c = λ given log at.
-    sent_shows_end c.runs_are_counted.ensures.join c.args.phone.now c.next.new.self _ c.as_slice.result.now c.in-Err.end given log _ _
-    (record { item = c.next.ensures.item; after = c.next.ensures.after }) (asks_send c.next.result c.next.new.apdu c.as_slice.result.now c.next.new.note c.in-Send.is c.as_slice.ensures.value) c.in-Err.ensures.shows at
+    sent_shows_end c.runs_are_counted.ensures.join c.args.phone.now c.next.new.self _ c.as_slice-apdu.result.now c.in-Err.end given log _ _
+    (record { item = c.next.ensures.item; after = c.next.ensures.after }) (asks_send c.next.result c.next.new.apdu c.as_slice-apdu.result.now c.next.new.note c.in-Send.is c.as_slice-apdu.ensures.value) c.in-Err.ensures.shows at
 
 pub returns-in-Ok-restart-clause-shows : goal.returns-in-Ok-restart-clause-shows
 returns-in-Ok-restart-clause-shows g c = λ given log at.

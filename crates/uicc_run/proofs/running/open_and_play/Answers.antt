@@ -72,7 +72,7 @@ returns-in-Ok-clause-shows g c = λ given described first served at told counted
           subst (λ (m : Meter). LinesShow given first (g.R.Source.left c.carry_on-end.new.script) c.carry_on-end.result (g.W.Sink.taken c.carry_on-end.new.trace) m) (sym meter)
           (c.carry_on-end.ensures.shows given first served
           (at_end (IsShowing given first c.args.reader.now (g.R.Source.left c.args.script.now) None) c.new-card.result parts taken c.new-card.ensures.parts c.new-card.ensures.waiting
-          (shows_first given first c.args.reader.now (g.R.Source.left c.args.script.now) described (moment parts taken NONE) unserved at told opened refl)));
+          (shows_first given first c.args.reader.now (g.R.Source.left c.args.script.now) described (moment parts taken NONE) unserved at c.in-Ok.ensures.opened.on told opened refl)));
       for_handset = λ is_served. record {
         section = at.section;
         card = described;
@@ -82,7 +82,7 @@ returns-in-Ok-clause-shows g c = λ given described first served at told counted
         meter_is = meter;
         shows = c.carry_on-end.ensures.served given.text (opening at.section) (outset given first) (sym served ∙ is_served)
             (at_end (StartsShowing given.text (opening at.section) (outset given first) c.args.reader.now (g.R.Source.left c.args.script.now)) c.new-card.result parts taken c.new-card.ensures.parts c.new-card.ensures.waiting
-            (serves_shown_first given first c.args.reader.now (g.R.Source.left c.args.script.now) described (moment parts taken NONE) at told opened refl));
+            (serves_shown_first given first c.args.reader.now (g.R.Source.left c.args.script.now) described (moment parts taken NONE) at c.in-Ok.ensures.opened.on told opened refl));
       };
     }
 
