@@ -2,8 +2,8 @@ mod CardEnded
 mod Ended
 mod Hearing
 mod Lawful
-mod LineLemmas
+pub mod LineLemmas
 mod Logging
 mod Serves
 mod OneTrace
-mod ShowSteps
+pub mod ShowSteps

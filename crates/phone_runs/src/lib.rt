@@ -10,6 +10,6 @@ mod serving;
 
 pub use effects::{LONGEST_SPAN, PhoneEffect, effect_on_phone};
 pub use laws::{phone_runs_are_lawful, phone_runs_are_one};
-pub use lines::serve_lines;
+pub use lines::{end_of, serve_line};
 pub use playing::{PhoneMove, play_on_phone, start_phone};
 pub use serving::{Places, settle};

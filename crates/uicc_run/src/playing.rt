@@ -1,46 +1,67 @@
 //! The rest of a script: what is done to the card, line by line.
-ghost use Rattle.std.specs.Prelude.{◌≡◌, ◌<◌, List, ℕ, None, Err, OnOk};
+ghost use Rattle.std.specs.Prelude.{◌≡◌, ◌<◌, List, ℕ, None, Err, OnOk, true, false};
 ghost use Rattle.byte_streams.specs.Reading.{IsWithin};
 ghost use Rattle.card_sections.specs.Behind.{GivesRead, IsReading, LinesReadTo};
 ghost use Rattle.card_sections.specs.Reading.{reading, room_of};
 ghost use Rattle.card_steps.specs.Ends.{moment_at};
 ghost use Rattle.card_steps.specs.Moves.{step_of};
 ghost use Rattle.card_steps.specs.Tallies.{Tallies, tally};
+ghost use Rattle.phone_runs.specs.Lines.{IsBetweenLines, IsServing, PhoneComesTo};
+ghost use Rattle.phone_runs.specs.Runs.{Beginning};
+ghost use Rattle.phone_runs.specs.Showing.{Outset, PhoneShowsTo, ServesShowing};
 ghost use Rattle.uicc_run.specs.Accounts.{kept_behind};
+ghost use Rattle.uicc_run.specs.Listeners.{is_handset};
 ghost use Rattle.uicc_run.specs.Playing.{CardComesTo, Given, GivesPlayed, IsPlaying, left_at};
 ghost use Rattle.uicc_run.specs.Showing.{GivesShown, IsShowing, LinesShow};
-ghost use Rattle.uicc_run.specs.Steps.{may_follow};
+ghost use Rattle.uicc_run.specs.Steps.{may_follow, may_stand};
 ghost use Rattle.script_form.specs.declared.lines.ScriptLine.{ScriptLine as AnyLine};
 ghost use Rattle.uicc_types.specs.Counts.{CountsFailure, Meter, Rose, raised};
 
 use crate::effects::{Effect, effect_of};
+use crate::listeners::Listener;
 use applet_trait::Applet;
 use byte_streams::{Failed, Sink, Source};
 use card_model::{plans_are_set_in_order, runs_are_counted};
 use card_sections::{PlayEnd, ScriptReader, read_behind};
 use card_steps::{CardEnd, Carrier, Move, StepEnd, take_step, take_tpdu};
+use phone_runs::{Places, serve_line};
 use script_form::ScriptLine;
 use store_form::Store;
 use t0_link::Link;
+use terminal_side::Phone;
 use uicc_types::Answer;
 
-/// Carries out the lines after `start`, each as soon as its end was read, and answers why the run ends.
-pub fn play_lines<S: Store, B: Applet, R: Source, W: Sink>(
+/// Carries out the lines after `start` that are left, each as soon as its end was read, and answers why the run ends. A handset does, which
+/// serves the card by the carrier and rests before the first of them, or the card itself.
+pub(crate) fn play_lines<S: Store, B: Applet, R: Source, W: Sink>(
+    listener: Listener,
     script: &mut ScriptReader,
     source: &mut R,
     card: &mut CardEnd<S, B>,
+    carrier: &mut Carrier,
+    phone: &mut Phone,
+    places: &mut Places,
     trace: &mut W,
 ) -> PlayEnd
-    ensures played { (given : Given)
+    requires between { is_handset listener ≡ true → IsBetweenLines script.old phone.old }
+    ensures played { (given : Given) → is_handset listener ≡ false
         → IsPlaying given script.old (R.left source.old) None (moment_at card.old (W.taken trace.old))
         → CardComesTo given (R.left source.new) result (left_at (moment_at card.new (W.taken trace.new))) }
+    ensures served { (text : List ℕ) (opening : List AnyLine) (given : Beginning) → is_handset listener ≡ true
+        → IsServing text opening given script.old (R.left source.old) phone.old
+        (moment_at card.old (W.taken trace.old))
+        → PhoneComesTo text opening given (R.left source.new) result (moment_at card.new (W.taken trace.new)) }
     // Over any memory: what is shown, and which lines were read and why no more of them.
-    ensures shows { (given : Given) (first : Meter)
+    ensures shows { (given : Given) (first : Meter) → is_handset listener ≡ false
         → IsShowing given first script.old (R.left source.old) None (moment_at card.old (W.taken trace.old))
         → LinesShow given first (R.left source.new) result (W.taken trace.new) card.new.parts.meter }
+    ensures serves { (text : List ℕ) (opening : List AnyLine) (given : Outset) → is_handset listener ≡ true
+        → ServesShowing text opening given script.old (R.left source.old) phone.old
+        (moment_at card.old (W.taken trace.old))
+        → PhoneShowsTo text opening given (R.left source.new) result (moment_at card.new (W.taken trace.new)) }
     ensures reads { (text : List ℕ) (opening : List AnyLine)
-        → IsReading may_follow opening text script.old (R.left source.old)
-        → LinesReadTo may_follow opening text (R.left source.new) result }
+        → IsReading (may_stand (is_handset listener)) opening text script.old (R.left source.old)
+        → LinesReadTo (may_stand (is_handset listener)) opening text (R.left source.new) result }
     ensures within { (text : List ℕ) → IsWithin text (reading script.old) (R.left source.old)
         → IsWithin text (reading script.new) (R.left source.new) }
     ensures failed { result ≡ PlayEnd.ResetFailed → Rose card.old.parts.meter.faults card.new.parts.meter.faults }
@@ -50,20 +71,30 @@ pub fn play_lines<S: Store, B: Applet, R: Source, W: Sink>(
 {
     let mut line = ScriptLine::Passed;
     let mut link = Link::new();
-    let mut carrier = Carrier::Direct;
     let mut answer = Answer::new();
     loop {
-        if let Err(end) = play_line(
-            script,
-            source,
-            &mut line,
-            card,
-            &mut link,
-            &mut carrier,
-            &mut answer,
-            trace,
-        ) {
-            return end;
+        match listener {
+            Listener::Card => {
+                if let Err(end) = play_line(
+                    script,
+                    source,
+                    &mut line,
+                    card,
+                    &mut link,
+                    carrier,
+                    &mut answer,
+                    trace,
+                ) {
+                    return end;
+                }
+            }
+            Listener::Handset(_) => {
+                if let Err(end) = serve_line(
+                    script, source, &mut line, card, carrier, phone, places, trace,
+                ) {
+                    return end;
+                }
+            }
         }
     }
 }

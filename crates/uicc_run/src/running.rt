@@ -43,15 +43,16 @@ use byte_streams::{Failed, Sink, Source};
 use card_core::{CardOver, OpenFault};
 use card_model::runs_are_counted;
 use card_sections::{PlayEnd, ScriptReader, read_section};
-use card_steps::CardEnd;
+use card_steps::{CardEnd, Carrier};
 use eeprom_model::Eeprom;
 use layout_section::{Section, format};
 use page_store::PageStore;
-use phone_runs::{phone_runs_are_lawful, serve_lines};
+use phone_runs::{Places, end_of, phone_runs_are_lawful, start_phone};
 use run_words::{Mode, asked_for};
 use script_form::write_trace;
 use std::alloc::Global;
 use store_form::{Store, StoreFault};
+use terminal_side::Phone;
 use uicc_types::Plan;
 use update_journal::Journal;
 
@@ -360,7 +361,7 @@ fn open_and_play<S: Store, R: Source, W: Sink, B: Applet>(
     }
 }
 
-/// Carries out the lines after `start`: a handset does, or the card itself.
+/// Carries out the lines after `start`: a handset does, which is started first, or the card itself.
 fn carry_on<S: Store, B: Applet, R: Source, W: Sink>(
     listener: Listener,
     reader: &mut ScriptReader,
@@ -388,12 +389,35 @@ fn carry_on<S: Store, B: Applet, R: Source, W: Sink>(
         (result ≡ PlayEnd.SinkFailed) }
 {
     phone_runs_are_lawful();
+    let mut phone = Phone::new();
+    let mut places = Places::new();
     match listener {
         Listener::Handset(transport) => {
             let mut carrier = carrier_by(transport);
-            serve_lines(reader, script, card, &mut carrier, trace)
+            match start_phone(card, &mut carrier, &mut phone, &mut places, trace) {
+                Ok(()) => play_lines(
+                    listener,
+                    reader,
+                    script,
+                    card,
+                    &mut carrier,
+                    &mut phone,
+                    &mut places,
+                    trace,
+                ),
+                Err(end) => end_of(end),
+            }
         }
-        Listener::Card => play_lines(reader, script, card, trace),
+        Listener::Card => play_lines(
+            listener,
+            reader,
+            script,
+            card,
+            &mut Carrier::Direct,
+            &mut phone,
+            &mut places,
+            trace,
+        ),
     }
 }
 

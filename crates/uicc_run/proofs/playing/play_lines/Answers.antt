@@ -1,31 +1,78 @@
-use Rattle.std.proofs.Common.{Option, arith, sym, subst, ◌∙◌}
+use Rattle.std.proofs.Common.{Option, ap, arith, sym, subst, ◌∙◌}
+use Rattle.std.proofs.lemmas.Bool.{false≢true}
+use Rattle.card_sections.specs.Behind.{IsReading, LinesReadTo}
 use Rattle.card_steps.specs.Ends.{moment_at}
+use Rattle.uicc_run.specs.Listeners.{is_handset}
 use Rattle.uicc_run.specs.Playing.{IsPlaying}
 use Rattle.uicc_run.specs.Showing.{IsShowing}
+use Rattle.uicc_run.specs.Steps.{may_stand}
 use Rattle.uicc_types.specs.declared.answers.Answer.{Answer}
 use Rattle.uicc_run.proofs.playing.play_lines.Goals as goal
 
+-- ---- the card
+
 pub returns-in-Err-clause-played : goal.returns-in-Err-clause-played
-returns-in-Err-clause-played g c = λ given playing.
+returns-in-Err-clause-played g c = λ given unserved playing.
     let begun = subst (λ (kept : Option Answer). IsPlaying given c.args.script.now (g.R.Source.left c.args.source.now) kept (moment_at c.args.card.now (g.W.Sink.taken c.args.trace.now))) (sym c.new-link.ensures) playing in
-    c.in-Err.ensures.played given (c.loop-end.invariant.playing given begun)
+    c.in-Err.ensures.played given (c.loop-script.invariant.playing given unserved begun)
 
 pub returns-in-Err-clause-shows : goal.returns-in-Err-clause-shows
-returns-in-Err-clause-shows g c = λ given first showing.
+returns-in-Err-clause-shows g c = λ given first unserved showing.
     let begun = subst (λ (kept : Option Answer). IsShowing given first c.args.script.now (g.R.Source.left c.args.source.now) kept (moment_at c.args.card.now (g.W.Sink.taken c.args.trace.now))) (sym c.new-link.ensures) showing in
-    c.in-Err.ensures.shows given first (c.loop-end.invariant.shows given first begun)
+    c.in-Err.ensures.shows given first (c.loop-script.invariant.shows given first unserved begun)
 
 pub returns-in-Err-clause-reads : goal.returns-in-Err-clause-reads
-returns-in-Err-clause-reads g c = λ text opening reading. c.in-Err.ensures.reads text opening (c.loop-end.invariant.reads text opening reading)
+returns-in-Err-clause-reads g c = λ text opening reading.
+    subst (λ s. LinesReadTo (may_stand s) opening text (g.R.Source.left c.play_line.new.source) c.in-Err.end) (sym (ap is_handset c.in-Card.is))
+    (c.in-Err.ensures.reads text opening (subst (λ s. IsReading (may_stand s) opening text c.loop-script.script (g.R.Source.left c.loop-script.source)) (ap is_handset c.in-Card.is) (c.loop-script.invariant.reads text opening reading)))
 
-pub loop-end-preserved : goal.loop-end-preserved
-loop-end-preserved g c = record {
-  playing = λ given playing. c.in_default.ensures.played given (c.loop-end.invariant.playing given playing);
-  shows = λ given first showing. c.in_default.ensures.shows given first (c.loop-end.invariant.shows given first showing);
-  reads = λ text opening reading. c.in_default.ensures.reads text opening (c.loop-end.invariant.reads text opening reading);
-  within = λ text within. c.play_line.ensures.within text (c.loop-end.invariant.within text within);
-  kept = let before = c.loop-end.invariant.kept in let now = c.play_line.ensures.tallies.kept in omega arith;
-  source_kept = let before = c.loop-end.invariant.source_kept in let now = c.play_line.ensures.source_cause.kept in omega arith;
-  sink_kept = let before = c.loop-end.invariant.sink_kept in let now = c.play_line.ensures.tallies.sink.kept in omega arith;
-  tells = c.play_line.ensures.tallies.tells ∙ c.loop-end.invariant.tells;
-}
+pub loop-script-preserved-in_default : goal.loop-script-preserved-in_default
+loop-script-preserved-in_default g c =
+    let for_card = ap is_handset c.in-Card.is in
+    record {
+      playing = λ given unserved playing. c.in_default.ensures.played given (c.loop-script.invariant.playing given unserved playing);
+      shows = λ given first unserved showing. c.in_default.ensures.shows given first (c.loop-script.invariant.shows given first unserved showing);
+      serving = λ text opening given served serving. absurd (false≢true (sym for_card ∙ served));
+      serves = λ text opening given served serving. absurd (false≢true (sym for_card ∙ served));
+      between = λ served. absurd (false≢true (sym for_card ∙ served));
+      reads = λ text opening reading.
+          subst (λ s. IsReading (may_stand s) opening text c.play_line.new.script (g.R.Source.left c.play_line.new.source)) (sym for_card)
+          (c.in_default.ensures.reads text opening (subst (λ s. IsReading (may_stand s) opening text c.loop-script.script (g.R.Source.left c.loop-script.source)) for_card (c.loop-script.invariant.reads text opening reading)));
+      within = λ text within. c.play_line.ensures.within text (c.loop-script.invariant.within text within);
+      kept = let before = c.loop-script.invariant.kept in let now = c.play_line.ensures.tallies.kept in omega arith;
+      source_kept = let before = c.loop-script.invariant.source_kept in let now = c.play_line.ensures.source_cause.kept in omega arith;
+      sink_kept = let before = c.loop-script.invariant.sink_kept in let now = c.play_line.ensures.tallies.sink.kept in omega arith;
+      tells = c.play_line.ensures.tallies.tells ∙ c.loop-script.invariant.tells;
+    }
+
+-- ---- a handset
+
+pub returns-in-Err-serve_line-clause-served : goal.returns-in-Err-serve_line-clause-served
+returns-in-Err-serve_line-clause-served g c = λ text opening given served serving. c.in-Err-serve_line.ensures.served text opening given (c.loop-script.invariant.serving text opening given served serving)
+
+pub returns-in-Err-serve_line-clause-serves : goal.returns-in-Err-serve_line-clause-serves
+returns-in-Err-serve_line-clause-serves g c = λ text opening given served serving. c.in-Err-serve_line.ensures.shows text opening given (c.loop-script.invariant.serves text opening given served serving)
+
+pub returns-in-Err-serve_line-clause-reads : goal.returns-in-Err-serve_line-clause-reads
+returns-in-Err-serve_line-clause-reads g c = λ text opening reading.
+    subst (λ s. LinesReadTo (may_stand s) opening text (g.R.Source.left c.serve_line.new.source) c.in-Err-serve_line.end) (sym (ap is_handset c.in-Handset.is))
+    (c.in-Err-serve_line.ensures.reads text opening (subst (λ s. IsReading (may_stand s) opening text c.loop-script.script (g.R.Source.left c.loop-script.source)) (ap is_handset c.in-Handset.is) (c.loop-script.invariant.reads text opening reading)))
+
+pub loop-script-preserved : goal.loop-script-preserved
+loop-script-preserved g c =
+    let for_handset = ap is_handset c.in-Handset.is in
+    record {
+      playing = λ given unserved playing. absurd (false≢true (sym unserved ∙ for_handset));
+      shows = λ given first unserved showing. absurd (false≢true (sym unserved ∙ for_handset));
+      serving = λ text opening given served serving. c.in_default-serve_line.ensures.served text opening given (c.loop-script.invariant.serving text opening given served serving);
+      serves = λ text opening given served serving. c.in_default-serve_line.ensures.shows text opening given (c.loop-script.invariant.serves text opening given served serving);
+      between = λ served. c.in_default-serve_line.ensures.further.between;
+      reads = λ text opening reading.
+          subst (λ s. IsReading (may_stand s) opening text c.serve_line.new.script (g.R.Source.left c.serve_line.new.source)) (sym for_handset)
+          (c.in_default-serve_line.ensures.reads text opening (subst (λ s. IsReading (may_stand s) opening text c.loop-script.script (g.R.Source.left c.loop-script.source)) for_handset (c.loop-script.invariant.reads text opening reading)));
+      within = λ text within. c.serve_line.ensures.within text (c.loop-script.invariant.within text within);
+      kept = let before = c.loop-script.invariant.kept in let now = c.serve_line.ensures.tallies.kept in omega arith;
+      source_kept = let before = c.loop-script.invariant.source_kept in let now = c.serve_line.ensures.source_cause.kept in omega arith;
+      sink_kept = let before = c.loop-script.invariant.sink_kept in let now = c.serve_line.ensures.tallies.sink.kept in omega arith;
+      tells = c.serve_line.ensures.tallies.tells ∙ c.loop-script.invariant.tells;
+    }

@@ -1,22 +1,32 @@
 -- Between two lines the run is where it was at first, or further.
-use Rattle.std.proofs.Common.{◌≡◌, List, ℕ, is_some, ◌≤◌}
+use Rattle.std.proofs.Common.{◌≡◌, List, ℕ, is_some, ◌≤◌, true, false}
 use Rattle.byte_streams.specs.Reading.{IsWithin}
 use Rattle.card_sections.specs.Behind.{IsReading}
+use Rattle.card_steps.specs.Ends.{moment_at}
+use Rattle.phone_runs.specs.Lines.{IsBetweenLines, IsServing}
+use Rattle.phone_runs.specs.Runs.{Beginning}
+use Rattle.phone_runs.specs.Showing.{Outset, ServesShowing}
 use Rattle.script_form.specs.declared.lines.ScriptLine.{ScriptLine}
+use Rattle.uicc_run.specs.Listeners.{is_handset}
 use Rattle.uicc_run.specs.Playing.{Given, IsPlaying}
 use Rattle.uicc_run.specs.Showing.{IsShowing}
-use Rattle.uicc_run.specs.Steps.{may_follow}
+use Rattle.uicc_run.specs.Steps.{may_stand}
 use Rattle.uicc_types.specs.Counts.{Meter}
-use Rattle.card_steps.specs.Ends.{moment_at}
 use Rattle.uicc_run.proofs.playing.play_lines.Given as goal
 
-abbrev pub invariant-loop-end : goal.invariant-loop-end
-invariant-loop-end g l = record {
-  playing : (given : Given) → IsPlaying given l.initial.script (g.R.Source.left l.initial.source) l.initial.link (moment_at l.initial.card (g.W.Sink.taken l.initial.trace))
+abbrev pub invariant-loop-script : goal.invariant-loop-script
+invariant-loop-script g l = record {
+  playing : (given : Given) → is_handset l.listener ≡ false → IsPlaying given l.initial.script (g.R.Source.left l.initial.source) l.initial.link (moment_at l.initial.card (g.W.Sink.taken l.initial.trace))
       → IsPlaying given l.script (g.R.Source.left l.source) l.link (moment_at l.card (g.W.Sink.taken l.trace));
-  shows : (given : Given) (first : Meter) → IsShowing given first l.initial.script (g.R.Source.left l.initial.source) l.initial.link (moment_at l.initial.card (g.W.Sink.taken l.initial.trace))
+  shows : (given : Given) (first : Meter) → is_handset l.listener ≡ false → IsShowing given first l.initial.script (g.R.Source.left l.initial.source) l.initial.link (moment_at l.initial.card (g.W.Sink.taken l.initial.trace))
       → IsShowing given first l.script (g.R.Source.left l.source) l.link (moment_at l.card (g.W.Sink.taken l.trace));
-  reads : (text : List ℕ) (opening : List ScriptLine) → IsReading may_follow opening text l.initial.script (g.R.Source.left l.initial.source) → IsReading may_follow opening text l.script (g.R.Source.left l.source);
+  serving : (text : List ℕ) (opening : List ScriptLine) (given : Beginning) → is_handset l.listener ≡ true → IsServing text opening given l.initial.script (g.R.Source.left l.initial.source) l.initial.phone (moment_at l.initial.card (g.W.Sink.taken l.initial.trace))
+      → IsServing text opening given l.script (g.R.Source.left l.source) l.phone (moment_at l.card (g.W.Sink.taken l.trace));
+  serves : (text : List ℕ) (opening : List ScriptLine) (given : Outset) → is_handset l.listener ≡ true → ServesShowing text opening given l.initial.script (g.R.Source.left l.initial.source) l.initial.phone (moment_at l.initial.card (g.W.Sink.taken l.initial.trace))
+      → ServesShowing text opening given l.script (g.R.Source.left l.source) l.phone (moment_at l.card (g.W.Sink.taken l.trace));
+  between : is_handset l.listener ≡ true → IsBetweenLines l.script l.phone;
+  reads : (text : List ℕ) (opening : List ScriptLine) → IsReading (may_stand (is_handset l.listener)) opening text l.initial.script (g.R.Source.left l.initial.source)
+      → IsReading (may_stand (is_handset l.listener)) opening text l.script (g.R.Source.left l.source);
   within : (text : List ℕ) → IsWithin text l.initial.script.reader (g.R.Source.left l.initial.source) → IsWithin text l.script.reader (g.R.Source.left l.source);
   kept : l.initial.card.parts.meter.faults ≤ l.card.parts.meter.faults;
   source_kept : g.R.Source.faults l.initial.source ≤ g.R.Source.faults l.source;
@@ -24,5 +34,5 @@ invariant-loop-end g l = record {
   tells : is_some (g.W.Sink.taken l.trace) ≡ is_some (g.W.Sink.taken l.initial.trace);
 }
 
-abbrev pub decreases-loop-end : goal.decreases-loop-end
-decreases-loop-end g l = l.script.reader.room
+abbrev pub decreases-loop-script : goal.decreases-loop-script
+decreases-loop-script g l = l.script.reader.room
