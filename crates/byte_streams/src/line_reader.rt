@@ -36,7 +36,7 @@ impl Model for LineReader {
 }
 
 impl LineReader {
-    ghost use Rattle.std.specs.Prelude.{◌≡◌, ◌≢◌, ◌≤◌, ◌<◌, ◌+◌, ◌-◌, ◌⊎◌, ◌++◌, ◌∷◌, ◌&&◌, [], List, ℕ, Some, None, true, false, IsErr, IfOk, IfSome, OnErr, option_map, length, take, drop, min, nat_le, if◌then◌else◌};
+    ghost use Rattle.std.specs.Prelude.{◌≡◌, ◌≢◌, ◌≤◌, ◌<◌, ◌+◌, ◌-◌, ◌&&◌, List, ℕ, true, false, IsErr, IfOk, OnErr, length, take, drop, min, nat_le, if◌then◌else◌};
     ghost use Rattle.uicc_types.specs.Counts.{CountsFailure};
     ghost use Rattle.byte_streams.specs.Lines.{LineList};
     ghost use Rattle.byte_streams.specs.Reading.{FindsNext, HasRead, IsWithin, Leaves, OnLine, Stays, UsesRoom, at_start, lines_left};

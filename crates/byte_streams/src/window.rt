@@ -1,5 +1,5 @@
 //! The buffer of a reader of lines: what was taken from a source and not let go.
-ghost use Rattle.std.specs.Prelude.{◌≡◌, ◌≢◌, ◌≤◌, ◌<◌, ◌+◌, ◌-◌, ◌++◌, ◌⊎◌, List, ℕ, [], IsTrue, IsFalse, MatchOption, IsErr, IfOk, IfSome, OnErr, length, drop, slice_range};
+ghost use Rattle.std.specs.Prelude.{◌≡◌, ◌≤◌, ◌<◌, ◌+◌, ◌-◌, ◌++◌, ◌⊎◌, List, ℕ, [], IsTrue, IsFalse, MatchOption, IsErr, IfOk, IfSome, OnErr, length, drop, slice_range};
 ghost use Rattle.std.specs.Io.KnownBytes.{prepend_known, IsAtEnd};
 ghost use Rattle.uicc_types.specs.Counts.{CountsFailure};
 ghost use Rattle.byte_streams.specs.Search.{Finds, IsFirstEnd, NoEndBelow, TakesMore};

@@ -1,31 +1,22 @@
 //! How a command is carried out.
-ghost use Rattle.std.specs.Prelude.{◌≡◌, ◌≢◌, [], ◌∷◌, true, false, Some, Ok, Err, IsOk, OnOk, OnErr, IsErrOf, is_some, unwrap_or};
-ghost use Rattle.uicc_types.specs.Counts.{Caused};
-ghost use Rattle.apdu_form.specs.Model.{Apdu, command_in};
+ghost use Rattle.std.specs.Prelude.{◌≡◌, [], true, Some, Ok, Err, IsOk, OnErr};
 ghost use Rattle.file_commands.specs.Commands.{IsSomeCommand, IsInPlace};
 ghost use Rattle.file_commands.specs.Ends.{EndsWell};
 ghost use Rattle.file_commands.specs.Targets.{IsRefused};
-ghost use Rattle.card_layout.specs.Persistent.{Persistent};
 ghost use Rattle.card_layout.specs.States.{pins_of};
 ghost use Rattle.file_model.specs.Access.{keys_seen};
 ghost use Rattle.file_model.specs.Files.{descriptors_of};
-ghost use Rattle.file_model.specs.Selections.{IsSelection};
 ghost use Rattle.file_model.specs.Outcomes.{settled_file};
-ghost use Rattle.file_model.specs.Chains.{and_given};
-ghost use Rattle.file_model.specs.declared.selections.TheConstants.Selection.{AT_START};
 ghost use Rattle.card_model.specs.Answers.{settled, carried_out, carried_with, tried, answer, passed, told_pending, cut_to};
-ghost use Rattle.toolkit_model.specs.Commands.{pending};
-ghost use Rattle.card_model.specs.Channels.{channel_of, selected_on, is_open};
+ghost use Rattle.card_model.specs.Channels.{channel_of, is_open};
 ghost use Rattle.card_model.specs.Instructions.{instruction_tried, is_known};
 ghost use Rattle.file_model.specs.Commands.{contents_outcome, file_addressed, file_outcome};
 ghost use Rattle.card_core.specs.Commands.{tree_by, by_instruction};
 ghost use Rattle.file_admin.specs.Outcomes.{PerformsTree, IfNothingPasses, EndsTree};
 ghost use Rattle.file_making.specs.Lawful.{AreSelected};
 ghost use Rattle.card_core.specs.Serving.{TellsOfFiles, TellsOfTree};
-ghost use Rattle.card_memory.specs.Laws.{IsTold};
 ghost use Rattle.card_memory.specs.Performing.{Performs, StaysStill};
-ghost use Rattle.record_commands.specs.Tables.{HasOtherFiles, KeepsOtherFiles};
-ghost use Rattle.proactive_handler.specs.Boxes.{kinds_of};
+ghost use Rattle.record_commands.specs.Tables.{KeepsOtherFiles};
 ghost use Rattle.card_layout.specs.Memory.{IsMounted, memory};
 
 use crate::CardOver;

@@ -1,6 +1,5 @@
 //! How a terminal's commands come to the card.
 ghost use Rattle.std.specs.Prelude.{◌≡◌, IsTrue};
-ghost use Rattle.apdu_form.specs.Model.{command_in};
 ghost use Rattle.card_steps.specs.Ends.{Comes, reply_for};
 ghost use Rattle.card_steps.specs.Stepping.{seen};
 ghost use Rattle.t0_link.specs.Carrying.{carried};

@@ -1,11 +1,10 @@
 //! What refuses the commands before room is looked for.
-ghost use Rattle.std.specs.Prelude.{◌≡◌, ◌≢◌, ◌≤◌, ◌+◌, ◌==◌, ◌&&◌, false, length, slice_index, Some, Ok, Err, IsTrue, IfOk, IfErr, IfSome};
+ghost use Rattle.std.specs.Prelude.{◌≡◌, ◌≢◌, ◌≤◌, ◌+◌, ◌==◌, ◌&&◌, false, length, Some, Ok, Err, IsTrue, IfOk, IfErr, IfSome};
 ghost use Rattle.std.specs.List.{list_any};
 ghost use Rattle.card_layout.specs.Decoding.{number_at};
 ghost use Rattle.card_layout.specs.Kinds.{transparent_kind};
 ghost use Rattle.file_model.specs.Files.{descriptor_of, descriptors_of, lies_in};
 ghost use Rattle.file_model.specs.LifeCycles.{has_no_parameters};
-ghost use Rattle.file_model.specs.Outcomes.{is_deactivated};
 ghost use Rattle.file_tree.specs.Tables.{IsCardTable, IsNumbered};
 ghost use Rattle.file_making.specs.Creating.{is_there, has_id, has_short, created_if_room, created};
 ghost use Rattle.file_making.specs.Deleting.{is_in_use, deleting, deleted};

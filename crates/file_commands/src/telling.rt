@@ -1,11 +1,10 @@
 //! The file control parameters (ETSI TS 102 221, 11.1.1.3).
-ghost use Rattle.std.specs.Prelude.{◌≡◌, ◌+◌, ◌*◌, ◌≤◌, [], ◌∷◌, ◌++◌, ◌==◌, if◌then◌else◌, length};
-ghost use Rattle.std.specs.List.{flat_map};
-ghost use Rattle.std.specs.Int.{to_be_bytes, w16};
+ghost use Rattle.std.specs.Prelude.{◌≡◌, ◌+◌, ◌*◌, ◌≤◌, [], ◌++◌, ◌==◌, if◌then◌else◌, length};
+ghost use Rattle.std.specs.Int.{to_be_bytes};
 ghost use Rattle.access_rules.specs.Objects.{object};
 ghost use Rattle.card_layout.specs.States.{pins_of};
 ghost use Rattle.file_model.specs.Files.{is_df};
-ghost use Rattle.file_model.specs.Fcp.{kind_bytes, rule_object, enabled_bits, pin_object, short_object, df_objects, ef_objects, fcp};
+ghost use Rattle.file_model.specs.Fcp.{kind_bytes, rule_object, enabled_bits, pin_object, df_objects, ef_objects, fcp};
 ghost use Rattle.file_commands.specs.Telling.{key_objects, file_objects, pin_told};
 
 use card_layout::kinds::{self, DF};

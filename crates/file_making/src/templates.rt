@@ -4,7 +4,7 @@ ghost use Rattle.std.specs.Prelude.{◌≡◌, ◌+◌, ◌≤◌, ◌++◌, len
 ghost use Rattle.access_rules.specs.Objects.{object};
 ghost use Rattle.card_layout.specs.Decoding.{number_at};
 ghost use Rattle.file_model.specs.Fcp.{rule_object};
-ghost use Rattle.file_making.specs.Templates.{df_kind_bytes, ef_kind_bytes, short_value, objects_of, template, may_rule, has_short_records, may_be_made, IsInRange, id_place, rule_told, size_place, shape_told, short_told, told, asked_in};
+ghost use Rattle.file_making.specs.Templates.{ef_kind_bytes, short_value, objects_of, template, may_rule, has_short_records, may_be_made, IsInRange, id_place, rule_told, size_place, shape_told, short_told, told, asked_in};
 
 use crate::asked::NewFile;
 use crate::laws::templates_are_read;

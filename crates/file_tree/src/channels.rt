@@ -1,5 +1,5 @@
 //! What is selected on each logical channel.
-ghost use Rattle.std.specs.Prelude.{◌≡◌, ◌≢◌, ◌≤◌, ◌<◌, [], ◌∷◌, ◌↔◌, true, length, None, Some, slice_set, option_map, IfSome, IsSomeAnd};
+ghost use Rattle.std.specs.Prelude.{◌≡◌, ◌≤◌, ◌<◌, [], ◌∷◌, true, length, None, Some, slice_set, IfSome, IsSomeAnd};
 ghost use Rattle.card_model.specs.States.{basic_channel_alone};
 ghost use Rattle.card_model.specs.Channels.{selected_on, is_open, closed_channel, first_selection};
 

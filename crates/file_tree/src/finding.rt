@@ -1,5 +1,5 @@
 //! How SELECT and the commands on files find a file (ETSI TS 102 221, 8.4).
-ghost use Rattle.std.specs.Prelude.{◌≡◌, ◌%◌, ◌==◌, ◌∷◌, [], ℕ, None, if◌then◌else◌, length, option_map, IfSome};
+ghost use Rattle.std.specs.Prelude.{◌≡◌, ◌%◌, ◌==◌, ◌∷◌, [], None, if◌then◌else◌, length, option_map, IfSome};
 ghost use Rattle.std.specs.Result.{result_ok};
 ghost use Rattle.file_model.specs.declared.descriptors.Wanted.TheVariants.{ChildDf, Named, Number, Short};
 ghost use Rattle.file_model.specs.Files.{descriptors_of, file_found};

@@ -1,5 +1,4 @@
 //! What holds of the table of a card. The functions do nothing.
-ghost use Rattle.std.specs.Prelude.{◌≡◌};
 ghost use Rattle.file_model.specs.Files.{descriptors_of};
 ghost use Rattle.file_model.specs.Selections.{IsSelection};
 ghost use Rattle.file_tree.specs.Tables.{IsCardTable, HaveParentsFirst, MayBeSelected, HaveShortIds};

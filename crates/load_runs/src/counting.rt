@@ -1,5 +1,5 @@
 //! The lines of a long run, and what is counted in its trace.
-ghost use Rattle.std.specs.Prelude.{◌≡◌, ◌<◌, ◌≤◌, ◌+◌, ◌*◌, ◌^◌, [], List, ℕ, Some, Ok, IsErr, OnOk, length, true};
+ghost use Rattle.std.specs.Prelude.{◌≡◌, ◌<◌, ◌≤◌, ◌+◌, ◌*◌, ◌^◌, [], List, Some, Ok, IsErr, OnOk, length, true};
 ghost use Rattle.card_steps.specs.Ends.{moment_at};
 ghost use Rattle.load_runs.specs.Lines.{made_lines};
 ghost use Rattle.load_runs.specs.declared.lines.TheConstants.{LONGEST_SPAN};

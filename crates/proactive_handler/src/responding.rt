@@ -1,6 +1,6 @@
 //! The response of the handset to the command that is outstanding.
 ghost use Rattle.std.specs.Prelude.{ℕ, ◌≡◌, ◌≢◌, ◌≤◌, length, true, IfSome, Some, is_some};
-ghost use Rattle.handset_reports.specs.Replies.{replied};
+ghost use Rattle.toolkit_commands.specs.Replies.{replied};
 ghost use Rattle.proactive_handler.specs.Boxes.{minds_of, IsSameBox, AreForOthers};
 ghost use Rattle.toolkit_model.specs.Commands.{unanswered, answered, responded};
 ghost use Rattle.proactive_handler.specs.Steps.{scene, Moves};
@@ -13,7 +13,7 @@ use crate::running::run_alone;
 use applet_trait::{Applet, Stimulus};
 use card_layout::Loaded;
 use card_memory::tables_tell_states;
-use handset_reports::Reply;
+use toolkit_commands::Reply;
 use store_form::{Store, StoreFault};
 use toolkit_session::Session;
 use trigger_index::Index;

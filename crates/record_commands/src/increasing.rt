@@ -1,5 +1,5 @@
 //! INCREASE.
-ghost use Rattle.std.specs.Prelude.{◌≡◌, ◌≢◌, ◌≤◌, ◌+◌, ◌++◌, [], true, IfOk, IfErr, IfSome, IsOk, OnErr, Err, length};
+ghost use Rattle.std.specs.Prelude.{◌≡◌, ◌≢◌, ◌≤◌, [], true, IfOk, IfErr, IfSome, IsOk, OnErr, Err, length};
 ghost use Rattle.card_layout.specs.Changing.{with_newest_record};
 ghost use Rattle.file_model.specs.Files.{descriptors_of};
 ghost use Rattle.file_model.specs.Selections.{IsSelection};

@@ -1,7 +1,7 @@
 //! ENVELOPE.
 ghost use Rattle.std.specs.Prelude.{◌≡◌, ◌≢◌, ◌≤◌, [], ◌∷◌, ℕ, length, false, All, Ok, IfOk};
 ghost use Rattle.toolkit_commands.specs.declared.envelopes.Envelope.{Envelope};
-ghost use Rattle.handset_reports.specs.Reports.{reported};
+ghost use Rattle.toolkit_commands.specs.Reports.{reported};
 ghost use Rattle.card_layout.specs.States.{rows_of};
 ghost use Rattle.toolkit_model.specs.Commands.{enveloped, triggered, trigger_of, is_busy, last_answer};
 ghost use Rattle.proactive_handler.specs.Boxes.{minds_of, IsSameBox, AreForOthers};
@@ -21,7 +21,7 @@ use apdu_form::Command;
 use applet_trait::Applet;
 use card_layout::Loaded;
 use card_memory::tables_tell_states;
-use handset_reports::Report;
+use toolkit_commands::Report;
 use proactive_handler::sessions_are_served;
 use store_form::{Store, StoreFault};
 use toolkit_laws::sessions_stay_in_order;

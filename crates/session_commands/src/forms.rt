@@ -1,14 +1,14 @@
 //! What the parameters, the lengths and the data of a command are tested for, in the written order.
 ghost use Rattle.std.specs.Prelude.{◌≡◌, ◌≢◌, ◌≤◌, ◌==◌, ◌||◌, length, unwrap_or, IfOk, IfErr};
-ghost use Rattle.handset_reports.specs.Replies.{replied};
-ghost use Rattle.handset_reports.specs.Reports.{reported, bytes_in};
+ghost use Rattle.toolkit_commands.specs.Replies.{replied};
+ghost use Rattle.toolkit_commands.specs.Reports.{reported, bytes_in};
 ghost use Rattle.card_model.specs.Toolkit.{has_zero_parameters, row_status};
 ghost use Rattle.session_commands.specs.Trying.{seen, data_tried, fetch_tried, response_given, response_tried, envelope_given, envelope_tried};
 
 use apdu_form::Command;
 use applet_registry::RowFault;
 use file_model::{has_data, has_le_alone};
-use handset_reports::{Reply, Report, read_reply, read_report};
+use toolkit_commands::{Reply, Report, read_reply, read_report};
 use toolkit_commands::Details;
 use uicc_types::StatusWord;
 

@@ -2,7 +2,7 @@
 ghost use Rattle.std.specs.Prelude.{◌≡◌, ◌≢◌, ◌≤◌, All, AllPairs, length, filter, not};
 ghost use Rattle.card_layout.specs.States.{rows_of};
 ghost use Rattle.card_memory.specs.Model.{HasRowOn};
-ghost use Rattle.handset_reports.specs.Reports.{reported, bytes_in};
+ghost use Rattle.toolkit_commands.specs.Reports.{reported, bytes_in};
 ghost use Rattle.trigger_index.specs.Indexes.{StandsFor};
 ghost use Rattle.toolkit_model.specs.Commands.{selected, holders, trigger_of, is_call};
 ghost use Rattle.toolkit_model.specs.Driving.{is_idle};
@@ -14,7 +14,7 @@ ghost use Rattle.session_commands.specs.Triggers.{IsTriggerOf};
 
 use card_layout::{Loaded, states_are_of_entries};
 use event_dispatch::Shelves;
-use handset_reports::Report;
+use toolkit_commands::Report;
 use std::slice::from_ref;
 use toolkit_session::Session;
 use trigger_index::Index;

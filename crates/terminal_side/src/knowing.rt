@@ -1,6 +1,6 @@
 //! What the handset knows, moved on by what happens.
 ghost use Rattle.std.specs.Prelude.{◌≡◌, ◌+◌, ◌<◌, ◌^◌, Some, min, suc};
-ghost use Rattle.handset_model.specs.History.{has, held_after, kind_of, kind_of_report, lets_time_pass, listed_after, listed_by, menu_by, moment_after, place_by, refreshed_by, span_of, announced_by, ends_all};
+ghost use Rattle.handset_model.specs.History.{has, held_after, kind_of, kind_of_report, listed_after, listed_by, menu_by, moment_after, place_by, refreshed_by, span_of, announced_by, ends_all};
 ghost use Rattle.handset_model.specs.Legal.{IsBounded};
 ghost use Rattle.terminal_side.specs.Kept.{timers_after, timers_by, with_found, with_line, with_reset, with_sent, with_status};
 

@@ -1,7 +1,7 @@
 //! What the handset does with what the card answers.
-ghost use Rattle.std.specs.Prelude.{◌≡◌, ◌≤◌, Some, length};
+ghost use Rattle.std.specs.Prelude.{◌≡◌, Some, length};
 ghost use Rattle.handset_model.specs.declared.known.Duty.{Duty as ADuty};
-ghost use Rattle.handset_model.specs.Rules.{after_call, carried_out, fault_result, fetch_or_settle, followed, left_of, local_information, located, noted, refresh, report_due, respond, respond_done, ripe, settled, tell, timer_reply};
+ghost use Rattle.handset_model.specs.Rules.{after_call, carried_out, fault_result, fetch_or_settle, followed, left_of, local_information, located, noted, refresh, respond, respond_done, ripe, settled, tell, timer_reply};
 ghost use Rattle.handset_model.specs.declared.known.Duty.TheVariants.{ResetCard, Show, Transmit};
 ghost use Rattle.handset_model.specs.declared.commands.Command.TheVariants.{Fetch, Respond};
 ghost use Rattle.handset_model.specs.declared.commands.Reply.TheVariants.{Result};

@@ -1,7 +1,7 @@
 //! The bytes of what the handset sends.
 ghost use Rattle.std.specs.Prelude.{◌≡◌, ◌+◌, ◌≤◌, ◌<◌, ◌++◌, ◌∷◌, [], length};
 ghost use Rattle.comprehension_tlv.specs.Writing.{spellings, tagged};
-ghost use Rattle.toolkit_commands.specs.Table.{required, timer_value, two_digits, text_string};
+ghost use Rattle.toolkit_commands.specs.Table.{required, timer_value, two_digits};
 ghost use Rattle.handset_model.specs.Sending.{apdu_of, event, from, envelope, packed, performed, reply_objects, response_objects, timer_object, toolkit_apdu};
 ghost use Rattle.handset_model.specs.declared.commands.Command.TheVariants.{AskStatus, Fetch, Respond};
 ghost use Rattle.handset_model.specs.declared.commands.Reply.TheVariants.{Result};

@@ -7,6 +7,7 @@ pub mod RoundTrip
 pub mod Found
 pub mod FourFaults
 pub mod Reports
+pub mod OneWalk
 pub mod Saying
 pub mod Table
 pub mod Proper

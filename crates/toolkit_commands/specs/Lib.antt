@@ -9,3 +9,5 @@ pub mod Matching
 pub mod Faults
 pub mod Responses
 pub mod Envelopes
+pub mod Replies
+pub mod Reports

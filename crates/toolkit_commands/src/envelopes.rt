@@ -1,7 +1,8 @@
-//! Reading an envelope.
+//! Envelopes, and reading one in place.
 ghost use Rattle.std.specs.Prelude.{◌≡◌, ◌≤◌, ◌+◌, length, IfOk, option_map};
 ghost use Rattle.std.specs.Result.{result_ok};
 ghost use Rattle.toolkit_commands.specs.Envelopes.{value_in, byte_in, envelope_in, envelope_of};
+ghost use Rattle.toolkit_commands.specs.Reports.{reported, bytes_in};
 
 use crate::tags::{
     ADDRESS, CALL_CONTROL, EVENT_DOWNLOAD, EVENT_LIST, ITEM_IDENTIFIER, MENU_SELECTION,
@@ -33,7 +34,20 @@ impl From<TlvFault> for BadEnvelope {
     }
 }
 
-/// The value of the first object with the tag.
+/// An envelope, whose bytes stay where they are.
+#[derive(Clone, Copy, Debug)]
+pub enum Report<'a> {
+    /// An item of the card's menu was chosen.
+    Menu { item: u8 },
+    /// A call is about to be set up, to this address.
+    CallControl { address: &'a [u8] },
+    /// An event from the event list, with all objects of the envelope.
+    Event { code: u8, body: &'a [u8] },
+    /// A timer, from 1 to 8, has run down.
+    Timer { timer: u8 },
+}
+
+// The value of the first object with the tag.
 #[tactic(auto, unfolding(crate::specs::Envelopes::value_in))]
 fn value_in(content: &[u8], tag: u16) -> Result<&[u8], BadEnvelope>
     ensures exact { option_map (λ value. value.now) (result_ok result) ≡ value_in tag content.now }
@@ -42,7 +56,7 @@ fn value_in(content: &[u8], tag: u16) -> Result<&[u8], BadEnvelope>
     find(content, tag)?.ok_or(BadEnvelope)
 }
 
-/// The value of the first object with the tag, which is one byte.
+// The same, where it is one byte.
 fn byte_in(content: &[u8], tag: u16) -> Result<u8, BadEnvelope>
     ensures { result_ok result ≡ byte_in tag content.now }
 {
@@ -52,31 +66,30 @@ fn byte_in(content: &[u8], tag: u16) -> Result<u8, BadEnvelope>
     }
 }
 
+// What a template with this tag and content says.
 #[tactic(auto, unfolding(crate::specs::Envelopes::envelope_in))]
-fn envelope_in(tag: u8, content: &[u8]) -> Result<Envelope, BadEnvelope>
-    requires { length content.now ≤ 254 }
-    ensures { result_ok result ≡ envelope_in tag content.now }
+fn report_in(tag: u8, content: &[u8]) -> Result<Report<'_>, BadEnvelope>
+    ensures exact { option_map reported (result_ok result) ≡ envelope_in tag content.now }
+    ensures fits { IfOk result (λ report. length (bytes_in report) ≤ length content.now) }
 {
     match tag {
         MENU_SELECTION => {
             let item = byte_in(content, ITEM_IDENTIFIER)?;
-            Ok(Envelope::Menu { item })
+            Ok(Report::Menu { item })
         }
         CALL_CONTROL => match value_in(content, ADDRESS)? {
             [] => Err(BadEnvelope),
-            address => Ok(Envelope::CallControl {
-                address: Octets::from_slice(address),
-            }),
+            address => Ok(Report::CallControl { address }),
         },
         EVENT_DOWNLOAD => {
             let code = byte_in(content, EVENT_LIST)?;
-            Ok(Envelope::Event {
+            Ok(Report::Event {
                 code,
-                body: Octets::from_slice(content),
+                body: content,
             })
         }
         TIMER_EXPIRATION => match byte_in(content, TIMER_IDENTIFIER)? {
-            timer @ 1..=8 => Ok(Envelope::Timer { timer }),
+            timer @ 1..=8 => Ok(Report::Timer { timer }),
             _ => Err(BadEnvelope),
         },
         _ => Err(BadEnvelope),
@@ -86,10 +99,10 @@ fn envelope_in(tag: u8, content: &[u8]) -> Result<Envelope, BadEnvelope>
 /// What the bytes report: a template whose content is a list of objects, of which the first with the template's tag
 /// counts and others are passed over.
 #[tactic(auto, unfolding(crate::specs::Envelopes::envelope_of))]
-pub fn read_envelope(bytes: &[u8]) -> Result<Envelope, BadEnvelope>
-    requires { length bytes.now ≤ 256 }
-    ensures { result_ok result ≡ envelope_of bytes.now }
+pub fn read_report(bytes: &[u8]) -> Result<Report<'_>, BadEnvelope>
+    ensures exact { option_map reported (result_ok result) ≡ envelope_of bytes.now }
+    ensures fits { IfOk result (λ report. length (bytes_in report) ≤ length bytes.now) }
 {
     let (tag, content) = read_template(bytes)?;
-    envelope_in(tag, content)
+    report_in(tag, content)
 }

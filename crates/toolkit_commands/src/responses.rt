@@ -1,12 +1,14 @@
-//! Reading a terminal response.
-ghost use Rattle.std.specs.Prelude.{◌≡◌, ◌≤◌, None, length, Ok};
+//! Terminal responses, and reading one in place.
+ghost use Rattle.std.specs.Prelude.{◌≡◌, ◌≤◌, length, IfOk, option_map, option_copied};
 ghost use Rattle.std.specs.Result.{result_ok};
-ghost use Rattle.comprehension_tlv.specs.Reading.{flaw, outline};
-ghost use Rattle.toolkit_commands.specs.Responses.{names, item_among, response_of};
+ghost use Rattle.comprehension_tlv.specs.Reading.{objects_of};
+ghost use Rattle.comprehension_tlv.specs.Seen.{object_of};
+ghost use Rattle.toolkit_commands.specs.Responses.{names, response_of, text_after};
+ghost use Rattle.toolkit_commands.specs.Replies.{replied, first_of, item_of, with_object, values_of, values_in, response_from};
 
 use crate::Details;
 use crate::tags::{COMMAND_DETAILS, ITEM_IDENTIFIER, RESULT, TEXT_STRING};
-use comprehension_tlv::{TlvFault, find, walk};
+use comprehension_tlv::{Part, TlvFault, walk};
 use uicc_types::Octets;
 
 /// What the handset answered to a command (TS 102 223, 6.8).
@@ -30,54 +32,125 @@ impl From<TlvFault> for Mismatch {
     }
 }
 
-/// Whether the details object is that of the command.
-fn is_named(found: &[u8], details: &Details) -> bool
-    ensures { result ≡ names details.now (Some found.now) }
+/// What the handset answered to a command; its text stays where it is.
+#[derive(Clone, Copy, Debug)]
+pub struct Reply<'a> {
+    /// The general result, the first byte of the result object.
+    pub result: u8,
+    /// The identifier of the item that was chosen, or 0.
+    pub item: u8,
+    /// The text that was typed, as bytes.
+    pub text: &'a [u8],
+}
+
+// The values of the first objects that count, and the first item identifier of one byte.
+#[derive(Clone, Copy, Debug)]
+struct Found<'a> {
+    details: Option<&'a [u8]>,
+    result: Option<&'a [u8]>,
+    text: Option<&'a [u8]>,
+    item: Option<u8>,
+}
+
+// A value, where none was found before.
+fn first_of<'a>(found: Option<&'a [u8]>, value: &'a [u8]) -> Option<&'a [u8]>
+    ensures { option_copied result ≡ first_of (option_copied found.entry) value.now }
 {
     match found {
-        [number, kind, qualifier] => {
+        Some(before) => Some(before),
+        None => Some(value),
+    }
+}
+
+// An item identifier of one byte, where none was found before.
+fn item_of(found: Option<u8>, value: &[u8]) -> Option<u8>
+    ensures { result ≡ item_of found value.now }
+{
+    match found {
+        Some(item) => Some(item),
+        None => match value {
+            [item] => Some(*item),
+            _ => None,
+        },
+    }
+}
+
+impl<'a> Found<'a> {
+    // Takes note of the next object.
+    fn note(&mut self, part: &Part<'a>)
+        ensures { values_of self.new ≡ with_object (object_of part.now) (values_of self.old) }
+    {
+        match part.tag {
+            COMMAND_DETAILS => self.details = first_of(self.details, part.value),
+            RESULT => self.result = first_of(self.result, part.value),
+            TEXT_STRING => self.text = first_of(self.text, part.value),
+            ITEM_IDENTIFIER => self.item = item_of(self.item, part.value),
+            _ => {}
+        }
+    }
+}
+
+// What counts of a list of objects.
+fn found_in(bytes: &[u8]) -> Result<Found<'_>, Mismatch>
+    ensures { option_map values_of (result_ok result) ≡ values_in (objects_of bytes.now) }
+{
+    let mut found = Found {
+        details: None,
+        result: None,
+        text: None,
+        item: None,
+    };
+    let mut parts = walk(bytes);
+    while let Some(part) = parts.next()? {
+        found.note(&part);
+    }
+    Ok(found)
+}
+
+// Whether the details object is that of the command.
+fn is_named(found: Option<&[u8]>, details: &Details) -> bool
+    ensures { result ≡ names details.now (option_copied found.entry) }
+{
+    match found {
+        Some([number, kind, qualifier]) => {
             *number == details.number && *kind == details.kind && *qualifier == details.qualifier
         }
         _ => false,
     }
 }
 
-/// The first item identifier of length 1, or 0.
-fn item_in(bytes: &[u8]) -> Result<u8, Mismatch>
-    requires { flaw bytes.now ≡ None }
-    ensures { result ≡ Ok (item_among (outline bytes.now).objects) }
+// A text string without its coding.
+fn text_after(found: Option<&[u8]>) -> &[u8]
+    ensures { result.now ≡ text_after (option_copied found.entry) }
 {
-    let mut parts = walk(bytes);
-    while let Some(part) = parts.next()? {
-        if part.tag == ITEM_IDENTIFIER
-            && let [item] = part.value
-        {
-            return Ok(*item);
-        }
+    match found {
+        Some([_, text @ ..]) => text,
+        _ => &[],
     }
-    Ok(0)
+}
+
+// The answer to the command with these details.
+fn reply_from<'a>(found: &Found<'a>, details: &Details) -> Result<Reply<'a>, Mismatch>
+    ensures { option_map replied (result_ok result) ≡ response_from details.now (values_of found.now) }
+{
+    if !is_named(found.details, details) {
+        return Err(Mismatch);
+    }
+    match found.result {
+        Some([result, ..]) => Ok(Reply {
+            result: *result,
+            item: found.item.unwrap_or(0),
+            text: text_after(found.text),
+        }),
+        _ => Err(Mismatch),
+    }
 }
 
 /// The answer to the command with these details.
-#[tactic(auto, unfolding(crate::specs::Responses::response_of))]
-pub fn read_response(bytes: &[u8], details: &Details) -> Result<Response, Mismatch>
-    requires { length bytes.now ≤ 256 }
-    ensures { result_ok result ≡ response_of details.now bytes.now }
+pub fn read_reply<'a>(bytes: &'a [u8], details: &Details) -> Result<Reply<'a>, Mismatch>
+    ensures exact { option_map replied (result_ok result) ≡ response_of details.now bytes.now }
+    ensures fits { IfOk result (λ reply. length reply.text.now ≤ length bytes.now) }
 {
-    let found = find(bytes, COMMAND_DETAILS)?.ok_or(Mismatch)?;
-    if !is_named(found, details) {
-        return Err(Mismatch);
-    }
-    let [result, ..] = find(bytes, RESULT)?.ok_or(Mismatch)? else {
-        return Err(Mismatch);
-    };
-    let text = match find(bytes, TEXT_STRING)? {
-        Some([_, text @ ..]) => Octets::from_slice(text),
-        _ => Octets::new(),
-    };
-    Ok(Response {
-        result: *result,
-        item: item_in(bytes)?,
-        text,
-    })
+    let found = found_in(bytes)?;
+    reply_from(&found, details)
 }

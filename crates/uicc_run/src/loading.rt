@@ -1,9 +1,8 @@
 //! A long run: a handset carries out lines that are made from a number, and what it did is counted.
-ghost use Rattle.std.specs.Prelude.{◌≡◌, ◌≤◌, ◌⊎◌, [], ℕ, List, Option, Some, Ok, length, option_map, IfSome};
+ghost use Rattle.std.specs.Prelude.{◌≡◌, ◌⊎◌, [], ℕ, List, Option, Some, Ok, option_map, IfSome};
 ghost use Rattle.card_layout.specs.Persistent.{Persistent};
 ghost use Rattle.card_layout.specs.Places.{memory_size};
 ghost use Rattle.card_layout.specs.Standing.{standing, stands_for};
-ghost use Rattle.card_layout.specs.declared.sizes.TheConstants.{ROW_COUNT};
 ghost use Rattle.card_model.specs.Counts.{IsCounted};
 ghost use Rattle.card_opening.specs.Boxes.{minds_of};
 ghost use Rattle.uicc_run.specs.Causes.{EndsLoad, FitsStore};

@@ -1,5 +1,5 @@
 //! The pages that the program prints about itself.
-ghost use Rattle.std.specs.Prelude.{◌≡◌, List, ℕ, map, string_bytes};
+ghost use Rattle.std.specs.Prelude.{◌≡◌, map, string_bytes};
 ghost use Rattle.script_form.specs.Reads.{Reads};
 ghost use Rattle.uicc_run.specs.Pages.{AsksFor, IsPageWord, Shows, page_text};
 ghost use Rattle.uicc_types.specs.Counts.{CountsFailure};

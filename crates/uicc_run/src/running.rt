@@ -1,10 +1,8 @@
 //! A whole run: the words of the command line, the script, the card's memory and the trace.
-ghost use Rattle.std.specs.Prelude.{◌≡◌, ◌≢◌, ◌⊎◌, ◌+◌, ◌≤◌, ℕ, List, [], Some, None, true, length, map, string_bytes, is_some, option_map, IsErrOf, OnOk, OnErr, Option};
-ghost use Rattle.byte_streams.specs.Reading.{IsTaken, IsWithin};
-ghost use Rattle.byte_streams.specs.declared.limits.TheConstants.{MOST_BYTES};
+ghost use Rattle.std.specs.Prelude.{◌≡◌, ◌≢◌, ◌⊎◌, ◌≤◌, ℕ, List, [], Some, None, true, map, string_bytes, is_some, option_map, IsErrOf, OnOk, OnErr, Option};
+ghost use Rattle.byte_streams.specs.Reading.{IsWithin};
 ghost use Rattle.card_layout.specs.Places.{memory_size};
 ghost use Rattle.card_layout.specs.Standing.{stands_for};
-ghost use Rattle.card_layout.specs.declared.sizes.TheConstants.{ROW_COUNT};
 ghost use Rattle.card_layout.specs.Persistent.{Persistent};
 ghost use Rattle.card_model.specs.Counts.{IsCounted};
 ghost use Rattle.card_opening.specs.Boxes.{minds_of};

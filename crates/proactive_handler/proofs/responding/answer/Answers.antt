@@ -1,5 +1,5 @@
 use Rattle.std.proofs.Common.{sym, ap, ◌∙◌, subst, ℕ, Some, rules}
-use Rattle.handset_reports.specs.Replies.{replied}
+use Rattle.toolkit_commands.specs.Replies.{replied}
 use Rattle.proactive_handler.specs.Boxes.{minds_of}
 use Rattle.proactive_handler.specs.Serving.{IsSessionServed}
 use Rattle.proactive_handler.specs.Steps.{scene}

@@ -1,4 +1,4 @@
-use Rattle.handset_reports.specs.Replies.{replied}
+use Rattle.toolkit_commands.specs.Replies.{replied}
 use Rattle.proactive_handler.specs.Boxes.{minds_of, AreForOthers}
 use Rattle.proactive_handler.specs.Scenes.{scene_then}
 use Rattle.proactive_handler.specs.Steps.{scene, toolkit}

@@ -1,6 +1,6 @@
 use Rattle.std.proofs.Common.{◌≡◌, refl, sym, subst, List}
 use Rattle.std.proofs.lemmas.Result.{IfOk-weaker}
-use Rattle.handset_reports.specs.Reports.{reported}
+use Rattle.toolkit_commands.specs.Reports.{reported}
 use Rattle.card_layout.specs.Memory.{memory}
 use Rattle.card_layout.specs.States.{rows_of}
 use Rattle.toolkit_model.specs.Sessions.{LateTrigger}

@@ -1,8 +1,7 @@
 use Rattle.std.proofs.Common.{refl, sym, ap, ◌∙◌, ℕ, subst}
 use Rattle.std.specs.Prelude.{◌≢◌, All}
 use Rattle.uicc_types.specs.declared.answers.TheConstants.StatusWord.{TOOLKIT_BUSY}
-use Rattle.apdu_form.specs.Model.{Apdu}
-use Rattle.handset_reports.specs.Reports.{reported}
+use Rattle.toolkit_commands.specs.Reports.{reported}
 use Rattle.card_layout.specs.Memory.{memory}
 use Rattle.toolkit_model.specs.Commands.{enveloped, call_data}
 use Rattle.toolkit_model.specs.Steps.{Report}

@@ -1,5 +1,5 @@
 use Rattle.std.proofs.Common.{refl, sym, ap, ◌∙◌, [], ◌∷◌}
-use Rattle.handset_reports.specs.Replies.{replied}
+use Rattle.toolkit_commands.specs.Replies.{replied}
 use Rattle.card_layout.specs.Memory.{memory}
 use Rattle.card_layout.specs.States.{rows_of}
 use Rattle.toolkit_model.specs.Passing.{passed_rows}

@@ -2,8 +2,8 @@
 use Rattle.std.specs.Prelude.{ℕ, List, []}
 use Rattle.toolkit_commands.specs.declared.envelopes.Envelope.{Envelope}
 use Rattle.toolkit_commands.specs.declared.envelopes.Envelope.TheVariants.{Menu, CallControl, Event, Timer}
-use Rattle.handset_reports.specs.declared.reports.Report.{Report}
-use Rattle.handset_reports.specs.declared.reports.Report.TheVariants as Reports
+use Rattle.toolkit_commands.specs.declared.envelopes.Report.{Report}
+use Rattle.toolkit_commands.specs.declared.envelopes.Report.TheVariants as Reports
 
 -- the envelope, without where its bytes lie
 abbrev pub reported : Report → Envelope

@@ -6,8 +6,8 @@ use Rattle.toolkit_commands.specs.Responses.{names, text_after}
 use Rattle.toolkit_commands.specs.declared.commands.Details.{Details}
 use Rattle.toolkit_commands.specs.declared.responses.Response.{Response}
 use Rattle.toolkit_commands.specs.declared.tags.TheConstants.{COMMAND_DETAILS, RESULT, TEXT_STRING, ITEM_IDENTIFIER}
-use Rattle.handset_reports.specs.declared.replies.Found.{Found}
-use Rattle.handset_reports.specs.declared.replies.Reply.{Reply}
+use Rattle.toolkit_commands.specs.declared.responses.Found.{Found}
+use Rattle.toolkit_commands.specs.declared.responses.Reply.{Reply}
 
 -- the response, without where its text lies
 abbrev pub replied : Reply → Response
@@ -60,10 +60,10 @@ abbrev pub values_in : Result (List Object) TlvFault → Option Values
 values_in (Ok objects) = Some (values_from nothing objects)
 values_in (Err fault) = None
 
-abbrev pub with_result : Values → Option (List ℕ) → Option Response
-with_result found (Some (result ∷ more)) = Some (record { result = result; item = unwrap_or found.item 0; text = text_after found.text })
-with_result found _ = None
+abbrev pub answer_with : Values → Option (List ℕ) → Option Response
+answer_with found (Some (result ∷ more)) = Some (record { result = result; item = unwrap_or found.item 0; text = text_after found.text })
+answer_with found _ = None
 
 -- what they answer to the command with these details
 abbrev pub response_from : Details → Values → Option Response
-response_from details found = if names details found.details then with_result found found.result else None
+response_from details found = if names details found.details then answer_with found found.result else None

@@ -3,17 +3,17 @@ use Rattle.std.proofs.Common.{◌≡◌, refl, sym, ap, ◌∙◌, ℕ, ◌+◌,
 use Rattle.std.specs.Prelude.{IfSome, IfOk, unwrap_or, option_map, ◌==◌}
 use Rattle.std.specs.Result.{result_ok, IsErr}
 use Rattle.comprehension_tlv.specs.Model.{Object}
-use Rattle.comprehension_tlv.specs.Reading.{◌>>=◌, first_value, objects_of, value_of, outline, unless_fault, flaw, Outline, ended}
+use Rattle.comprehension_tlv.specs.Reading.{◌>>=◌, first_value, objects_of}
 use Rattle.comprehension_tlv.specs.declared.faults.TlvFault.{TlvFault}
 use Rattle.comprehension_tlv.proofs.Finding.{value_fits}
 use Rattle.comprehension_tlv.proofs.Steps.{IsBytes}
-use Rattle.toolkit_commands.specs.Responses.{item_among, one_or, names, with_result as result_with, response_among, response_of, text_after}
+use Rattle.toolkit_commands.specs.Responses.{item_among, one_or, names, with_result, response_among, response_of, text_after}
 use Rattle.toolkit_commands.specs.declared.commands.Details.{Details}
 use Rattle.toolkit_commands.specs.declared.responses.Response.{Response}
 use Rattle.toolkit_commands.specs.declared.tags.TheConstants.{COMMAND_DETAILS, RESULT, TEXT_STRING, ITEM_IDENTIFIER}
 use Rattle.toolkit_commands.specs.declared.responses.Mismatch.{Mismatch}
-use Rattle.handset_reports.specs.declared.replies.Reply.{Reply}
-use Rattle.handset_reports.specs.Replies.{replied, Values, nothing, first_of, item_of, with_object, values_from, values_in, with_result, response_from}
+use Rattle.toolkit_commands.specs.declared.responses.Reply.{Reply}
+use Rattle.toolkit_commands.specs.Replies.{replied, Values, nothing, first_of, item_of, with_object, values_from, values_in, answer_with, response_from}
 
 abbrev or_first : Option (List ℕ) → Option (List ℕ) → Option (List ℕ)
 or_first (Some before) later = Some before
@@ -78,7 +78,7 @@ module _ (objects : List Object) where
   item_is : unwrap_or all.item 0 ≡ item_among objects
   item_is = item_from objects nothing
 
-  with_same : (found : Option (List ℕ)) → with_result all found ≡ result_with objects found
+  with_same : (found : Option (List ℕ)) → answer_with all found ≡ with_result objects found
   with_same None = refl
   with_same (Some []) = refl
   with_same (Some (result ∷ more)) =
@@ -87,9 +87,9 @@ module _ (objects : List Object) where
 
   answers : (details : Details) → response_from details all ≡ response_among details (Ok objects)
   answers details =
-      ap (λ (d : Option (List ℕ)). cond (names details d) (with_result all all.result) None) details_are
+      ap (λ (d : Option (List ℕ)). cond (names details d) (answer_with all all.result) None) details_are
       ∙ ap (λ (r : Option Response). cond (names details (first_value COMMAND_DETAILS objects)) r None)
-      (ap (with_result all) result_is ∙ with_same (first_value RESULT objects))
+      (ap (answer_with all) result_is ∙ with_same (first_value RESULT objects))
 
 abbrev pub answered : Details → Option Values → Option Response
 answered details None = None
@@ -125,7 +125,7 @@ reply_fits details bytes found (Err mismatch) all there is = tt
 reply_fits details bytes found (Ok reply) all there is =
     subst (λ (t : List ℕ). length t ≤ length bytes) (sym (text_of (names details found.details) found.result is))
     (after_fits found.text (length bytes) (value_fits TEXT_STRING bytes found.text all (text_value (objects_of bytes) found there))) where
-      text_of : (named : Bool) (value : Option (List ℕ)) → Some (replied reply) ≡ cond named (with_result found value) None → reply.text.now ≡ text_after found.text
+      text_of : (named : Bool) (value : Option (List ℕ)) → Some (replied reply) ≡ cond named (answer_with found value) None → reply.text.now ≡ text_after found.text
       text_of false value is = cc is
       text_of true None is = cc is
       text_of true (Some []) is = cc is

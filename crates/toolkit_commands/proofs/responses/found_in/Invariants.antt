@@ -1,7 +1,7 @@
 use Rattle.std.proofs.Common.{◌≡◌, length}
 use Rattle.comprehension_tlv.specs.Reading.{outline}
-use Rattle.handset_reports.specs.Replies.{values_of, values_from, nothing}
-use Rattle.handset_reports.proofs.replies.found_in.Given as goal
+use Rattle.toolkit_commands.specs.Replies.{values_of, values_from, nothing}
+use Rattle.toolkit_commands.proofs.responses.found_in.Given as goal
 
 -- what comes of the rest is what comes of the whole list; and the walk ends as it must
 abbrev pub invariant-loop-part : goal.invariant-loop-part
