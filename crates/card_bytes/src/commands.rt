@@ -5,8 +5,8 @@ ghost use Rattle.toolkit_commands.specs.Table.{HasWritableTime};
 use crate::spelled::show_proactive;
 use std::alloc::{AllocError, Global};
 use toolkit_commands::{
-    Details, Proactive, ProactiveFault, Report, TooLong, details_of, found_details,
-    lengths_of_commands, read_proactive, read_reply, read_report, spell,
+    Details, Envelope, Proactive, ProactiveFault, TooLong, details_of, found_details,
+    lengths_of_commands, read_envelope, read_proactive, read_response, spell,
 };
 use unit_tables::{Failure, byte, bytes, joined_bytes, show_bytes, show_text};
 
@@ -137,12 +137,12 @@ pub fn show_response(alloc: Global, words: &[&str], shown: &mut String) -> Resul
         qualifier: byte(qualifier)?,
     };
     let bytes = joined_bytes(alloc, response)?;
-    match read_reply(message(&bytes)?, &details) {
-        Ok(reply) => {
-            let result = reply.result;
-            let item = reply.item;
+    match read_response(message(&bytes)?, &details) {
+        Ok(response) => {
+            let result = response.result;
+            let item = response.item;
             write!(shown, "result {result:02X} item {item} text ")?;
-            show_text(shown, reply.text)?;
+            show_text(shown, response.text.as_slice())?;
         }
         Err(_) => shown.push_str("mismatch")?,
     }
@@ -152,17 +152,17 @@ pub fn show_response(alloc: Global, words: &[&str], shown: &mut String) -> Resul
 /// `envelope BYTES`: what it reports.
 pub fn show_envelope(alloc: Global, words: &[&str], shown: &mut String) -> Result<(), Failure> {
     let bytes = joined_bytes(alloc, words)?;
-    match read_report(message(&bytes)?) {
-        Ok(Report::Menu { item }) => write!(shown, "menu item {item}")?,
-        Ok(Report::CallControl { address }) => {
+    match read_envelope(message(&bytes)?) {
+        Ok(Envelope::Menu { item }) => write!(shown, "menu item {item}")?,
+        Ok(Envelope::CallControl { address }) => {
             shown.push_str("call control ")?;
-            show_bytes(shown, address)?;
+            show_bytes(shown, address.as_slice())?;
         }
-        Ok(Report::Event { code, body }) => {
+        Ok(Envelope::Event { code, body }) => {
             write!(shown, "event {code:02X} ")?;
-            show_bytes(shown, body)?;
+            show_bytes(shown, body.as_slice())?;
         }
-        Ok(Report::Timer { timer }) => write!(shown, "timer {timer}")?,
+        Ok(Envelope::Timer { timer }) => write!(shown, "timer {timer}")?,
         Err(_) => shown.push_str("no envelope")?,
     }
     Ok(())

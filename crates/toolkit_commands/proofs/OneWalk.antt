@@ -1,6 +1,6 @@
 -- What one walk takes note of is the first value of each tag, and so what it answers is the response.
 use Rattle.std.proofs.Common.{◌≡◌, refl, sym, ap, ◌∙◌, ℕ, ◌+◌, ◌≤◌, Bool, true, false, cond, List, [], ◌∷◌, length, Option, Some, None, Result, Ok, Err, subst, arith}
-use Rattle.std.specs.Prelude.{IfSome, IfOk, unwrap_or, option_map, ◌==◌}
+use Rattle.std.specs.Prelude.{IfSome, IfOk, unwrap_or, option_map, ◌==◌, ◌-◌}
 use Rattle.std.specs.Result.{result_ok, IsErr}
 use Rattle.comprehension_tlv.specs.Model.{Object}
 use Rattle.comprehension_tlv.specs.Reading.{◌>>=◌, first_value, objects_of}
@@ -114,16 +114,16 @@ text_value (Ok objects) found is = ap (λ (t : Option (List ℕ)). Ok t) (sym (t
   some_is e = cc e
 text_value (Err fault) found is = cc is
 
-after_fits : (text : Option (List ℕ)) (most : ℕ) → IfSome text (λ value. length value + 2 ≤ most) → length (text_after text) ≤ most
+after_fits : (text : Option (List ℕ)) (most : ℕ) → IfSome text (λ value. length value + 2 ≤ most) → length (text_after text) ≤ most - 1
 after_fits None most fits = omega arith
 after_fits (Some []) most fits = omega arith
 after_fits (Some (coding ∷ text)) most fits = omega (arith, fits)
 
 pub reply_fits : (details : Details) (bytes : List ℕ) (found : Values) (result : Result Reply Mismatch) → IsBytes bytes → values_in (objects_of bytes) ≡ Some found
-    → option_map replied (result_ok result) ≡ response_from details found → IfOk result (λ reply. length reply.text.now ≤ length bytes)
+    → option_map replied (result_ok result) ≡ response_from details found → IfOk result (λ reply. length reply.text.now ≤ length bytes - 1)
 reply_fits details bytes found (Err mismatch) all there is = tt
 reply_fits details bytes found (Ok reply) all there is =
-    subst (λ (t : List ℕ). length t ≤ length bytes) (sym (text_of (names details found.details) found.result is))
+    subst (λ (t : List ℕ). length t ≤ length bytes - 1) (sym (text_of (names details found.details) found.result is))
     (after_fits found.text (length bytes) (value_fits TEXT_STRING bytes found.text all (text_value (objects_of bytes) found there))) where
       text_of : (named : Bool) (value : Option (List ℕ)) → Some (replied reply) ≡ cond named (answer_with found value) None → reply.text.now ≡ text_after found.text
       text_of false value is = cc is

@@ -101,8 +101,26 @@ fn report_in(tag: u8, content: &[u8]) -> Result<Report<'_>, BadEnvelope>
 #[tactic(auto, unfolding(crate::specs::Envelopes::envelope_of))]
 pub fn read_report(bytes: &[u8]) -> Result<Report<'_>, BadEnvelope>
     ensures exact { option_map reported (result_ok result) ≡ envelope_of bytes.now }
-    ensures fits { IfOk result (λ report. length (bytes_in report) ≤ length bytes.now) }
+    ensures fits { IfOk result (λ report. length (bytes_in report) + 2 ≤ length bytes.now) }
 {
     let (tag, content) = read_template(bytes)?;
     report_in(tag, content)
+}
+
+/// The same, with copies of the bytes that it hands on.
+pub fn read_envelope(bytes: &[u8]) -> Result<Envelope, BadEnvelope>
+    requires { length bytes.now ≤ 256 }
+    ensures { result_ok result ≡ envelope_of bytes.now }
+{
+    match read_report(bytes)? {
+        Report::Menu { item } => Ok(Envelope::Menu { item }),
+        Report::CallControl { address } => Ok(Envelope::CallControl {
+            address: Octets::from_slice(address),
+        }),
+        Report::Event { code, body } => Ok(Envelope::Event {
+            code,
+            body: Octets::from_slice(body),
+        }),
+        Report::Timer { timer } => Ok(Envelope::Timer { timer }),
+    }
 }

@@ -1,5 +1,5 @@
 //! Terminal responses, and reading one in place.
-ghost use Rattle.std.specs.Prelude.{◌≡◌, ◌≤◌, length, IfOk, option_map, option_copied};
+ghost use Rattle.std.specs.Prelude.{◌≡◌, ◌≤◌, ◌-◌, length, IfOk, option_map, option_copied};
 ghost use Rattle.std.specs.Result.{result_ok};
 ghost use Rattle.comprehension_tlv.specs.Reading.{objects_of};
 ghost use Rattle.comprehension_tlv.specs.Seen.{object_of};
@@ -149,8 +149,21 @@ fn reply_from<'a>(found: &Found<'a>, details: &Details) -> Result<Reply<'a>, Mis
 /// The answer to the command with these details.
 pub fn read_reply<'a>(bytes: &'a [u8], details: &Details) -> Result<Reply<'a>, Mismatch>
     ensures exact { option_map replied (result_ok result) ≡ response_of details.now bytes.now }
-    ensures fits { IfOk result (λ reply. length reply.text.now ≤ length bytes.now) }
+    ensures fits { IfOk result (λ reply. length reply.text.now ≤ length bytes.now - 1) }
 {
     let found = found_in(bytes)?;
     reply_from(&found, details)
+}
+
+/// The same, with a copy of the text.
+pub fn read_response(bytes: &[u8], details: &Details) -> Result<Response, Mismatch>
+    requires { length bytes.now ≤ 256 }
+    ensures { result_ok result ≡ response_of details.now bytes.now }
+{
+    let reply = read_reply(bytes, details)?;
+    Ok(Response {
+        result: reply.result,
+        item: reply.item,
+        text: Octets::from_slice(reply.text),
+    })
 }
