@@ -71,10 +71,10 @@ impl LineReader {
         ensures left { Leaves result self.new.line (lines_left self.old (R.left source.old))
             (lines_left self.new (R.left source.new)) }
 
-        // Where no line was found, what is left to read is what it was: nothing of it was dropped or passed over.
+        // Where no line is handed out, what is left to read is what it was: nothing of it was dropped or passed over.
         ensures stays { result ≢ NextLine.Line → Stays self.old (R.left source.old) self.new (R.left source.new) }
 
-        // The same of a whole text, with the lines that were handed out before.
+        // The same of a whole text, with the lines that were handed out before, and how much of it is taken then.
         ensures found { (text : List ℕ) (given : LineList) → HasRead text given self.old (R.left source.old)
             → FindsNext text given self.new (R.left source.new) result }
 

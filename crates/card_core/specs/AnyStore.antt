@@ -138,7 +138,7 @@ RefusesByTable (File command) parts apdu status = RefusesFile command (descripto
 RefusesByTable (Pin command) parts apdu status = pin_outcome command (pins_of parts.table) parts.verified apdu ≡ Err status
 RefusesByTable _ parts apdu status = ⊥
 
--- Refused with this status without data; the whole card stays, and its store isn't touched.
+-- Refused with this status without data; the whole card stays, with all that is known of its store.
 pub record IsDenied (status : StatusWord) (out : Answer) (old new : CardParts) : Type 0 where
   pub refused : IsRefusedWith status out
   pub stays : new ≡ old

@@ -51,7 +51,7 @@ abbrev pub OnServed : {X : Type 0} → Result X CardFault → Answer → Type 0 
 OnServed result out Holds = OnOk result (out.status ≢ MEMORY_PROBLEM → Holds)
 
 -- A fault stopped what commits these states, one after the other, to a store that stood for this one. So many commits were
--- acknowledged, and each of those is counted; it stands for the state after them, or for the one after the next.
+-- acknowledged, and each of those is counted; it stands for the state after them, or after one more.
 pub record StopsAt (state : Persistent) (states : List Persistent) (before now : ℕ) (after : Option Persistent) : Type 0 where
   pub place : ℕ
   pub counted : now ≡ raised_by place before

@@ -51,8 +51,8 @@ const fn basic_channel(class: u8, instruction: Instruction) -> Option<Row>
 impl Row {
     ghost use Rattle.card_core.specs.Commands.{row_shown};
 
-    // The row of an instruction byte in a class (ETSI TS 102 221, 10.1.2), of each command that the card has. It is laid out where it
-    // is called: a call would hand the row over through memory.
+    // The row of an instruction byte in a class (ETSI TS 102 221, 10.1.2), of each command that the card has. It is inlined: a call
+    // would hand the row over through memory.
     #[inline(always)]
     fn of(class: u8, ins: u8) -> Option<Row>
         ensures shown { option_map (row_shown ins) result ≡ row_of is_known class ins }

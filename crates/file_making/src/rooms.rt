@@ -21,7 +21,8 @@ fn is_in_the_way(node: &Node, place: u32, size: u32) -> bool
     node.used && kinds::is_ef(node.kind) && place.max(begins) < (place + size).min(ends)
 }
 
-// The place behind the EFs that are in the way: behind one of them, whether the next is in the way from there on, and so through the table.
+// The place to go on from, behind each EF that is in the way: the entries are met in their order, and each is asked whether it is in the way
+// from where the one before left.
 fn behind_files(nodes: &[Node], place: u32, size: u32) -> u32
     requires place { place < 2 ^ 17 }
     requires size { size < 2 ^ 16 }
@@ -54,8 +55,8 @@ fn end_of_files(wide: bool) -> u32
 }
 
 /// The smallest place at which so many bytes may stand: among those of the files, and beside those of each EF. None exactly
-/// where there is no such place. From each EF that is in the way the search goes on where it ends, and through the table so often
-/// until none is: twice, where the entries stand in the order of the files.
+/// where there is no such place. From each EF that is in the way the search goes on where it ends, through the table again and again
+/// until none is; at most twice, where the entries stand in the order of the files.
 pub fn room(loaded: &Loaded, size: u16) -> Option<u16>
     ensures smallest { (content : List ℕ) → IsSmallestRoom (state_of loaded.now content) size result }
     ensures value { (content : List ℕ) → result ≡ room_at (state_of loaded.now content) size }

@@ -34,7 +34,7 @@ fn records_of(node: &Node) -> (u8, u8)
     }
 }
 
-/// What is known of the file of an entry. The records of an EF fill it. Where it is laid out, what isn't asked of a file costs nothing.
+/// What is known of the file of an entry. The records of an EF fill it. Inlined, what isn't asked of a file costs nothing.
 #[inline(always)]
 #[tactic(auto, unfolding(file_model::specs::Files::descriptor_of))]
 pub fn descriptor_of(number: u8, node: &Node) -> Descriptor

@@ -63,8 +63,8 @@ shows_by join order given log later step items phone mid from to goes keeps take
       happens = record {
         orderly = goes.orderly at.happens.orderly;
         in_turn = goes.in_turn at.happens.in_turn;
-        may = subst (λ s. MayShowAll true s (shown later) to.is_on) (sym goes.steps_are) (subst (λ i. MayShowAll true (steps log ++ step ∷ []) i to.is_on) (sym goes.shown_is)
-            (shows_then (steps log) (step ∷ []) true from.is_on to.is_on (shown log) items at.happens.may (shows_one from.is_on to.is_on step items taken.may)));
+        may = subst (λ s. MayShowAll given.is_on s (shown later) to.is_on) (sym goes.steps_are) (subst (λ i. MayShowAll given.is_on (steps log ++ step ∷ []) i to.is_on) (sym goes.shown_is)
+            (shows_then (steps log) (step ∷ []) given.is_on from.is_on to.is_on (shown log) items at.happens.may (shows_one from.is_on to.is_on step items taken.may)));
       };
       keeps = keeps;
       written = taken.written ∙ ap Some (append_assoc given.before (entries_text (trace log)) (text_of items) ∙ ap (λ rest. given.before ++ rest) (sym goes.text_is));
@@ -180,7 +180,7 @@ note_shows old mid found note given log from taken asking is more at =
       log = Happens (Noted note) ∷ log;
       lines_are = refl;
       at = record {
-        happens = record { orderly = (shows, at.happens.orderly); in_turn = at.happens.in_turn; may = subst (λ i. MayShowAll true (steps log) i from.is_on) (sym (shown_noted note log)) at.happens.may };
+        happens = record { orderly = (shows, at.happens.orderly); in_turn = at.happens.in_turn; may = subst (λ i. MayShowAll given.is_on (steps log) i from.is_on) (sym (shown_noted note log)) at.happens.may };
         keeps = note_keeps old mid found note (history log) asking shows at.keeps;
         written = told_more from.taken taken (note_line note) (given.before ++ entries_text (trace log)) more at.written
             ∙ ap Some (append_assoc given.before (entries_text (trace log)) (note_line note) ∙ ap (λ rest. given.before ++ rest) (sym (text_noted note log)));
@@ -217,8 +217,8 @@ plan_so order given log plan phone now rest at = record {
   happens = record {
     orderly = at.happens.orderly;
     in_turn = (rest, at.happens.in_turn);
-    may = subst (λ s. MayShowAll true s (shown log) now.is_on) (sym (steps_planned plan log)) (subst (λ i. MayShowAll true (steps log ++ step.Plan plan ∷ []) i now.is_on) (append-nil (shown log))
-        (shows_then (steps log) (step.Plan plan ∷ []) true now.is_on now.is_on (shown log) [] at.happens.may (shows_one now.is_on now.is_on (step.Plan plan) [] (refl, refl))));
+    may = subst (λ s. MayShowAll given.is_on s (shown log) now.is_on) (sym (steps_planned plan log)) (subst (λ i. MayShowAll given.is_on (steps log ++ step.Plan plan ∷ []) i now.is_on) (append-nil (shown log))
+        (shows_then (steps log) (step.Plan plan ∷ []) given.is_on now.is_on now.is_on (shown log) [] at.happens.may (shows_one now.is_on now.is_on (step.Plan plan) [] (refl, refl))));
   };
   keeps = at.keeps;
   written = at.written;

@@ -34,30 +34,31 @@ use Rattle.uicc_types.specs.declared.runs.Step.TheVariants as step
 use Rattle.uicc_types.specs.declared.runs.TraceItem.{TraceItem}
 use Rattle.uicc_types.specs.declared.runs.TraceItem.TheVariants as item
 
--- what the sink has taken already, and the counts of the memory's device at first
+-- what the sink has taken already, the counts of the memory's device at first, and whether the card has power then
 pub record Outset : Type 0 where
   pub before : List ℕ
   pub meter : Meter
+  pub is_on : Bool
 
--- This happened at a handset over a card that has this power behind it: each event is one that was asked for, a plan stands between two
--- lines, and what is seen of the card is what its commands, resets and plans may show.
-pub record MayHappen (log : List Event) (on : Bool) : Type 0 where
+-- This happened at a handset over a card that had the one power at first and has the other behind it: each event is one that was asked for,
+-- a plan stands between two lines, and what is seen of the card is what its commands, resets and plans may show.
+pub record MayHappen (on : Bool) (log : List Event) (after : Bool) : Type 0 where
   pub orderly : IsOrderly (history log)
   pub in_turn : AreInTurn log
-  pub may : MayShowAll true (steps log) (shown log) on
+  pub may : MayShowAll on (steps log) (shown log) after
 
 -- This has happened so far, all that it shows was taken, the device has counted what is seen of the card, and this is what the handset
 -- keeps.
 pub record IsShowing (given : Outset) (log : List Event) (phone : Kept) (now : Moment) : Type 0 where
-  pub happens : MayHappen log now.is_on
+  pub happens : MayHappen given.is_on log now.is_on
   pub keeps : phone ≡ kept (history log)
   pub written : now.taken ≡ Some (given.before ++ entries_text (trace log))
   pub counted : IsCounted given.meter now.meter (plan_given (steps log)) (shown log)
   pub waits : now.waiting ≡ waiting_after NONE (steps log)
 
--- nothing has happened yet, and the card has power
+-- nothing has happened yet
 pub record BeginsShowing (given : Outset) (now : Moment) : Type 0 where
-  pub on : now.is_on ≡ true
+  pub on : now.is_on ≡ given.is_on
   pub written : now.taken ≡ Some given.before
   pub counted : IsCounted given.meter now.meter [] []
   pub waits : now.waiting ≡ NONE
@@ -94,7 +95,7 @@ pub record CutsOff (given : Outset) (told : List PhoneLine) (now : Moment) : Typ
   pub log : List Event
   pub on : Bool
   pub lines_are : lines_back log ≡ told
-  pub happens : MayHappen log on
+  pub happens : MayHappen given.is_on log on
   pub cut : CutsIn given log on now (asked (history log))
 
 -- The memory failed in a reset that was asked for: the trace says so behind all that these lines have shown before.
@@ -102,7 +103,7 @@ pub record ShowsFailure (given : Outset) (told : List PhoneLine) (now : Moment) 
   pub log : List Event
   pub on : Bool
   pub lines_are : lines_back log ≡ told
-  pub happens : MayHappen log on
+  pub happens : MayHappen given.is_on log on
   pub resets : asked (history log) ≡ ResetCard
   pub written : now.taken ≡ Some (given.before ++ entries_text (trace log ++ Seen item.EepromFailed ∷ []))
   pub counted : IsCounted given.meter now.meter (plan_given (steps log ++ step.Reset ∷ [])) (shown log ++ item.EepromFailed ∷ [])
@@ -166,7 +167,7 @@ pub record PhoneShows (text : List ℕ) (opening : List ScriptLine) (given : Out
   pub log : List Event
   pub are_served : AreServed opening found played
   pub told : lines_back log ≡ told_back played
-  pub happens : MayHappen log now.is_on
+  pub happens : MayHappen given.is_on log now.is_on
   pub legal : IsLegal (heard (lines log)) (trace log)
   pub cause : StopsReading may_be_heard text found left end
   pub written : now.taken ≡ Some (given.before ++ entries_text (trace log))

@@ -13,8 +13,8 @@ use crate::running::run_alone;
 use applet_trait::{Applet, Stimulus};
 use card_layout::Loaded;
 use card_memory::tables_tell_states;
-use toolkit_commands::Reply;
 use store_form::{Store, StoreFault};
+use toolkit_commands::ResponseRef;
 use toolkit_session::Session;
 use trigger_index::Index;
 use uicc_types::Octets;
@@ -26,7 +26,7 @@ fn answer<S: Store, B: Applet>(
     index: &mut Index,
     cast: &mut [Option<B>],
     session: &mut Session,
-    response: &Reply<'_>,
+    response: &ResponseRef<'_>,
 ) -> Result<(), StoreFault>
     requires service { IsInService
         (scene (memory S.Store store.old loaded.old) index.old session.old (minds_of B.mind cast.old)) cast.old }
@@ -74,7 +74,7 @@ pub fn respond<S: Store, B: Applet>(
     index: &mut Index,
     cast: &mut [Option<B>],
     session: &mut Session,
-    response: &Reply<'_>,
+    response: &ResponseRef<'_>,
 ) -> Result<(), StoreFault>
     requires service { IsInService
         (scene (memory S.Store store.old loaded.old) index.old session.old (minds_of B.mind cast.old)) cast.old }

@@ -21,7 +21,7 @@ use Rattle.uicc_types.specs.declared.answers.StatusWord.{StatusWord}
 use Rattle.general_laws.specs.Choices.{low_chosen}
 use Rattle.file_model.proofs.SelectLaws.{object_low, kind_low, keys_low, few_pins}
 use Rattle.run_laws.specs.Fcp.{Object, file_told, objects_in, pins_told, rule_told, short_told}
-use Rattle.run_laws.specs.FcpLaws.{FcpAreAnsweredWhole, FcpAreObjects, IsFcp, SelectAnswersFcp, StatusAnswersFcp}
+use Rattle.run_laws.specs.FcpLaws.{FcpAreNotCut, FcpAreObjects, IsFcp, SelectAnswersFcp, StatusAnswersFcp}
 use Rattle.run_laws.proofs.PutAndRead.{unless_ok}
 use Rattle.run_laws.proofs.ObjectsRead.{IsShortObject, all_spelled, spelled_are_read}
 
@@ -139,9 +139,9 @@ pub fcp_are_objects : FcpAreObjects
 fcp_are_objects state file sound = told_is_fcp state.pins file (few_pins state sound)
 
 -- no Le from 129 on cuts them
-pub fcp_are_answered_whole : FcpAreAnsweredWhole
-fcp_are_answered_whole None pins file bytes is allows = refl
-fcp_are_answered_whole (Some most) pins file bytes is allows =
+pub fcp_are_not_cut : FcpAreNotCut
+fcp_are_not_cut None pins file bytes is allows = refl
+fcp_are_not_cut (Some most) pins file bytes is allows =
     take_all most bytes (omega (arith, ap (length {A = ℕ}) is.one_object, is.short, allows))
 
 -- ---- what SELECT and STATUS answer

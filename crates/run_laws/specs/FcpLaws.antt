@@ -41,9 +41,9 @@ StatusAnswersFcp = (state : Persistent) (selection : Selection) (apdu : Apdu) (o
     → IsSound state → status_told state selection apdu ≡ Ok outcome → apdu.p2 ≡ 0x00
     → (df : Descriptor) × (file_found (descriptors_in state) (Number selection.df) ≡ Some df) × IsFcp state.pins df outcome.body
 
--- Where there is no Le, or one that allows 129 bytes (256 does), all of it is answered.
-abbrev pub FcpAreAnsweredWhole : Type 0
-FcpAreAnsweredWhole = (expected : Option ℕ) (pins : List Pin) (file : Descriptor) (bytes : List ℕ)
+-- No Le, and no Le that allows 129 bytes (256 does), cuts anything off.
+abbrev pub FcpAreNotCut : Type 0
+FcpAreNotCut = (expected : Option ℕ) (pins : List Pin) (file : Descriptor) (bytes : List ℕ)
     → IsFcp pins file bytes → IfSome expected (λ most. 129 ≤ most) → cut_to expected bytes ≡ bytes
 
 -- the identifiers of a file have two bytes

@@ -1,6 +1,6 @@
 //! What is read where it was put. The function does nothing: its contract is the law.
 ghost use Rattle.run_laws.specs.Fitting.{WhatStandsFits};
-ghost use Rattle.run_laws.specs.FcpLaws.{FcpAreAnsweredWhole, FcpAreObjects, FcpTellFiles, SelectAnswersFcp, StatusAnswersFcp};
+ghost use Rattle.run_laws.specs.FcpLaws.{FcpAreNotCut, FcpAreObjects, FcpTellFiles, SelectAnswersFcp, StatusAnswersFcp};
 ghost use Rattle.run_laws.specs.JournalLaws.{EntriesAreRead, NothingElseIsRead};
 ghost use Rattle.run_laws.specs.ReadingLaws.{BytesAreRead, RecordsAreRead};
 
@@ -17,7 +17,7 @@ pub fn what_is_told_is_read()
     ensures objects { FcpAreObjects }
     ensures select { SelectAnswersFcp }
     ensures status { StatusAnswersFcp }
-    ensures whole { FcpAreAnsweredWhole }
+    ensures whole { FcpAreNotCut }
     ensures files { FcpTellFiles }
 {}
 

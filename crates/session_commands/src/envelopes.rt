@@ -21,19 +21,19 @@ use apdu_form::Command;
 use applet_trait::Applet;
 use card_layout::Loaded;
 use card_memory::tables_tell_states;
-use toolkit_commands::Report;
 use proactive_handler::sessions_are_served;
 use store_form::{Store, StoreFault};
+use toolkit_commands::EnvelopeRef;
 use toolkit_laws::sessions_stay_in_order;
 use toolkit_session::Session;
 use trigger_index::Index;
 use uicc_types::{Answer, AnswerData, Full, StatusWord};
 
 // User activity and the idle screen are reported once.
-fn note_reported(session: &mut Session, envelope: &Report<'_>)
+fn note_reported(session: &mut Session, envelope: &EnvelopeRef<'_>)
     ensures { session.new ≡ reported_in (reported envelope.now) session.old }
 {
-    if let Report::Event { code, .. } = envelope {
+    if let EnvelopeRef::Event { code, .. } = envelope {
         session.reported(*code);
     }
 }
@@ -45,7 +45,7 @@ fn report<S: Store, B: Applet>(
     index: &mut Index,
     cast: &mut [Option<B>],
     session: &mut Session,
-    envelope: &Report<'_>,
+    envelope: &EnvelopeRef<'_>,
     trigger: &Trigger<'_>,
 ) -> Result<Option<bool>, StoreFault>
     requires rests { IsBetweenCommands
@@ -95,7 +95,7 @@ fn put_result(body: &mut AnswerData, permission: u8)
 
 // Call control is answered that the call is not allowed, or that it is (ETSI TS 102 223, 7.3.1.6), in an answer that is empty before.
 // Other envelopes are answered without data.
-fn put_data(envelope: &Report<'_>, answer: Option<bool>, body: &mut AnswerData)
+fn put_data(envelope: &EnvelopeRef<'_>, answer: Option<bool>, body: &mut AnswerData)
     requires { body.old ≡ [] }
     ensures { body.new ≡ data_for (reported envelope.now) answer }
 {

@@ -8,8 +8,9 @@ ghost use Rattle.session_commands.specs.Trying.{seen, data_tried, fetch_tried, r
 use apdu_form::Command;
 use applet_registry::RowFault;
 use file_model::{has_data, has_le_alone};
-use toolkit_commands::{Reply, Report, read_reply, read_report};
-use toolkit_commands::Details;
+use toolkit_commands::{
+    Details, EnvelopeRef, ResponseRef, read_envelope_in_place, read_response_in_place,
+};
 use uicc_types::StatusWord;
 
 fn has_zero_parameters(command: &Command<'_>) -> bool
@@ -69,14 +70,14 @@ pub(crate) fn try_fetch(pending: Option<u8>, command: &Command<'_>) -> Result<()
 
 // What the data answer to the command with these details.
 #[tactic(auto, unfolding(file_model::specs::Chains::given))]
-fn response_in(details: Option<Details>, bytes: &[u8]) -> Result<Reply<'_>, StatusWord>
+fn response_in(details: Option<Details>, bytes: &[u8]) -> Result<ResponseRef<'_>, StatusWord>
     requires { length bytes.now ≤ 255 }
     ensures value { seen replied result ≡ response_given details bytes.now }
     ensures fits { IfOk result (λ response. length response.text.now ≤ 255) }
     ensures usual { IfErr result (λ status. status.0 ≢ StatusWord.MEMORY_PROBLEM.0) }
 {
     match details {
-        Some(details) => match read_reply(bytes, &details) {
+        Some(details) => match read_response_in_place(bytes, &details) {
             Ok(response) => Ok(response),
             Err(_) => Err(StatusWord::WRONG_DATA),
         },
@@ -89,7 +90,7 @@ fn response_in(details: Option<Details>, bytes: &[u8]) -> Result<Reply<'_>, Stat
 pub(crate) fn try_response<'a>(
     details: Option<Details>,
     command: &Command<'a>,
-) -> Result<Reply<'a>, StatusWord>
+) -> Result<ResponseRef<'a>, StatusWord>
     requires { length command.now.body ≤ 255 }
     ensures value { seen replied result ≡ response_tried details command.now }
     ensures fits { IfOk result (λ response. length response.text.now ≤ 255) }
@@ -103,13 +104,13 @@ pub(crate) fn try_response<'a>(
 
 // What the data report.
 #[tactic(auto, unfolding(file_model::specs::Chains::given))]
-fn envelope_in(bytes: &[u8]) -> Result<Report<'_>, StatusWord>
+fn envelope_in(bytes: &[u8]) -> Result<EnvelopeRef<'_>, StatusWord>
     requires { length bytes.now ≤ 255 }
     ensures value { seen reported result ≡ envelope_given bytes.now }
     ensures fits { IfOk result (λ envelope. length (bytes_in envelope) ≤ 255) }
     ensures usual { IfErr result (λ status. status.0 ≢ StatusWord.MEMORY_PROBLEM.0) }
 {
-    match read_report(bytes) {
+    match read_envelope_in_place(bytes) {
         Ok(envelope) => Ok(envelope),
         Err(_) => Err(StatusWord::WRONG_DATA),
     }
@@ -117,7 +118,7 @@ fn envelope_in(bytes: &[u8]) -> Result<Report<'_>, StatusWord>
 
 /// What an envelope reports.
 #[tactic(auto, unfolding(crate::specs::Trying::envelope_tried, file_model::specs::Chains::and_given))]
-pub(crate) fn try_envelope<'a>(command: &Command<'a>) -> Result<Report<'a>, StatusWord>
+pub(crate) fn try_envelope<'a>(command: &Command<'a>) -> Result<EnvelopeRef<'a>, StatusWord>
     requires { length command.now.body ≤ 255 }
     ensures value { seen reported result ≡ envelope_tried command.now }
     ensures fits { IfOk result (λ envelope. length (bytes_in envelope) ≤ 255) }

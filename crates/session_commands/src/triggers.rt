@@ -14,8 +14,8 @@ ghost use Rattle.session_commands.specs.Triggers.{IsTriggerOf};
 
 use card_layout::{Loaded, states_are_of_entries};
 use event_dispatch::Shelves;
-use toolkit_commands::Report;
 use std::slice::from_ref;
+use toolkit_commands::EnvelopeRef;
 use toolkit_session::Session;
 use trigger_index::Index;
 use uicc_types::Shelf;
@@ -89,7 +89,7 @@ pub(crate) fn trigger_of<'a>(
     loaded: &Loaded,
     index: &Index,
     session: &Session,
-    envelope: &'a Report<'_>,
+    envelope: &'a EnvelopeRef<'_>,
 ) -> Trigger<'a>
     requires indexed { StandsFor index.now (rows_of loaded.now) }
     requires listed { AreRows (rows_of loaded.now) }
@@ -99,22 +99,22 @@ pub(crate) fn trigger_of<'a>(
         (trigger_of (rows_of loaded.now) session.now.timers (reported envelope.now)) result }
 {
     match envelope {
-        Report::Menu { item } => Trigger {
+        EnvelopeRef::Menu { item } => Trigger {
             shelves: selected_of(loaded, *item),
             code: MENU_SELECTION,
             body: from_ref(item),
         },
-        Report::CallControl { address } => Trigger {
+        EnvelopeRef::CallControl { address } => Trigger {
             shelves: targets_of(loaded, index, CALL_CONTROL),
             code: CALL_CONTROL,
             body: address,
         },
-        Report::Event { code, body } => Trigger {
+        EnvelopeRef::Event { code, body } => Trigger {
             shelves: targets_of(loaded, index, *code),
             code: *code,
             body,
         },
-        Report::Timer { timer } => Trigger {
+        EnvelopeRef::Timer { timer } => Trigger {
             shelves: holder_of(loaded, session, *timer),
             code: TIMER_EXPIRATION,
             body: from_ref(timer),
@@ -123,10 +123,10 @@ pub(crate) fn trigger_of<'a>(
 }
 
 /// Whether an envelope reports a call.
-pub(crate) fn is_call(envelope: &Report<'_>) -> bool
+pub(crate) fn is_call(envelope: &EnvelopeRef<'_>) -> bool
     ensures { result ≡ is_call (reported envelope.now) }
 {
-    matches!(envelope, Report::CallControl { .. })
+    matches!(envelope, EnvelopeRef::CallControl { .. })
 }
 
 // How many of the applets on these shelves wait for an answer.
@@ -141,7 +141,7 @@ fn suspended_count(session: &Session, shelves: &[Shelf]) -> usize
 
 /// Whether the applets on these shelves that wait for an answer are more than there is room for among the late triggers, or call
 /// control is not answered now.
-pub(crate) fn is_busy(session: &Session, envelope: &Report<'_>, shelves: &Shelves) -> bool
+pub(crate) fn is_busy(session: &Session, envelope: &EnvelopeRef<'_>, shelves: &Shelves) -> bool
     ensures { result ≡ is_busy_with (asks session.now) (length session.now.late) (reported envelope.now) shelves.now }
 {
     let suspended = suspended_count(session, shelves.as_slice());

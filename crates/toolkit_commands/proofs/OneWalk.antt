@@ -12,7 +12,7 @@ use Rattle.toolkit_commands.specs.declared.commands.Details.{Details}
 use Rattle.toolkit_commands.specs.declared.responses.Response.{Response}
 use Rattle.toolkit_commands.specs.declared.tags.TheConstants.{COMMAND_DETAILS, RESULT, TEXT_STRING, ITEM_IDENTIFIER}
 use Rattle.toolkit_commands.specs.declared.responses.Mismatch.{Mismatch}
-use Rattle.toolkit_commands.specs.declared.responses.Reply.{Reply}
+use Rattle.toolkit_commands.specs.declared.responses.ResponseRef.{ResponseRef}
 use Rattle.toolkit_commands.specs.Replies.{replied, Values, nothing, first_of, item_of, with_object, values_from, values_in, answer_with, response_from}
 
 abbrev or_first : Option (List ℕ) → Option (List ℕ) → Option (List ℕ)
@@ -119,7 +119,7 @@ after_fits None most fits = omega arith
 after_fits (Some []) most fits = omega arith
 after_fits (Some (coding ∷ text)) most fits = omega (arith, fits)
 
-pub reply_fits : (details : Details) (bytes : List ℕ) (found : Values) (result : Result Reply Mismatch) → IsBytes bytes → values_in (objects_of bytes) ≡ Some found
+pub reply_fits : (details : Details) (bytes : List ℕ) (found : Values) (result : Result ResponseRef Mismatch) → IsBytes bytes → values_in (objects_of bytes) ≡ Some found
     → option_map replied (result_ok result) ≡ response_from details found → IfOk result (λ reply. length reply.text.now ≤ length bytes - 1)
 reply_fits details bytes found (Err mismatch) all there is = tt
 reply_fits details bytes found (Ok reply) all there is =
@@ -133,6 +133,6 @@ reply_fits details bytes found (Ok reply) all there is =
         some_is : Some (replied reply) ≡ Some (record { result = result; item = unwrap_or found.item 0; text = text_after found.text }) → replied reply ≡ record { result = result; item = unwrap_or found.item 0; text = text_after found.text }
         some_is e = cc e
 
-pub no_reply : (result : Result Reply Mismatch) → IsErr result → option_map replied (result_ok result) ≡ None
+pub no_reply : (result : Result ResponseRef Mismatch) → IsErr result → option_map replied (result_ok result) ≡ None
 no_reply (Err mismatch) is = refl
 no_reply (Ok reply) is = cc is

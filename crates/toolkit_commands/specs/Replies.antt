@@ -1,4 +1,5 @@
--- What is taken note of in one walk over the objects of a terminal response, and what it says.
+-- What is taken note of in one walk over the objects of a terminal response, and what it says. Of a public clause all but `replied` is an
+-- inner word: what a response is stands in `Responses`.
 use Rattle.std.specs.Prelude.{ℕ, List, [], ◌∷◌, Option, Some, None, Result, Ok, Err, unwrap_or, option_copied, ◌==◌, if◌then◌else◌}
 use Rattle.comprehension_tlv.specs.Model.{Object}
 use Rattle.comprehension_tlv.specs.declared.faults.TlvFault.{TlvFault}
@@ -7,10 +8,10 @@ use Rattle.toolkit_commands.specs.declared.commands.Details.{Details}
 use Rattle.toolkit_commands.specs.declared.responses.Response.{Response}
 use Rattle.toolkit_commands.specs.declared.tags.TheConstants.{COMMAND_DETAILS, RESULT, TEXT_STRING, ITEM_IDENTIFIER}
 use Rattle.toolkit_commands.specs.declared.responses.Found.{Found}
-use Rattle.toolkit_commands.specs.declared.responses.Reply.{Reply}
+use Rattle.toolkit_commands.specs.declared.responses.ResponseRef.{ResponseRef}
 
 -- the response, without where its text lies
-abbrev pub replied : Reply → Response
+abbrev pub replied : ResponseRef → Response
 replied reply = record { result = reply.result; item = reply.item; text = reply.text.now }
 
 -- the values of the first objects with each tag that counts, and the first item identifier of one byte
@@ -20,6 +21,7 @@ pub record Values : Type 0 where
   pub text : Option (List ℕ)
   pub item : Option ℕ
 
+-- what the walk has found
 abbrev pub values_of : Found → Values
 values_of found = record {
   details = option_copied found.details;
@@ -28,6 +30,7 @@ values_of found = record {
   item = found.item;
 }
 
+-- before the first object
 abbrev pub nothing : Values
 nothing = record { details = None; result = None; text = None; item = None }
 
@@ -51,6 +54,7 @@ with_object object found = record {
   item = if object.tag == ITEM_IDENTIFIER then item_of found.item object.value else found.item;
 }
 
+-- once all of them were met
 abbrev pub values_from : Values → List Object → Values
 values_from found [] = found
 values_from found (object ∷ others) = values_from (with_object object found) others
@@ -60,6 +64,7 @@ abbrev pub values_in : Result (List Object) TlvFault → Option Values
 values_in (Ok objects) = Some (values_from nothing objects)
 values_in (Err fault) = None
 
+-- by the value of the result object, which has a byte at least
 abbrev pub answer_with : Values → Option (List ℕ) → Option Response
 answer_with found (Some (result ∷ more)) = Some (record { result = result; item = unwrap_or found.item 0; text = text_after found.text })
 answer_with found _ = None

@@ -36,7 +36,7 @@ impl From<TlvFault> for BadEnvelope {
 
 /// An envelope, whose bytes stay where they are.
 #[derive(Clone, Copy, Debug)]
-pub enum Report<'a> {
+pub enum EnvelopeRef<'a> {
     /// An item of the card's menu was chosen.
     Menu { item: u8 },
     /// A call is about to be set up, to this address.
@@ -68,28 +68,28 @@ fn byte_in(content: &[u8], tag: u16) -> Result<u8, BadEnvelope>
 
 // What a template with this tag and content says.
 #[tactic(auto, unfolding(crate::specs::Envelopes::envelope_in))]
-fn report_in(tag: u8, content: &[u8]) -> Result<Report<'_>, BadEnvelope>
+fn report_in(tag: u8, content: &[u8]) -> Result<EnvelopeRef<'_>, BadEnvelope>
     ensures exact { option_map reported (result_ok result) ≡ envelope_in tag content.now }
     ensures fits { IfOk result (λ report. length (bytes_in report) ≤ length content.now) }
 {
     match tag {
         MENU_SELECTION => {
             let item = byte_in(content, ITEM_IDENTIFIER)?;
-            Ok(Report::Menu { item })
+            Ok(EnvelopeRef::Menu { item })
         }
         CALL_CONTROL => match value_in(content, ADDRESS)? {
             [] => Err(BadEnvelope),
-            address => Ok(Report::CallControl { address }),
+            address => Ok(EnvelopeRef::CallControl { address }),
         },
         EVENT_DOWNLOAD => {
             let code = byte_in(content, EVENT_LIST)?;
-            Ok(Report::Event {
+            Ok(EnvelopeRef::Event {
                 code,
                 body: content,
             })
         }
         TIMER_EXPIRATION => match byte_in(content, TIMER_IDENTIFIER)? {
-            timer @ 1..=8 => Ok(Report::Timer { timer }),
+            timer @ 1..=8 => Ok(EnvelopeRef::Timer { timer }),
             _ => Err(BadEnvelope),
         },
         _ => Err(BadEnvelope),
@@ -99,7 +99,7 @@ fn report_in(tag: u8, content: &[u8]) -> Result<Report<'_>, BadEnvelope>
 /// What the bytes report: a template whose content is a list of objects, of which the first with the template's tag
 /// counts and others are passed over.
 #[tactic(auto, unfolding(crate::specs::Envelopes::envelope_of))]
-pub fn read_report(bytes: &[u8]) -> Result<Report<'_>, BadEnvelope>
+pub fn read_envelope_in_place(bytes: &[u8]) -> Result<EnvelopeRef<'_>, BadEnvelope>
     ensures exact { option_map reported (result_ok result) ≡ envelope_of bytes.now }
     ensures fits { IfOk result (λ report. length (bytes_in report) + 2 ≤ length bytes.now) }
 {
@@ -112,15 +112,15 @@ pub fn read_envelope(bytes: &[u8]) -> Result<Envelope, BadEnvelope>
     requires { length bytes.now ≤ 256 }
     ensures { result_ok result ≡ envelope_of bytes.now }
 {
-    match read_report(bytes)? {
-        Report::Menu { item } => Ok(Envelope::Menu { item }),
-        Report::CallControl { address } => Ok(Envelope::CallControl {
+    match read_envelope_in_place(bytes)? {
+        EnvelopeRef::Menu { item } => Ok(Envelope::Menu { item }),
+        EnvelopeRef::CallControl { address } => Ok(Envelope::CallControl {
             address: Octets::from_slice(address),
         }),
-        Report::Event { code, body } => Ok(Envelope::Event {
+        EnvelopeRef::Event { code, body } => Ok(Envelope::Event {
             code,
             body: Octets::from_slice(body),
         }),
-        Report::Timer { timer } => Ok(Envelope::Timer { timer }),
+        EnvelopeRef::Timer { timer } => Ok(Envelope::Timer { timer }),
     }
 }

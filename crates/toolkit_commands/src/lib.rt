@@ -21,7 +21,7 @@ pub mod tones;
 mod values;
 
 pub use commands::{Details, Proactive, TimeValue};
-pub use envelopes::{BadEnvelope, Envelope, Report, read_envelope, read_report};
+pub use envelopes::{BadEnvelope, Envelope, EnvelopeRef, read_envelope, read_envelope_in_place};
 pub use faults::ProactiveFault;
 pub use items::{Item, Items};
 pub use laws::{
@@ -29,5 +29,5 @@ pub use laws::{
 };
 pub use numbering::renumber;
 pub use reading::{found_details, read_command, read_proactive};
-pub use responses::{Mismatch, Reply, Response, read_reply, read_response};
+pub use responses::{Mismatch, Response, ResponseRef, read_response, read_response_in_place};
 pub use spelling::{TooLong, details_of, spell};

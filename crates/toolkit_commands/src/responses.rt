@@ -34,7 +34,7 @@ impl From<TlvFault> for Mismatch {
 
 /// What the handset answered to a command; its text stays where it is.
 #[derive(Clone, Copy, Debug)]
-pub struct Reply<'a> {
+pub struct ResponseRef<'a> {
     /// The general result, the first byte of the result object.
     pub result: u8,
     /// The identifier of the item that was chosen, or 0.
@@ -130,14 +130,14 @@ fn text_after(found: Option<&[u8]>) -> &[u8]
 }
 
 // The answer to the command with these details.
-fn reply_from<'a>(found: &Found<'a>, details: &Details) -> Result<Reply<'a>, Mismatch>
+fn reply_from<'a>(found: &Found<'a>, details: &Details) -> Result<ResponseRef<'a>, Mismatch>
     ensures { option_map replied (result_ok result) ≡ response_from details.now (values_of found.now) }
 {
     if !is_named(found.details, details) {
         return Err(Mismatch);
     }
     match found.result {
-        Some([result, ..]) => Ok(Reply {
+        Some([result, ..]) => Ok(ResponseRef {
             result: *result,
             item: found.item.unwrap_or(0),
             text: text_after(found.text),
@@ -147,7 +147,10 @@ fn reply_from<'a>(found: &Found<'a>, details: &Details) -> Result<Reply<'a>, Mis
 }
 
 /// The answer to the command with these details.
-pub fn read_reply<'a>(bytes: &'a [u8], details: &Details) -> Result<Reply<'a>, Mismatch>
+pub fn read_response_in_place<'a>(
+    bytes: &'a [u8],
+    details: &Details,
+) -> Result<ResponseRef<'a>, Mismatch>
     ensures exact { option_map replied (result_ok result) ≡ response_of details.now bytes.now }
     ensures fits { IfOk result (λ reply. length reply.text.now ≤ length bytes.now - 1) }
 {
@@ -160,7 +163,7 @@ pub fn read_response(bytes: &[u8], details: &Details) -> Result<Response, Mismat
     requires { length bytes.now ≤ 256 }
     ensures { result_ok result ≡ response_of details.now bytes.now }
 {
-    let reply = read_reply(bytes, details)?;
+    let reply = read_response_in_place(bytes, details)?;
     Ok(Response {
         result: reply.result,
         item: reply.item,

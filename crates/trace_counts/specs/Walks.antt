@@ -20,7 +20,7 @@ counts_with head counts = record {
   busy = more (starts_with nat_eq head (codes "* busy")) counts.busy;
 }
 
--- the counts with a command of the toolkit's class whose instruction has these digits
+-- the counts with a command of the toolkit's class whose instruction has these digits, by its kind alone
 abbrev pub with_instruction : ℕ → ℕ → Counts → Counts
 with_instruction high low counts = record {
   commands = counts.commands;

@@ -1,12 +1,14 @@
 -- What lines after `start` show, one behind the other, whatever the memory tells.
 use Rattle.std.proofs.Common.{◌≡◌, ℕ, Bool, true, false, List, [], ◌∷◌, ◌++◌, Option, Some, None, refl, sym, ap, ◌∙◌, subst, append_assoc, inl, inr}
+use Rattle.std.specs.Prelude.{MatchBool}
 use Rattle.std.proofs.lemmas.List.{append-nil}
 use Rattle.std.proofs.lemmas.List.Elements.{All-nil, All-push}
 use Rattle.byte_streams.specs.Lines.{LineList}
 use Rattle.card_layout.specs.Persistent.{Persistent}
+use Rattle.card_model.specs.Answers.{answer}
 use Rattle.card_model.specs.Counts.{IsCounted}
 use Rattle.card_model.specs.Laws.{CountsJoin, PlansAreSetInOrder}
-use Rattle.card_model.specs.Runs.{armed_after, plan_given, waiting_after}
+use Rattle.card_model.specs.Runs.{Commands, MeetsNoPower, StepGives, armed_after, plan_given, waiting_after}
 use Rattle.card_model.specs.States.{Machine}
 use Rattle.card_opening.specs.declared.faults.OpenFault.{OpenFault}
 use Rattle.card_opening.specs.declared.faults.OpenFault.TheVariants as fault
@@ -18,7 +20,7 @@ use Rattle.card_sections.specs.declared.behind.PlayEnd.TheVariants.{Finished, Ba
 use Rattle.card_sections.specs.declared.script_reader.ScriptReader.{ScriptReader}
 use Rattle.card_steps.specs.RunLaws.{shows_one, shows_then, text_of-append}
 use Rattle.card_steps.specs.Runs.{text_of}
-use Rattle.card_steps.specs.Showing.{CourseShows, CutsOffStep, CutsOffTpdu, MayBreakOff, MayBreakOffTpdu, MayShowAll, ShowsLast, ShowsStep, ShowsTpdu}
+use Rattle.card_steps.specs.Showing.{CourseShows, CutsOffStep, CutsOffTpdu, MayBreakOff, MayBreakOffTpdu, MayShow, MayShowAll, ShowsLast, ShowsStep, ShowsTpdu}
 use Rattle.card_steps.specs.Stepping.{Moment}
 use Rattle.card_steps.specs.Tpdus.{BreaksOffTpdu, CourseGives, steps_of}
 use Rattle.link_laws.specs.Shown.{shown_for}
@@ -35,10 +37,11 @@ use Rattle.uicc_run.specs.Accounts.{Account, AreTold, Deed, IsTold, Takes, Trans
 use Rattle.uicc_run.specs.Opening.{ending_for}
 use Rattle.uicc_run.specs.Playing.{Given, StopsPlaying}
 use Rattle.uicc_run.specs.Reading.{AreReadInPlace}
-use Rattle.uicc_run.specs.Showing.{AreShown, CutsOffSo, IsShowing, IsShown, LinesShow, ShowsFailure, ShowsSo, ShowsTo, ShowsUpTo}
+use Rattle.uicc_run.specs.Showing.{AreShown, CutsOffSo, HasLinesOf, IsShowing, IsShown, LinesShow, ShowsFailure, ShowsSo, ShowsTo, ShowsUpTo}
 use Rattle.uicc_run.specs.Steps.{deeds, deeds_of, may_follow, may_stand}
 use Rattle.uicc_types.specs.Counts.{Meter}
 use Rattle.uicc_types.specs.declared.answers.Answer.{Answer}
+use Rattle.uicc_types.specs.declared.answers.TheConstants.StatusWord.{MEMORY_PROBLEM}
 use Rattle.uicc_types.specs.declared.plans.Plan.{Plan}
 use Rattle.uicc_types.specs.declared.plans.TheConstants.Plan.{NONE}
 use Rattle.uicc_types.specs.declared.runs.Step.{Step}
@@ -47,6 +50,23 @@ use Rattle.uicc_types.specs.declared.runs.TraceItem.{TraceItem}
 use Rattle.uicc_types.specs.declared.runs.TraceItem.TheVariants as item
 
 -- ---- what the card did is shown so
+
+lines_told : (old new : Machine) (step : Step) (items : List TraceItem) → StepGives old step items new → HasLinesOf step items
+lines_told old new (step.Apdu apdu) items gives = by_power old.on gives where
+  by_power : (on : Bool) → MatchBool on (Commands old apdu items new) (MeetsNoPower old apdu items new) → HasLinesOf (step.Apdu apdu) items
+  by_power true (inl exchanges) = (item.Answer (answer old.card apdu).body (answer old.card apdu).status, exchanges.seen)
+  by_power true (inr (inl fails)) = (item.Answer [] MEMORY_PROBLEM, fails.seen)
+  by_power true (inr (inr lost)) = (item.Cut, lost.seen)
+  by_power false none = (item.Off, none.seen)
+lines_told old new step.Reset items (inl restarts) = (item.Reset, restarts.seen)
+lines_told old new step.Reset items (inr lost) = (item.Cut, lost.seen)
+lines_told old new (step.Plan plan) items gives = gives.seen
+
+lines_shown : (on after : Bool) (step : Step) (items : List TraceItem) → MayShow on step items after → HasLinesOf step items
+lines_shown on after (step.Apdu apdu) items may = (may.0, may.2)
+lines_shown on after step.Reset items (inl done) = (item.Reset, done.0)
+lines_shown on after step.Reset items (inr lost) = (item.Cut, lost.0)
+lines_shown on after (step.Plan plan) items may = may.0
 
 course_shows : (course : Course) (old new : Machine) (own : List TraceItem) (reply : TraceItem) (kept : Option Answer) → CourseGives course old own reply kept new → CourseShows course own reply kept
 course_shows (Answers linked) old new own reply kept gives = (gives.silent, gives.seen, gives.keeps)
@@ -59,7 +79,7 @@ course_shows (Passes apdu make) old new own reply kept gives = record {
 }
 
 deed_shows : (deed : Deed) (kept after : Option Answer) (old new : Machine) (account : Account) → IsTold deed kept old account after new → IsShown deed kept account after
-deed_shows (Takes step) kept after old new account told = record { steps_are = told.steps_are; shown_is = told.shown_is; keeps = told.keeps }
+deed_shows (Takes step) kept after old new account told = record { steps_are = told.steps_are; lines = lines_told old new step account.own told.gives; shown_is = told.shown_is; keeps = told.keeps }
 deed_shows (Transfers tpdu) kept after old new account told =
     record { reply = told.reply; steps_are = told.steps_are; shows = course_shows (link_answer kept tpdu) old new account.own told.reply after told.gives; shown_is = told.shown_is }
 
@@ -144,7 +164,7 @@ pub record DoesShow (deed : Deed) (kept : Option Answer) (before : List ℕ) (fr
 pub step_does_show : (step : Step) (kept after : Option Answer) (before : List ℕ) (from to : Moment) → after ≡ kept_behind step kept → (shown : List TraceItem) × ShowsStep shown before step from to → DoesShow (Takes step) kept before from to after
 step_does_show step kept after before from to keeps taken = record {
   account = record { steps = step ∷ []; own = taken.0; shown = taken.0 };
-  is_shown = record { steps_are = refl; shown_is = refl; keeps = keeps };
+  is_shown = record { steps_are = refl; lines = lines_shown from.is_on to.is_on step taken.0 taken.1.may; shown_is = refl; keeps = keeps };
   may = shows_one from.is_on to.is_on step taken.0 taken.1.may;
   written = taken.1.written;
   counted = taken.1.counted;
@@ -357,7 +377,7 @@ shows_first given first script left card now unserved at on written counted wait
 }
 
 abbrev pub outset : Given → Meter → Outset
-outset given first = record { before = given.before; meter = first }
+outset given first = record { before = given.before; meter = first; is_on = true }
 
 pub serves_shown_first : (given : Given) (first : Meter) (script : ScriptReader) (left : Option (List ℕ)) (card : Option Persistent) (now : Moment) → (at : AtStart given.boxes given.first given.text script left card)
     → now.is_on ≡ true → now.taken ≡ Some given.before → IsCounted first now.meter [] [] → now.waiting ≡ NONE → StartsShowing given.text (at.section ++ Start ∷ []) (outset given first) script left now

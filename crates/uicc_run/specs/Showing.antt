@@ -38,9 +38,16 @@ use Rattle.uicc_types.specs.declared.runs.TraceItem.TheVariants as item
 
 -- ---- one line after the other
 
+-- a command has a line of its own and one of what came of it, a reset has one, and a plan none
+abbrev pub HasLinesOf : Step → List TraceItem → Type 0
+HasLinesOf (step.Apdu apdu) items = (reply : TraceItem) × (items ≡ item.Command apdu ∷ reply ∷ [])
+HasLinesOf step.Reset items = (shown : TraceItem) × (items ≡ shown ∷ [])
+HasLinesOf (step.Plan plan) items = items ≡ []
+
 -- the card was given this step, and the trace shows what the card showed
 pub record StepIsShown (step : Step) (kept : Option Answer) (account : Account) (after : Option Answer) : Type 0 where
   pub steps_are : account.steps ≡ step ∷ []
+  pub lines : HasLinesOf step account.own
   pub shown_is : account.shown ≡ account.own
   pub keeps : after ≡ kept_behind step kept
 
@@ -183,7 +190,7 @@ pub record ServedShow (given : Given) (first : Meter) (left : Option (List ℕ))
   pub at : Moment
   pub taken_is : put ≡ at.taken
   pub meter_is : now ≡ at.meter
-  pub shows : PhoneShowsTo given.text (section ++ Start ∷ []) (record { before = given.before; meter = first }) left end at
+  pub shows : PhoneShowsTo given.text (section ++ Start ∷ []) (record { before = given.before; meter = first; is_on = true }) left end at
 
 -- what the lines show, be they for the card or for a handset
 pub record PlayedShow (given : Given) (first : Meter) (left : Option (List ℕ)) (end : PlayEnd) (put : Option (List ℕ)) (now : Meter) : Type 0 where

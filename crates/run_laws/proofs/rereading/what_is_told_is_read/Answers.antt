@@ -1,4 +1,4 @@
-use Rattle.run_laws.proofs.FcpRead.{fcp_are_answered_whole, fcp_are_objects, select_answers_fcp, status_answers_fcp}
+use Rattle.run_laws.proofs.FcpRead.{fcp_are_not_cut, fcp_are_objects, select_answers_fcp, status_answers_fcp}
 use Rattle.run_laws.proofs.FcpTold.{fcp_tell_files}
 use Rattle.run_laws.proofs.rereading.what_is_told_is_read.Goals as goal
 
@@ -12,7 +12,7 @@ pub returns-clause-status : goal.returns-clause-status
 returns-clause-status c = status_answers_fcp
 
 pub returns-clause-whole : goal.returns-clause-whole
-returns-clause-whole c = fcp_are_answered_whole
+returns-clause-whole c = fcp_are_not_cut
 
 pub returns-clause-files : goal.returns-clause-files
 returns-clause-files c = fcp_tell_files
