@@ -15,6 +15,7 @@ use Rattle.file_model.specs.Selections.{chosen, chosen_by_identifier}
 use Rattle.file_model.specs.declared.selections.Selection.{Selection}
 use Rattle.run_laws.specs.Fcp.{objects_in}
 use Rattle.run_laws.specs.Refusals.{Refusal, refusals_of_delete, refusals_of_read_binary, refusals_of_read_record, refusals_of_resize, refusals_of_select}
+use Rattle.update_journal.specs.declared.steps.TheConstants.{ENTRIES, GATE, OPEN}
 
 -- a file of ten bytes, one of two records of four bytes, and one of four bytes that is deactivated and whose rule isn't there
 abbrev pub number_file : File
@@ -135,3 +136,15 @@ told_of_a_rule = refl
 cut_off : objects_in (0x83 ∷ 0x02 ∷ 0x6F ∷ []) ≡ None
 unfolding objects_in part_in part_of length_in
 cut_off = refl
+
+-- ---- a journal in the memory
+
+-- its gate is byte 64, which stands open where it is 5A, and its entries begin at byte 128
+gate_place : GATE ≡ 64
+gate_place = refl
+
+gate_open : OPEN ≡ 0x5A
+gate_open = refl
+
+entries_place : ENTRIES ≡ 128
+entries_place = refl
