@@ -1,10 +1,11 @@
 -- A command on files, or one that makes, deletes or resizes one, commits once at most.
 use Rattle.std.proofs.Common.{◌≤◌, ℕ, Bool, true, false, if◌then◌else◌, List, [], ◌∷◌, length, Option, Result, Ok, Err, arith}
-use Rattle.std.specs.Prelude.{MatchResult, ⊤}
+use Rattle.std.specs.Prelude.{MatchResult}
 use Rattle.uicc_types.specs.declared.answers.StatusWord.{StatusWord}
 use Rattle.apdu_form.specs.Model.{Apdu}
 use Rattle.access_rules.specs.declared.rules.Verified.{Verified}
 use Rattle.card_layout.specs.Persistent.{Persistent}
+use Rattle.card_model.specs.Chained.{Any, past, past_given, past_result}
 use Rattle.file_making.specs.Commands.{tree_outcome}
 use Rattle.file_making.specs.Creating.{created, creating}
 use Rattle.file_making.specs.Deleting.{deleted, deleting}
@@ -14,8 +15,6 @@ use Rattle.file_making.specs.declared.commands.TreeCommand.{TreeCommand}
 use Rattle.file_making.specs.declared.commands.TreeCommand.TheVariants.{Create, Delete, Resize}
 use Rattle.file_admin.specs.Outcomes.{passed_by}
 use Rattle.file_model.specs.Binaries.{binary_read, read_from, reading, binary_updated, update_in, updating}
-use Rattle.file_model.specs.Chained.{unless_so, given_so}
-use Rattle.file_model.specs.Chains.{refused_if, given, and_given}
 use Rattle.file_model.specs.Commands.{contents_outcome, file_outcome}
 use Rattle.file_model.specs.LifeCycles.{life_changed, life_in, bringing}
 use Rattle.file_model.specs.Outcomes.{FileOutcome, settled_file}
@@ -33,20 +32,6 @@ CommitsOnce outcome = length outcome.passed ≤ 1
 abbrev TreesOnce : TreeOutcome → Type 0
 TreesOnce outcome = length outcome.passed ≤ 1
 
-abbrev Any : StatusWord → Type 0
-Any status = ⊤
-
-unless : {X : Type 0} (P : X → Type 0) (bad : Bool) (status : StatusWord) (next : Result X StatusWord) → MatchResult next P Any → MatchResult (refused_if bad status next) P Any
-unless P bad status next holds = unless_so P Any bad status next tt (λ _. holds)
-
-given_any : {X Y : Type 0} (P : Y → Type 0) (o : Option X) (status : StatusWord) (next : X → Result Y StatusWord) → ((x : X) → MatchResult (next x) P Any) → MatchResult (given o status next) P Any
-given_any P o status next each = given_so P Any o status next tt (λ x _. each x)
-
-then_any : {X Y : Type 0} (P : Y → Type 0) (r : Result X StatusWord) (next : X → Result Y StatusWord) → ((x : X) → MatchResult (next x) P Any) → MatchResult (and_given r next) P Any
-unfolding and_given
-then_any P (Err status) next each = tt
-then_any P (Ok x) next each = each x
-
 -- one state, or none
 once : {X : Type 0} (none : Bool) (x : X) → length (if none then [] else x ∷ []) ≤ 1
 once true x = omega arith
@@ -55,19 +40,19 @@ once false x = omega arith
 module _ (state : Persistent) (seen : Verified) (selection : Selection) (apdu : Apdu) where
   by_contents : (command : ContentsCommand) → MatchResult (contents_outcome command state seen selection apdu) CommitsOnce Any
   unfolding contents_outcome binary_read read_from reading binary_updated update_in updating record_read record_read_from record_reading record_updated record_update_in record_updating searched search_in searching increased increase_in increasing life_changed life_in bringing
-  by_contents ReadBinary = then_any CommitsOnce _ _ (λ file. unless CommitsOnce _ _ _ (unless CommitsOnce _ _ _ (omega arith)))
-  by_contents UpdateBinary = then_any CommitsOnce _ _ (λ file. unless CommitsOnce _ _ _ (unless CommitsOnce _ _ _ (omega arith)))
-  by_contents ReadRecord = then_any CommitsOnce _ _ (λ file. unless CommitsOnce _ _ _ (then_any CommitsOnce _ _ (λ number. omega arith)))
-  by_contents UpdateRecord = then_any CommitsOnce _ _ (λ file. unless CommitsOnce _ _ _ (then_any CommitsOnce _ _ (λ number. omega arith)))
-  by_contents SearchRecord = then_any CommitsOnce _ _ (λ file. unless CommitsOnce _ _ _ (then_any CommitsOnce _ _ (λ number. omega arith)))
-  by_contents Increase = then_any CommitsOnce _ _ (λ file. unless CommitsOnce _ _ _ (then_any CommitsOnce _ _ (λ sum. omega arith)))
-  by_contents Deactivate = then_any CommitsOnce _ _ (λ file. unless CommitsOnce _ _ _ (once _ _))
-  by_contents Activate = then_any CommitsOnce _ _ (λ file. unless CommitsOnce _ _ _ (once _ _))
+  by_contents ReadBinary = past_result CommitsOnce _ _ (λ file. past CommitsOnce _ _ _ (past CommitsOnce _ _ _ (omega arith)))
+  by_contents UpdateBinary = past_result CommitsOnce _ _ (λ file. past CommitsOnce _ _ _ (past CommitsOnce _ _ _ (omega arith)))
+  by_contents ReadRecord = past_result CommitsOnce _ _ (λ file. past CommitsOnce _ _ _ (past_result CommitsOnce _ _ (λ number. omega arith)))
+  by_contents UpdateRecord = past_result CommitsOnce _ _ (λ file. past CommitsOnce _ _ _ (past_result CommitsOnce _ _ (λ number. omega arith)))
+  by_contents SearchRecord = past_result CommitsOnce _ _ (λ file. past CommitsOnce _ _ _ (past_result CommitsOnce _ _ (λ number. omega arith)))
+  by_contents Increase = past_result CommitsOnce _ _ (λ file. past CommitsOnce _ _ _ (past_result CommitsOnce _ _ (λ sum. omega arith)))
+  by_contents Deactivate = past_result CommitsOnce _ _ (λ file. past CommitsOnce _ _ _ (once _ _))
+  by_contents Activate = past_result CommitsOnce _ _ (λ file. past CommitsOnce _ _ _ (once _ _))
 
   by_files : (command : FileCommand) → MatchResult (file_outcome command state seen selection apdu) CommitsOnce Any
   unfolding file_outcome file_selected selecting status_told telling
-  by_files Select = unless CommitsOnce _ _ _ (unless CommitsOnce _ _ _ (given_any CommitsOnce _ _ _ (λ file. omega arith)))
-  by_files Status = unless CommitsOnce _ _ _ (unless CommitsOnce _ _ _ (given_any CommitsOnce _ _ _ (λ df. omega arith)))
+  by_files Select = past CommitsOnce _ _ _ (past CommitsOnce _ _ _ (past_given CommitsOnce _ _ _ (λ file. omega arith)))
+  by_files Status = past CommitsOnce _ _ _ (past CommitsOnce _ _ _ (past_given CommitsOnce _ _ _ (λ df. omega arith)))
   by_files (Contents command) = by_contents command
 
   settled_once : (outcome : Result FileOutcome StatusWord) → MatchResult outcome CommitsOnce Any → length (settled_file selection outcome).passed ≤ 1
@@ -80,11 +65,11 @@ module _ (state : Persistent) (seen : Verified) (selection : Selection) (apdu : 
 module _ (state : Persistent) (seen : Verified) (channels : List (Option Selection)) (channel : ℕ) (apdu : Apdu) where
   by_tree : (command : TreeCommand) → MatchResult (tree_outcome command state seen channels channel apdu) TreesOnce Any
   unfolding tree_outcome created creating deleted deleting resized resizing
-  by_tree Create = unless TreesOnce _ _ _ (unless TreesOnce _ _ _ (unless TreesOnce _ _ _ (given_any TreesOnce _ _ _ (λ asked. unless TreesOnce _ _ _ (given_any TreesOnce _ _ _ (λ file. omega arith))))))
-  by_tree Delete = unless TreesOnce _ _ _ (unless TreesOnce _ _ _ (given_any TreesOnce _ _ _ (λ file. unless TreesOnce _ _ _ (unless TreesOnce _ _ _ (omega arith)))))
+  by_tree Create = past TreesOnce _ _ _ (past TreesOnce _ _ _ (past TreesOnce _ _ _ (past_given TreesOnce _ _ _ (λ asked. past TreesOnce _ _ _ (past_given TreesOnce _ _ _ (λ file. omega arith))))))
+  by_tree Delete = past TreesOnce _ _ _ (past TreesOnce _ _ _ (past_given TreesOnce _ _ _ (λ file. past TreesOnce _ _ _ (past TreesOnce _ _ _ (omega arith)))))
   by_tree Resize =
-      unless TreesOnce _ _ _ (unless TreesOnce _ _ _ (given_any TreesOnce _ _ _ (λ file.
-      unless TreesOnce _ _ _ (unless TreesOnce _ _ _ (unless TreesOnce _ _ _ (unless TreesOnce _ _ _ (unless TreesOnce _ _ _ (once _ _))))))))
+      past TreesOnce _ _ _ (past TreesOnce _ _ _ (past_given TreesOnce _ _ _ (λ file.
+      past TreesOnce _ _ _ (past TreesOnce _ _ _ (past TreesOnce _ _ _ (past TreesOnce _ _ _ (past TreesOnce _ _ _ (once _ _))))))))
 
   passed_once : (outcome : Result TreeOutcome StatusWord) → MatchResult outcome TreesOnce Any → length (passed_by channels outcome) ≤ 1
   passed_once (Ok outcome) once = once
