@@ -135,6 +135,7 @@ fn asks_secure_messaging(class: u8) -> bool
 }
 
 /// The command that a class and an instruction byte name: the class is tested first, then the channel, then the instruction.
+#[inline(always)]
 pub fn instruction_of(channels: &Channels, class: u8, ins: u8) -> Result<Instruction, StatusWord>
     ensures tried { result ≡ instruction_tried is_known channels.now class ins }
     ensures open { OnOk result (is_open channels.now (channel_of class) ≡ true) }

@@ -23,7 +23,9 @@ pub enum Carrier {
 }
 
 impl Carrier {
-    // Has the card take a command. One that the link does not carry goes to the card as it is.
+    // Has the card take a command. One that the link does not carry goes to the card as it is. Most commands go so, and over a link
+    // there is more to do than a call.
+    #[inline(always)]
     pub(crate) fn send<S: Store, B: Applet>(
         &mut self,
         end: &mut CardEnd<S, B>,
@@ -47,6 +49,7 @@ fn send<S: Store, B: Applet>(end: &mut CardEnd<S, B>, apdu: &[u8], answer: &mut 
 }
 
 // Has the card take a command over the link.
+#[inline(never)]
 fn send_over<S: Store, B: Applet>(
     link: &mut Link,
     end: &mut CardEnd<S, B>,

@@ -75,7 +75,9 @@ pub fn is_deactivated(file: &Descriptor) -> bool
     file.life == DEACTIVATED
 }
 
-/// The EF with this short file identifier in the current DF, or else the current EF. Refused where there is none.
+/// The EF with this short file identifier in the current DF, or else the current EF. Refused where there is none. Inlined, what isn't asked of
+/// the file costs nothing.
+#[inline(always)]
 #[tactic(auto, unfolding(file_model::specs::Outcomes::addressed, file_model::specs::Chains::given))]
 pub fn addressed(
     loaded: &Loaded,
