@@ -6,14 +6,15 @@ use Rattle.uicc_types.specs.declared.plans.TheConstants.Plan.{NONE}
 use Rattle.eeprom_model.specs.declared.device.EepromFault.{EepromFault}
 use Rattle.eeprom_model.specs.declared.device.EepromFault.TheVariants.{Failed, PowerLost}
 
--- whether there is a file, its size, its counts and its power, and how many calls of each kind came with power since its plan
--- was set
+-- whether there is a file, its size, its counts and its power, how many calls of each kind came with power since its plan was set, and
+-- whether nothing was asked of it yet
 pub record Adapter : Type 0 where
   pub has_file : Bool
   pub size : ℕ
   pub meter : Meter
   pub programs : ℕ
   pub reads : ℕ
+  pub is_fresh : Bool
 
 -- a device with power, to which nothing has happened
 abbrev pub new_adapter : Bool → ℕ → Adapter
@@ -23,6 +24,7 @@ new_adapter has_file size = record {
   meter = record { faults = 0; cuts = 0; powered = true; plans = 0; latest = NONE; plan = NONE };
   programs = 0;
   reads = 0;
+  is_fresh = true;
 }
 
 -- a fault is planned for the call of this number
@@ -32,10 +34,10 @@ is_planned (Some call) number = call == number
 
 -- the call is counted
 abbrev pub after_read : Adapter → Adapter
-after_read device = record device { reads = raised device.reads }
+after_read device = record device { reads = raised device.reads; is_fresh = false }
 
 abbrev pub after_program : Adapter → Adapter
-after_program device = record device { programs = raised device.programs }
+after_program device = record device { programs = raised device.programs; is_fresh = false }
 
 -- What a call with power leaves: a failure is counted, and a loss of power is counted and takes the power.
 abbrev pub left_by : Result ⊤ EepromFault → Adapter → Adapter
@@ -55,4 +57,4 @@ fails_to_program device = is_planned (option_map (λ fail. fail.call) device.met
 
 -- a new plan, and no calls counted for it yet
 abbrev pub given_plan : Plan → Adapter → Adapter
-given_plan plan device = record device { meter = armed device.meter plan; programs = 0; reads = 0 }
+given_plan plan device = record device { meter = armed device.meter plan; programs = 0; reads = 0; is_fresh = false }

@@ -25,6 +25,7 @@ pub struct FileEeprom {
     plan: Plan,
     programs: u64,
     reads: u64,
+    is_fresh: bool,
 }
 
 impl Model for FileEeprom {
@@ -39,6 +40,7 @@ impl Model for FileEeprom {
       meter = record { faults = device.faults; cuts = device.cuts; powered = device.powered; plans = device.plans; latest = device.latest; plan = device.plan };
       programs = device.programs;
       reads = device.reads;
+      is_fresh = device.is_fresh;
     } };
 }
 
@@ -61,6 +63,7 @@ impl FileEeprom {
             plan: Plan::NONE,
             programs: 0,
             reads: 0,
+            is_fresh: true,
         }
     }
 }
@@ -124,6 +127,7 @@ impl FileEeprom {
     /// Counts a failure, where this is one.
     fn told(&mut self, outcome: Option<io::Result<()>>) -> Result<(), EepromFault>
         ensures left { self.new ≡ left_by result self.old }
+        ensures fresh { self.new.is_fresh ≡ self.old.is_fresh }
         ensures never_cut { result ≢ Err EepromFault.PowerLost }
         ensures ok { IsOk result ↔ IsSomeAnd outcome (λ done. IsOk done) }
         ensures cause { HasCause self.old.meter self.new.meter result }
@@ -137,6 +141,7 @@ impl FileEeprom {
     fn failed(&mut self) -> Result<(), EepromFault>
         ensures answer { result ≡ Err EepromFault.Failed }
         ensures left { self.new ≡ left_by result self.old }
+        ensures fresh { self.new.is_fresh ≡ self.old.is_fresh }
         ensures cause { HasCause self.old.meter self.new.meter result }
     {
         self.faults = self.faults.saturating_add(1);
@@ -147,6 +152,7 @@ impl FileEeprom {
         requires { self.old.meter.powered ≡ true }
         ensures answer { result ≡ Err EepromFault.PowerLost }
         ensures left { self.new ≡ left_by result self.old }
+        ensures fresh { self.new.is_fresh ≡ self.old.is_fresh }
         ensures cause { HasCause self.old.meter self.new.meter result }
     {
         self.cuts = self.cuts.saturating_add(1);
@@ -166,6 +172,8 @@ impl Eeprom for FileEeprom {
 
     ghost meter = { λ device. device.meter };
 
+    ghost is_fresh = { λ device. device.is_fresh };
+
     ghost told_length = { λ device. tt };
 
     fn size(&self) -> usize {
@@ -180,6 +188,7 @@ impl Eeprom for FileEeprom {
         ensures cause { HasCause self.old.meter self.new.meter result }
         ensures off { self.old.meter.powered ≡ false →
             (result ≡ Err EepromFault.PowerLost) × (self.new ≡ self.old) }
+        ensures used { self.old.meter.powered ≡ true → self.new.is_fresh ≡ false }
         ensures left { self.old.meter.powered ≡ true → self.new ≡ left_by result (after_read self.old) }
         ensures never_cut { self.old.meter.powered ≡ true → result ≢ Err EepromFault.PowerLost }
         ensures planned { self.old.meter.powered ≡ true → fails_to_read (after_read self.old) ≡ true
@@ -189,6 +198,7 @@ impl Eeprom for FileEeprom {
         if !self.powered {
             return Err(EepromFault::PowerLost);
         }
+        self.is_fresh = false;
         self.reads = self.reads.saturating_add(1);
         if is_planned(self.plan.read_fail, self.reads) {
             return self.failed();
@@ -205,6 +215,7 @@ impl Eeprom for FileEeprom {
         ensures cause { HasCause self.old.meter self.new.meter result }
         ensures off { self.old.meter.powered ≡ false →
             (result ≡ Err EepromFault.PowerLost) × (self.new ≡ self.old) }
+        ensures used { self.old.meter.powered ≡ true → self.new.is_fresh ≡ false }
         ensures left { self.old.meter.powered ≡ true → self.new ≡ left_by result (after_program self.old) }
         ensures cut { self.old.meter.powered ≡ true → (result ≡ Err EepromFault.PowerLost) ↔
             (is_cut_off (after_program self.old) ≡ true) }
@@ -217,6 +228,7 @@ impl Eeprom for FileEeprom {
         if !self.powered {
             return Err(EepromFault::PowerLost);
         }
+        self.is_fresh = false;
         self.programs = self.programs.saturating_add(1);
         if let Some(cut) = self.plan.cut
             && is_planned(Some(cut.call), self.programs)
@@ -250,5 +262,6 @@ impl Eeprom for FileEeprom {
         self.plan = plan;
         self.programs = 0;
         self.reads = 0;
+        self.is_fresh = false;
     }
 }

@@ -1,6 +1,6 @@
 -- The bench device: a memory in which faults are planned, each at a call of its kind, counted from 1 since the plan
 -- was set. Calls without power do nothing and are not counted.
-use Rattle.std.specs.Prelude.{ℕ, true, false, ◌==◌, ◌-◌, if◌then◌else◌, List, ◌++◌, length, take, replicate, Option, Some, None, Result, Ok, Err, ⊤}
+use Rattle.std.specs.Prelude.{ℕ, Bool, true, false, ◌==◌, ◌-◌, if◌then◌else◌, List, ◌++◌, length, take, replicate, Option, Some, None, Result, Ok, Err, ⊤}
 use Rattle.uicc_types.specs.Counts.{Meter, raised, armed}
 use Rattle.uicc_types.specs.Patches.{patched}
 use Rattle.uicc_types.specs.declared.plans.Plan.{Plan}
@@ -9,12 +9,13 @@ use Rattle.uicc_types.specs.declared.plans.FailAt.{FailAt}
 use Rattle.eeprom_model.specs.declared.device.EepromFault.{EepromFault}
 use Rattle.eeprom_model.specs.declared.device.EepromFault.TheVariants.{Failed, PowerLost}
 
--- what it holds, what it counts, and how many calls of each kind came since its plan was set
+-- what it holds, what it counts, how many calls of each kind came since its plan was set, and whether nothing was asked of it yet
 pub record Bench : Type 0 where
   pub bytes : List ℕ
   pub meter : Meter
   pub programs : ℕ
   pub reads : ℕ
+  pub is_fresh : Bool
 
 -- what a call answers, and the device that it leaves
 pub record Outcome : Type 0 where
@@ -57,18 +58,18 @@ abbrev pub programmed_now : ℕ → List ℕ → Bench → Outcome
 programmed_now at bytes bench = programmed_under (planned_for (λ cut. cut.call) bench.programs bench.meter.plan.cut) (planned_for (λ fail. fail.call) bench.programs bench.meter.plan.fail) at bytes bench
 
 unfoldable pub program_outcome : ℕ → List ℕ → Bench → Outcome
-program_outcome at bytes bench = if bench.meter.powered then programmed_now at bytes (record bench { programs = raised bench.programs }) else lost bench
+program_outcome at bytes bench = if bench.meter.powered then programmed_now at bytes (record bench { programs = raised bench.programs; is_fresh = false }) else lost bench
 
 abbrev pub read_under : Option ℕ → Bench → Outcome
 read_under (Some call) bench = failed bench
 read_under None bench = done bench
 
 unfoldable pub read_outcome : Bench → Outcome
-read_outcome bench = if bench.meter.powered then read_under (planned_for (λ call. call) (raised bench.reads) bench.meter.plan.read_fail) (record bench { reads = raised bench.reads }) else lost bench
+read_outcome bench = if bench.meter.powered then read_under (planned_for (λ call. call) (raised bench.reads) bench.meter.plan.read_fail) (record bench { reads = raised bench.reads; is_fresh = false }) else lost bench
 
 -- a new plan, and no calls counted for it yet
 abbrev pub given_plan : Plan → Bench → Bench
-given_plan plan bench = record bench { meter = armed bench.meter plan; programs = 0; reads = 0 }
+given_plan plan bench = record bench { meter = armed bench.meter plan; programs = 0; reads = 0; is_fresh = false }
 
 -- the plan of no fault
 abbrev pub no_plan : Plan
@@ -81,4 +82,5 @@ new_bench size = record {
   meter = record { faults = 0; cuts = 0; powered = true; plans = 0; latest = no_plan; plan = no_plan };
   programs = 0;
   reads = 0;
+  is_fresh = true;
 }

@@ -23,6 +23,7 @@ pub struct BenchEeprom {
     plan: Plan,
     programs: u64,
     reads: u64,
+    is_fresh: bool,
 }
 
 impl Model for BenchEeprom {
@@ -36,6 +37,7 @@ impl Model for BenchEeprom {
       meter = record { faults = bench.faults; cuts = bench.cuts; powered = bench.powered; plans = bench.plans; latest = bench.latest; plan = bench.plan };
       programs = bench.programs;
       reads = bench.reads;
+      is_fresh = bench.is_fresh;
     } };
 }
 
@@ -55,6 +57,7 @@ impl BenchEeprom {
                 plan: Plan::NONE,
                 programs: 0,
                 reads: 0,
+                is_fresh: true,
             }),
             Err(_) => Err(OutOfMemory),
         }
@@ -132,6 +135,8 @@ impl Eeprom for BenchEeprom {
 
     ghost meter = { λ bench. bench.meter };
 
+    ghost is_fresh = { λ bench. bench.is_fresh };
+
     ghost told_length = { λ bench. refl };
 
     fn size(&self) -> usize {
@@ -150,12 +155,14 @@ impl Eeprom for BenchEeprom {
         ensures cause { HasCause self.old.meter self.new.meter result }
         ensures off { self.old.meter.powered ≡ false →
             (result ≡ Err EepromFault.PowerLost) × (self.new ≡ self.old) }
+        ensures used { self.old.meter.powered ≡ true → self.new.is_fresh ≡ false }
         ensures answer { result ≡ (read_outcome self.old).answer }
         ensures left { self.new ≡ (read_outcome self.old).left }
     {
         if !self.powered {
             return Err(EepromFault::PowerLost);
         }
+        self.is_fresh = false;
         self.reads = self.reads.saturating_add(1);
         if planned_read_failure(&self.plan, self.reads).is_some() {
             self.faults = self.faults.saturating_add(1);
@@ -176,12 +183,14 @@ impl Eeprom for BenchEeprom {
         ensures cause { HasCause self.old.meter self.new.meter result }
         ensures off { self.old.meter.powered ≡ false →
             (result ≡ Err EepromFault.PowerLost) × (self.new ≡ self.old) }
+        ensures used { self.old.meter.powered ≡ true → self.new.is_fresh ≡ false }
         ensures answer { result ≡ (program_outcome at bytes.now self.old).answer }
         ensures left { self.new ≡ (program_outcome at bytes.now self.old).left }
     {
         if !self.powered {
             return Err(EepromFault::PowerLost);
         }
+        self.is_fresh = false;
         self.programs = self.programs.saturating_add(1);
         if let Some(cut) = planned_cut(&self.plan, self.programs) {
             overwrite_in_part(&mut self.bytes, at, bytes, cut);
@@ -214,5 +223,6 @@ impl Eeprom for BenchEeprom {
         self.plan = plan;
         self.programs = 0;
         self.reads = 0;
+        self.is_fresh = false;
     }
 }

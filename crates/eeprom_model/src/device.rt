@@ -1,5 +1,5 @@
 //! What is asked of an EEPROM, and what can go wrong in it.
-ghost use Rattle.std.specs.Prelude.{◌≡◌, ◌+◌, ◌≤◌, ◌<◌, ◌%◌, ℕ, List, Option, false, true, length, option_map, slice_range, IfSome, OnOk, OnErr};
+ghost use Rattle.std.specs.Prelude.{◌≡◌, ◌+◌, ◌≤◌, ◌<◌, ◌%◌, ℕ, Bool, List, Option, false, true, length, option_map, slice_range, IfSome, OnOk, OnErr};
 ghost use Rattle.eeprom_model.specs.Faults.{HasCause};
 ghost use Rattle.uicc_types.specs.Counts.{Meter, armed};
 ghost use Rattle.uicc_types.specs.Patches.{patched, Torn};
@@ -30,6 +30,9 @@ pub trait Eeprom {
     /// Its counts of faults, cuts and plans, and whether it has power.
     ghost meter: { Self → Meter };
 
+    /// No byte of it was read or written, and no plan was set, since it was made.
+    ghost is_fresh: { Self → Bool };
+
     /// How many bytes it has.
     fn size(&self) -> usize
         ensures { result ≡ byte_count self.now };
@@ -47,7 +50,8 @@ pub trait Eeprom {
         ensures size { byte_count self.new ≡ byte_count self.old }
         ensures cause { HasCause (meter self.old) (meter self.new) result }
         ensures off { (meter self.old).powered ≡ false →
-            (result ≡ Err EepromFault.PowerLost) × (meter self.new ≡ meter self.old) };
+            (result ≡ Err EepromFault.PowerLost) × (meter self.new ≡ meter self.old) }
+        ensures used { (meter self.old).powered ≡ true → is_fresh self.new ≡ false };
 
     /// Writes bytes into one page, at least one. After a fault their range holds any bytes, unless there was no power.
     fn program(&mut self, at: usize, bytes: &[u8]) -> Result<(), EepromFault>
@@ -62,19 +66,22 @@ pub trait Eeprom {
         ensures cause { HasCause (meter self.old) (meter self.new) result }
         ensures off { (meter self.old).powered ≡ false →
             (result ≡ Err EepromFault.PowerLost) × (meter self.new ≡ meter self.old)
-            × (contents self.new ≡ contents self.old) };
+            × (contents self.new ≡ contents self.old) }
+        ensures used { (meter self.old).powered ≡ true → is_fresh self.new ≡ false };
 
     /// Gives it power.
     fn power_up(&mut self)
         ensures power { meter self.new ≡ record (meter self.old) { powered = true } }
         ensures contents { contents self.new ≡ contents self.old }
-        ensures size { byte_count self.new ≡ byte_count self.old };
+        ensures size { byte_count self.new ≡ byte_count self.old }
+        ensures fresh { is_fresh self.new ≡ is_fresh self.old };
 
     /// Sets the plan of faults and its counters of calls to zero.
     fn arm(&mut self, plan: Plan)
         ensures plan { meter self.new ≡ armed (meter self.old) plan }
         ensures contents { contents self.new ≡ contents self.old }
-        ensures size { byte_count self.new ≡ byte_count self.old };
+        ensures size { byte_count self.new ≡ byte_count self.old }
+        ensures used { is_fresh self.new ≡ false };
 
     /// What it tells are all its bytes.
     ghost told_length: { (device : Self) →

@@ -42,6 +42,8 @@ impl<E: Eeprom + Drop> Eeprom for SwitchedEeprom<'_, E> {
 
     ghost meter = { λ switched. E.meter switched };
 
+    ghost is_fresh = { λ switched. E.is_fresh switched };
+
     ghost told_length = { λ switched. tt };
 
     fn size(&self) -> usize {

@@ -106,6 +106,7 @@ pub fn addressed(
 
 /// The transparent EF that READ BINARY or UPDATE BINARY works on. Refused are, in this order, wrong P1 and P2, a wrong length,
 /// no such EF, an EF of another structure and one that is out of use.
+#[inline(always)]
 #[tactic(auto, unfolding(file_model::specs::Binaries::binary_file, file_model::specs::Chains::refused_if, file_model::specs::Chains::and_given))]
 pub fn binary_file(
     loaded: &Loaded,

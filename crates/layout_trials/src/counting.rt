@@ -66,6 +66,8 @@ impl<E: Eeprom> Eeprom for Counting<E> {
 
     ghost meter = { λ counting. E.meter counting };
 
+    ghost is_fresh = { λ counting. E.is_fresh counting };
+
     ghost told_length = { λ counting. E.told_length counting };
 
     fn size(&self) -> usize {

@@ -1,5 +1,5 @@
 //! What the program answers to the words of its command line.
-ghost use Rattle.std.specs.Prelude.{◌≡◌, ◌≤◌, ℕ, [], Some, None, length, map, option_map, slice_get, string_bytes};
+ghost use Rattle.std.specs.Prelude.{◌≡◌, ◌≤◌, ℕ, [], Some, None, true, length, map, option_map, slice_get, string_bytes};
 ghost use Rattle.card_layout.specs.declared.sizes.TheConstants.{ROW_COUNT};
 ghost use Rattle.card_opening.specs.Boxes.{minds_of};
 ghost use Rattle.run_words.specs.Model.{AskForRun, IsMadeFor};
@@ -201,6 +201,7 @@ fn play_over<E: Eeprom + Drop, R: Source, W: Sink, B: Applet>(
 ) -> u8
     requires fits { FitsRun (map string_bytes words.now) (E.byte_count eeprom) cast.items }
     requires new { E.meter eeprom ≡ new_meter }
+    requires fresh { E.is_fresh eeprom ≡ true }
     requires used { AskForRun (map string_bytes words.now) }
     ensures script { KeepsToScripts (map string_bytes words.now) result
         (outside R.Source W.Sink script.old output.old (minds_of B.mind cast.items))
