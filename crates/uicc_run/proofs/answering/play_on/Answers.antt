@@ -13,6 +13,7 @@ play_over-requires g c = record {
     shelves = c.requires.shelves;
   };
   new = ap (λ d. d.meter) c.new-eeprom.ensures;
+  fresh = ap (λ d. d.is_fresh) c.new-eeprom.ensures;
   used = devices_are_asked _ c.args.made c.requires.used;
 }
 

@@ -14,6 +14,7 @@ play_over-requires g c = record {
     shelves = c.requires.fits.shelves;
   };
   new = ap (λ bench. bench.meter) c.in-Ok.ensures;
+  fresh = ap (λ bench. bench.is_fresh) c.in-Ok.ensures;
   used = c.requires.used;
 }
 
