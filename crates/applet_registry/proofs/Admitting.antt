@@ -1,13 +1,13 @@
 -- What is read of an installation, and the row that comes of it.
 use Rattle.std.proofs.Common.{◌≡◌, ℕ, Bool, true, false, List, Option, Some, None, sym, ◌∙◌, ap}
 use Rattle.std.specs.Prelude.{◌==◌, ◌&&◌, not, Result, Ok, Err}
-use Rattle.card_layout.specs.declared.entries.Row.{Row}
-use Rattle.card_layout.specs.declared.entries.Loaded.{Loaded}
-use Rattle.card_layout.specs.declared.installation.Installed.{Installed}
-use Rattle.card_layout.specs.Installations.{HasParts, registered, IsInstalled, ReadsInstallation}
-use Rattle.card_layout.specs.Persistent.{Registration}
-use Rattle.card_layout.specs.Sections.{Installation, installation_of, new_row, needs_wide}
-use Rattle.card_layout.specs.States.{registration_of, rows_of, state_of}
+use Rattle.toolkit_model.specs.card_layout.declared.entries.Row.{Row}
+use Rattle.toolkit_model.specs.card_layout.declared.entries.Loaded.{Loaded}
+use Rattle.toolkit_model.specs.card_layout.declared.installation.Installed.{Installed}
+use Rattle.toolkit_model.specs.card_layout.Installations.{HasParts, registered, IsInstalled, ReadsInstallation}
+use Rattle.toolkit_model.specs.card_layout.Persistent.{Registration}
+use Rattle.toolkit_model.specs.card_layout.Sections.{Installation, installation_of, new_row, needs_wide}
+use Rattle.toolkit_model.specs.card_layout.States.{registration_of, rows_of, state_of}
 use Rattle.toolkit_model.specs.declared.faults.RowFault.{RowFault}
 use Rattle.toolkit_model.specs.declared.faults.RowFault.TheVariants.{BadData, NoBox, Narrow, Taken, MenuFull, Spent}
 use Rattle.toolkit_model.specs.Registry.{given, faulty_if, is_taken, is_menu_full, last_sequence, installed_row}

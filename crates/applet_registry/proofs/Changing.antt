@@ -9,13 +9,13 @@ use Rattle.std.specs.Prelude.{◌==◌, ◌||◌, ◌↔◌, not, option_map, Co
 use Rattle.std.specs.Int.{bit_at}
 use Rattle.std.specs.List.{list_any}
 use Rattle.std.specs.Option.{option_map_or}
-use Rattle.card_layout.specs.declared.entries.Loaded.{Loaded}
-use Rattle.card_layout.specs.Events.{SettingAddsCode}
-use Rattle.card_layout.specs.Kinds.{event_codes, codes_of}
-use Rattle.card_layout.specs.Persistent.{Registration}
-use Rattle.card_layout.specs.Sections.{is_code, sorted_codes}
-use Rattle.card_layout.specs.StateLaws.{IsOfRow, RowsAreEntries, RowsComeFromEntries, StatesAreOfTables}
-use Rattle.card_layout.specs.States.{rows_of, state_of}
+use Rattle.toolkit_model.specs.card_layout.declared.entries.Loaded.{Loaded}
+use Rattle.toolkit_model.specs.card_layout.Events.{SettingAddsCode}
+use Rattle.toolkit_model.specs.card_layout.Kinds.{event_codes, codes_of}
+use Rattle.toolkit_model.specs.card_layout.Persistent.{Registration}
+use Rattle.toolkit_model.specs.card_layout.Sections.{is_code, sorted_codes}
+use Rattle.toolkit_model.specs.card_layout.StateLaws.{IsOfRow, RowsAreEntries, RowsComeFromEntries, StatesAreOfTables}
+use Rattle.toolkit_model.specs.card_layout.States.{rows_of, state_of}
 use Rattle.toolkit_model.specs.Order.{is_for}
 use Rattle.toolkit_model.specs.Registry.{is_on, row_on, with_changed, is_registered, with_code, without_code}
 use Rattle.applet_registry.proofs.Registered.{row_used}

@@ -4,15 +4,15 @@ use Rattle.std.specs.Prelude.{◌↔◌, ◌≢◌, ◌&&◌, ◌||◌, not, fin
 use Rattle.std.specs.List.{list_any, enumerate_from}
 use Rattle.std.proofs.lemmas.List.{length-map}
 use Rattle.std.proofs.lemmas.List.Sums.{length-filter}
-use Rattle.card_layout.specs.declared.entries.Row.{Row}
-use Rattle.card_layout.specs.declared.entries.Loaded.{Loaded}
-use Rattle.card_layout.specs.Checks.{has_row_text}
-use Rattle.card_layout.specs.Persistent.{Registration, Persistent}
-use Rattle.card_layout.specs.Sections.{has_text, is_call_control}
-use Rattle.card_layout.specs.States.{registration_of, rows_of}
-use Rattle.card_layout.specs.StateLaws.{row_on_shelf}
-use Rattle.card_layout.specs.Used.{registration_if}
-use Rattle.toolkit_commands.specs.declared.items.Item.{Item}
+use Rattle.toolkit_model.specs.card_layout.declared.entries.Row.{Row}
+use Rattle.toolkit_model.specs.card_layout.declared.entries.Loaded.{Loaded}
+use Rattle.toolkit_model.specs.card_layout.Checks.{has_row_text}
+use Rattle.toolkit_model.specs.card_layout.Persistent.{Registration, Persistent}
+use Rattle.toolkit_model.specs.card_layout.Sections.{has_text, is_call_control}
+use Rattle.toolkit_model.specs.card_layout.States.{registration_of, rows_of}
+use Rattle.toolkit_model.specs.card_layout.StateLaws.{row_on_shelf}
+use Rattle.toolkit_model.specs.card_layout.Used.{registration_if}
+use Rattle.toolkit_model.specs.toolkit_commands.declared.items.Item.{Item}
 use Rattle.toolkit_model.specs.Registry.{is_on, row_on, is_taken, is_answered, item_of, menu_of}
 use Rattle.applet_registry.specs.Rows.{answers_calls, answers_beside, shows_item}
 

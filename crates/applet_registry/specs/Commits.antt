@@ -1,8 +1,8 @@
 -- A change of one row as it is committed to the card's memory, and as a session has it.
 use Rattle.std.specs.Prelude.{◌≡◌, ℕ, ◌<◌, List, Some, None, AllPairs}
-use Rattle.card_layout.specs.Changing.{with_row_on, with_code_committed, without_code_committed, with_kept_committed}
-use Rattle.card_layout.specs.Persistent.{Registration, Persistent}
-use Rattle.card_layout.specs.Sections.{with_row}
+use Rattle.toolkit_model.specs.card_layout.Changing.{with_row_on, with_code_committed, without_code_committed, with_kept_committed}
+use Rattle.toolkit_model.specs.card_layout.Persistent.{Registration, Persistent}
+use Rattle.toolkit_model.specs.card_layout.Sections.{with_row}
 use Rattle.toolkit_model.specs.Registry.{without_row, with_code, without_code, with_kept}
 
 abbrev pub InstallsRow : Type 0

@@ -1,17 +1,17 @@
 //! The row of an applet that is to be registered, and whether one may go.
 ghost use Rattle.std.specs.Prelude.{◌≡◌, ◌<◌, ℕ, List, true, IfOk, ◌&&◌, not};
-ghost use Rattle.card_layout.specs.declared.events.TheConstants.{EVENTS_END};
-ghost use Rattle.card_layout.specs.Installations.{registered};
-ghost use Rattle.card_layout.specs.Sections.{needs_wide};
-ghost use Rattle.card_layout.specs.States.{registration_of, rows_of, state_of};
+ghost use Rattle.toolkit_model.specs.card_layout.declared.events.TheConstants.{EVENTS_END};
+ghost use Rattle.toolkit_model.specs.card_layout.Installations.{registered};
+ghost use Rattle.toolkit_model.specs.card_layout.Sections.{needs_wide};
+ghost use Rattle.toolkit_model.specs.card_layout.States.{registration_of, rows_of, state_of};
 ghost use Rattle.toolkit_model.specs.Registry.{is_taken, is_menu_full, installed_row, deleted_row};
 ghost use Rattle.applet_registry.specs.Rows.{IsAdmitted, registration_for, allowed};
 
-use crate::shelves::{answers_calls, has_text, is_answered, row_on, text_count};
-use card_layout::sizes::{KEPT_WIDTH, LOWER_ROW_COUNT, MENU_LIMIT};
-use card_layout::{Installed, Loaded, Row, read_installation};
+use crate::rows::{answers_calls, has_text, is_answered, row_on, text_count};
 use toolkit_model::RowFault;
-use uicc_types::Shelf;
+use toolkit_model::card_layout::sizes::{KEPT_WIDTH, LOWER_ROW_COUNT, MENU_LIMIT};
+use toolkit_model::card_layout::{Installed, Loaded, Row, read_installation};
+use toolkit_model::uicc_types::Shelf;
 
 // Whether only a wide card can hold this row, and this one isn't wide.
 fn is_too_narrow(loaded: &Loaded, shelf: Shelf, row: &Row) -> bool

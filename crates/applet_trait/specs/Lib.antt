@@ -1,4 +1,4 @@
+pub mod Laws
 pub mod Minds
 pub mod Tables
 pub mod Turns
-pub mod Laws

@@ -1,5 +1,6 @@
 -- What an applet knows, and a turn of it: what it does at a stimulus, and what it knows then.
-use Rattle.std.specs.Prelude.{ℕ, List, Bool, Option, Some, None, unwrap_or, ◌==◌}
+use Rattle.std.specs.Option.{option_map}
+use Rattle.std.specs.Prelude.{ℕ, List, map, Bool, Option, Some, None, unwrap_or, ◌==◌}
 use Rattle.applet_trait.specs.declared.stimuli.Stimulus.{Stimulus}
 use Rattle.applet_trait.specs.declared.stimuli.Stimulus.TheVariants.{Went}
 use Rattle.applet_trait.specs.declared.stimuli.Act.{Act}
@@ -18,6 +19,10 @@ pub record AppletState : Type 0 where
 -- the mind of an applet that woke
 abbrev pub fresh : ℕ → List ℕ → AppletState
 fresh kind kept = record { kind = kind; phase = 0; held = 0; code = 0; kept = kept; asked = None }
+
+-- the minds of the boxes on the shelves
+abbrev pub minds_of : {B : Type 0} → (B → AppletState) → List (Option B) → List (Option AppletState)
+minds_of mind boxes = map (option_map mind) boxes
 
 pub record Turn : Type 0 where
   pub does : Act

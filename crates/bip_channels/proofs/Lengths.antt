@@ -1,7 +1,7 @@
 -- How long an object is.
 use Rattle.std.proofs.Common.{ℕ, ◌+◌, ◌<◌, ◌≤◌, List, ◌++◌, length, arith}
 use Rattle.std.proofs.lemmas.List.{length-append}
-use Rattle.comprehension_tlv.specs.Writing.{tagged}
+use Rattle.toolkit_commands.specs.comprehension_tlv.Writing.{tagged}
 use Rattle.toolkit_commands.proofs.Sizes.{long_tagged}
 
 pub length_put_long : (old : List ℕ) (tag : ℕ) (value : List ℕ) → length value < 256

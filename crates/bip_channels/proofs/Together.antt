@@ -4,7 +4,7 @@ use Rattle.std.specs.Prelude.{position, is_none, nat_lt}
 use Rattle.std.specs.List.{position_or_len}
 use Rattle.std.proofs.Math.ListN.{get_or-map}
 use Rattle.std.proofs.lemmas.List.{map-set, length-map}
-use Rattle.comprehension_tlv.specs.Model.{Object}
+use Rattle.toolkit_commands.specs.comprehension_tlv.Model.{Object}
 use Rattle.toolkit_commands.specs.Reading.{details_found}
 use Rattle.toolkit_commands.specs.declared.commands.Details.{Details}
 use Rattle.toolkit_commands.specs.declared.faults.ProactiveFault.{ProactiveFault}

@@ -4,7 +4,7 @@ use Rattle.std.specs.Prelude.{position}
 use Rattle.std.proofs.lemmas.Bool.{cases_eq, eq-eqb, ne_eqb}
 use Rattle.std.proofs.lemmas.List.{append-nil, get_or-set_same, get_or-set_other}
 use Rattle.std.proofs.lemmas.List.Quantifiers.{position-Some}
-use Rattle.comprehension_tlv.specs.Model.{Object}
+use Rattle.toolkit_commands.specs.comprehension_tlv.Model.{Object}
 use Rattle.toolkit_commands.specs.declared.commands.Details.{Details}
 use Rattle.toolkit_commands.specs.declared.faults.ProactiveFault.{ProactiveFault}
 use Rattle.bip_channels.specs.declared.commands.BipCommand.{BipCommand}

@@ -1,7 +1,7 @@
 -- The definitions, computed: a channel that is opened, written, read and closed, and each refusal.
 use Rattle.std.proofs.Common.{◌≡◌, ℕ, true, false, List, [], ◌∷◌, replicate, Option, Some, None, refl}
-use Rattle.comprehension_tlv.specs.Reading.{template_of, value_at, length_at, tag_at, object_at, outline_at, outline_within}
-use Rattle.comprehension_tlv.specs.Writing.{tagged}
+use Rattle.toolkit_commands.specs.comprehension_tlv.Reading.{template_of, value_at, length_at, tag_at, object_at, outline_at, outline_within}
+use Rattle.toolkit_commands.specs.comprehension_tlv.Writing.{tagged}
 use Rattle.toolkit_commands.specs.Reading.{list_of, details_found}
 use Rattle.toolkit_commands.specs.Steps.{template_in, needed}
 use Rattle.bip_channels.specs.Reading.{opening_in, closing_in, receiving_in, sending_in, status_in, command_in, command_of, bip_of}

@@ -1,7 +1,7 @@
 -- The channels of the bearer independent protocol at the terminal (ETSI TS 102 223, 6.4.27 to 6.4.31), told by all their
 -- bytes since they were opened. The far end gives back the bytes that it is sent, in order.
 use Rattle.std.specs.Prelude.{ℕ, ◌+◌, ◌-◌, ◌≤◌, Bool, true, false, ◌&&◌, List, [], ◌∷◌, ◌++◌, length, take, drop, replicate, Option, Some, None, is_none, position, slice_index_or, slice_set, nat_le, ◌==◌, Result, Ok, Err, if◌then◌else◌}
-use Rattle.comprehension_tlv.specs.Model.{Object}
+use Rattle.toolkit_commands.specs.comprehension_tlv.Model.{Object}
 use Rattle.toolkit_commands.specs.Reading.{details_found}
 use Rattle.toolkit_commands.specs.declared.commands.Details.{Details}
 use Rattle.toolkit_commands.specs.declared.faults.ProactiveFault.{ProactiveFault}

@@ -1,8 +1,8 @@
-pub mod Commands
-pub mod Reading
-pub mod Rules
-pub mod Replies
 pub mod Channels
-pub mod Kept
+pub mod Commands
 pub mod History
+pub mod Kept
+pub mod Reading
+pub mod Replies
+pub mod Rules
 pub mod Traffic

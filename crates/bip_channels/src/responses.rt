@@ -1,6 +1,6 @@
 //! The objects of responses and of events, with the comprehension flag.
 ghost use Rattle.std.specs.Prelude.{◌≡◌, ◌+◌, ◌≤◌, ◌<◌, ◌++◌, ◌∷◌, [], length};
-ghost use Rattle.comprehension_tlv.specs.Writing.{spellings, tagged};
+ghost use Rattle.toolkit_commands.specs.comprehension_tlv.Writing.{spellings, tagged};
 ghost use Rattle.toolkit_commands.specs.Table.{required};
 ghost use Rattle.bip_channels.specs.Replies.{heading, from_terminal, status_object, count_object, result_object, protocol_error, unable, opened, misread, no_channel, bytes_available, link_lost};
 
@@ -8,7 +8,7 @@ use crate::codes::{
     BEARER_DESCRIPTION, BUFFER_SIZE, CHANNEL_DATA, CHANNEL_DATA_LENGTH, CHANNEL_STATUS,
     DEFAULT_BEARER, LINK_DROPPED, LINK_UP, NOTHING_MORE, PROTOCOL_ERROR,
 };
-use comprehension_tlv::TlvWriter;
+use toolkit_commands::comprehension_tlv::TlvWriter;
 use toolkit_commands::devices::{CARD, TERMINAL};
 use toolkit_commands::results::{
     DATA_NOT_UNDERSTOOD, PERFORMED, TYPE_NOT_UNDERSTOOD, UNABLE_TO_PROCESS, VALUES_MISSING,
@@ -16,9 +16,9 @@ use toolkit_commands::results::{
 use toolkit_commands::tags::{
     COMMAND_DETAILS, DEVICE_IDENTITIES, EVENT_DOWNLOAD, EVENT_LIST, RESULT,
 };
+use toolkit_commands::uicc_types::events::{CHANNEL_STATUS as STATUS_EVENT, DATA_AVAILABLE};
+use toolkit_commands::uicc_types::{Full, Octets};
 use toolkit_commands::{Details, ProactiveFault};
-use uicc_types::events::{CHANNEL_STATUS as STATUS_EVENT, DATA_AVAILABLE};
-use uicc_types::{Full, Octets};
 
 /// Adds an object of less than 128 bytes.
 #[tactic(auto, using(toolkit_commands::proofs::Sizes::short_tagged))]

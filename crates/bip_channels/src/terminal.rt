@@ -1,6 +1,6 @@
 //! All channels of the terminal.
 ghost use Rattle.std.specs.Prelude.{◌≡◌, ◌+◌, ◌*◌, ◌≤◌, ◌<◌, [], ◌∷◌, ◌++◌, List, Option, length, position, IfOk, IfSome};
-ghost use Rattle.comprehension_tlv.specs.Writing.{spellings};
+ghost use Rattle.toolkit_commands.specs.comprehension_tlv.Writing.{spellings};
 ghost use Rattle.toolkit_commands.specs.Reading.{details_found};
 ghost use Rattle.bip_channels.specs.Commands.{IsProper};
 ghost use Rattle.bip_channels.specs.Channels.{BipChannel, none_open, answered, echoed, cut};
@@ -14,12 +14,12 @@ use crate::responses::{
 };
 use crate::serving::{close, cut, echo, receive, send};
 use crate::{BipCommand, read_bip};
-use comprehension_tlv::TlvWriter;
 use std::alloc::Global;
 use std::marker::Model;
+use toolkit_commands::comprehension_tlv::TlvWriter;
 use toolkit_commands::results::PERFORMED;
+use toolkit_commands::uicc_types::{Octets, OutOfMemory};
 use toolkit_commands::{Details, ProactiveFault, found_details};
-use uicc_types::{Octets, OutOfMemory};
 
 /// How many channels there can be.
 const CHANNELS: usize = 7;

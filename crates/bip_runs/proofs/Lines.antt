@@ -14,10 +14,10 @@ use Rattle.bip_runs.specs.Serving.{AreInOrder, AreReadInPlace, BipComesTo, EndsS
 use Rattle.bip_runs.specs.Traces.{history, lines_of, shown, text_of}
 use Rattle.bip_runs.specs.declared.effects.Place.{Place}
 use Rattle.bip_runs.specs.declared.effects.Place.TheVariants.{Before, Behind}
-use Rattle.byte_streams.specs.Laws.{HasRead-start, IsTakenFor-read_out}
-use Rattle.byte_streams.specs.Lines.{LineList}
-use Rattle.byte_streams.specs.Reading.{at_start}
-use Rattle.byte_streams.specs.Streams.{TakesFront}
+use Rattle.script_form.specs.byte_streams.Laws.{HasRead-start, IsTakenFor-read_out}
+use Rattle.script_form.specs.byte_streams.Lines.{LineList}
+use Rattle.script_form.specs.byte_streams.Reading.{at_start}
+use Rattle.script_form.specs.byte_streams.Streams.{TakesFront}
 use Rattle.card_sections.specs.LineLaws.{AreRead-more}
 use Rattle.card_sections.specs.Reading.{Finds, Follows, GivesNext, IsUnread}
 use Rattle.card_sections.specs.declared.behind.PlayEnd.{PlayEnd}
@@ -28,7 +28,7 @@ use Rattle.card_sections.specs.declared.script_reader.ScriptReader.{ScriptReader
 use Rattle.script_form.specs.Forms.{IsLine}
 use Rattle.script_form.specs.Reads.{IsOnly}
 use Rattle.script_form.specs.declared.lines.ScriptLine.{ScriptLine}
-use Rattle.uicc_types.specs.Told.{Becomes}
+use Rattle.script_form.specs.uicc_types.Told.{Becomes}
 
 -- ---- what happens by lines
 

@@ -1,9 +1,9 @@
 -- A sink that tells its bytes goes on telling them.
 use Rattle.std.proofs.Common.{◌≡◌, ℕ, List, Option, Some, None, Result, Ok, Err, OnOk, OnErr, is_some, refl, ap, ◌∙◌}
 use Rattle.std.specs.Io.KnownBytes.{append_known}
-use Rattle.byte_streams.specs.Streams.{TakesFront}
-use Rattle.byte_streams.specs.declared.streams.Failed.{Failed}
-use Rattle.uicc_types.specs.Told.{Becomes}
+use Rattle.script_form.specs.byte_streams.Streams.{TakesFront}
+use Rattle.script_form.specs.byte_streams.declared.streams.Failed.{Failed}
+use Rattle.script_form.specs.uicc_types.Told.{Becomes}
 
 some_known : (before : Option (List ℕ)) (part : List ℕ) → is_some (append_known before part) ≡ is_some before
 some_known None part = refl

@@ -2,8 +2,8 @@
 use Rattle.std.proofs.Common.{◌≡◌, ℕ, List, [], ◌∷◌, ◌++◌, Some, None, refl}
 use Rattle.std.specs.List.{flat_map}
 use Rattle.std.specs.Prelude.{codes}
-use Rattle.comprehension_tlv.specs.Reading.{template_of, value_at, length_at, tag_at, object_at, outline_at, outline_within}
-use Rattle.comprehension_tlv.specs.Writing.{tagged}
+use Rattle.toolkit_commands.specs.comprehension_tlv.Reading.{template_of, value_at, length_at, tag_at, object_at, outline_at, outline_within}
+use Rattle.toolkit_commands.specs.comprehension_tlv.Writing.{tagged}
 use Rattle.toolkit_commands.specs.Reading.{list_of, details_found}
 use Rattle.toolkit_commands.specs.Steps.{template_in, needed}
 use Rattle.bip_channels.specs.Channels.{carried_out, answered, echoed, cut}

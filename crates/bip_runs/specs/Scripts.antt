@@ -4,7 +4,7 @@ use Rattle.bip_runs.specs.Places.{moved_by}
 use Rattle.bip_runs.specs.Serving.{IsBadAt}
 use Rattle.bip_runs.specs.declared.effects.Place.{Place}
 use Rattle.bip_runs.specs.declared.effects.Place.TheVariants.{Before, Behind}
-use Rattle.byte_streams.specs.Lines.{LineList, lines}
+use Rattle.script_form.specs.byte_streams.Lines.{LineList, lines}
 use Rattle.card_sections.specs.Script.{Say}
 use Rattle.script_form.specs.declared.lines.ScriptLine.{ScriptLine}
 

@@ -9,9 +9,9 @@ use Rattle.bip_runs.specs.Places.{moved, moved_by}
 use Rattle.bip_runs.specs.Traces.{history, lines_of, shown, text_of, trace_of}
 use Rattle.bip_runs.specs.declared.effects.Place.{Place}
 use Rattle.bip_runs.specs.declared.effects.Place.TheVariants.{Before, Behind}
-use Rattle.byte_streams.specs.Lines.{LineList, lines}
-use Rattle.byte_streams.specs.Reading.{IsTextCutShort, IsReadOut}
-use Rattle.byte_streams.specs.Streams.{TakesFront}
+use Rattle.script_form.specs.byte_streams.Lines.{LineList, lines}
+use Rattle.script_form.specs.byte_streams.Reading.{IsTextCutShort, IsReadOut}
+use Rattle.script_form.specs.byte_streams.Streams.{TakesFront}
 use Rattle.card_sections.specs.Reading.{Finds, Follows, GoesOn}
 use Rattle.card_sections.specs.Script.{AreRead}
 use Rattle.card_sections.specs.declared.behind.PlayEnd.{PlayEnd}
@@ -21,7 +21,7 @@ use Rattle.card_sections.specs.declared.faults.ScriptFault.TheVariants as fault
 use Rattle.card_sections.specs.declared.script_reader.ScriptReader.{ScriptReader}
 use Rattle.script_form.specs.Forms.{IsLine}
 use Rattle.script_form.specs.declared.lines.ScriptLine.{ScriptLine}
-use Rattle.uicc_types.specs.Told.{Becomes}
+use Rattle.script_form.specs.uicc_types.Told.{Becomes}
 
 -- these lines of the text were read, each with one reading alone and in its place, and the script goes on here
 pub record AreReadInPlace (found : LineList) (said : List ScriptLine) (place : Place) : Type 0 where

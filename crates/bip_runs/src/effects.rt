@@ -3,7 +3,7 @@ ghost use Rattle.std.specs.Prelude.{◌≡◌};
 ghost use Rattle.bip_runs.specs.Parts.{part_for, part_of};
 
 use script_form::ScriptLine;
-use uicc_types::Octets;
+use script_form::uicc_types::Octets;
 
 /// What happens to the terminal.
 #[derive(Clone, Copy, Debug)]

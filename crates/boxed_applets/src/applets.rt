@@ -2,7 +2,7 @@
 
 use crate::{Barrier, Clock, Greeter, Menu, Notebook, Table, Watcher};
 use applet_trait::{Act, Applet, Stimulus};
-use uicc_types::Kept;
+use card_layout::uicc_types::Kept;
 
 /// An applet of one of the seven kinds. Its mind is that of the applet in it.
 #[derive(Drop)]

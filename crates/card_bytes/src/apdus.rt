@@ -1,8 +1,8 @@
 //! Command and answer APDUs.
 
-use apdu_form::{Command, WrongLength, read_command, write_answer};
+use file_model::apdu_form::{Command, WrongLength, read_command, write_answer};
+use file_model::uicc_types::{Answer, StatusWord};
 use std::alloc::{AllocError, Global};
-use uicc_types::{Answer, StatusWord};
 use unit_tables::{Failure, bytes, double_byte, joined_bytes, show_bytes};
 
 /// `apdu BYTES`: the command that is read.

@@ -1,11 +1,11 @@
 //! The applets: one that stays from row to row, those of the shelves, and those in boxes.
 
 use crate::turns::{show_act, stimulus};
-use applet_trait::Applet;
 use boxed_applets::{
     Barrier, Clock, Greeter, Menu, Notebook, ProgramApplet, Table, Watcher, applet_of, make_applets,
 };
 use std::alloc::Global;
+use toolkit_model::applet_trait::Applet;
 use unit_tables::{Failure, byte_list, small_number};
 
 /// `KEPT`: wakes the applet with the bytes that it keeps, and tells its kind.

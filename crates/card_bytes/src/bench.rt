@@ -20,11 +20,11 @@ use crate::tlv::{show_first, show_objects, show_template, show_written};
 use crate::writes::show_writes;
 use bip_channels::Bip;
 use boxed_applets::ProgramApplet;
-use card_layout::Loaded;
+use file_model::card_layout::Loaded;
+use file_model::store_form::Writes;
 use layout_section::Section;
 use std::alloc::Global;
-use store_form::Writes;
-use timer_table::Timers;
+use toolkit_model::Timers;
 use unit_tables::{Bench, Failure};
 
 /// The values that stay from one row of a table to the next.

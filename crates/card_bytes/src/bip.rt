@@ -1,8 +1,8 @@
 //! The terminal's channels of the bearer independent protocol, which stay from row to row.
 
 use bip_channels::Bip;
+use file_model::uicc_types::Octets;
 use std::alloc::{AllocError, Global};
-use uicc_types::Octets;
 use unit_tables::{Failure, joined_bytes, number, show_bytes, small_number};
 
 /// No proactive command has more bytes.

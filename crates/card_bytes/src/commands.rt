@@ -1,10 +1,10 @@
 //! The vocabulary of the card toolkit: proactive commands, terminal responses and envelopes.
 ghost use Rattle.std.specs.Prelude.{◌≤◌, length, IfOk};
-ghost use Rattle.toolkit_commands.specs.Table.{HasWritableTime};
+ghost use Rattle.toolkit_model.specs.toolkit_commands.Table.{HasWritableTime};
 
 use crate::spelled::show_proactive;
 use std::alloc::{AllocError, Global};
-use toolkit_commands::{
+use toolkit_model::toolkit_commands::{
     Details, Envelope, Proactive, ProactiveFault, TooLong, details_of, found_details,
     lengths_of_commands, read_envelope, read_proactive, read_response, spell,
 };

@@ -2,16 +2,16 @@
 ghost use Rattle.std.specs.Prelude.{◌≤◌, ◌<◌, IfOk};
 
 use crate::writes::show_added;
-use card_layout::sizes::{
+use file_model::card_layout::sizes::{
     KEPT_WIDTH, NODE_COUNT, NODE_WIDTH, PIN_COUNT, PIN_WIDTH, ROW_COUNT, ROW_WIDTH,
 };
-use card_layout::{
+use file_model::card_layout::{
     Loaded, Node, PinSlot, Row, SectionFault, kept_write, node_write, pin_write, row_write,
     sequence_write, version_write,
 };
+use file_model::store_form::Writes;
+use file_model::uicc_types::{FileId, Full, Pin8, Shelf};
 use std::alloc::Global;
-use store_form::Writes;
-use uicc_types::{FileId, Full, Pin8, Shelf};
 use unit_tables::{Failure, byte, byte_list, bytes, double_byte, number, small_number};
 
 /// The bytes of an entry that are written: from one up to but without another.

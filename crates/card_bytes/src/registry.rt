@@ -1,17 +1,17 @@
 //! The registry of applets: a table that stays from row to row.
 ghost use Rattle.std.specs.Prelude.{◌≡◌, count_by, IsSome, IsTrue};
-ghost use Rattle.card_layout.specs.Sections.{has_text};
-ghost use Rattle.card_layout.specs.States.{rows_of};
+ghost use Rattle.file_model.specs.card_layout.Sections.{has_text};
+ghost use Rattle.file_model.specs.card_layout.States.{rows_of};
 ghost use Rattle.card_bytes.specs.Registered.{shows_item};
 ghost use Rattle.toolkit_model.specs.Registry.{row_on};
 
 use crate::spelled::show_items;
 use applet_registry::{RowFault, delete, deregister, install, menu, register};
-use card_layout::events::{with_event, without_event};
-use card_layout::sizes::{MENU_LIMIT, ROW_COUNT};
-use card_layout::{Loaded, Row, states_are_of_entries};
+use file_model::card_layout::events::{with_event, without_event};
+use file_model::card_layout::sizes::{MENU_LIMIT, ROW_COUNT};
+use file_model::card_layout::{Loaded, Row, states_are_of_entries};
+use file_model::uicc_types::{Kept, Shelf, ShortText};
 use std::alloc::{AllocError, Global};
-use uicc_types::{Kept, Shelf, ShortText};
 use unit_tables::{
     Failure, List, byte, joined_bytes, number, optional, show_bytes, show_text, small_number,
 };

@@ -1,6 +1,6 @@
 //! Access rules.
 
-use access_rules::{Op, Verified, allowed};
+use file_model::{Op, Verified, allowed};
 use std::alloc::Global;
 use unit_tables::{Failure, List, joined_bytes};
 

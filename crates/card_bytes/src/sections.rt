@@ -3,10 +3,10 @@ ghost use Rattle.std.specs.Prelude.{IfOk, IfSome};
 ghost use Rattle.layout_section.specs.Adding.{IsKind};
 
 use crate::entries::pin;
-use card_layout::{SectionFault, Shape};
+use file_model::card_layout::{SectionFault, Shape};
+use file_model::uicc_types::{FileId, Shelf};
 use layout_section::Section;
 use std::alloc::Global;
-use uicc_types::{FileId, Shelf};
 use unit_tables::{
     Failure, byte, bytes, double_byte, joined_bytes, number, optional, small_number,
 };

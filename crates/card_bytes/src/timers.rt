@@ -1,8 +1,8 @@
 //! The timers of a card, which stay from row to row.
 
+use file_model::uicc_types::Shelf;
 use std::alloc::AllocError;
-use timer_table::Timers;
-use uicc_types::Shelf;
+use toolkit_model::Timers;
 use unit_tables::{Failure, small_number};
 
 /// `timers new`, `timers take SHELF`, `timers free TIMER`, `timers free all SHELF`, `timers owner TIMER`: the timer that is given, or

@@ -1,8 +1,8 @@
 //! What an applet is told, and what it does.
 
 use crate::spelled::show_proactive;
-use applet_trait::{Act, Stimulus};
 use std::alloc::{AllocError, Global};
+use toolkit_model::applet_trait::{Act, Stimulus};
 use unit_tables::{Failure, byte, byte_list, show_bytes, small_number};
 
 /// The stimulus of these words.

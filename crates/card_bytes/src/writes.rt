@@ -1,8 +1,8 @@
 //! The writes of a commit, which stay from row to row.
 
+use file_model::store_form::Writes;
+use file_model::uicc_types::Full;
 use std::alloc::Global;
-use store_form::Writes;
-use uicc_types::Full;
 use unit_tables::{Failure, bytes, number, show_bytes};
 
 /// `writes new`, `writes add PLACE BYTES`, `writes piece NUMBER`: how many pieces there are, or the piece.

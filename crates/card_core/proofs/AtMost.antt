@@ -2,10 +2,10 @@
 use Rattle.std.proofs.Common.{◌≡◌, ◌⊎◌, inl, inr, ℕ, zero, suc, ◌+◌, ◌<◌, ◌≤◌, List, [], ◌∷◌, length, Option, Some, None, option_map, Result, Ok, Err, refl, sym, ◌∙◌, ap, subst, ⊎_elim, arith}
 use Rattle.std.specs.Prelude.{Contains, IsSomeAnd, slice_index_or}
 use Rattle.std.proofs.lemmas.List.{get_or_read_under}
-use Rattle.uicc_types.specs.Counts.{raised_by}
-use Rattle.store_form.specs.declared.store.StoreFault.{StoreFault}
-use Rattle.card_layout.specs.Persistent.{Persistent}
-use Rattle.card_memory.specs.Performing.{CommitsAtMost}
+use Rattle.file_model.specs.uicc_types.Counts.{raised_by}
+use Rattle.file_model.specs.store_form.declared.store.StoreFault.{StoreFault}
+use Rattle.file_model.specs.card_layout.Persistent.{Persistent}
+use Rattle.proactive_handler.specs.card_memory.Performing.{CommitsAtMost}
 use Rattle.card_core.specs.Acting.{CommitsSo}
 use Rattle.card_core.specs.Moves.{StopsAt}
 

@@ -5,8 +5,8 @@ use Rattle.std.specs.List.{enumerate_from}
 use Rattle.std.proofs.lemmas.Bool.{false≢true, true≢false, eqb-true, eq-eqb}
 use Rattle.std.proofs.lemmas.List.{length-map, length-set, get_or-set_other, get_or_default, same_lists}
 use Rattle.std.proofs.lemmas.List.FromFn.{length-enumerate_from}
-use Rattle.uicc_types.specs.declared.identifiers.Shelf.{Shelf}
-use Rattle.card_layout.specs.Persistent.{Registration}
+use Rattle.file_model.specs.uicc_types.declared.identifiers.Shelf.{Shelf}
+use Rattle.file_model.specs.card_layout.Persistent.{Registration}
 use Rattle.toolkit_model.specs.Model.{AppletState, fresh}
 use Rattle.card_model.specs.Runs.{box_left, boxes_left}
 use Rattle.card_model.specs.States.{row_on, woken_mind, woken_boxes}

@@ -4,15 +4,15 @@ use Rattle.std.specs.Prelude.{All, IfSome, IsSomeAnd, is_none, slice_index_or}
 use Rattle.std.proofs.lemmas.Bool.{false≢true, true≢false, eqb-true}
 use Rattle.std.proofs.lemmas.List.{length-map}
 use Rattle.std.proofs.lemmas.List.Elements.{Contains-get_or}
-use Rattle.general_laws.specs.Finding.{find_Some}
-use Rattle.general_laws.specs.Numbered.{all_unmapped}
-use Rattle.uicc_types.specs.declared.answers.StatusWord.{StatusWord}
-use Rattle.uicc_types.specs.declared.identifiers.Shelf.{Shelf}
-use Rattle.apdu_form.specs.Model.{Apdu}
-use Rattle.card_layout.specs.Persistent.{Registration, Persistent}
-use Rattle.card_layout.specs.StateLaws.{RowsAreEntries}
-use Rattle.card_layout.specs.States.{rows_of}
-use Rattle.card_memory.specs.Laws.{IsTold}
+use Rattle.file_model.specs.uicc_types.Finding.{find_Some}
+use Rattle.file_model.specs.uicc_types.Numbered.{all_unmapped}
+use Rattle.file_model.specs.uicc_types.declared.answers.StatusWord.{StatusWord}
+use Rattle.file_model.specs.uicc_types.declared.identifiers.Shelf.{Shelf}
+use Rattle.file_model.specs.apdu_form.Model.{Apdu}
+use Rattle.file_model.specs.card_layout.Persistent.{Registration, Persistent}
+use Rattle.file_model.specs.card_layout.StateLaws.{RowsAreEntries}
+use Rattle.file_model.specs.card_layout.States.{rows_of}
+use Rattle.proactive_handler.specs.card_memory.Laws.{IsTold}
 use Rattle.toolkit_model.specs.Model.{AppletState}
 use Rattle.toolkit_model.specs.Passing.{passed_rows}
 use Rattle.proactive_handler.specs.Boxes.{kinds_of}
@@ -22,25 +22,25 @@ use Rattle.card_model.specs.Toolkit.{ToolkitOutcome, states_passed, with_rows, t
 use Rattle.card_model.specs.declared.instructions.Instruction.TheVariants.{Toolkit}
 use Rattle.card_model.specs.declared.instructions.ToolkitCommand.{ToolkitCommand}
 use Rattle.card_model.specs.declared.instructions.ToolkitCommand.TheVariants.{DeleteApplet}
-use Rattle.session_laws.specs.Moving.{HaveFixed, command_by, rows_after}
+use Rattle.card_laws.specs.Moving.{HaveFixed, command_by, rows_after}
 use Rattle.session_commands.specs.Carrying.{IsToolkitCutShort, state_at}
 use Rattle.session_commands.specs.Deleting.{HasNoRow, LeavesUnregistered}
 use Rattle.card_core.specs.Cards.{held_by, card_with, card_due, boxes_kept}
 use Rattle.card_core.specs.Parts.{CardParts}
 use Rattle.card_core.proofs.Boxes.{at, kind_of, box_kept, kept_at, kept_there, kept_beside, kept_gone, length-kept, IsLeftSo, boxes_left_so}
 use Rattle.card_core.proofs.Shelves.{same_shelves, Loses, lost, none_there}
-use Rattle.uicc_types.specs.declared.answers.Answer.{Answer}
-use Rattle.store_form.specs.declared.store.StoreFault.{StoreFault}
-use Rattle.access_rules.specs.declared.rules.Verified.{Verified}
-use Rattle.card_layout.specs.Persistent.{Pin}
-use Rattle.card_layout.specs.Standing.{Agrees}
-use Rattle.card_layout.specs.States.{pins_of}
-use Rattle.card_memory.specs.Laws.{TablesTellStates}
+use Rattle.file_model.specs.uicc_types.declared.answers.Answer.{Answer}
+use Rattle.file_model.specs.store_form.declared.store.StoreFault.{StoreFault}
+use Rattle.file_model.specs.declared.rules.Verified.{Verified}
+use Rattle.file_model.specs.card_layout.Persistent.{Pin}
+use Rattle.file_model.specs.card_layout.Standing.{Agrees}
+use Rattle.file_model.specs.card_layout.States.{pins_of}
+use Rattle.proactive_handler.specs.card_memory.Laws.{TablesTellStates}
 use Rattle.file_model.specs.Access.{keys_seen}
 use Rattle.file_model.specs.Chains.{and_given}
 use Rattle.card_model.specs.Answers.{Answered, settled, carried_out, on_toolkit, toolkit_tried, seen_by}
-use Rattle.session_laws.specs.Laws.{CommandsLeaveRows}
-use Rattle.session_laws.specs.Moving.{HasOrder, LeavesRows}
+use Rattle.card_laws.specs.ToolkitLaws.{CommandsLeaveRows}
+use Rattle.card_laws.specs.Moving.{HasOrder, LeavesRows}
 use Rattle.session_commands.specs.Carrying.{HasToolkit, Carries}
 use Rattle.card_core.specs.Cards.{card_of}
 use Rattle.card_core.proofs.Shelves.{deleted_had}

@@ -3,17 +3,17 @@ use Rattle.std.proofs.Common.{◌≡◌, ◌≢◌, ℕ, zero, suc, ◌==◌, Bo
 use Rattle.std.specs.Prelude.{All, Contains, IfOk, IsSomeAnd, is_none, not, slice_get, slice_index_or, option_and_then, if◌then◌else◌, ◌&&◌}
 use Rattle.std.proofs.lemmas.Bool.{true≢false}
 use Rattle.std.proofs.lemmas.List.Elements.{All-nil, All-head, All-tail, All-filter, Contains-get_or}
-use Rattle.uicc_types.specs.declared.answers.StatusWord.{StatusWord}
-use Rattle.apdu_form.specs.Model.{Apdu}
-use Rattle.card_layout.specs.declared.entries.Loaded.{Loaded}
-use Rattle.card_layout.specs.declared.entries.Row.{Row}
-use Rattle.card_layout.specs.Persistent.{Registration, Persistent}
-use Rattle.card_layout.specs.Sections.{Installation, installation_of, needs_wide, new_row}
-use Rattle.card_layout.specs.StateLaws.{RowsAreEntries}
-use Rattle.card_layout.specs.States.{rows_of, state_of, registration_of}
-use Rattle.card_layout.specs.Used.{registration_if}
-use Rattle.card_memory.specs.Laws.{IsTold}
-use Rattle.card_memory.specs.Model.{HasRowOn}
+use Rattle.file_model.specs.uicc_types.declared.answers.StatusWord.{StatusWord}
+use Rattle.file_model.specs.apdu_form.Model.{Apdu}
+use Rattle.file_model.specs.card_layout.declared.entries.Loaded.{Loaded}
+use Rattle.file_model.specs.card_layout.declared.entries.Row.{Row}
+use Rattle.file_model.specs.card_layout.Persistent.{Registration, Persistent}
+use Rattle.file_model.specs.card_layout.Sections.{Installation, installation_of, needs_wide, new_row}
+use Rattle.file_model.specs.card_layout.StateLaws.{RowsAreEntries}
+use Rattle.file_model.specs.card_layout.States.{rows_of, state_of, registration_of}
+use Rattle.file_model.specs.card_layout.Used.{registration_if}
+use Rattle.proactive_handler.specs.card_memory.Laws.{IsTold}
+use Rattle.proactive_handler.specs.card_memory.Model.{HasRowOn}
 use Rattle.card_model.specs.Answers.{Answered, settled, carried_out, toolkit_tried, seen_by}
 use Rattle.card_model.specs.States.{CardState, row_on}
 use Rattle.card_model.specs.Toolkit.{ToolkitOutcome, kind_in, toolkit_outcome}
@@ -22,15 +22,15 @@ use Rattle.card_model.specs.declared.instructions.ToolkitCommand.{ToolkitCommand
 use Rattle.card_model.specs.declared.instructions.ToolkitCommand.TheVariants as commands
 use Rattle.file_model.specs.Chains.{and_given}
 use Rattle.session_commands.specs.Deleting.{HasNoRow}
-use Rattle.session_laws.specs.Laws.{CommandsLeaveRows, TellingLeavesRows}
-use Rattle.session_laws.specs.Moving.{HaveFixed, HasOrder, if_row, command_by, rows_after}
-use Rattle.toolkit_commands.specs.Envelopes.{envelope_of}
+use Rattle.card_laws.specs.ToolkitLaws.{CommandsLeaveRows, TellingLeavesRows}
+use Rattle.card_laws.specs.Moving.{HaveFixed, HasOrder, if_row, command_by, rows_after}
+use Rattle.toolkit_model.specs.toolkit_commands.Envelopes.{envelope_of}
 use Rattle.toolkit_model.specs.declared.faults.RowFault.{RowFault}
 use Rattle.toolkit_model.specs.declared.faults.RowFault.TheVariants.{BadData, NoBox, Narrow, Taken, MenuFull, Spent}
 use Rattle.toolkit_model.specs.Commands.{unfetched, unanswered}
 use Rattle.toolkit_model.specs.Registry.{given, faulty_if, without_row, installed_row, is_taken, is_menu_full, last_sequence}
-use Rattle.toolkit_laws.proofs.Inserted.{with_all}
-use Rattle.session_laws.proofs.Coming.{tests_so}
+use Rattle.toolkit_model.proofs.Inserted.{with_all}
+use Rattle.card_laws.proofs.Coming.{tests_so}
 use Rattle.card_core.specs.Cards.{card_with}
 use Rattle.card_core.specs.Moves.{HasRowsOf, polled_on}
 use Rattle.card_core.specs.Parts.{CardParts}

@@ -3,13 +3,13 @@ use Rattle.std.proofs.Common.{◌≡◌, ◌≢◌, ℕ, ◌==◌, ◌&&◌, ◌
 use Rattle.std.specs.Prelude.{length, slice_get, slice_index_or}
 use Rattle.std.proofs.Math.Bool.{or-false}
 use Rattle.std.proofs.lemmas.Bool.{eq-eqb, eqb-true, eqb-false, false_from_ne_true}
-use Rattle.uicc_types.specs.declared.keys.TheConstants.{PIN_1, PIN_2, ADM_1}
-use Rattle.access_rules.specs.declared.rules.Verified.{Verified}
-use Rattle.card_layout.specs.declared.entries.PinSlot.{PinSlot}
-use Rattle.card_layout.specs.declared.entries.Loaded.{Loaded}
-use Rattle.card_layout.specs.States.{pins_of, present_pins, pin_state}
-use Rattle.card_layout.specs.Checks.{key_of_slot}
-use Rattle.card_layout.specs.Used.{HasOwnKeys}
+use Rattle.file_model.specs.uicc_types.declared.keys.TheConstants.{PIN_1, PIN_2, ADM_1}
+use Rattle.file_model.specs.declared.rules.Verified.{Verified}
+use Rattle.file_model.specs.card_layout.declared.entries.PinSlot.{PinSlot}
+use Rattle.file_model.specs.card_layout.declared.entries.Loaded.{Loaded}
+use Rattle.file_model.specs.card_layout.States.{pins_of, present_pins, pin_state}
+use Rattle.file_model.specs.card_layout.Checks.{key_of_slot}
+use Rattle.file_model.specs.card_layout.Used.{HasOwnKeys}
 use Rattle.file_model.specs.Access.{meets_condition, keys_seen}
 
 -- there is a PIN in this slot, which is verified or disabled

@@ -1,10 +1,10 @@
 -- What refuses a command by the table alone leaves the card as it was.
 use Rattle.std.proofs.Common.{◌≡◌, List, [], Option, Result, Err, ◌∙◌, ap}
-use Rattle.uicc_types.specs.declared.answers.StatusWord.{StatusWord}
-use Rattle.apdu_form.specs.Model.{Apdu}
-use Rattle.access_rules.specs.declared.rules.Verified.{Verified}
-use Rattle.card_layout.specs.Memory.{Memory}
-use Rattle.card_layout.specs.Persistent.{Pin}
+use Rattle.file_model.specs.uicc_types.declared.answers.StatusWord.{StatusWord}
+use Rattle.file_model.specs.apdu_form.Model.{Apdu}
+use Rattle.file_model.specs.declared.rules.Verified.{Verified}
+use Rattle.file_model.specs.card_layout.Memory.{Memory}
+use Rattle.file_model.specs.card_layout.Persistent.{Pin}
 use Rattle.file_model.specs.Commands.{pin_outcome, pin_settled}
 use Rattle.file_model.specs.declared.commands.PinCommand.{PinCommand}
 use Rattle.file_model.specs.declared.selections.Selection.{Selection}

@@ -1,8 +1,8 @@
 -- Rows that are kept one after the other.
 use Rattle.std.proofs.Common.{◌≡◌, ℕ, ◌+◌, ◌<◌, ◌≤◌, List, ◌++◌, length, take, drop, set, get_or, ◌∙◌, ap, arith}
 use Rattle.std.proofs.lemmas.List.{take_all, drop_all, append-nil}
-use Rattle.general_laws.specs.Edits.{set_more}
-use Rattle.card_layout.specs.declared.entries.Row.{Row}
+use Rattle.file_model.specs.uicc_types.Edits.{set_more}
+use Rattle.file_model.specs.card_layout.declared.entries.Row.{Row}
 
 module _ (rows first places : List Row) (shelf : ℕ) where
   pub one_more : (d : Row) → length rows ≡ length first → places ≡ take shelf rows ++ drop shelf first → shelf < length first → (row : Row) → row ≡ get_or rows shelf d → set places shelf row ≡ take (shelf + 1) rows ++ drop (shelf + 1) first

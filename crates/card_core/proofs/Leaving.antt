@@ -3,24 +3,24 @@ use Rattle.std.proofs.Common.{◌≡◌, ◌⊎◌, inr, ℕ, zero, arith, Bool,
 use Rattle.std.specs.Prelude.{IfSome, IsSomeAnd, is_some, Result, Ok, Err, MatchResult, OnOk, OnErr}
 use Rattle.std.proofs.lemmas.Bool.{false≢true}
 use Rattle.std.proofs.lemmas.Option.{IfSome_then}
-use Rattle.uicc_types.specs.declared.answers.Answer.{Answer}
-use Rattle.uicc_types.specs.Told.{AreBytes}
-use Rattle.store_form.specs.declared.store.StoreFault.{StoreFault}
-use Rattle.applet_trait.specs.Minds.{AppletState}
-use Rattle.card_layout.specs.Persistent.{Registration, Persistent}
+use Rattle.file_model.specs.uicc_types.declared.answers.Answer.{Answer}
+use Rattle.file_model.specs.uicc_types.Told.{AreBytes}
+use Rattle.file_model.specs.store_form.declared.store.StoreFault.{StoreFault}
+use Rattle.toolkit_model.specs.applet_trait.Minds.{AppletState}
+use Rattle.file_model.specs.card_layout.Persistent.{Registration, Persistent}
 use Rattle.card_model.specs.States.{CardState, IsGood, woken, woken_boxes}
 use Rattle.card_model.specs.Woken.{woken_again}
 use Rattle.card_model.specs.Answers.{answer, passed}
 use Rattle.card_model.specs.Instructions.{is_known}
 use Rattle.card_model.specs.Runs.{boxes_left, IsLeft}
-use Rattle.session_laws.specs.Laws.{AnswersLeaveGoodCards, FaultsLeaveGoodCards}
+use Rattle.card_laws.specs.ToolkitLaws.{AnswersLeaveGoodCards, FaultsLeaveGoodCards}
 use Rattle.card_core.specs.Parts.{CardParts}
 use Rattle.card_core.specs.Cards.{held_by, boxes_kept, card_with, card_of, card_due}
 use Rattle.card_core.specs.Moves.{Answers, Fails, Comes, Transmits}
 use Rattle.card_core.specs.declared.faults.CardFault.{CardFault}
 use Rattle.card_core.specs.declared.faults.CardFault.TheVariants.{PowerLost}
-use Rattle.store_form.specs.declared.store.StoreFault.TheVariants as store
-use Rattle.uicc_types.specs.declared.answers.TheConstants.StatusWord.{MEMORY_PROBLEM}
+use Rattle.file_model.specs.store_form.declared.store.StoreFault.TheVariants as store
+use Rattle.file_model.specs.uicc_types.declared.answers.TheConstants.StatusWord.{MEMORY_PROBLEM}
 use Rattle.card_model.proofs.Answering.{each_box_stays}
 
 -- ---- boxes stay where rows stay

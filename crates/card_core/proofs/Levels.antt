@@ -2,13 +2,13 @@
 use Rattle.std.proofs.Common.{◌≡◌, false, [], Result, refl}
 use Rattle.std.specs.Prelude.{IsOk, OnOk, true}
 use Rattle.std.proofs.lemmas.Bool.{false≢true}
-use Rattle.general_laws.specs.Optional.{on_ok}
-use Rattle.uicc_types.specs.declared.answers.Answer.{Answer}
-use Rattle.uicc_types.specs.declared.answers.StatusWord.{StatusWord}
-use Rattle.store_form.specs.declared.store.StoreFault.{StoreFault}
-use Rattle.apdu_form.specs.Model.{Apdu}
-use Rattle.card_layout.specs.Persistent.{Persistent}
-use Rattle.card_memory.specs.Laws.{IsTold}
+use Rattle.file_model.specs.uicc_types.Optional.{on_ok}
+use Rattle.file_model.specs.uicc_types.declared.answers.Answer.{Answer}
+use Rattle.file_model.specs.uicc_types.declared.answers.StatusWord.{StatusWord}
+use Rattle.file_model.specs.store_form.declared.store.StoreFault.{StoreFault}
+use Rattle.file_model.specs.apdu_form.Model.{Apdu}
+use Rattle.file_model.specs.card_layout.Persistent.{Persistent}
+use Rattle.proactive_handler.specs.card_memory.Laws.{IsTold}
 use Rattle.file_making.specs.declared.commands.TreeCommand.{TreeCommand}
 use Rattle.file_model.specs.declared.commands.FileCommand.{FileCommand}
 use Rattle.file_model.specs.declared.commands.FileCommand.TheVariants.{Select, Status, Contents}

@@ -3,11 +3,11 @@ use Rattle.std.proofs.Common.{◌≡◌, ℕ, Bool, true, false, List, ◌∷◌
 use Rattle.std.specs.Prelude.{All, IfSome, IsSomeAnd, MatchResult, Contains, is_none, is_some, unwrap_or, ⊤}
 use Rattle.std.proofs.lemmas.Bool.{false≢true, true≢false}
 use Rattle.std.proofs.lemmas.List.Elements.{All-nil, All-cons, All-contains}
-use Rattle.general_laws.specs.Members.{front_of}
-use Rattle.uicc_types.specs.declared.answers.StatusWord.{StatusWord}
-use Rattle.apdu_form.specs.Model.{Apdu}
-use Rattle.applet_trait.specs.Minds.{AppletState}
-use Rattle.card_layout.specs.Persistent.{Registration, Persistent}
+use Rattle.file_model.specs.uicc_types.Members.{front_of}
+use Rattle.file_model.specs.uicc_types.declared.answers.StatusWord.{StatusWord}
+use Rattle.file_model.specs.apdu_form.Model.{Apdu}
+use Rattle.toolkit_model.specs.applet_trait.Minds.{AppletState}
+use Rattle.file_model.specs.card_layout.Persistent.{Registration, Persistent}
 use Rattle.file_model.specs.Chains.{and_given}
 use Rattle.card_model.specs.Answers.{Answered, settled, carried_out, event_told, is_status}
 use Rattle.card_model.specs.Instructions.{is_of_toolkit}
@@ -16,8 +16,8 @@ use Rattle.card_model.specs.States.{CardState, row_on, woken, woken_boxes}
 use Rattle.card_model.specs.declared.instructions.Instruction.{Instruction}
 use Rattle.card_model.specs.declared.instructions.Instruction.TheVariants.{File, Pin as OnPins, ManageChannel, Toolkit, Tree}
 use Rattle.file_model.specs.declared.commands.FileCommand.TheVariants.{Select, Status, Contents}
-use Rattle.session_laws.specs.Laws.{CommandsLeaveRows}
-use Rattle.session_laws.specs.Moving.{HaveFixed, HasOrder, LeavesRows, command_by, rows_after}
+use Rattle.card_laws.specs.ToolkitLaws.{CommandsLeaveRows}
+use Rattle.card_laws.specs.Moving.{HaveFixed, HasOrder, LeavesRows, command_by, rows_after}
 use Rattle.toolkit_model.specs.Steps.{Command}
 use Rattle.card_core.specs.Cards.{held_by, boxes_kept, card_with, card_of, card_due}
 use Rattle.card_core.specs.Parts.{CardParts}

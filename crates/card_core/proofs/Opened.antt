@@ -2,25 +2,24 @@
 use Rattle.std.proofs.Common.{◌≡◌, ◌≤◌, ◌-◌, ℕ, zero, suc, true, false, List, ◌∷◌, ◌++◌, length, map, replicate, Option, Some, None, option_map, refl, sym, ◌∙◌, ap, subst, arith}
 use Rattle.std.specs.Prelude.{IfSome, All, is_some}
 use Rattle.std.proofs.lemmas.List.{map-append, length-map, length-append, length-replicate}
-use Rattle.general_laws.specs.Optional.{is_some-map, if_some_at}
-use Rattle.applet_trait.specs.Minds.{AppletState}
-use Rattle.card_layout.specs.Migration.{migrated}
-use Rattle.card_layout.specs.Persistent.{Registration, Persistent}
-use Rattle.card_layout.specs.Memory.{IsMounted}
-use Rattle.card_layout.specs.Standing.{standing, Agrees}
-use Rattle.card_layout.specs.States.{rows_of}
+use Rattle.file_model.specs.uicc_types.Optional.{is_some-map, if_some_at}
+use Rattle.toolkit_model.specs.applet_trait.Minds.{AppletState, minds_of}
+use Rattle.file_model.specs.card_layout.Migration.{migrated}
+use Rattle.file_model.specs.card_layout.Persistent.{Registration, Persistent}
+use Rattle.file_model.specs.card_layout.Memory.{IsMounted}
+use Rattle.file_model.specs.card_layout.Standing.{standing, Agrees}
+use Rattle.file_model.specs.card_layout.States.{rows_of}
 use Rattle.file_model.specs.Files.{descriptors_of}
 use Rattle.file_model.specs.Laws.{IsSoundCard}
 use Rattle.card_model.specs.States.{HasBox, AreOfSevenKinds, IsGood, woken_boxes, woken, basic_channel_alone, nothing_verified}
 use Rattle.card_model.specs.Woken.{length-woken_boxes, woken_is_good}
-use Rattle.card_memory.specs.Laws.{TablesTellStates}
-use Rattle.card_opening.specs.Boxes.{minds_of}
+use Rattle.proactive_handler.specs.card_memory.Laws.{TablesTellStates}
 use Rattle.card_opening.specs.Starts.{HoldsCard}
 use Rattle.card_core.specs.Parts.{CardParts}
 use Rattle.card_core.specs.Cards.{memory_of, held_by, card_of, IsCardReady}
 use Rattle.file_making.specs.Lawful.{AreSelected}
 use Rattle.toolkit_model.specs.Model.{fresh_session}
-use Rattle.trigger_index.specs.Indexes.{StandsFor}
+use Rattle.proactive_handler.specs.applet_registry.Indexes.{StandsFor}
 use Rattle.card_core.specs.Laws.{TheMfIsThere, TablesHaveRows}
 use Rattle.card_core.specs.Openings.{with_all_shelves, opened}
 use Rattle.card_core.proofs.Restarts.{started_is, all_have_woken, toolkit_begun}

@@ -2,16 +2,16 @@
 use Rattle.std.proofs.Common.{◌≡◌, inl, false, [], ◌∷◌, length, Some, None, Result, Ok, Err, refl, sym, ◌∙◌, ap, subst}
 use Rattle.std.specs.Prelude.{All, IfSome, IsSomeAnd, is_some, IsOk}
 use Rattle.std.proofs.lemmas.Bool.{false≢true}
-use Rattle.general_laws.specs.Numbered.{all_unmapped}
-use Rattle.uicc_types.specs.declared.answers.Answer.{Answer}
-use Rattle.uicc_types.specs.declared.answers.StatusWord.{StatusWord}
-use Rattle.uicc_types.specs.declared.answers.TheConstants.StatusWord.{DONE}
-use Rattle.store_form.specs.declared.store.StoreFault.{StoreFault}
-use Rattle.apdu_form.specs.Model.{Apdu}
-use Rattle.card_layout.specs.Persistent.{Persistent}
-use Rattle.card_layout.specs.Standing.{Agrees}
-use Rattle.card_layout.specs.StateLaws.{RowsAreEntries}
-use Rattle.card_memory.specs.Laws.{IsTold, TablesTellStates}
+use Rattle.file_model.specs.uicc_types.Numbered.{all_unmapped}
+use Rattle.file_model.specs.uicc_types.declared.answers.Answer.{Answer}
+use Rattle.file_model.specs.uicc_types.declared.answers.StatusWord.{StatusWord}
+use Rattle.file_model.specs.uicc_types.declared.answers.TheConstants.StatusWord.{DONE}
+use Rattle.file_model.specs.store_form.declared.store.StoreFault.{StoreFault}
+use Rattle.file_model.specs.apdu_form.Model.{Apdu}
+use Rattle.file_model.specs.card_layout.Persistent.{Persistent}
+use Rattle.file_model.specs.card_layout.Standing.{Agrees}
+use Rattle.file_model.specs.card_layout.StateLaws.{RowsAreEntries}
+use Rattle.proactive_handler.specs.card_memory.Laws.{IsTold, TablesTellStates}
 use Rattle.card_opening.specs.Starts.{HoldsCard}
 use Rattle.file_model.specs.Chains.{and_given}
 use Rattle.proactive_handler.specs.Boxes.{kinds_of}
@@ -21,8 +21,8 @@ use Rattle.card_model.specs.Runs.{IsLeft}
 use Rattle.card_model.specs.States.{CardState, HasBox}
 use Rattle.card_model.specs.Toolkit.{ToolkitOutcome, toolkit_of, coming_to, states_passed, with_rows}
 use Rattle.card_model.specs.declared.instructions.ToolkitCommand.TheVariants.{TerminalProfile}
-use Rattle.session_laws.specs.Laws.{TellingLeavesRows}
-use Rattle.session_laws.specs.Moving.{HaveFixed, HasOrder}
+use Rattle.card_laws.specs.ToolkitLaws.{TellingLeavesRows}
+use Rattle.card_laws.specs.Moving.{HaveFixed, HasOrder}
 use Rattle.session_commands.specs.Cards.{AnswersSo, answers_so, holds_so, counts_so, at_most_so}
 use Rattle.proactive_handler.specs.Steps.{Scene}
 use Rattle.session_commands.specs.Carrying.{HasToolkit, HasCome, IsToolkitCutShort, IsAnswered, Carries, Comes}
@@ -36,7 +36,7 @@ use Rattle.card_core.specs.Parts.{CardParts}
 use Rattle.card_core.proofs.Broken.{short_left}
 use Rattle.card_core.proofs.Served.{some_told, in_order, boxes_after, silent_then}
 use Rattle.card_core.proofs.Standing.{if_card}
-use Rattle.uicc_types.specs.Counts.{raised_by}
+use Rattle.file_model.specs.uicc_types.Counts.{raised_by}
 use Rattle.proactive_handler.specs.Counting.{Counts}
 use Rattle.card_core.proofs.Carried.{scene_of, has_toolkit_of, made_of, is_delete, stops_so}
 

@@ -3,11 +3,11 @@ use Rattle.std.proofs.Common.{◌≡◌, ◌⊎◌, inl, inr, ◌==◌, true, fa
 use Rattle.std.specs.Prelude.{IfSome, IsSomeAnd, MatchResult, OnOk}
 use Rattle.std.proofs.lemmas.Bool.{false≢true, true≢false}
 use Rattle.std.proofs.lemmas.List.Elements.{Contains-append_left}
-use Rattle.uicc_types.specs.declared.answers.Answer.{Answer}
-use Rattle.uicc_types.specs.declared.answers.StatusWord.{StatusWord}
-use Rattle.uicc_types.specs.declared.answers.TheConstants.StatusWord.{DONE}
-use Rattle.apdu_form.specs.Model.{Apdu}
-use Rattle.card_layout.specs.Persistent.{Persistent}
+use Rattle.file_model.specs.uicc_types.declared.answers.Answer.{Answer}
+use Rattle.file_model.specs.uicc_types.declared.answers.StatusWord.{StatusWord}
+use Rattle.file_model.specs.uicc_types.declared.answers.TheConstants.StatusWord.{DONE}
+use Rattle.file_model.specs.apdu_form.Model.{Apdu}
+use Rattle.file_model.specs.card_layout.Persistent.{Persistent}
 use Rattle.file_model.specs.Chains.{and_given}
 use Rattle.file_model.specs.Outcomes.{FileOutcome, last_of}
 use Rattle.file_model.specs.Selecting.{status_told, telling}
@@ -20,9 +20,9 @@ use Rattle.card_model.specs.declared.instructions.Instruction.TheVariants.{File}
 use Rattle.file_model.specs.Commands.{file_outcome}
 use Rattle.file_model.specs.declared.commands.FileCommand.TheVariants.{Status}
 use Rattle.card_core.specs.AnyStore.{MayBe, AnswersAs}
-use Rattle.store_form.specs.declared.store.StoreFault.{StoreFault}
+use Rattle.file_model.specs.store_form.declared.store.StoreFault.{StoreFault}
 use Rattle.file_model.specs.Chained.{unless_so, given_so}
-use Rattle.card_memory.specs.Laws.{IsTold}
+use Rattle.proactive_handler.specs.card_memory.Laws.{IsTold}
 use Rattle.card_core.specs.Cards.{card_with}
 use Rattle.card_core.specs.Moves.{Answers, Polls, Settles, polled_on}
 use Rattle.card_core.specs.Parts.{CardParts}

@@ -2,11 +2,11 @@
 use Rattle.std.proofs.Common.{◌≡◌, ℕ, Bool, true, false, List, Option, Some, None, refl, sym, ap, subst}
 use Rattle.std.specs.Prelude.{◌≢◌, Result, Ok, Err, OnOk}
 use Rattle.std.proofs.lemmas.Bool.{true≢false}
-use Rattle.uicc_types.specs.declared.answers.StatusWord.{StatusWord}
-use Rattle.uicc_types.specs.declared.answers.TheConstants.StatusWord.{MEMORY_PROBLEM, WRONG_LENGTH}
-use Rattle.store_form.specs.declared.store.StoreFault.{StoreFault}
-use Rattle.store_form.specs.declared.store.StoreFault.TheVariants as store
-use Rattle.apdu_form.specs.Model.{Apdu, command_in}
+use Rattle.file_model.specs.uicc_types.declared.answers.StatusWord.{StatusWord}
+use Rattle.file_model.specs.uicc_types.declared.answers.TheConstants.StatusWord.{MEMORY_PROBLEM, WRONG_LENGTH}
+use Rattle.file_model.specs.store_form.declared.store.StoreFault.{StoreFault}
+use Rattle.file_model.specs.store_form.declared.store.StoreFault.TheVariants as store
+use Rattle.file_model.specs.apdu_form.Model.{Apdu, command_in}
 use Rattle.file_model.specs.declared.selections.Selection.{Selection}
 use Rattle.file_model.specs.Chains.{given}
 use Rattle.card_model.specs.Instructions.{instruction_tried, is_known}

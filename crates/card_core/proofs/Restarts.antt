@@ -2,17 +2,17 @@
 use Rattle.std.proofs.Common.{◌≡◌, ℕ, Bool, true, false, List, length, Option, Some, None, option_map, refl, sym, ◌∙◌, ap, subst}
 use Rattle.std.specs.Prelude.{IfSome, IsSomeAnd, is_none, ◌&&◌, ◌==◌, All, slice_index_or, if◌then◌else◌, Result, Ok, Err}
 use Rattle.std.proofs.lemmas.Bool.{false≢true, true≢false}
-use Rattle.uicc_types.specs.Counts.{Meter, raised, names_fault, armed}
-use Rattle.uicc_types.specs.declared.plans.Plan.{Plan}
-use Rattle.store_form.specs.declared.store.StoreFault.{StoreFault}
-use Rattle.store_form.specs.declared.store.StoreFault.TheVariants as store
-use Rattle.access_rules.specs.declared.rules.Verified.{Verified}
-use Rattle.applet_trait.specs.Minds.{AppletState}
-use Rattle.card_layout.specs.declared.entries.Loaded.{Loaded}
-use Rattle.card_layout.specs.Persistent.{Registration, Persistent}
-use Rattle.card_layout.specs.Memory.{IsMounted}
-use Rattle.card_layout.specs.Standing.{standing, Agrees}
-use Rattle.card_layout.specs.States.{rows_of}
+use Rattle.file_model.specs.uicc_types.Counts.{Meter, raised, names_fault, armed}
+use Rattle.file_model.specs.uicc_types.declared.plans.Plan.{Plan}
+use Rattle.file_model.specs.store_form.declared.store.StoreFault.{StoreFault}
+use Rattle.file_model.specs.store_form.declared.store.StoreFault.TheVariants as store
+use Rattle.file_model.specs.declared.rules.Verified.{Verified}
+use Rattle.toolkit_model.specs.applet_trait.Minds.{AppletState}
+use Rattle.file_model.specs.card_layout.declared.entries.Loaded.{Loaded}
+use Rattle.file_model.specs.card_layout.Persistent.{Registration, Persistent}
+use Rattle.file_model.specs.card_layout.Memory.{IsMounted}
+use Rattle.file_model.specs.card_layout.Standing.{standing, Agrees}
+use Rattle.file_model.specs.card_layout.States.{rows_of}
 use Rattle.file_model.specs.declared.selections.Selection.{Selection}
 use Rattle.toolkit_model.specs.Model.{SessionState, fresh_session}
 use Rattle.card_model.specs.States.{CardState, HasBox, IsGood, row_on, woken_mind, woken_boxes, woken, restarted, basic_channel_alone, nothing_verified}
@@ -20,20 +20,20 @@ use Rattle.card_model.specs.Laws.{RestartsAreGood}
 use Rattle.card_model.specs.Woken.{length-woken_boxes, has_box_woken, woken_again, woken_at}
 use Rattle.card_opening.specs.Starts.{HoldsCard, IsReadAgain}
 use Rattle.layout_mount.specs.Mounted.{HasRead}
-use Rattle.card_memory.specs.Laws.{TablesTellStates}
+use Rattle.proactive_handler.specs.card_memory.Laws.{TablesTellStates}
 use Rattle.card_core.specs.Parts.{CardParts}
-use Rattle.toolkit_laws.specs.Orderly.{IsInOrder}
+use Rattle.toolkit_model.specs.OrderlySessions.{IsInOrder}
 use Rattle.toolkit_model.specs.Orderly.{IsOrderly}
 use Rattle.toolkit_model.specs.Running.{mind_on}
-use Rattle.trigger_index.specs.Indexes.{StandsFor}
+use Rattle.proactive_handler.specs.applet_registry.Indexes.{StandsFor}
 use Rattle.card_core.specs.Cards.{memory_of, held_by, boxes_kept, card_with, card_of, card_due, RunsToolkit, IsSet, IsRunning, IsCardReady}
 use Rattle.card_core.specs.Laws.{TablesHaveRows}
 use Rattle.card_model.specs.Woken.{fresh_is_orderly}
 use Rattle.card_core.proofs.Boxes.{at, box_kept, kept_at, kept_there}
 use Rattle.card_core.proofs.Shelves.{at_it}
-use Rattle.uicc_types.specs.declared.identifiers.Shelf.{Shelf}
+use Rattle.file_model.specs.uicc_types.declared.identifiers.Shelf.{Shelf}
 use Rattle.std.proofs.lemmas.List.Elements.{Contains-get_or}
-use Rattle.session_laws.proofs.Going.{box_there}
+use Rattle.card_laws.proofs.Going.{box_there}
 
 -- ---- what was read
 

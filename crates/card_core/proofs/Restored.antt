@@ -4,16 +4,16 @@ use Rattle.std.specs.Prelude.{All, is_some, nat_lt, if◌then◌else◌}
 use Rattle.std.specs.List.{range_with_len}
 use Rattle.std.proofs.lemmas.Bool.{true≢false}
 use Rattle.std.proofs.lemmas.List.Elements.{All-nil, All-cons}
-use Rattle.apdu_form.specs.Model.{Apdu}
-use Rattle.card_layout.specs.declared.entries.Loaded.{Loaded}
-use Rattle.card_layout.specs.declared.entries.Row.{Row}
-use Rattle.card_layout.specs.declared.sizes.TheConstants.{ROW_COUNT}
-use Rattle.card_layout.specs.Blank.{unused_row}
-use Rattle.card_layout.specs.Decoding.{table_of, row_at, row_of, row_bytes, kept_bytes, is_wide}
-use Rattle.card_layout.specs.Places.{row_count}
-use Rattle.card_layout.specs.Standing.{Agrees}
-use Rattle.card_layout.specs.States.{rows_of}
-use Rattle.card_memory.specs.Model.{HasRowOn}
+use Rattle.file_model.specs.apdu_form.Model.{Apdu}
+use Rattle.file_model.specs.card_layout.declared.entries.Loaded.{Loaded}
+use Rattle.file_model.specs.card_layout.declared.entries.Row.{Row}
+use Rattle.file_model.specs.card_layout.declared.sizes.TheConstants.{ROW_COUNT}
+use Rattle.file_model.specs.card_layout.Blank.{unused_row}
+use Rattle.file_model.specs.card_layout.Decoding.{table_of, row_at, row_of, row_bytes, kept_bytes, is_wide}
+use Rattle.file_model.specs.card_layout.Places.{row_count}
+use Rattle.file_model.specs.card_layout.Standing.{Agrees}
+use Rattle.file_model.specs.card_layout.States.{rows_of}
+use Rattle.proactive_handler.specs.card_memory.Model.{HasRowOn}
 use Rattle.card_model.specs.States.{HasBox}
 use Rattle.card_model.specs.declared.instructions.ToolkitCommand.{ToolkitCommand}
 use Rattle.card_model.specs.declared.instructions.ToolkitCommand.TheVariants.{InstallApplet}

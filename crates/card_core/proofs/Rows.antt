@@ -3,17 +3,13 @@ use Rattle.std.proofs.Common.{◌≡◌, ◌⊎◌, inl, inr, ℕ, ◌==◌, ◌
 use Rattle.std.specs.Prelude.{cond, find, is_some}
 use Rattle.std.specs.List.{list_any}
 use Rattle.std.proofs.lemmas.Bool.{false≢true}
-use Rattle.uicc_types.specs.declared.answers.StatusWord.{StatusWord}
-use Rattle.uicc_types.specs.declared.answers.TheConstants.StatusWord.{NO_SUCH_CLASS, NO_SUCH_CHANNEL, NO_SUCH_INSTRUCTION}
+use Rattle.file_model.specs.uicc_types.declared.answers.StatusWord.{StatusWord}
+use Rattle.file_model.specs.uicc_types.declared.answers.TheConstants.StatusWord.{NO_SUCH_CLASS, NO_SUCH_CHANNEL, NO_SUCH_INSTRUCTION}
 use Rattle.file_model.specs.Chains.{refused_if, given, needs}
 use Rattle.file_model.specs.declared.selections.Selection.{Selection}
 use Rattle.card_model.specs.Channels.{is_open}
 use Rattle.card_model.specs.Instructions.{InstructionRow, instruction_tried, is_known, has_ins, row_of, rows_known}
 use Rattle.card_model.specs.declared.instructions.Instruction.{Instruction}
-
-first_of_both : (a b : Bool) → (a && b) ≡ true → a ≡ true
-first_of_both true b both = refl
-first_of_both false b both = both
 
 row_has : (rows : List InstructionRow) (class ins : ℕ) (found : InstructionRow) → find (λ each. each.ins == ins && each.class == class) rows ≡ Some found → list_any (λ each. each.ins == ins) rows ≡ true
 row_has [] class ins found is = absurd (false≢true (ap is_some is))

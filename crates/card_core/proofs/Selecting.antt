@@ -2,16 +2,16 @@
 use Rattle.std.proofs.Common.{◌≡◌, ◌==◌, ℕ, zero, suc, Bool, true, false, List, [], ◌∷◌, Option, Some, None, sym, ◌∙◌, ap, subst, arith}
 use Rattle.std.specs.Prelude.{All, IfSome, IsSomeAnd, slice_set, slice_index_or, if◌then◌else◌}
 use Rattle.std.proofs.lemmas.List.Elements.{All-set, All-head, All-tail}
-use Rattle.card_layout.specs.States.{state_of}
-use Rattle.card_layout.specs.Soundness.{IsSound}
+use Rattle.file_model.specs.card_layout.States.{state_of}
+use Rattle.file_model.specs.card_layout.Soundness.{IsSound}
 use Rattle.file_model.specs.declared.descriptors.Descriptor.{Descriptor}
 use Rattle.file_model.specs.declared.selections.Selection.{Selection}
 use Rattle.file_model.specs.declared.selections.TheConstants.Selection.{AT_START}
 use Rattle.file_model.specs.Files.{descriptors_of, descriptors_in}
 use Rattle.file_model.specs.Laws.{TablesTellFiles}
 use Rattle.file_model.specs.Selections.{IsSelection}
-use Rattle.layout_soundness.specs.Laws.{StandingIsSound}
-use Rattle.layout_standing.specs.Known.{StandingIsOfTable}
+use Rattle.proactive_handler.specs.layout_standing.SoundnessLaws.{StandingIsSound}
+use Rattle.proactive_handler.specs.layout_standing.Known.{StandingIsOfTable}
 use Rattle.card_model.specs.Channels.{selected_on, first_selection}
 use Rattle.card_model.specs.States.{basic_channel_alone}
 use Rattle.card_model.specs.Woken.{start_is_selected}

@@ -6,27 +6,27 @@ use Rattle.std.proofs.lemmas.Bool.{false≢true, true≢false}
 use Rattle.std.proofs.lemmas.Option.{same_Some}
 use Rattle.std.proofs.lemmas.List.{get_or-set_other}
 use Rattle.std.proofs.lemmas.List.Elements.{All-cons, All-head, All-tail}
-use Rattle.general_laws.specs.Numbered.{all_unmapped}
-use Rattle.general_laws.specs.Optional.{is_some-map}
-use Rattle.uicc_types.specs.declared.answers.Answer.{Answer}
-use Rattle.uicc_types.specs.declared.answers.StatusWord.{StatusWord}
-use Rattle.store_form.specs.declared.store.StoreFault.{StoreFault}
-use Rattle.apdu_form.specs.Model.{Apdu}
-use Rattle.card_layout.specs.declared.entries.Loaded.{Loaded}
-use Rattle.card_layout.specs.Persistent.{Registration, Persistent}
-use Rattle.card_layout.specs.Standing.{standing, Agrees}
-use Rattle.card_layout.specs.States.{rows_of}
-use Rattle.card_memory.specs.Laws.{IsTold, TablesTellStates}
+use Rattle.file_model.specs.uicc_types.Numbered.{all_unmapped}
+use Rattle.file_model.specs.uicc_types.Optional.{is_some-map}
+use Rattle.file_model.specs.uicc_types.declared.answers.Answer.{Answer}
+use Rattle.file_model.specs.uicc_types.declared.answers.StatusWord.{StatusWord}
+use Rattle.file_model.specs.store_form.declared.store.StoreFault.{StoreFault}
+use Rattle.file_model.specs.apdu_form.Model.{Apdu}
+use Rattle.file_model.specs.card_layout.declared.entries.Loaded.{Loaded}
+use Rattle.file_model.specs.card_layout.Persistent.{Registration, Persistent}
+use Rattle.file_model.specs.card_layout.Standing.{standing, Agrees}
+use Rattle.file_model.specs.card_layout.States.{rows_of}
+use Rattle.proactive_handler.specs.card_memory.Laws.{IsTold, TablesTellStates}
 use Rattle.card_opening.specs.Starts.{HoldsCard}
 use Rattle.file_model.specs.Outcomes.{last_of}
 use Rattle.toolkit_model.specs.Model.{AppletState}
 use Rattle.toolkit_model.specs.Passing.{passed_rows}
-use Rattle.toolkit_laws.specs.Orderly.{IsInOrder}
+use Rattle.toolkit_model.specs.OrderlySessions.{IsInOrder}
 use Rattle.proactive_handler.specs.Boxes.{kinds_of}
 use Rattle.card_model.specs.States.{CardState, HasBox}
 use Rattle.card_model.specs.Toolkit.{ToolkitOutcome, states_passed, with_rows, toolkit_outcome}
 use Rattle.card_model.specs.declared.instructions.ToolkitCommand.{ToolkitCommand}
-use Rattle.session_laws.specs.Moving.{HasOrder}
+use Rattle.card_laws.specs.Moving.{HasOrder}
 use Rattle.proactive_handler.specs.Steps.{Scene}
 use Rattle.session_commands.specs.Deleting.{HasNoRow}
 use Rattle.session_commands.specs.Carrying.{Carries, HasCome, IsToolkitCutShort}
@@ -37,12 +37,12 @@ use Rattle.card_core.specs.Parts.{CardParts}
 use Rattle.card_core.proofs.Boxes.{at, kind_of}
 use Rattle.card_core.proofs.Broken.{kind_at}
 use Rattle.card_core.proofs.Standing.{card_told, if_card}
-use Rattle.access_rules.specs.declared.rules.Verified.{Verified}
-use Rattle.card_layout.specs.Persistent.{Pin}
-use Rattle.card_layout.specs.States.{pins_of}
+use Rattle.file_model.specs.declared.rules.Verified.{Verified}
+use Rattle.file_model.specs.card_layout.Persistent.{Pin}
+use Rattle.file_model.specs.card_layout.States.{pins_of}
 use Rattle.file_model.specs.Access.{keys_seen}
 use Rattle.card_model.specs.Answers.{seen_by}
-use Rattle.session_laws.specs.Laws.{CommandsLeaveRows}
+use Rattle.card_laws.specs.ToolkitLaws.{CommandsLeaveRows}
 use Rattle.session_commands.specs.Carrying.{HasToolkit}
 use Rattle.card_core.proofs.Carried.{scene_of, has_toolkit_of, rows_left}
 

@@ -3,20 +3,20 @@ use Rattle.std.proofs.Common.{◌≡◌, ℕ, ◌+◌, ◌≤◌, arith, false, 
 use Rattle.std.specs.Prelude.{IfSome, IsSomeAnd, Contains, Result, Ok, Err, OnErr, unwrap_or, slice_set}
 use Rattle.std.specs.Option.{option_to_list}
 use Rattle.std.proofs.lemmas.List.{set-get_or, length-map}
-use Rattle.general_laws.specs.Optional.{if_some_at}
-use Rattle.general_laws.specs.Numbered.{nil_mapped}
-use Rattle.uicc_types.specs.Counts.{raised_by}
-use Rattle.uicc_types.specs.declared.answers.Answer.{Answer}
-use Rattle.uicc_types.specs.declared.answers.StatusWord.{StatusWord}
-use Rattle.uicc_types.specs.declared.answers.TheConstants.StatusWord.{DONE}
-use Rattle.store_form.specs.declared.store.StoreFault.{StoreFault}
-use Rattle.apdu_form.specs.Model.{Apdu}
-use Rattle.access_rules.specs.declared.rules.Verified.{Verified}
-use Rattle.card_layout.specs.declared.entries.Loaded.{Loaded}
-use Rattle.card_layout.specs.Memory.{Memory}
-use Rattle.card_layout.specs.Persistent.{Pin, Persistent}
-use Rattle.card_layout.specs.Standing.{Agrees}
-use Rattle.card_layout.specs.States.{pins_of}
+use Rattle.file_model.specs.uicc_types.Optional.{if_some_at}
+use Rattle.file_model.specs.uicc_types.Numbered.{nil_mapped}
+use Rattle.file_model.specs.uicc_types.Counts.{raised_by}
+use Rattle.file_model.specs.uicc_types.declared.answers.Answer.{Answer}
+use Rattle.file_model.specs.uicc_types.declared.answers.StatusWord.{StatusWord}
+use Rattle.file_model.specs.uicc_types.declared.answers.TheConstants.StatusWord.{DONE}
+use Rattle.file_model.specs.store_form.declared.store.StoreFault.{StoreFault}
+use Rattle.file_model.specs.apdu_form.Model.{Apdu}
+use Rattle.file_model.specs.declared.rules.Verified.{Verified}
+use Rattle.file_model.specs.card_layout.declared.entries.Loaded.{Loaded}
+use Rattle.file_model.specs.card_layout.Memory.{Memory}
+use Rattle.file_model.specs.card_layout.Persistent.{Pin, Persistent}
+use Rattle.file_model.specs.card_layout.Standing.{Agrees}
+use Rattle.file_model.specs.card_layout.States.{pins_of}
 use Rattle.file_model.specs.Access.{keys_seen}
 use Rattle.file_model.specs.Outcomes.{FileOutcome, PinOutcome, settled_file, settled_pin, last_of}
 use Rattle.file_model.specs.declared.commands.FileCommand.{FileCommand}
@@ -28,8 +28,8 @@ use Rattle.card_model.specs.States.{CardState}
 use Rattle.card_model.specs.Channels.{channel_of, selected_on, channel_tried}
 use Rattle.card_model.specs.Answers.{Answered, settled, carried_out, with_pins, file_tried, pin_tried, managed, selection_on, seen_by}
 use Rattle.card_model.specs.declared.instructions.Instruction.TheVariants.{File, Pin as OnPins, ManageChannel}
-use Rattle.card_memory.specs.Laws.{TablesTellStates}
-use Rattle.card_memory.specs.Performing.{IsOutcome, Performs, IsPinOutcome, PerformsPin, PassesOne, StaysStill, with_each}
+use Rattle.proactive_handler.specs.card_memory.Laws.{TablesTellStates}
+use Rattle.proactive_handler.specs.card_memory.Performing.{IsOutcome, Performs, IsPinOutcome, PerformsPin, PassesOne, StaysStill, with_each}
 use Rattle.card_model.proofs.Lawful.{last_with_pins}
 use Rattle.card_core.specs.Parts.{CardParts}
 use Rattle.card_core.specs.Cards.{memory_of, held_by, card_with, card_of}

@@ -4,22 +4,22 @@ use Rattle.std.specs.Prelude.{find, filter, nat_lt, is_ok, is_some, is_none, Con
 use Rattle.std.proofs.lemmas.Bool.{false≢true, true≢false, eqb-true, eq-eqb, cases_eq}
 use Rattle.std.proofs.lemmas.Bool.Decides.{nat_tests}
 use Rattle.std.proofs.lemmas.List.Elements.{Contains-append_left, Contains-append_right}
-use Rattle.general_laws.specs.Finding.{find-map, find_Some}
-use Rattle.general_laws.specs.Optional.{none_of}
-use Rattle.general_laws.specs.Members.{kept_there, first_there}
-use Rattle.uicc_types.specs.declared.answers.StatusWord.{StatusWord}
-use Rattle.apdu_form.specs.Model.{Apdu}
-use Rattle.access_rules.specs.declared.rules.Verified.{Verified}
-use Rattle.card_layout.specs.declared.entries.Loaded.{Loaded}
-use Rattle.card_layout.specs.declared.entries.Row.{Row}
-use Rattle.card_layout.specs.Persistent.{Registration}
-use Rattle.card_layout.specs.Sections.{with_row}
-use Rattle.card_layout.specs.StateLaws.{RowsAreEntries}
-use Rattle.card_layout.specs.States.{rows_of, state_of, registration_of}
-use Rattle.card_layout.specs.Used.{registration_if}
-use Rattle.card_memory.specs.Model.{HasRowOn}
+use Rattle.file_model.specs.uicc_types.Finding.{find-map, find_Some}
+use Rattle.file_model.specs.uicc_types.Optional.{none_of}
+use Rattle.file_model.specs.uicc_types.Members.{kept_there, first_there}
+use Rattle.file_model.specs.uicc_types.declared.answers.StatusWord.{StatusWord}
+use Rattle.file_model.specs.apdu_form.Model.{Apdu}
+use Rattle.file_model.specs.declared.rules.Verified.{Verified}
+use Rattle.file_model.specs.card_layout.declared.entries.Loaded.{Loaded}
+use Rattle.file_model.specs.card_layout.declared.entries.Row.{Row}
+use Rattle.file_model.specs.card_layout.Persistent.{Registration}
+use Rattle.file_model.specs.card_layout.Sections.{with_row}
+use Rattle.file_model.specs.card_layout.StateLaws.{RowsAreEntries}
+use Rattle.file_model.specs.card_layout.States.{rows_of, state_of, registration_of}
+use Rattle.file_model.specs.card_layout.Used.{registration_if}
+use Rattle.proactive_handler.specs.card_memory.Model.{HasRowOn}
 use Rattle.file_model.specs.Chains.{and_given}
-use Rattle.applet_registry.specs.Rows.{allowed}
+use Rattle.proactive_handler.specs.applet_registry.Rows.{allowed}
 use Rattle.toolkit_model.specs.Registry.{given, faulty_if, without_row, installed_row, deleted_row}
 use Rattle.card_model.specs.States.{CardState, row_on}
 use Rattle.card_model.specs.Chained.{Any, past}
@@ -27,7 +27,7 @@ use Rattle.card_model.specs.Toolkit.{ToolkitOutcome, applet_deleted, row_or_stat
 use Rattle.card_model.specs.declared.instructions.Instruction.TheVariants.{Toolkit}
 use Rattle.card_model.specs.declared.instructions.ToolkitCommand.{ToolkitCommand}
 use Rattle.card_model.specs.declared.instructions.ToolkitCommand.TheVariants as commands
-use Rattle.session_laws.specs.Moving.{fixed, HaveFixed, if_row, command_by, rows_after}
+use Rattle.card_laws.specs.Moving.{fixed, HaveFixed, if_row, command_by, rows_after}
 use Rattle.toolkit_model.specs.declared.faults.RowFault.{RowFault}
 use Rattle.toolkit_model.specs.declared.faults.RowFault.TheVariants.{NoRow, NotIdle}
 use Rattle.toolkit_model.specs.Commands.{unfetched, unanswered, reply_to}
@@ -35,9 +35,9 @@ use Rattle.toolkit_model.specs.Driving.{is_idle}
 use Rattle.toolkit_model.specs.Orderly.{asks}
 use Rattle.toolkit_model.specs.Sessions.{Outstanding}
 use Rattle.toolkit_model.specs.Steps.{Report, Fetch, Respond}
-use Rattle.toolkit_commands.specs.declared.envelopes.Envelope.{Envelope}
-use Rattle.toolkit_commands.specs.declared.responses.Response.{Response as Reply}
-use Rattle.toolkit_commands.specs.Envelopes.{envelope_of}
+use Rattle.toolkit_model.specs.toolkit_commands.declared.envelopes.Envelope.{Envelope}
+use Rattle.toolkit_model.specs.toolkit_commands.declared.responses.Response.{Response as Reply}
+use Rattle.toolkit_model.specs.toolkit_commands.Envelopes.{envelope_of}
 
 -- ---- finding
 

@@ -1,10 +1,10 @@
 -- A command on files, or one that makes, deletes or resizes one, commits once at most.
 use Rattle.std.proofs.Common.{◌≤◌, ℕ, Bool, true, false, if◌then◌else◌, List, [], ◌∷◌, length, Option, Result, Ok, Err, arith}
 use Rattle.std.specs.Prelude.{MatchResult}
-use Rattle.uicc_types.specs.declared.answers.StatusWord.{StatusWord}
-use Rattle.apdu_form.specs.Model.{Apdu}
-use Rattle.access_rules.specs.declared.rules.Verified.{Verified}
-use Rattle.card_layout.specs.Persistent.{Persistent}
+use Rattle.file_model.specs.uicc_types.declared.answers.StatusWord.{StatusWord}
+use Rattle.file_model.specs.apdu_form.Model.{Apdu}
+use Rattle.file_model.specs.declared.rules.Verified.{Verified}
+use Rattle.file_model.specs.card_layout.Persistent.{Persistent}
 use Rattle.card_model.specs.Chained.{Any, past, past_given, past_result}
 use Rattle.file_making.specs.Commands.{tree_outcome}
 use Rattle.file_making.specs.Creating.{created, creating}

@@ -1,10 +1,10 @@
 -- What a card stands for, from its parts.
 use Rattle.std.proofs.Common.{◌≡◌, Bool, true, false, List, Option, Some, None, option_map, refl, sym, ◌∙◌, ap, subst}
 use Rattle.std.specs.Prelude.{IfSome, is_some}
-use Rattle.general_laws.specs.Optional.{is_some-map, if_some_at}
-use Rattle.access_rules.specs.declared.rules.Verified.{Verified}
-use Rattle.applet_trait.specs.Minds.{AppletState}
-use Rattle.card_layout.specs.Persistent.{Persistent}
+use Rattle.file_model.specs.uicc_types.Optional.{is_some-map, if_some_at}
+use Rattle.file_model.specs.declared.rules.Verified.{Verified}
+use Rattle.toolkit_model.specs.applet_trait.Minds.{AppletState}
+use Rattle.file_model.specs.card_layout.Persistent.{Persistent}
 use Rattle.file_model.specs.declared.selections.Selection.{Selection}
 use Rattle.toolkit_model.specs.Model.{SessionState}
 use Rattle.card_model.specs.States.{CardState}

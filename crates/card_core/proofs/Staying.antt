@@ -3,12 +3,12 @@ use Rattle.std.proofs.Common.{◌≡◌, inl, inr, ℕ, Bool, true, false, List,
 use Rattle.std.specs.Prelude.{slice_set, Result, Ok, Err, OnOk, MatchResult}
 use Rattle.std.proofs.lemmas.Bool.{true≢false}
 use Rattle.std.proofs.lemmas.List.{get_or-set_other}
-use Rattle.uicc_types.specs.declared.answers.Answer.{Answer}
-use Rattle.uicc_types.specs.declared.answers.StatusWord.{StatusWord}
-use Rattle.store_form.specs.declared.store.StoreFault.{StoreFault}
-use Rattle.apdu_form.specs.Model.{Apdu}
-use Rattle.card_layout.specs.declared.entries.Loaded.{Loaded}
-use Rattle.card_layout.specs.Persistent.{Persistent}
+use Rattle.file_model.specs.uicc_types.declared.answers.Answer.{Answer}
+use Rattle.file_model.specs.uicc_types.declared.answers.StatusWord.{StatusWord}
+use Rattle.file_model.specs.store_form.declared.store.StoreFault.{StoreFault}
+use Rattle.file_model.specs.apdu_form.Model.{Apdu}
+use Rattle.file_model.specs.card_layout.declared.entries.Loaded.{Loaded}
+use Rattle.file_model.specs.card_layout.Persistent.{Persistent}
 use Rattle.file_model.specs.declared.selections.Selection.{Selection}
 use Rattle.record_commands.specs.Tables.{HasOtherFiles}
 use Rattle.proactive_handler.specs.Boxes.{kinds_of}
@@ -19,9 +19,9 @@ use Rattle.card_model.specs.declared.instructions.Instruction.TheVariants.{File,
 use Rattle.card_model.specs.declared.instructions.ToolkitCommand.{ToolkitCommand}
 use Rattle.card_model.specs.declared.instructions.ToolkitCommand.TheVariants.{InstallApplet, DeleteApplet}
 use Rattle.file_model.specs.declared.commands.FileCommand.TheVariants.{Select, Status, Contents}
-use Rattle.card_memory.specs.Model.{HasRowOn}
-use Rattle.access_rules.specs.declared.rules.Verified.{Verified}
-use Rattle.applet_trait.specs.Minds.{AppletState}
+use Rattle.proactive_handler.specs.card_memory.Model.{HasRowOn}
+use Rattle.file_model.specs.declared.rules.Verified.{Verified}
+use Rattle.toolkit_model.specs.applet_trait.Minds.{AppletState}
 use Rattle.file_model.specs.Outcomes.{FileOutcome, settled_file}
 use Rattle.file_model.specs.Selecting.{status_told, telling}
 use Rattle.card_model.specs.Chained.{Any, past, past_given}

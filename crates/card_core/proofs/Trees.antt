@@ -4,18 +4,18 @@ use Rattle.std.specs.Prelude.{IfSome, IsSomeAnd, Contains, is_some, Result, Ok, 
 use Rattle.std.specs.Result.{result_ok}
 use Rattle.std.proofs.lemmas.Bool.{false≢true}
 use Rattle.std.proofs.lemmas.Option.{same_Some}
-use Rattle.general_laws.specs.Optional.{if_some_at}
-use Rattle.uicc_types.specs.Counts.{raised_by}
-use Rattle.uicc_types.specs.declared.answers.Answer.{Answer}
-use Rattle.uicc_types.specs.declared.answers.StatusWord.{StatusWord}
-use Rattle.store_form.specs.declared.store.StoreFault.{StoreFault}
-use Rattle.apdu_form.specs.Model.{Apdu}
-use Rattle.access_rules.specs.declared.rules.Verified.{Verified}
-use Rattle.card_layout.specs.declared.entries.Loaded.{Loaded}
-use Rattle.card_layout.specs.Memory.{Memory}
-use Rattle.card_layout.specs.Persistent.{Pin, Persistent}
-use Rattle.card_layout.specs.Standing.{Stands, stands_for, standing, Agrees}
-use Rattle.card_layout.specs.States.{pins_of}
+use Rattle.file_model.specs.uicc_types.Optional.{if_some_at}
+use Rattle.file_model.specs.uicc_types.Counts.{raised_by}
+use Rattle.file_model.specs.uicc_types.declared.answers.Answer.{Answer}
+use Rattle.file_model.specs.uicc_types.declared.answers.StatusWord.{StatusWord}
+use Rattle.file_model.specs.store_form.declared.store.StoreFault.{StoreFault}
+use Rattle.file_model.specs.apdu_form.Model.{Apdu}
+use Rattle.file_model.specs.declared.rules.Verified.{Verified}
+use Rattle.file_model.specs.card_layout.declared.entries.Loaded.{Loaded}
+use Rattle.file_model.specs.card_layout.Memory.{Memory}
+use Rattle.file_model.specs.card_layout.Persistent.{Pin, Persistent}
+use Rattle.file_model.specs.card_layout.Standing.{Stands, stands_for, standing, Agrees}
+use Rattle.file_model.specs.card_layout.States.{pins_of}
 use Rattle.file_model.specs.Access.{keys_seen}
 use Rattle.file_model.specs.Outcomes.{last_of}
 use Rattle.file_model.specs.declared.selections.Selection.{Selection}
@@ -31,8 +31,8 @@ use Rattle.card_model.specs.States.{CardState}
 use Rattle.card_model.specs.Answers.{Answered, settled, carried_out, tree_tried, seen_by}
 use Rattle.card_model.specs.Channels.{channel_of}
 use Rattle.card_model.specs.declared.instructions.Instruction.TheVariants.{Tree}
-use Rattle.card_memory.specs.Laws.{IsTold, TablesTellStates}
-use Rattle.card_memory.specs.Performing.{PassesOne}
+use Rattle.proactive_handler.specs.card_memory.Laws.{IsTold, TablesTellStates}
+use Rattle.proactive_handler.specs.card_memory.Performing.{PassesOne}
 use Rattle.record_commands.specs.Tables.{HasOtherFiles}
 use Rattle.card_core.specs.AnyStore.{IsOfMemory, AnswersStanding, MovesTree}
 use Rattle.card_core.specs.Cards.{memory_of, held_by, card_with, card_of}

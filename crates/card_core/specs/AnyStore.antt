@@ -1,15 +1,15 @@
 -- What is said of a card over any store, be its bytes told or not.
 use Rattle.std.specs.Prelude.{◌≡◌, ◌≢◌, true, false, ℕ, List, [], Option, Some, None, unwrap_or, Result, Ok, Err}
-use Rattle.uicc_types.specs.declared.answers.Answer.{Answer}
-use Rattle.uicc_types.specs.declared.answers.StatusWord.{StatusWord}
-use Rattle.uicc_types.specs.declared.answers.TheConstants.StatusWord.{WRONG_LENGTH}
-use Rattle.apdu_form.specs.Model.{Apdu, command_in}
-use Rattle.card_layout.specs.declared.entries.Loaded.{Loaded}
-use Rattle.card_layout.specs.Persistent.{Persistent}
-use Rattle.card_layout.specs.Standing.{Stands}
-use Rattle.card_layout.specs.States.{pins_of, rows_of}
-use Rattle.card_memory.specs.Laws.{IsTold}
-use Rattle.card_memory.specs.Model.{HasRowOn}
+use Rattle.file_model.specs.uicc_types.declared.answers.Answer.{Answer}
+use Rattle.file_model.specs.uicc_types.declared.answers.StatusWord.{StatusWord}
+use Rattle.file_model.specs.uicc_types.declared.answers.TheConstants.StatusWord.{WRONG_LENGTH}
+use Rattle.file_model.specs.apdu_form.Model.{Apdu, command_in}
+use Rattle.file_model.specs.card_layout.declared.entries.Loaded.{Loaded}
+use Rattle.file_model.specs.card_layout.Persistent.{Persistent}
+use Rattle.file_model.specs.card_layout.Standing.{Stands}
+use Rattle.file_model.specs.card_layout.States.{pins_of, rows_of}
+use Rattle.proactive_handler.specs.card_memory.Laws.{IsTold}
+use Rattle.proactive_handler.specs.card_memory.Model.{HasRowOn}
 use Rattle.file_model.specs.declared.commands.FileCommand.{FileCommand}
 use Rattle.file_model.specs.declared.commands.FileCommand.TheVariants.{Select, Status, Contents}
 use Rattle.file_model.specs.declared.descriptors.Descriptor.{Descriptor}

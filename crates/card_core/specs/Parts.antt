@@ -1,10 +1,10 @@
 -- What is seen of the parts of a card.
 use Rattle.std.specs.Prelude.{ℕ, Bool, List, Option}
-use Rattle.uicc_types.specs.Counts.{Meter}
-use Rattle.uicc_types.specs.declared.identifiers.Shelf.{Shelf}
-use Rattle.access_rules.specs.declared.rules.Verified.{Verified}
-use Rattle.applet_trait.specs.Minds.{AppletState}
-use Rattle.card_layout.specs.declared.entries.Loaded.{Loaded}
+use Rattle.file_model.specs.uicc_types.Counts.{Meter}
+use Rattle.file_model.specs.uicc_types.declared.identifiers.Shelf.{Shelf}
+use Rattle.file_model.specs.declared.rules.Verified.{Verified}
+use Rattle.toolkit_model.specs.applet_trait.Minds.{AppletState}
+use Rattle.file_model.specs.card_layout.declared.entries.Loaded.{Loaded}
 use Rattle.file_model.specs.declared.selections.Selection.{Selection}
 use Rattle.toolkit_model.specs.Model.{SessionState}
 

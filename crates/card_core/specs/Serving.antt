@@ -1,16 +1,16 @@
 -- What the parts of a command do to a card's memory and boxes.
 use Rattle.std.specs.Prelude.{◌≡◌, ◌≢◌, ℕ, List, Option, None, Result, IsOk, OnOk, OnErr}
-use Rattle.uicc_types.specs.declared.answers.Answer.{Answer}
-use Rattle.uicc_types.specs.declared.answers.StatusWord.{StatusWord}
-use Rattle.store_form.specs.declared.store.StoreFault.{StoreFault}
-use Rattle.apdu_form.specs.Model.{Apdu}
-use Rattle.access_rules.specs.declared.rules.Verified.{Verified}
-use Rattle.card_layout.specs.Memory.{Memory, Keeps}
-use Rattle.card_layout.specs.Persistent.{Persistent}
-use Rattle.card_layout.specs.Standing.{Agrees}
-use Rattle.card_layout.specs.States.{pins_of, rows_of}
-use Rattle.card_memory.specs.Laws.{IsTold}
-use Rattle.card_memory.specs.Model.{HasRowOn}
+use Rattle.file_model.specs.uicc_types.declared.answers.Answer.{Answer}
+use Rattle.file_model.specs.uicc_types.declared.answers.StatusWord.{StatusWord}
+use Rattle.file_model.specs.store_form.declared.store.StoreFault.{StoreFault}
+use Rattle.file_model.specs.apdu_form.Model.{Apdu}
+use Rattle.file_model.specs.declared.rules.Verified.{Verified}
+use Rattle.file_model.specs.card_layout.Memory.{Memory, Keeps}
+use Rattle.file_model.specs.card_layout.Persistent.{Persistent}
+use Rattle.file_model.specs.card_layout.Standing.{Agrees}
+use Rattle.file_model.specs.card_layout.States.{pins_of, rows_of}
+use Rattle.proactive_handler.specs.card_memory.Laws.{IsTold}
+use Rattle.proactive_handler.specs.card_memory.Model.{HasRowOn}
 use Rattle.card_model.specs.declared.instructions.Instruction.TheVariants.{File}
 use Rattle.card_model.specs.declared.instructions.ToolkitCommand.{ToolkitCommand}
 use Rattle.card_model.specs.declared.instructions.ToolkitCommand.TheVariants.{InstallApplet, DeleteApplet}
@@ -26,7 +26,7 @@ use Rattle.file_model.specs.Outcomes.{settled_file}
 use Rattle.proactive_handler.specs.Boxes.{kinds_of}
 use Rattle.proactive_handler.specs.Steps.{Scene}
 use Rattle.session_commands.specs.Deleting.{LeavesUnregistered}
-use Rattle.trigger_index.specs.Indexes.{StandsFor}
+use Rattle.proactive_handler.specs.applet_registry.Indexes.{StandsFor}
 use Rattle.card_core.specs.AnyStore.{NeedsNoContents, RefusesFile}
 use Rattle.card_core.specs.Commands.{KindsKept}
 

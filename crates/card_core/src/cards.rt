@@ -1,16 +1,16 @@
 //! A card, and how it is given away.
 ghost use Rattle.std.specs.Prelude.{◌≡◌};
-ghost use Rattle.uicc_types.specs.Counts.{armed};
+ghost use Rattle.file_model.specs.uicc_types.Counts.{armed};
 
 use crate::registered::Registered;
-use access_rules::Verified;
-use applet_trait::Applet;
-use card_layout::Loaded;
+use file_model::Verified;
+use file_model::card_layout::Loaded;
+use file_model::store_form::Store;
+use file_model::uicc_types::{Plan, Shelf};
 use file_tree::Channels;
-use store_form::Store;
-use toolkit_session::Session;
-use trigger_index::Index;
-use uicc_types::{Plan, Shelf};
+use proactive_handler::applet_registry::Index;
+use proactive_handler::toolkit_session::Session;
+use toolkit_model::applet_trait::Applet;
 
 /// A card over a store, with the boxes of its applets on their shelves. It takes no memory once it is opened.
 #[derive(Drop)]
@@ -40,7 +40,7 @@ pub type Card<S> = CardOver<S, Box<dyn Applet>>;
 
 impl<S: Store, B: Applet> CardOver<S, B> {
     ghost use Rattle.card_core.specs.Cards.{parts_of, card_of, IsCardReady};
-    ghost use Rattle.card_opening.specs.Boxes.{minds_of};
+    ghost use Rattle.toolkit_model.specs.applet_trait.Minds.{minds_of};
 
     /// The store and the boxes, as they are: place s of the list has the box of shelf s.
     pub fn close(self) -> (S, Vec<Option<B>>)

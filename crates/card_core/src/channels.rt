@@ -7,10 +7,10 @@ ghost use Rattle.file_model.specs.Selections.{IsSelection};
 ghost use Rattle.file_making.specs.Lawful.{AreSelected};
 ghost use Rattle.card_core.specs.Commands.{channels_managed};
 
-use apdu_form::Command;
 use file_admin::channel_of;
+use file_model::apdu_form::Command;
+use file_model::uicc_types::StatusWord;
 use file_tree::Channels;
-use uicc_types::StatusWord;
 
 // Le asks for one byte, or for all that there are.
 fn is_le_of_number(expected: Option<u16>) -> bool

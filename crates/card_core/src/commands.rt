@@ -3,7 +3,7 @@ ghost use Rattle.std.specs.Prelude.{◌≡◌, [], true, Some, Ok, Err, IsOk, On
 ghost use Rattle.file_commands.specs.Commands.{IsSomeCommand, IsInPlace};
 ghost use Rattle.file_commands.specs.Ends.{EndsWell};
 ghost use Rattle.file_commands.specs.Targets.{IsRefused};
-ghost use Rattle.card_layout.specs.States.{pins_of};
+ghost use Rattle.file_model.specs.card_layout.States.{pins_of};
 ghost use Rattle.file_model.specs.Access.{keys_seen};
 ghost use Rattle.file_model.specs.Files.{descriptors_of};
 ghost use Rattle.file_model.specs.Outcomes.{settled_file};
@@ -15,9 +15,9 @@ ghost use Rattle.card_core.specs.Commands.{tree_by, by_instruction};
 ghost use Rattle.file_admin.specs.Outcomes.{PerformsTree, IfNothingPasses, EndsTree};
 ghost use Rattle.file_making.specs.Lawful.{AreSelected};
 ghost use Rattle.card_core.specs.Serving.{TellsOfFiles, TellsOfTree};
-ghost use Rattle.card_memory.specs.Performing.{Performs, StaysStill};
+ghost use Rattle.proactive_handler.specs.card_memory.Performing.{Performs, StaysStill};
 ghost use Rattle.record_commands.specs.Tables.{KeepsOtherFiles};
-ghost use Rattle.card_layout.specs.Memory.{IsMounted, memory};
+ghost use Rattle.file_model.specs.card_layout.Memory.{IsMounted, memory};
 
 use crate::CardOver;
 use crate::channels::manage;
@@ -26,23 +26,22 @@ use crate::keys::keys_seen;
 use crate::laws::{keys_are_own, tables_have_rows, the_mf_is_there};
 use crate::sessions::told_pending;
 use crate::toolkit::{by_toolkit, leaving};
-use access_rules::Verified;
-use apdu_form::{Command, WrongLength, read_command};
-use applet_trait::Applet;
-use card_layout::{Loaded, states_are_of_entries};
-use card_memory::tables_tell_states;
+use card_laws::cards_go_on;
 use card_model::{Instruction, ToolkitCommand};
 use file_admin::{channel_of, create_file, delete_file, resize_file};
 use file_commands::{read_binary, select, status, update_binary};
 use file_making::TreeCommand;
-use file_model::{ContentsCommand, FileCommand, PinCommand, Selection};
+use file_model::apdu_form::{Command, WrongLength, read_command};
+use file_model::card_layout::{Loaded, states_are_of_entries};
+use file_model::store_form::{Store, StoreFault};
+use file_model::uicc_types::{Answer, AnswerData, StatusWord};
+use file_model::{ContentsCommand, FileCommand, PinCommand, Selection, Verified};
 use file_tree::Channels;
 use pin_rules::named_pin_command;
+use proactive_handler::card_memory::tables_tell_states;
 use record_commands::{activate, deactivate, increase, read_record, search_record, update_record};
 use session_commands::poll;
-use session_laws::cards_go_on;
-use store_form::{Store, StoreFault};
-use uicc_types::{Answer, AnswerData, StatusWord};
+use toolkit_model::applet_trait::Applet;
 
 // A command on what a file holds, which its access rule may forbid, over what is selected on its channel.
 #[tactic(auto, using(file_commands::specs::Chained::stays_still), unfolding(file_model::specs::Commands::contents_outcome, file_model::specs::Commands::file_addressed))]

@@ -1,11 +1,11 @@
 //! The opening of a card.
 ghost use Rattle.std.specs.Prelude.{◌≡◌, [], ◌∷◌, ◌++◌, ◌≤◌, true, length, take, replicate, None, OnOk, OnErr, IfOk, IfErr, IsErrOf};
-ghost use Rattle.card_layout.specs.declared.sizes.TheConstants.{ROW_COUNT};
-ghost use Rattle.card_layout.specs.Memory.{memory};
-ghost use Rattle.card_layout.specs.Places.{memory_size};
-ghost use Rattle.card_layout.specs.States.{rows_of};
+ghost use Rattle.file_model.specs.card_layout.declared.sizes.TheConstants.{ROW_COUNT};
+ghost use Rattle.file_model.specs.card_layout.Memory.{memory};
+ghost use Rattle.file_model.specs.card_layout.Places.{memory_size};
+ghost use Rattle.file_model.specs.card_layout.States.{rows_of};
 ghost use Rattle.card_model.specs.States.{woken_boxes};
-ghost use Rattle.card_opening.specs.Boxes.{minds_of};
+ghost use Rattle.toolkit_model.specs.applet_trait.Minds.{minds_of};
 ghost use Rattle.card_opening.specs.Starts.{Opens, Refuses, IsKept};
 ghost use Rattle.layout_mount.specs.Mounted.{unread};
 ghost use Rattle.card_core.specs.Openings.{with_all_shelves};
@@ -15,15 +15,15 @@ use crate::laws::{tables_have_rows, the_mf_is_there};
 use crate::registered::Registered;
 use crate::resetting::NOTHING_VERIFIED;
 use crate::sessions::fresh_session;
-use applet_trait::Applet;
-use card_layout::Loaded;
-use card_layout::sizes::ROW_COUNT;
-use card_memory::tables_tell_states;
 use card_opening::{OpenFault, start, wake_boxes};
+use file_model::card_layout::Loaded;
+use file_model::card_layout::sizes::ROW_COUNT;
+use file_model::store_form::Store;
 use file_tree::Channels;
+use proactive_handler::applet_registry::Index;
+use proactive_handler::card_memory::tables_tell_states;
 use std::alloc::Global;
-use store_form::Store;
-use trigger_index::Index;
+use toolkit_model::applet_trait::Applet;
 
 // Adds an empty shelf.
 fn add_shelf<B: Drop>(boxes: &mut Vec<Option<B>>) -> Result<(), OpenFault>

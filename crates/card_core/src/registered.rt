@@ -1,13 +1,13 @@
 //! What a table has of the applets, as it was before a command, to be put back where a fault stops that.
 ghost use Rattle.std.specs.Prelude.{◌≡◌, All, length, replicate};
-ghost use Rattle.card_layout.specs.declared.sizes.TheConstants.{ROW_COUNT};
-ghost use Rattle.card_layout.specs.Blank.{unused_row};
+ghost use Rattle.file_model.specs.card_layout.declared.sizes.TheConstants.{ROW_COUNT};
+ghost use Rattle.file_model.specs.card_layout.Blank.{unused_row};
 ghost use Rattle.card_core.specs.Registered.{IsUsedOrBlank};
 
-use card_layout::sizes::ROW_COUNT;
-use card_layout::{Loaded, Row};
+use file_model::card_layout::sizes::ROW_COUNT;
+use file_model::card_layout::{Loaded, Row};
+use file_model::uicc_types::{ByteList, Full};
 use std::array;
-use uicc_types::{ByteList, Full};
 
 /// The rows of a table and its next sequence number.
 #[derive(Drop)]

@@ -1,25 +1,25 @@
 //! Resets, and what is due after a fault.
 ghost use Rattle.std.specs.Prelude.{◌≡◌, length, true, All, OnOk, OnErr, IfSome, option_map};
-ghost use Rattle.card_layout.specs.declared.sizes.TheConstants.{ROW_COUNT};
-ghost use Rattle.card_layout.specs.States.{rows_of};
+ghost use Rattle.file_model.specs.card_layout.declared.sizes.TheConstants.{ROW_COUNT};
+ghost use Rattle.file_model.specs.card_layout.States.{rows_of};
 ghost use Rattle.card_model.specs.States.{HasBox, restarted, woken_boxes};
-ghost use Rattle.card_opening.specs.Boxes.{minds_of};
+ghost use Rattle.toolkit_model.specs.applet_trait.Minds.{minds_of};
 ghost use Rattle.card_opening.specs.Starts.{MayRestart, RestartsMemory};
 ghost use Rattle.card_core.specs.Cards.{boxes_kept};
-ghost use Rattle.card_layout.specs.Memory.{Reads, memory};
+ghost use Rattle.file_model.specs.card_layout.Memory.{Reads, memory};
 
 use crate::laws::{tables_have_rows, the_mf_is_there};
 use crate::toolkit::drop_leaving;
 use crate::{CardOver, ResetFault};
-use access_rules::Verified;
-use applet_trait::Applet;
-use card_layout::Loaded;
-use card_memory::tables_tell_states;
 use card_model::restarts_are_good;
+use file_model::Verified;
+use file_model::card_layout::Loaded;
+use file_model::store_form::{Store, StoreFault};
+use file_model::uicc_types::Shelf;
 use file_tree::Channels;
-use store_form::{Store, StoreFault};
-use trigger_index::Index;
-use uicc_types::Shelf;
+use proactive_handler::applet_registry::Index;
+use proactive_handler::card_memory::tables_tell_states;
+use toolkit_model::applet_trait::Applet;
 
 /// No key is verified.
 pub(crate) const NOTHING_VERIFIED: Verified = Verified {
@@ -37,8 +37,8 @@ fn wake_again<S: Store, B: Applet>(
 ) -> Result<(), StoreFault>
     requires shelves { length boxes.old ≡ ROW_COUNT }
     requires kept { MayRestart (memory S.Store store.old loaded.old) (minds_of B.mind boxes.old) }
-    ensures restarts { OnOk result (RestartsMemory (memory S.Store store.old loaded.old) (memory S.Store store.new loaded.new)
-        (minds_of B.mind boxes.old)) }
+    ensures restarts { OnOk result (RestartsMemory (memory S.Store store.old loaded.old)
+        (memory S.Store store.new loaded.new) (minds_of B.mind boxes.old)) }
     ensures woke { OnOk result (minds_of B.mind boxes.new ≡ woken_boxes (rows_of loaded.new)
         (boxes_kept leaving (rows_of loaded.new) (minds_of B.mind boxes.old))) }
     ensures asleep { OnErr result (boxes.new ≡ boxes.old) }

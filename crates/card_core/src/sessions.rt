@@ -3,11 +3,11 @@ ghost use Rattle.std.specs.Prelude.{◌≡◌, ◌≢◌, IfOk};
 ghost use Rattle.card_model.specs.Answers.{told_pending};
 ghost use Rattle.toolkit_model.specs.Model.{fresh_session};
 
+use file_model::uicc_types::{OutOfMemory, StatusWord};
 use frame_store::FrameStore;
-use kept_triggers::{Late, Waiting};
+use proactive_handler::kept_triggers::{Late, Waiting};
+use proactive_handler::toolkit_session::Session;
 use std::alloc::Global;
-use toolkit_session::Session;
-use uicc_types::{OutOfMemory, StatusWord};
 
 /// A session as it is after a reset. All the memory that it ever needs is taken here.
 pub fn fresh_session(alloc: Global) -> Result<Session, OutOfMemory>

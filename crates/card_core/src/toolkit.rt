@@ -1,9 +1,9 @@
 //! The commands of the toolkit.
 ghost use Rattle.std.specs.Prelude.{◌≡◌, ◌≤◌, length, slice_set, None, IsOk, is_some};
-ghost use Rattle.card_layout.specs.Memory.{memory};
-ghost use Rattle.card_layout.specs.States.{pins_of, rows_of};
+ghost use Rattle.file_model.specs.card_layout.Memory.{memory};
+ghost use Rattle.file_model.specs.card_layout.States.{pins_of, rows_of};
 ghost use Rattle.file_model.specs.Access.{keys_seen};
-ghost use Rattle.proactive_handler.specs.Boxes.{minds_of};
+ghost use Rattle.toolkit_model.specs.applet_trait.Minds.{minds_of};
 ghost use Rattle.proactive_handler.specs.Steps.{scene};
 ghost use Rattle.card_model.specs.States.{row_on};
 ghost use Rattle.card_model.specs.Toolkit.{toolkit_outcome};
@@ -15,16 +15,16 @@ ghost use Rattle.card_core.specs.Serving.{KeepsToolkit};
 
 use crate::keys::keys_seen;
 use crate::laws::keys_are_own;
-use access_rules::Verified;
-use apdu_form::Command;
-use applet_trait::Applet;
-use card_layout::Loaded;
 use card_model::ToolkitCommand;
+use file_model::Verified;
+use file_model::apdu_form::Command;
+use file_model::card_layout::Loaded;
+use file_model::store_form::{Store, StoreFault};
+use file_model::uicc_types::{Answer, Shelf, StatusWord};
+use proactive_handler::applet_registry::Index;
+use proactive_handler::toolkit_session::Session;
 use session_commands::{delete, fetch, install, take_envelope, take_profile, take_response};
-use store_form::{Store, StoreFault};
-use toolkit_session::Session;
-use trigger_index::Index;
-use uicc_types::{Answer, Shelf, StatusWord};
+use toolkit_model::applet_trait::Applet;
 
 /// A command of the toolkit, over a card's memory and its boxes. The keys are looked at where one is needed.
 #[tactic(auto, unfolding(card_model::specs::Toolkit::toolkit_outcome))]
@@ -90,7 +90,7 @@ pub(crate) fn leaving(command: ToolkitCommand, apdu: &Command<'_>) -> Option<She
 fn has_row(loaded: &Loaded, shelf: Shelf) -> bool
     ensures { result ≡ is_some (row_on (rows_of loaded.now) shelf.0) }
 {
-    applet_registry::delete(loaded, shelf, true).is_ok()
+    proactive_handler::applet_registry::delete(loaded, shelf, true).is_ok()
 }
 
 // The box on a shelf is dropped, if there is such a shelf.

@@ -1,12 +1,12 @@
 //! The way of a command.
 ghost use Rattle.std.specs.Prelude.{◌≡◌, [], true, false, Ok, Err, IsOk, OnOk, OnErr};
-ghost use Rattle.uicc_types.specs.Told.{AreBytes};
+ghost use Rattle.file_model.specs.uicc_types.Told.{AreBytes};
 
 use crate::{CardFault, CardOver};
-use applet_trait::Applet;
-use session_laws::cards_stay_good;
-use store_form::{Store, StoreFault};
-use uicc_types::{Answer, StatusWord};
+use card_laws::cards_stay_good;
+use file_model::store_form::{Store, StoreFault};
+use file_model::uicc_types::{Answer, StatusWord};
+use toolkit_model::applet_trait::Applet;
 
 // Does nothing. What a slice of bytes has are bytes.
 fn are_bytes(slice: &[u8])
@@ -100,7 +100,7 @@ impl<S: Store, B: Applet> CardOver<S, B> {
     /// before.
     ///
     /// `63CX` to a value that is presented says that its key has one try less than before, which is committed, and that X are
-    /// left: `run_laws::guesses_are_bounded` has that of every such answer.
+    /// left: `card_laws::guesses_are_bounded` has that of every such answer.
     ///
     /// What doesn't hang on what files hold is told by the table of entries alone, over any store: the answers to SELECT, STATUS,
     /// MANAGE CHANNEL, the commands on PINs and those of the toolkit, and what refuses a command on a file before access is

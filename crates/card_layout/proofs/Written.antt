@@ -7,8 +7,8 @@ use Rattle.std.specs.List.{range_with_len}
 use Rattle.std.proofs.lemmas.Bool.{cases_lt, lt-ltb}
 use Rattle.std.proofs.lemmas.List.{length-drop, drop_all, take_at, set-set}
 use Rattle.std.proofs.lemmas.Nat.{from_be_bytes-to_be_bytes_2}
-use Rattle.general_laws.specs.Numbered.{same_numbered, set_numbered}
-use Rattle.general_laws.specs.Ranges.{length-range, length-between}
+use Rattle.uicc_types.specs.Numbered.{same_numbered, set_numbered}
+use Rattle.uicc_types.specs.Ranges.{length-range, length-between}
 use Rattle.uicc_types.specs.Patches.{patched, length-patched, patched_inside, patched-all, IsApart, get_or-patched_apart, range-patched_apart, range-patched_inside}
 use Rattle.store_form.specs.Pieces.{applied}
 use Rattle.card_layout.specs.declared.entries.Node.{Node}

@@ -93,6 +93,11 @@ ChangesKeptApart =
       rows = slice_set (table_of content).rows shelf (shown_row (record (row_there content shelf) { kept = kept_anew (row_there content shelf).kept row.kept }));
     }
 
+-- what a row keeps is changed: at most 32 bytes with their length, or those that stand apart, from the 33rd on
+pub record ChangesWhatIsKept : Type 0 where
+  pub whole : ChangesKept
+  pub apart : ChangesKeptApart
+
 -- of an entry any bytes, also some that cut a field: it is the entry that its bytes then spell
 abbrev pub RereadsOneNode : Type 0
 RereadsOneNode =

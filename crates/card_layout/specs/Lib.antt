@@ -28,3 +28,5 @@ pub mod Standing
 pub mod StateLaws
 pub mod States
 pub mod Used
+pub use Rattle.store_form.specs as store_form
+pub use Rattle.uicc_types.specs as uicc_types

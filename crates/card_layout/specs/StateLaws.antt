@@ -62,6 +62,12 @@ PinsComeFromEntries = (table : Loaded) (content : List ℕ) (pin : Pin) → Cont
 abbrev pub RowsComeFromEntries : Type 0
 RowsComeFromEntries = (table : Loaded) (content : List ℕ) (row : Registration) → Contains (state_of table content).rows row → IsOfRow table row
 
+-- each file, PIN and row that a state has is an entry's
+pub record ComesFromEntries : Type 0 where
+  pub files : FilesComeFromEntries
+  pub pins : PinsComeFromEntries
+  pub rows : RowsComeFromEntries
+
 -- ---- what is of the table alone
 
 -- The PINs, the rows, the next sequence number and whether the card is wide are the table's.

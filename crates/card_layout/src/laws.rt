@@ -1,8 +1,8 @@
 //! What holds of the layout. The functions do nothing: each one's contract is the law.
 ghost use Rattle.card_layout.specs.Events.{SettingAddsCode, ClearingRemovesCode};
 ghost use Rattle.card_layout.specs.NewFiles.{NewFilesAreBlank};
-ghost use Rattle.card_layout.specs.StateLaws.{FilesAreEntries, PinsAreEntries, RowsAreEntries, FilesComeFromEntries, PinsComeFromEntries, RowsComeFromEntries, StatesAreOfTables, FieldsAreOfTables, TextsAreCounted};
-ghost use Rattle.card_layout.specs.Laws.{CodesAreKnown, NodesAreReadBack, PinsAreReadBack, RowsAreReadBack, KeepsBytesBeside, ChangesBytesAround, ChangesOneNode, ChangesOnePin, ChangesOneRow, ChangesOneLongRow, ChangesKept, ChangesKeptApart, RereadsOneNode, RereadsOnePin, RereadsOneRow, ChangesSequence, ChangesVersion, KeepsTable};
+ghost use Rattle.card_layout.specs.StateLaws.{FilesAreEntries, PinsAreEntries, RowsAreEntries, ComesFromEntries, StatesAreOfTables, FieldsAreOfTables, TextsAreCounted};
+ghost use Rattle.card_layout.specs.Laws.{CodesAreKnown, NodesAreReadBack, PinsAreReadBack, RowsAreReadBack, KeepsBytesBeside, ChangesBytesAround, ChangesOneNode, ChangesOnePin, ChangesOneRow, ChangesOneLongRow, ChangesWhatIsKept, RereadsOneNode, RereadsOnePin, RereadsOneRow, ChangesSequence, ChangesVersion, KeepsTable};
 
 /// Each entry is read back from the bytes that it is spelled in.
 pub fn entries_are_read_back()
@@ -24,8 +24,7 @@ pub fn commits_change_one_entry()
     ensures pin { ChangesOnePin }
     ensures row { ChangesOneRow }
     ensures long_row { ChangesOneLongRow }
-    ensures kept { ChangesKept }
-    ensures kept_apart { ChangesKeptApart }
+    ensures kept { ChangesWhatIsKept }
     ensures sequence { ChangesSequence }
     ensures version { ChangesVersion }
     ensures files { KeepsTable }
@@ -58,9 +57,7 @@ pub fn states_are_of_entries()
     ensures files { FilesAreEntries }
     ensures pins { PinsAreEntries }
     ensures rows { RowsAreEntries }
-    ensures from_nodes { FilesComeFromEntries }
-    ensures from_slots { PinsComeFromEntries }
-    ensures from_rows { RowsComeFromEntries }
+    ensures from { ComesFromEntries }
     ensures tables { StatesAreOfTables }
     ensures fields { FieldsAreOfTables }
     ensures texts { TextsAreCounted }

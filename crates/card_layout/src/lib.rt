@@ -1,5 +1,7 @@
 //! How a card lies in the 65,536 bytes of a store: its files, PINs and registered applets, in both versions of the
 //! layout, and the writes that change one entry of it.
+//!
+//! It passes on the crates whose words it speaks, so that who stands on it need not list them.
 #![tactic(auto)]
 
 mod entries;
@@ -28,4 +30,6 @@ pub use new_files::{may_be_rule, may_be_shape, new_df, new_ef, size_for};
 pub use ranges::{node_ranges, pin_ranges, row_ranges};
 pub use shapes::Shape;
 pub use spelling::{EntryBytes, spell_node, spell_pin, spell_row};
+pub use store_form;
+pub use uicc_types;
 pub use writers::{kept_write, node_write, pin_write, row_write, sequence_write, version_write};

@@ -2,14 +2,14 @@
 use Rattle.std.specs.Prelude.{◌≡◌, ◌⊎◌, ℕ, Bool, true, List, Option, option_map, Result, Ok, Err, OnOk, IsErr}
 use Rattle.std.specs.Result.{IsErrAnd}
 use Rattle.std.proofs.Common.{inl, inr, ⊎_elim, subst, sym}
-use Rattle.store_form.specs.declared.store.StoreFault.{StoreFault}
-use Rattle.store_form.specs.Pieces.{Piece, applied}
-use Rattle.card_layout.specs.declared.entries.Loaded.{Loaded}
-use Rattle.card_layout.specs.Places.{memory_size}
-use Rattle.card_layout.specs.Persistent.{Persistent}
-use Rattle.card_layout.specs.Standing.{standing, Agrees}
-use Rattle.card_layout.specs.Memory.{Memory, IsMounted, Committed}
-use Rattle.uicc_types.specs.Counts.{Meter}
+use Rattle.file_model.specs.store_form.declared.store.StoreFault.{StoreFault}
+use Rattle.file_model.specs.store_form.Pieces.{Piece, applied}
+use Rattle.file_model.specs.card_layout.declared.entries.Loaded.{Loaded}
+use Rattle.file_model.specs.card_layout.Places.{memory_size}
+use Rattle.file_model.specs.card_layout.Persistent.{Persistent}
+use Rattle.file_model.specs.card_layout.Standing.{standing, Agrees}
+use Rattle.file_model.specs.card_layout.Memory.{Memory, IsMounted, Committed}
+use Rattle.file_model.specs.uicc_types.Counts.{Meter}
 use Rattle.layout_standing.specs.Stores.{StandsWith, WrittenStands, OneOfBothStands}
 use Rattle.card_memory.specs.Commits.{Commits}
 

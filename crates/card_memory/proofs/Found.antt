@@ -5,19 +5,19 @@ use Rattle.std.proofs.lemmas.Option.{get_or_from_slice_get}
 use Rattle.std.proofs.lemmas.List.Elements.{All-nil, All-cons}
 use Rattle.std.proofs.lemmas.Bool.{false≢true}
 use Rattle.std.proofs.lemmas.Bool.Decides.{nat_tests}
-use Rattle.card_layout.specs.declared.entries.Node.{Node}
-use Rattle.card_layout.specs.declared.entries.Loaded.{Loaded}
-use Rattle.card_layout.specs.Blank.{unused_node}
-use Rattle.card_layout.specs.Kinds.{df_kind, transparent_kind, has_records, is_ef_kind}
-use Rattle.card_layout.specs.Places.{memory_size}
-use Rattle.card_layout.specs.Standing.{Stands, Agrees}
-use Rattle.card_layout.specs.Changing.{with_bytes}
-use Rattle.card_layout.specs.States.{record_count}
-use Rattle.card_layout.specs.Used.{HasNode}
-use Rattle.store_form.specs.Pieces.{Piece, applied, IsUsable, IsUsablePiece}
-use Rattle.card_layout.specs.RowPlaces.{data_end_inside}
+use Rattle.file_model.specs.card_layout.declared.entries.Node.{Node}
+use Rattle.file_model.specs.card_layout.declared.entries.Loaded.{Loaded}
+use Rattle.file_model.specs.card_layout.Blank.{unused_node}
+use Rattle.file_model.specs.card_layout.Kinds.{df_kind, transparent_kind, has_records, is_ef_kind}
+use Rattle.file_model.specs.card_layout.Places.{memory_size}
+use Rattle.file_model.specs.card_layout.Standing.{Stands, Agrees}
+use Rattle.file_model.specs.card_layout.Changing.{with_bytes}
+use Rattle.file_model.specs.card_layout.States.{record_count}
+use Rattle.file_model.specs.card_layout.Used.{HasNode}
+use Rattle.file_model.specs.store_form.Pieces.{Piece, applied, IsUsable, IsUsablePiece}
+use Rattle.file_model.specs.card_layout.RowPlaces.{data_end_inside}
 use Rattle.layout_standing.specs.Known.{NodesAreFiles}
-use Rattle.layout_standing.specs.Laws.{WrittenBytesStand}
+use Rattle.layout_standing.specs.StandingLaws.{WrittenBytesStand}
 use Rattle.file_model.specs.declared.descriptors.Descriptor.{Descriptor}
 use Rattle.file_model.specs.declared.descriptors.Wanted.TheVariants.{Number}
 use Rattle.file_model.specs.Files.{df_descriptor, ef_descriptor, descriptor_of, descriptor_if, descriptors_of, file_found}

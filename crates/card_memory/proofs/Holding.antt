@@ -1,18 +1,18 @@
 -- What the state says that a file holds, and what stands in the memory at its place.
 use Rattle.std.specs.Prelude.{◌≡◌, ℕ, ◌+◌, ◌-◌, ◌≤◌, IsTrue, List, length, take, drop, slice_range, All, Option, Some, None, option_map, IfSome}
 use Rattle.std.proofs.Common.{sym, ◌∙◌, ap, subst, arith}
-use Rattle.card_layout.specs.declared.entries.Node.{Node}
-use Rattle.card_layout.specs.declared.entries.Loaded.{Loaded}
-use Rattle.card_layout.specs.Kinds.{transparent_kind, has_records}
-use Rattle.card_layout.specs.Persistent.{Contents, Persistent}
-use Rattle.card_layout.specs.States.{state_of, file_of, record_count}
-use Rattle.card_layout.specs.EntryLaws.{number_of_file}
-use Rattle.card_layout.specs.Standing.{Stands, standing, Agrees}
-use Rattle.card_layout.specs.Used.{HasNode}
+use Rattle.file_model.specs.card_layout.declared.entries.Node.{Node}
+use Rattle.file_model.specs.card_layout.declared.entries.Loaded.{Loaded}
+use Rattle.file_model.specs.card_layout.Kinds.{transparent_kind, has_records}
+use Rattle.file_model.specs.card_layout.Persistent.{Contents, Persistent}
+use Rattle.file_model.specs.card_layout.States.{state_of, file_of, record_count}
+use Rattle.file_model.specs.card_layout.EntryLaws.{number_of_file}
+use Rattle.file_model.specs.card_layout.Standing.{Stands, standing, Agrees}
+use Rattle.file_model.specs.card_layout.Used.{HasNode}
 use Rattle.layout_standing.specs.Standing.{IsFileNumbered, IsFileEntry}
 use Rattle.layout_standing.specs.Stores.{AgreeingStands}
 use Rattle.layout_standing.specs.Known.{StandingIsOfTable, NodesAreFiles}
-use Rattle.layout_standing.specs.Laws.{BytesAreRead}
+use Rattle.layout_standing.specs.StandingLaws.{BytesAreRead}
 use Rattle.file_model.specs.Holdings.{contents_if, held_by, bytes_held, records_held, bytes_in, records_in}
 
 -- ---- what the store stands for

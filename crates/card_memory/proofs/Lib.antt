@@ -6,3 +6,7 @@ mod Telling
 mod Retold
 mod PinCommits
 mod RowCommits
+mod EntryCommitting
+mod Parts
+mod StillStanding
+mod WorkedPrepared

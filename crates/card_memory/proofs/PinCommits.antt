@@ -5,23 +5,23 @@ use Rattle.std.proofs.lemmas.List.{length-take, length-drop}
 use Rattle.std.proofs.lemmas.Bool.Decides.{nat_tests}
 use Rattle.std.proofs.lemmas.List.Elements.{All-contains}
 use Rattle.std.proofs.lemmas.Option.{get_or_from_slice_get}
-use Rattle.store_form.specs.Pieces.{Piece, applied, IsUsablePiece}
-use Rattle.card_layout.specs.declared.entries.PinSlot.{PinSlot}
-use Rattle.card_layout.specs.declared.entries.Loaded.{Loaded}
-use Rattle.card_layout.specs.Blank.{absent_pin}
-use Rattle.card_layout.specs.Fields.{merged_pin}
-use Rattle.card_layout.specs.Places.{memory_size}
-use Rattle.card_layout.specs.Persistent.{Pin, Persistent}
-use Rattle.card_layout.specs.Ranges.{HasPinRanges}
-use Rattle.card_layout.specs.Soundness.{IsSoundPin}
-use Rattle.card_layout.specs.Spelling.{pin_spelled, pin_part}
-use Rattle.card_layout.specs.Standing.{Stands, Agrees}
-use Rattle.card_layout.specs.States.{pins_of, pin_state}
-use Rattle.card_layout.specs.Used.{HasPin}
-use Rattle.card_layout.specs.ReadingBack.{length-pin_spelled}
-use Rattle.layout_changes.specs.Changes.{with_slot}
+use Rattle.file_model.specs.store_form.Pieces.{Piece, applied, IsUsablePiece}
+use Rattle.file_model.specs.card_layout.declared.entries.PinSlot.{PinSlot}
+use Rattle.file_model.specs.card_layout.declared.entries.Loaded.{Loaded}
+use Rattle.file_model.specs.card_layout.Blank.{absent_pin}
+use Rattle.file_model.specs.card_layout.Fields.{merged_pin}
+use Rattle.file_model.specs.card_layout.Places.{memory_size}
+use Rattle.file_model.specs.card_layout.Persistent.{Pin, Persistent}
+use Rattle.file_model.specs.card_layout.Ranges.{HasPinRanges}
+use Rattle.file_model.specs.card_layout.Soundness.{IsSoundPin}
+use Rattle.file_model.specs.card_layout.Spelling.{pin_spelled, pin_part}
+use Rattle.file_model.specs.card_layout.Standing.{Stands, Agrees}
+use Rattle.file_model.specs.card_layout.States.{pins_of, pin_state}
+use Rattle.file_model.specs.card_layout.Used.{HasPin}
+use Rattle.file_model.specs.card_layout.ReadingBack.{length-pin_spelled}
+use Rattle.layout_standing.specs.Changes.{with_slot}
 use Rattle.layout_standing.specs.Known.{StandingIsCard, StandingIsOfTable, SlotsArePins}
-use Rattle.layout_standing.specs.Laws.{ChangedPinStands}
+use Rattle.layout_standing.specs.StandingLaws.{ChangedPinStands}
 use Rattle.layout_standing.specs.Writing.{IsPinChange}
 use Rattle.file_model.specs.Pins.{with_pin}
 use Rattle.card_memory.proofs.Recorded.{one_usable}

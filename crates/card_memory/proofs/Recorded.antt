@@ -6,22 +6,22 @@ use Rattle.std.proofs.lemmas.Bool.Decides.{nat_tests}
 use Rattle.std.proofs.lemmas.List.Elements.{All-nil, All-cons}
 use Rattle.std.proofs.lemmas.Nat.{mod_below}
 use Rattle.std.proofs.Math.Nat.{mul-le-mul_right, mod-eq_of_lt}
-use Rattle.store_form.specs.Pieces.{Piece, applied, IsUsable, IsUsablePiece}
-use Rattle.card_layout.specs.declared.entries.Node.{Node}
-use Rattle.card_layout.specs.declared.entries.Loaded.{Loaded}
-use Rattle.card_layout.specs.Blank.{unused_node}
-use Rattle.card_layout.specs.Kinds.{df_kind, linear_kind, cyclic_kind, has_records, is_ef_kind, activated, deactivated}
-use Rattle.card_layout.specs.Places.{memory_size}
-use Rattle.card_layout.specs.Spelling.{node_spelled, node_part}
-use Rattle.card_layout.specs.Changing.{with_record, with_newest_record, with_life}
-use Rattle.card_layout.specs.States.{file_of, record_count}
-use Rattle.card_layout.specs.Standing.{Stands, Agrees}
-use Rattle.card_layout.specs.Used.{HasNode}
-use Rattle.layout_changes.specs.Changes.{with_node}
-use Rattle.layout_changes.specs.Laws.{place_in_ring, oldest}
-use Rattle.layout_soundness.specs.Holding.{HasFullRecords, StandingRecordsAreFull}
+use Rattle.file_model.specs.store_form.Pieces.{Piece, applied, IsUsable, IsUsablePiece}
+use Rattle.file_model.specs.card_layout.declared.entries.Node.{Node}
+use Rattle.file_model.specs.card_layout.declared.entries.Loaded.{Loaded}
+use Rattle.file_model.specs.card_layout.Blank.{unused_node}
+use Rattle.file_model.specs.card_layout.Kinds.{df_kind, linear_kind, cyclic_kind, has_records, is_ef_kind, activated, deactivated}
+use Rattle.file_model.specs.card_layout.Places.{memory_size}
+use Rattle.file_model.specs.card_layout.Spelling.{node_spelled, node_part}
+use Rattle.file_model.specs.card_layout.Changing.{with_record, with_newest_record, with_life}
+use Rattle.file_model.specs.card_layout.States.{file_of, record_count}
+use Rattle.file_model.specs.card_layout.Standing.{Stands, Agrees}
+use Rattle.file_model.specs.card_layout.Used.{HasNode}
+use Rattle.layout_standing.specs.Changes.{with_node}
+use Rattle.layout_standing.specs.ChangeLaws.{place_in_ring, oldest}
+use Rattle.layout_standing.specs.Holding.{HasFullRecords, StandingRecordsAreFull}
 use Rattle.layout_standing.specs.Known.{NodesAreFiles}
-use Rattle.layout_standing.specs.Laws.{RecordIsRead, RingIsRead, WrittenRecordStands, NewestRecordStands, LifeCycleStands}
+use Rattle.layout_standing.specs.StandingLaws.{RecordIsRead, RingIsRead, WrittenRecordStands, NewestRecordStands, LifeCycleStands}
 use Rattle.file_model.specs.Holdings.{records_held, records_in}
 use Rattle.file_model.specs.Laws.{NumbersAreEntries}
 use Rattle.card_memory.specs.Commits.{Commits}

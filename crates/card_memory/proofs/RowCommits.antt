@@ -5,31 +5,31 @@ use Rattle.std.proofs.lemmas.List.Elements.{All-contains, All-contains_itself, A
 use Rattle.std.proofs.lemmas.List.{length-take, length-drop}
 use Rattle.std.proofs.lemmas.Bool.Decides.{nat_tests}
 use Rattle.std.proofs.lemmas.Option.{get_or_from_slice_get, same_Some}
-use Rattle.general_laws.specs.Numbered.{same_mapped}
-use Rattle.general_laws.specs.Members.{in_rest}
-use Rattle.store_form.specs.Pieces.{Piece, applied, IsUsablePiece}
-use Rattle.card_layout.specs.declared.entries.Row.{Row}
-use Rattle.card_layout.specs.declared.entries.Loaded.{Loaded}
-use Rattle.card_layout.specs.Blank.{unused_row}
-use Rattle.card_layout.specs.Kinds.{codes_of, call_control_code}
-use Rattle.card_layout.specs.Sections.{sorted_codes}
-use Rattle.card_layout.specs.Persistent.{Registration, Persistent}
-use Rattle.card_layout.specs.Ranges.{HasRowRanges}
-use Rattle.card_layout.specs.Soundness.{IsSound, IsSoundRow}
-use Rattle.card_layout.specs.Changing.{placed, with_row_on, with_row_changed, with_codes, with_kept_committed}
-use Rattle.card_layout.specs.Adding.{HasRoom}
-use Rattle.card_layout.specs.Places.{memory_size, row_place, row_count}
-use Rattle.card_layout.specs.ReadingBack.{length-row_spelled}
-use Rattle.card_layout.specs.Spelling.{row_spelled, row_part, sequence_part, kept_part}
-use Rattle.card_layout.specs.Standing.{Stands, Agrees}
-use Rattle.card_layout.specs.StateLaws.{RowsComeFromEntries}
-use Rattle.card_layout.specs.States.{rows_of, registration_of}
-use Rattle.card_layout.specs.Used.{HasRow, registration_if}
-use Rattle.card_layout.specs.SortedCodes.{of_sorted}
-use Rattle.layout_changes.specs.Changes.{with_row}
-use Rattle.layout_changes.specs.Laws.{kept_pieces}
+use Rattle.file_model.specs.uicc_types.Numbered.{same_mapped}
+use Rattle.file_model.specs.uicc_types.Members.{in_rest}
+use Rattle.file_model.specs.store_form.Pieces.{Piece, applied, IsUsablePiece}
+use Rattle.file_model.specs.card_layout.declared.entries.Row.{Row}
+use Rattle.file_model.specs.card_layout.declared.entries.Loaded.{Loaded}
+use Rattle.file_model.specs.card_layout.Blank.{unused_row}
+use Rattle.file_model.specs.card_layout.Kinds.{codes_of, call_control_code}
+use Rattle.file_model.specs.card_layout.Sections.{sorted_codes}
+use Rattle.file_model.specs.card_layout.Persistent.{Registration, Persistent}
+use Rattle.file_model.specs.card_layout.Ranges.{HasRowRanges}
+use Rattle.file_model.specs.card_layout.Soundness.{IsSound, IsSoundRow}
+use Rattle.file_model.specs.card_layout.Changing.{placed, with_row_on, with_row_changed, with_codes, with_kept_committed}
+use Rattle.file_model.specs.card_layout.Adding.{HasRoom}
+use Rattle.file_model.specs.card_layout.Places.{memory_size, row_place, row_count}
+use Rattle.file_model.specs.card_layout.ReadingBack.{length-row_spelled}
+use Rattle.file_model.specs.card_layout.Spelling.{row_spelled, row_part, sequence_part, kept_part}
+use Rattle.file_model.specs.card_layout.Standing.{Stands, Agrees}
+use Rattle.file_model.specs.card_layout.StateLaws.{RowsComeFromEntries}
+use Rattle.file_model.specs.card_layout.States.{rows_of, registration_of}
+use Rattle.file_model.specs.card_layout.Used.{HasRow, registration_if}
+use Rattle.file_model.specs.card_layout.SortedCodes.{of_sorted}
+use Rattle.layout_standing.specs.Changes.{with_row}
+use Rattle.layout_standing.specs.ChangeLaws.{kept_pieces}
 use Rattle.layout_standing.specs.Known.{StandingIsCard, StandingIsOfTable}
-use Rattle.layout_standing.specs.Laws.{EventsStand, KeptBytesStand, RemovedRowStands, InstalledRowStands, InstalledRowFits, NoOtherHasCallControl}
+use Rattle.layout_standing.specs.StandingLaws.{EventsStand, KeptBytesStand, RemovedRowStands, InstalledRowStands, InstalledRowFits, NoOtherHasCallControl}
 use Rattle.layout_standing.specs.Fitting.{FitsOnShelf, ShareNoCallControl}
 use Rattle.layout_standing.specs.Writing.{IsWholeRow}
 use Rattle.card_memory.specs.Commits.{Commits}

@@ -3,14 +3,14 @@ use Rattle.std.specs.Prelude.{◌≡◌, ◌≢◌, ℕ, ◌==◌, Bool, true, f
 use Rattle.std.proofs.Common.{refl, sym, ◌∙◌, ap, subst, arith}
 use Rattle.std.proofs.lemmas.Option.{same_Some}
 use Rattle.std.proofs.lemmas.Bool.Decides.{nat_tests}
-use Rattle.card_layout.specs.declared.entries.Node.{Node}
-use Rattle.card_layout.specs.declared.entries.Loaded.{Loaded}
-use Rattle.card_layout.specs.Kinds.{df_kind, transparent_kind, has_records}
-use Rattle.card_layout.specs.Persistent.{Persistent}
-use Rattle.card_layout.specs.Soundness.{IsSound}
-use Rattle.card_layout.specs.Standing.{standing, Agrees}
-use Rattle.card_layout.specs.States.{state_of}
-use Rattle.card_layout.specs.Used.{HasNode}
+use Rattle.file_model.specs.card_layout.declared.entries.Node.{Node}
+use Rattle.file_model.specs.card_layout.declared.entries.Loaded.{Loaded}
+use Rattle.file_model.specs.card_layout.Kinds.{df_kind, transparent_kind, has_records}
+use Rattle.file_model.specs.card_layout.Persistent.{Persistent}
+use Rattle.file_model.specs.card_layout.Soundness.{IsSound}
+use Rattle.file_model.specs.card_layout.Standing.{standing, Agrees}
+use Rattle.file_model.specs.card_layout.States.{state_of}
+use Rattle.file_model.specs.card_layout.Used.{HasNode}
 use Rattle.layout_standing.specs.Known.{StandingIsCard, StandingIsOfTable, NodesAreFiles}
 use Rattle.layout_standing.specs.Stores.{AgreeingStands}
 use Rattle.file_model.specs.declared.descriptors.Descriptor.{Descriptor}

@@ -1,9 +1,9 @@
 -- What some pieces make of a card.
 use Rattle.std.specs.Prelude.{ℕ, List, Option}
-use Rattle.store_form.specs.Pieces.{Piece, applied}
-use Rattle.card_layout.specs.declared.entries.Loaded.{Loaded}
-use Rattle.card_layout.specs.Persistent.{Persistent}
-use Rattle.card_layout.specs.Standing.{Stands, Agrees}
+use Rattle.file_model.specs.store_form.Pieces.{Piece, applied}
+use Rattle.file_model.specs.card_layout.declared.entries.Loaded.{Loaded}
+use Rattle.file_model.specs.card_layout.Persistent.{Persistent}
+use Rattle.file_model.specs.card_layout.Standing.{Stands, Agrees}
 
 -- Once the pieces are written into the bytes of a card with this table, these have the other table and stand for the
 -- changed state.

@@ -1,13 +1,13 @@
 -- Which files, PINs and rows the calls are for; and the entries of a table, changed.
 use Rattle.std.specs.Prelude.{◌≡◌, ◌≢◌, ℕ, ◌+◌, ◌≤◌, ◌<◌, ◌==◌, true, IsTrue, if◌then◌else◌, List, map, IsSome, slice_get, slice_set, slice_index_or, IsSomeAnd}
-use Rattle.card_layout.specs.declared.entries.Node.{Node}
-use Rattle.card_layout.specs.declared.entries.PinSlot.{PinSlot}
-use Rattle.card_layout.specs.declared.entries.Row.{Row}
-use Rattle.card_layout.specs.declared.entries.Loaded.{Loaded}
-use Rattle.card_layout.specs.Blank.{unused_node, absent_pin, unused_row}
-use Rattle.card_layout.specs.Kinds.{transparent_kind, linear_kind, cyclic_kind, is_ef_kind, has_records}
-use Rattle.card_layout.specs.States.{record_count}
-use Rattle.layout_changes.specs.Laws.{oldest}
+use Rattle.file_model.specs.card_layout.declared.entries.Node.{Node}
+use Rattle.file_model.specs.card_layout.declared.entries.PinSlot.{PinSlot}
+use Rattle.file_model.specs.card_layout.declared.entries.Row.{Row}
+use Rattle.file_model.specs.card_layout.declared.entries.Loaded.{Loaded}
+use Rattle.file_model.specs.card_layout.Blank.{unused_node, absent_pin, unused_row}
+use Rattle.file_model.specs.card_layout.Kinds.{transparent_kind, linear_kind, cyclic_kind, is_ef_kind, has_records}
+use Rattle.file_model.specs.card_layout.States.{record_count}
+use Rattle.layout_standing.specs.ChangeLaws.{oldest}
 use Rattle.file_model.specs.declared.descriptors.Descriptor.{Descriptor}
 use Rattle.file_model.specs.declared.descriptors.Wanted.TheVariants.{Number}
 use Rattle.file_model.specs.Files.{descriptors_of, file_found}

@@ -1,10 +1,10 @@
 -- What is known of the files of a card whose table is known.
 use Rattle.std.specs.Prelude.{◌≡◌, ℕ, List, length, All, IsTrue, Option, Some}
-use Rattle.card_layout.specs.declared.entries.Loaded.{Loaded}
-use Rattle.card_layout.specs.Kinds.{transparent_kind, has_records}
-use Rattle.card_layout.specs.Persistent.{Persistent}
-use Rattle.card_layout.specs.Standing.{standing, Agrees}
-use Rattle.card_layout.specs.States.{pins_of, rows_of}
+use Rattle.file_model.specs.card_layout.declared.entries.Loaded.{Loaded}
+use Rattle.file_model.specs.card_layout.Kinds.{transparent_kind, has_records}
+use Rattle.file_model.specs.card_layout.Persistent.{Persistent}
+use Rattle.file_model.specs.card_layout.Standing.{standing, Agrees}
+use Rattle.file_model.specs.card_layout.States.{pins_of, rows_of}
 use Rattle.file_model.specs.declared.descriptors.Descriptor.{Descriptor}
 use Rattle.file_model.specs.declared.descriptors.Wanted.TheVariants.{Number}
 use Rattle.file_model.specs.Files.{descriptors_of, descriptors_in, file_found}

@@ -1,10 +1,10 @@
 -- What a command has done to a card, and what stands where the memory failed inside it.
 use Rattle.std.specs.Prelude.{◌≡◌, ◌≤◌, ℕ, List, [], ◌∷◌, length, map, Contains, Option, Some, IfSome, IsSomeAnd, Result, Ok, Err}
-use Rattle.uicc_types.specs.Counts.{raised_by}
-use Rattle.uicc_types.specs.declared.answers.Answer.{Answer}
-use Rattle.access_rules.specs.declared.rules.Verified.{Verified}
-use Rattle.card_layout.specs.Persistent.{Pin, Persistent}
-use Rattle.card_layout.specs.Memory.{Memory, held}
+use Rattle.file_model.specs.uicc_types.Counts.{raised_by}
+use Rattle.file_model.specs.uicc_types.declared.answers.Answer.{Answer}
+use Rattle.file_model.specs.declared.rules.Verified.{Verified}
+use Rattle.file_model.specs.card_layout.Persistent.{Pin, Persistent}
+use Rattle.file_model.specs.card_layout.Memory.{Memory, held}
 use Rattle.file_model.specs.declared.selections.Selection.{Selection}
 use Rattle.file_model.specs.Outcomes.{FileOutcome, PinOutcome, last_of}
 

@@ -1,10 +1,10 @@
 -- What a commit sets of a PIN.
 use Rattle.std.specs.Prelude.{ℕ, ◌≤◌, true}
-use Rattle.card_layout.specs.declared.entries.PinSlot.{PinSlot}
-use Rattle.card_layout.specs.declared.sizes.TheConstants.{TRIES, UNBLOCK_TRIES}
-use Rattle.card_layout.specs.Persistent.{Persistent}
-use Rattle.card_layout.specs.States.{pin_state}
-use Rattle.card_layout.specs.Changing.{with_pin_for}
+use Rattle.file_model.specs.card_layout.declared.entries.PinSlot.{PinSlot}
+use Rattle.file_model.specs.card_layout.declared.sizes.TheConstants.{TRIES, UNBLOCK_TRIES}
+use Rattle.file_model.specs.card_layout.Persistent.{Persistent}
+use Rattle.file_model.specs.card_layout.States.{pin_state}
+use Rattle.file_model.specs.card_layout.Changing.{with_pin_for}
 use Rattle.card_memory.specs.declared.pins.PinChange.{PinChange}
 use Rattle.card_memory.specs.declared.pins.PinChange.TheVariants.{Tries, UnblockTries, Value, Enabled, Unblocked}
 

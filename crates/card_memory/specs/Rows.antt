@@ -1,15 +1,15 @@
 -- What rows may be installed and registered.
 use Rattle.std.specs.Prelude.{◌≡◌, ◌≢◌, ◌⊎◌, ℕ, ◌+◌, ◌<◌, true, [], IsTrue, Some, None}
-use Rattle.card_layout.specs.declared.entries.Row.{Row}
-use Rattle.card_layout.specs.declared.entries.Loaded.{Loaded}
-use Rattle.card_layout.specs.Kinds.{call_control_code}
-use Rattle.card_layout.specs.Persistent.{Registration, Persistent}
-use Rattle.card_layout.specs.Sections.{is_code}
-use Rattle.card_layout.specs.States.{registration_of, rows_of}
-use Rattle.card_layout.specs.Changing.{with_row_on}
+use Rattle.file_model.specs.card_layout.declared.entries.Row.{Row}
+use Rattle.file_model.specs.card_layout.declared.entries.Loaded.{Loaded}
+use Rattle.file_model.specs.card_layout.Kinds.{call_control_code}
+use Rattle.file_model.specs.card_layout.Persistent.{Registration, Persistent}
+use Rattle.file_model.specs.card_layout.Sections.{is_code}
+use Rattle.file_model.specs.card_layout.States.{registration_of, rows_of}
+use Rattle.file_model.specs.card_layout.Changing.{with_row_on}
 use Rattle.card_memory.specs.Entries.{row_at, with_row_at}
 use Rattle.layout_standing.specs.Fitting.{FitsOnShelf}
-use Rattle.layout_standing.specs.Laws.{NoOtherHasCallControl}
+use Rattle.layout_standing.specs.StandingLaws.{NoOtherHasCallControl}
 
 -- what a table tells of rows, as a state that has no more
 abbrev pub rows_alone : Loaded → Persistent

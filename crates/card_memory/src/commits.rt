@@ -1,15 +1,15 @@
 //! One commit of some pieces, and what the store stands for afterwards.
 ghost use Rattle.std.specs.Prelude.{◌<◌, length, All};
-ghost use Rattle.store_form.specs.Pieces.{IsUsablePiece};
-ghost use Rattle.card_layout.specs.Places.{memory_size};
-ghost use Rattle.card_layout.specs.declared.entries.Loaded.{Loaded};
-ghost use Rattle.card_layout.specs.Persistent.{Persistent};
+ghost use Rattle.file_model.specs.store_form.Pieces.{IsUsablePiece};
+ghost use Rattle.file_model.specs.card_layout.Places.{memory_size};
+ghost use Rattle.file_model.specs.card_layout.declared.entries.Loaded.{Loaded};
+ghost use Rattle.file_model.specs.card_layout.Persistent.{Persistent};
 ghost use Rattle.card_memory.specs.Commits.{Commits};
-ghost use Rattle.card_layout.specs.Memory.{Committed, IsMounted, memory};
+ghost use Rattle.file_model.specs.card_layout.Memory.{Committed, IsMounted, memory};
 
-use card_layout::Loaded;
+use file_model::card_layout::Loaded;
+use file_model::store_form::{Store, StoreFault, Writes};
 use layout_standing::stores_stand;
-use store_form::{Store, StoreFault, Writes};
 
 /// Commits these pieces. What is known of each card of this table once they are written into its bytes is then known of the
 /// store: its table and its state.

@@ -1,11 +1,11 @@
 //! The entry of a file, and where a record lies.
 ghost use Rattle.std.specs.Prelude.{◌≡◌, ◌+◌, ◌*◌, ◌%◌, ◌≤◌, ◌<◌, ◌^◌};
-ghost use Rattle.card_layout.specs.States.{record_count};
-ghost use Rattle.card_layout.specs.Used.{HasNode};
-ghost use Rattle.layout_changes.specs.Laws.{place_in_ring};
+ghost use Rattle.file_model.specs.card_layout.States.{record_count};
+ghost use Rattle.file_model.specs.card_layout.Used.{HasNode};
+ghost use Rattle.layout_standing.specs.ChangeLaws.{place_in_ring};
 ghost use Rattle.card_memory.specs.Entries.{IsThere, node_at, with_head_moved};
 
-use card_layout::{Loaded, Node};
+use file_model::card_layout::{Loaded, Node};
 use file_model::files_are_found;
 
 /// The entry of a file that is there.

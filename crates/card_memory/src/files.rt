@@ -1,22 +1,21 @@
 //! The commits of what files hold, and of their life cycle status.
 ghost use Rattle.std.specs.Prelude.{◌≡◌, ◌⊎◌, ◌≤◌, ◌<◌, [], ◌∷◌, length, OnOk, OnErr};
-ghost use Rattle.card_layout.specs.Kinds.{activated, deactivated};
-ghost use Rattle.card_layout.specs.Changing.{with_bytes, with_record, with_newest_record, with_life};
-ghost use Rattle.card_layout.specs.Spelling.{node_part};
+ghost use Rattle.file_model.specs.card_layout.Kinds.{activated, deactivated};
+ghost use Rattle.file_model.specs.card_layout.Changing.{with_bytes, with_record, with_newest_record, with_life};
+ghost use Rattle.file_model.specs.card_layout.Spelling.{node_part};
 ghost use Rattle.file_model.specs.Files.{descriptors_of};
 ghost use Rattle.card_memory.specs.Entries.{HasBytes, HasLinearRecord, HasRing, HasEf, node_at, with_node_at, with_head_moved, with_life_told};
-ghost use Rattle.card_layout.specs.Memory.{Committed, IsMounted, memory};
+ghost use Rattle.file_model.specs.card_layout.Memory.{Committed, IsMounted, memory};
 
 use crate::commits::commit;
 use crate::entries::{node_of, with_head_moved};
 use crate::pieces::{bytes_piece, node_piece};
-use card_layout::sizes::NODE_COUNT;
-use card_layout::{Loaded, Node, node_write};
+use file_model::card_layout::sizes::NODE_COUNT;
+use file_model::card_layout::{Loaded, Node, node_write};
 use file_model::files_are_found;
-use layout_soundness::standing_files_hold;
-use layout_standing::{cards_are_known, files_stand, what_files_hold_stands};
-use store_form::{Store, StoreFault, Writes};
-use uicc_types::Full;
+use file_model::store_form::{Store, StoreFault, Writes};
+use file_model::uicc_types::Full;
+use layout_standing::{cards_are_known, files_stand, standing_files_hold, what_files_hold_stands};
 
 /// Commits bytes of a transparent file, from an offset on (ETSI TS 102 221, 11.1.4). At most 640 can be committed.
 pub fn write_bytes<S: Store>(

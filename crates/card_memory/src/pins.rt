@@ -1,19 +1,19 @@
 //! The commits of a PIN.
 ghost use Rattle.std.specs.Prelude.{◌≡◌, ◌<◌, OnOk, OnErr};
-ghost use Rattle.card_layout.specs.States.{pins_of, pin_state};
-ghost use Rattle.card_layout.specs.Used.{HasPin};
+ghost use Rattle.file_model.specs.card_layout.States.{pins_of, pin_state};
+ghost use Rattle.file_model.specs.card_layout.Used.{HasPin};
 ghost use Rattle.file_model.specs.Pins.{with_pin};
 ghost use Rattle.card_memory.specs.Entries.{HasPinIn, pin_at, with_pin_at};
 ghost use Rattle.card_memory.specs.Pins.{changed_pin, HasFewTries, span_of, with_pin_changed};
-ghost use Rattle.card_layout.specs.Memory.{Committed, IsMounted, memory};
+ghost use Rattle.file_model.specs.card_layout.Memory.{Committed, IsMounted, memory};
 
 use crate::commits::commit;
 use crate::pieces::pin_piece;
-use card_layout::sizes::{PIN_COUNT, TRIES, UNBLOCK_TRIES};
-use card_layout::{Loaded, PinSlot, pin_ranges};
+use file_model::card_layout::sizes::{PIN_COUNT, TRIES, UNBLOCK_TRIES};
+use file_model::card_layout::{Loaded, PinSlot, pin_ranges};
+use file_model::store_form::{Store, StoreFault, Writes};
+use file_model::uicc_types::Pin8;
 use layout_standing::{cards_are_known, pins_stand};
-use store_form::{Store, StoreFault, Writes};
-use uicc_types::Pin8;
 
 /// What a commit sets of a PIN (ETSI TS 102 221, 9.5).
 #[derive(Clone, Copy, Debug)]

@@ -2,14 +2,15 @@
 ghost use Rattle.std.specs.Prelude.{◌≡◌, length, OnOk, IfSome, take, drop, slice_index_or, []};
 ghost use Rattle.file_model.specs.Holdings.{bytes_in, records_in};
 ghost use Rattle.card_memory.specs.Entries.{HasBytes, HasRecord};
-ghost use Rattle.card_layout.specs.Memory.{IsMounted, Reads, held_by, memory};
+ghost use Rattle.file_model.specs.card_layout.Memory.{IsMounted, Reads, held_by, memory};
 
 use crate::entries::{node_of, place_of_record};
-use card_layout::Loaded;
+use file_model::card_layout::Loaded;
 use file_model::files_are_found;
-use layout_soundness::standing_files_hold;
-use layout_standing::{cards_are_known, stores_stand, what_files_hold_is_read};
-use store_form::{Store, StoreFault};
+use file_model::store_form::{Store, StoreFault};
+use layout_standing::{
+    cards_are_known, standing_files_hold, stores_stand, what_files_hold_is_read,
+};
 
 /// Reads bytes of a transparent file, from an offset on, into the whole of `out` (ETSI TS 102 221, 11.1.3). After a fault
 /// `out` holds any bytes.

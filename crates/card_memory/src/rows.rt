@@ -1,29 +1,31 @@
 //! The commits of the rows of applets.
 ghost use Rattle.std.specs.Prelude.{◌≡◌, ◌⊎◌, ◌+◌, ◌≤◌, ◌<◌, [], ◌∷◌, ◌++◌, length, All, OnOk, OnErr, IsErrOf, option_map, is_some};
-ghost use Rattle.uicc_types.specs.Counts.{Caused};
-ghost use Rattle.store_form.specs.Pieces.{IsUsablePiece};
-ghost use Rattle.card_layout.specs.Places.{memory_size};
-ghost use Rattle.card_layout.specs.Persistent.{Persistent};
-ghost use Rattle.card_layout.specs.Used.{HasRow};
+ghost use Rattle.file_model.specs.uicc_types.Counts.{Caused};
+ghost use Rattle.file_model.specs.store_form.Pieces.{IsUsablePiece};
+ghost use Rattle.file_model.specs.card_layout.Places.{memory_size};
+ghost use Rattle.file_model.specs.card_layout.Persistent.{Persistent};
+ghost use Rattle.file_model.specs.card_layout.Used.{HasRow};
 ghost use Rattle.card_memory.specs.Commits.{Commits};
-ghost use Rattle.card_layout.specs.States.{registration_of, rows_of};
-ghost use Rattle.card_layout.specs.Changing.{with_code_committed, without_code_committed, with_kept_committed};
-ghost use Rattle.card_layout.specs.Blank.{unused_row};
-ghost use Rattle.card_layout.specs.Spelling.{row_part, sequence_part};
-ghost use Rattle.card_layout.specs.Adding.{HasRoom};
-ghost use Rattle.layout_changes.specs.Laws.{kept_pieces};
+ghost use Rattle.file_model.specs.card_layout.States.{registration_of, rows_of};
+ghost use Rattle.file_model.specs.card_layout.Changing.{with_code_committed, without_code_committed, with_kept_committed};
+ghost use Rattle.file_model.specs.card_layout.Blank.{unused_row};
+ghost use Rattle.file_model.specs.card_layout.Spelling.{row_part, sequence_part};
+ghost use Rattle.file_model.specs.card_layout.Adding.{HasRoom};
+ghost use Rattle.layout_standing.specs.ChangeLaws.{kept_pieces};
 ghost use Rattle.card_memory.specs.Entries.{HasRowOn, row_at, with_row_at};
 ghost use Rattle.card_memory.specs.Rows.{MayInstall, with_row_installed, without_row_on, MayRegister, ChangesEvents, rows_alone};
-ghost use Rattle.card_layout.specs.Memory.{Committed, IsMounted, held_by, memory};
+ghost use Rattle.file_model.specs.card_layout.Memory.{Committed, IsMounted, held_by, memory};
 
 use crate::commits::commit;
 use crate::pieces::row_piece;
-use card_layout::events::{with_event, without_event};
-use card_layout::sizes::{KEPT_WIDTH, ROW_COUNT};
-use card_layout::{Loaded, Row, kept_write, row_ranges, sequence_write, states_are_of_entries};
+use file_model::card_layout::events::{with_event, without_event};
+use file_model::card_layout::sizes::{KEPT_WIDTH, ROW_COUNT};
+use file_model::card_layout::{
+    Loaded, Row, kept_write, row_ranges, sequence_write, states_are_of_entries,
+};
+use file_model::store_form::{Store, StoreFault, Writes};
+use file_model::uicc_types::{Full, Kept, Shelf};
 use layout_standing::{cards_are_known, rows_stand, states_stay_sound};
-use store_form::{Store, StoreFault, Writes};
-use uicc_types::{Full, Kept, Shelf};
 
 // The row on this shelf.
 fn row_of(loaded: &Loaded, shelf: Shelf) -> &Row

@@ -1,7 +1,7 @@
 //! Why a command ends before it is carried out.
 
-use store_form::StoreFault;
-use uicc_types::StatusWord;
+use file_model::store_form::StoreFault;
+use file_model::uicc_types::StatusWord;
 
 /// Why a command ends before it is carried out.
 #[derive(Clone, Copy, Debug, PartialEq, Eq)]

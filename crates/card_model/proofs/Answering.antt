@@ -4,11 +4,11 @@ use Rattle.std.specs.Prelude.{◌&&◌, is_some, is_none, if◌then◌else◌, R
 use Rattle.std.specs.List.{enumerate_from, list_any}
 use Rattle.std.proofs.lemmas.Bool.{false≢true, or_parts}
 use Rattle.std.proofs.lemmas.List.Elements.{All-cons, All-contains}
-use Rattle.uicc_types.specs.Told.{AreBytes}
-use Rattle.uicc_types.specs.declared.answers.StatusWord.{StatusWord}
-use Rattle.uicc_types.specs.declared.answers.TheConstants.StatusWord.{WRONG_LENGTH, NO_SUCH_CLASS, NO_SECURE_MESSAGING, NO_SUCH_CHANNEL, NO_SUCH_INSTRUCTION}
-use Rattle.apdu_form.specs.Model.{Apdu, IsCommand}
-use Rattle.card_layout.specs.Persistent.{Persistent, Registration}
+use Rattle.file_model.specs.uicc_types.Told.{AreBytes}
+use Rattle.file_model.specs.uicc_types.declared.answers.StatusWord.{StatusWord}
+use Rattle.file_model.specs.uicc_types.declared.answers.TheConstants.StatusWord.{WRONG_LENGTH, NO_SUCH_CLASS, NO_SECURE_MESSAGING, NO_SUCH_CHANNEL, NO_SUCH_INSTRUCTION}
+use Rattle.file_model.specs.apdu_form.Model.{Apdu, IsCommand}
+use Rattle.file_model.specs.card_layout.Persistent.{Persistent, Registration}
 use Rattle.file_model.specs.Chains.{and_given}
 use Rattle.file_model.specs.Commands.{file_outcome, pin_outcome}
 use Rattle.file_model.specs.Laws.{IsLawfulCommand, IsLawfulPinCommand, IsLawfulOutcome, IsLawfulPinOutcome, IsFileRefusal, IsSoundCard, pin_refusals}

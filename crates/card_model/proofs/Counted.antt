@@ -2,12 +2,12 @@
 use Rattle.std.proofs.Common.{◌≡◌, ℕ, ◌+◌, ◌≤◌, Bool, true, false, cond, List, [], ◌∷◌, ◌++◌, length, refl, sym, ◌∙◌, ap, arith, length-append, append_assoc}
 use Rattle.std.specs.Prelude.{count_by, zero, suc, if◌then◌else◌}
 use Rattle.std.proofs.lemmas.List.Sums.{sum_by-append}
-use Rattle.uicc_types.specs.Counts.{Meter, Caused, raised, raised_by, names_fault, armed as plan_given}
-use Rattle.uicc_types.specs.declared.plans.Plan.{Plan}
-use Rattle.uicc_types.specs.declared.plans.TheConstants.Plan.{NONE}
-use Rattle.uicc_types.specs.declared.runs.Step.{Step}
-use Rattle.uicc_types.specs.declared.runs.Step.TheVariants as step
-use Rattle.uicc_types.specs.declared.runs.TraceItem.{TraceItem}
+use Rattle.file_model.specs.uicc_types.Counts.{Meter, Caused, raised, raised_by, names_fault, armed as plan_given}
+use Rattle.file_model.specs.uicc_types.declared.plans.Plan.{Plan}
+use Rattle.file_model.specs.uicc_types.declared.plans.TheConstants.Plan.{NONE}
+use Rattle.file_model.specs.uicc_types.declared.runs.Step.{Step}
+use Rattle.file_model.specs.uicc_types.declared.runs.Step.TheVariants as step
+use Rattle.file_model.specs.uicc_types.declared.runs.TraceItem.{TraceItem}
 use Rattle.file_model.specs.Outcomes.{last_of}
 use Rattle.card_model.specs.Counts.{IsCounted, is_failure, is_cut}
 use Rattle.card_model.specs.Runs.{due, joined, armed_after, waiting_after}

@@ -2,17 +2,17 @@
 use Rattle.std.proofs.Common.{mod-lt, get_or, ◌≡◌, ◌⊎◌, inl, inr, ⊎_elim, ℕ, zero, suc, ◌<◌, ◌≤◌, Bool, true, false, List, [], ◌∷◌, length, map, Option, Some, None, refl, sym, ◌∙◌, ap, subst, arith}
 use Rattle.std.specs.Prelude.{◌==◌, ◌%◌, Err, All, Contains, MatchResult, IfSome, slice_index_or, slice_set, is_some, unwrap_or, not, ◌&&◌, nat_le, if◌then◌else◌}
 use Rattle.std.proofs.lemmas.Bool.{false≢true, cases_eq, cond-true, cond-false, eq-eqb, ne_eqb, leb-true, and_parts}
-use Rattle.general_laws.specs.Finding.{find_Some}
-use Rattle.apdu_form.specs.Model.{Apdu}
+use Rattle.file_model.specs.uicc_types.Finding.{find_Some}
+use Rattle.file_model.specs.apdu_form.Model.{Apdu}
 use Rattle.file_model.specs.Chained.{unless_so, given_so}
-use Rattle.uicc_types.specs.declared.answers.TheConstants.StatusWord.{DONE, END_OF_FILE, FILE_DEACTIVATED, WRONG_PARAMETERS}
+use Rattle.file_model.specs.uicc_types.declared.answers.TheConstants.StatusWord.{DONE, END_OF_FILE, FILE_DEACTIVATED, WRONG_PARAMETERS}
 use Rattle.std.proofs.lemmas.List.{length-set, get_or-set_other}
 use Rattle.std.proofs.lemmas.List.Elements.{All-nil, All-cons, All-map}
 use Rattle.std.proofs.lemmas.Grind.{get_or-set_at}
-use Rattle.uicc_types.specs.declared.answers.StatusWord.{StatusWord}
-use Rattle.card_layout.specs.Changing.{with_file_changed}
-use Rattle.card_layout.specs.Persistent.{Pin, Persistent, Registration}
-use Rattle.card_layout.specs.Soundness.{IsSound}
+use Rattle.file_model.specs.uicc_types.declared.answers.StatusWord.{StatusWord}
+use Rattle.file_model.specs.card_layout.Changing.{with_file_changed}
+use Rattle.file_model.specs.card_layout.Persistent.{Pin, Persistent, Registration}
+use Rattle.file_model.specs.card_layout.Soundness.{IsSound}
 use Rattle.file_model.specs.Files.{descriptors_in}
 use Rattle.file_model.specs.Laws.{ChangesOneFile, ChangesOnePin, ChangesTriesAlone, EachStep, IsSoundCard, IsLawfulOutcome, IsLawfulPinOutcome, TellsTries}
 use Rattle.file_model.specs.Outcomes.{FileOutcome, PinOutcome, last_of, has_no_data}

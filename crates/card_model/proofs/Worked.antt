@@ -1,15 +1,15 @@
 -- Commands to a small card, worked out from their bytes: what the card answers to each, one after the other.
 use Rattle.std.proofs.Common.{◌≡◌, ℕ, Bool, true, List, [], ◌∷◌, ◌++◌, replicate, None, refl}
 use Rattle.std.specs.Int.{to_be_bytes, w16}
-use Rattle.uicc_types.specs.Patches.{patched}
-use Rattle.apdu_form.specs.Model.{command_in, fields_in}
-use Rattle.card_layout.specs.Changing.{with_file_changed}
-use Rattle.card_layout.specs.Persistent.{Files, Bytes, Records, File, Pin, Persistent}
-use Rattle.card_layout.specs.Soundness.{mf}
+use Rattle.file_model.specs.uicc_types.Patches.{patched}
+use Rattle.file_model.specs.apdu_form.Model.{command_in, fields_in}
+use Rattle.file_model.specs.card_layout.Changing.{with_file_changed}
+use Rattle.file_model.specs.card_layout.Persistent.{Files, Bytes, Records, File, Pin, Persistent}
+use Rattle.file_model.specs.card_layout.Soundness.{mf}
 use Rattle.file_model.specs.Chains.{refused_if, given, and_given}
 use Rattle.file_model.specs.Access.{keys_seen, arr_found, ruling_record, may}
 use Rattle.file_model.specs.Binaries.{reading, binary_read, updating, binary_updated, binary_file, read_from, update_in}
-use Rattle.access_rules.specs.Objects.{object}
+use Rattle.file_model.specs.Objects.{object}
 use Rattle.file_model.specs.Fcp.{fcp}
 use Rattle.file_model.specs.Records.{record_file, record_named, number_to_read, record_reading, record_read_from, record_read, sum_to_write, increasing, increase_in, increased}
 use Rattle.file_model.specs.Files.{descriptor_in, descriptors_in, file_found}

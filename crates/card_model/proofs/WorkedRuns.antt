@@ -1,16 +1,16 @@
 -- A run in which power is lost, and one in which the memory fails, worked out: what the card holds afterwards.
 use Rattle.std.proofs.Common.{◌≡◌, arith, inl, inr, ℕ, List, [], ◌∷◌, Some, None, refl}
-use Rattle.uicc_types.specs.Patches.{patched}
-use Rattle.uicc_types.specs.declared.answers.TheConstants.StatusWord.{MEMORY_PROBLEM}
-use Rattle.uicc_types.specs.declared.runs.Step.TheVariants as step
-use Rattle.uicc_types.specs.declared.runs.TraceItem.TheVariants as item
-use Rattle.uicc_types.specs.declared.plans.Plan.{Plan}
-use Rattle.uicc_types.specs.declared.plans.TheConstants.Plan.{NONE}
-use Rattle.apdu_form.specs.Model.{command_in, fields_in}
-use Rattle.card_layout.specs.Changing.{with_file_changed}
-use Rattle.card_layout.specs.Persistent.{Bytes, Registration, Persistent}
+use Rattle.file_model.specs.uicc_types.Patches.{patched}
+use Rattle.file_model.specs.uicc_types.declared.answers.TheConstants.StatusWord.{MEMORY_PROBLEM}
+use Rattle.file_model.specs.uicc_types.declared.runs.Step.TheVariants as step
+use Rattle.file_model.specs.uicc_types.declared.runs.TraceItem.TheVariants as item
+use Rattle.file_model.specs.uicc_types.declared.plans.Plan.{Plan}
+use Rattle.file_model.specs.uicc_types.declared.plans.TheConstants.Plan.{NONE}
+use Rattle.file_model.specs.apdu_form.Model.{command_in, fields_in}
+use Rattle.file_model.specs.card_layout.Changing.{with_file_changed}
+use Rattle.file_model.specs.card_layout.Persistent.{Bytes, Registration, Persistent}
 use Rattle.toolkit_model.specs.Model.{AppletState, fresh}
-use Rattle.card_layout.specs.Soundness.{mf}
+use Rattle.file_model.specs.card_layout.Soundness.{mf}
 use Rattle.file_model.specs.Chains.{refused_if, given, and_given}
 use Rattle.file_model.specs.Access.{keys_seen, arr_found, ruling_record, may}
 use Rattle.file_model.specs.Binaries.{reading, binary_read, updating, binary_updated, binary_file, read_from, update_in}

@@ -3,18 +3,18 @@
 use Rattle.std.proofs.Common.{◌≡◌, ℕ, List, [], ◌∷◌, map, replicate, Option, Some, true, refl}
 use Rattle.std.specs.Prelude.{◌+◌, ◌%◌}
 use Rattle.std.specs.List.{range_with_len}
-use Rattle.apdu_form.specs.Model.{command_in, fields_in}
-use Rattle.access_rules.specs.declared.rules.Verified.{Verified}
-use Rattle.card_layout.specs.Persistent.{Pin, Registration, Persistent}
-use Rattle.card_layout.specs.Soundness.{mf}
-use Rattle.comprehension_tlv.specs.Reading as Reading
-use Rattle.comprehension_tlv.specs.Writing.{tagged}
-use Rattle.toolkit_commands.specs.Envelopes.{value_in, envelope_in, envelope_of}
-use Rattle.toolkit_commands.specs.Responses.{response_of}
-use Rattle.terminal_profile.specs.Model.{allowed, allowed_event, consulted}
-use Rattle.applet_trait.specs.Minds.{AppletState, fresh}
-use Rattle.applet_trait.specs.Tables.{number_of, row_from}
-use Rattle.applet_trait.specs.Turns.{act}
+use Rattle.file_model.specs.apdu_form.Model.{command_in, fields_in}
+use Rattle.file_model.specs.declared.rules.Verified.{Verified}
+use Rattle.file_model.specs.card_layout.Persistent.{Pin, Registration, Persistent}
+use Rattle.file_model.specs.card_layout.Soundness.{mf}
+use Rattle.toolkit_model.specs.comprehension_tlv.Reading as Reading
+use Rattle.toolkit_model.specs.comprehension_tlv.Writing.{tagged}
+use Rattle.toolkit_model.specs.toolkit_commands.Envelopes.{value_in, envelope_in, envelope_of}
+use Rattle.toolkit_model.specs.toolkit_commands.Responses.{response_of}
+use Rattle.toolkit_model.specs.Profiles.{allowed, allowed_event, consulted}
+use Rattle.toolkit_model.specs.applet_trait.Minds.{AppletState, fresh}
+use Rattle.toolkit_model.specs.applet_trait.Tables.{number_of, row_from}
+use Rattle.toolkit_model.specs.applet_trait.Turns.{act}
 use Rattle.toolkit_model.specs.Commands.{profiled, polled, triggered, enveloped, fetched, answered, responded, installed, deleted}
 use Rattle.toolkit_model.specs.Driving.{told_one, given_one, caught_up, wanted, settled, driven}
 use Rattle.toolkit_model.specs.Order.{trigger_order}

@@ -1,10 +1,10 @@
 -- Files that are made, resized and deleted by commands to a small card, worked out from their bytes: what the card answers to each,
 -- one after the other.
 use Rattle.std.proofs.Common.{◌≡◌, ℕ, true, false, List, [], ◌∷◌, ◌++◌, map, replicate, None, refl}
-use Rattle.apdu_form.specs.Model.{command_in, fields_in}
-use Rattle.access_rules.specs.Objects.{object}
-use Rattle.card_layout.specs.Persistent.{Contents, Bytes, Records, File, Pin, Persistent}
-use Rattle.card_layout.specs.Soundness.{mf}
+use Rattle.file_model.specs.apdu_form.Model.{command_in, fields_in}
+use Rattle.file_model.specs.Objects.{object}
+use Rattle.file_model.specs.card_layout.Persistent.{Contents, Bytes, Records, File, Pin, Persistent}
+use Rattle.file_model.specs.card_layout.Soundness.{mf}
 use Rattle.file_model.specs.Access.{keys_seen, arr_found, ruling_record, may}
 use Rattle.file_model.specs.Binaries.{reading, binary_read, binary_file, read_from}
 use Rattle.file_model.specs.Chains.{refused_if, given, and_given}

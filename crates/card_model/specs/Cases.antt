@@ -2,11 +2,11 @@
 use Rattle.std.proofs.Common.{◌≡◌, ◌≤◌, ℕ, Bool, List, length, Option, Some, None, refl, subst, arith}
 use Rattle.std.specs.Prelude.{IfSome, MatchResult, Result, Ok, Err, ⊤}
 use Rattle.std.proofs.lemmas.List.{length-take}
-use Rattle.uicc_types.specs.Told.{AreBytes}
-use Rattle.uicc_types.specs.declared.answers.StatusWord.{StatusWord}
-use Rattle.uicc_types.specs.declared.answers.TheConstants.StatusWord.{WRONG_LENGTH, NO_SUCH_CLASS, NO_SECURE_MESSAGING, NO_SUCH_CHANNEL, NO_SUCH_INSTRUCTION}
-use Rattle.apdu_form.specs.Model.{Apdu, IsCommand, command_in}
-use Rattle.apdu_form.specs.Reading.{commands_are}
+use Rattle.file_model.specs.uicc_types.Told.{AreBytes}
+use Rattle.file_model.specs.uicc_types.declared.answers.StatusWord.{StatusWord}
+use Rattle.file_model.specs.uicc_types.declared.answers.TheConstants.StatusWord.{WRONG_LENGTH, NO_SUCH_CLASS, NO_SECURE_MESSAGING, NO_SUCH_CHANNEL, NO_SUCH_INSTRUCTION}
+use Rattle.file_model.specs.apdu_form.Model.{Apdu, IsCommand, command_in}
+use Rattle.file_model.specs.apdu_form.Reading.{commands_are}
 use Rattle.file_model.specs.Chains.{given, and_given}
 use Rattle.card_model.specs.Answers.{Answered, carried_with, cut_to, cut_answer, tried}
 use Rattle.card_model.specs.Channels.{family}

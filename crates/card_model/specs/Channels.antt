@@ -1,8 +1,8 @@
 -- Logical channels (ETSI TS 102 221, 8.7 and 11.1.17), and the class bytes that name them (10.1.1).
 use Rattle.std.specs.Prelude.{ℕ, ◌/◌, ◌%◌, ◌*◌, ◌==◌, ◌&&◌, ◌||◌, not, Bool, false, if◌then◌else◌, List, [], ◌∷◌, find, slice_index_or, slice_set, nat_le, Option, Some, None, is_some, Result, Ok, Err}
-use Rattle.uicc_types.specs.declared.answers.StatusWord.{StatusWord}
-use Rattle.uicc_types.specs.declared.answers.TheConstants.StatusWord.{WRONG_LENGTH, WRONG_PARAMETERS, NO_FREE_CHANNEL, CONDITIONS_NOT_SATISFIED}
-use Rattle.apdu_form.specs.Model.{Apdu}
+use Rattle.file_model.specs.uicc_types.declared.answers.StatusWord.{StatusWord}
+use Rattle.file_model.specs.uicc_types.declared.answers.TheConstants.StatusWord.{WRONG_LENGTH, WRONG_PARAMETERS, NO_FREE_CHANNEL, CONDITIONS_NOT_SATISFIED}
+use Rattle.file_model.specs.apdu_form.Model.{Apdu}
 use Rattle.file_model.specs.Chains.{given, needs}
 use Rattle.file_model.specs.Outcomes.{has_no_data}
 use Rattle.file_model.specs.declared.selections.Selection.{Selection}

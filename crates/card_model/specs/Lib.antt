@@ -1,14 +1,17 @@
-pub mod States
-pub mod Channels
-pub mod Instructions
-pub mod Chained
-pub mod Naming
-pub mod Cases
-pub mod OtherFiles
-pub mod Toolkit
 pub mod Answers
-pub mod Runs
+pub mod Cases
+pub mod Chained
+pub mod Channels
 pub mod Counts
-pub mod Woken
+pub mod Instructions
 pub mod Laws
+pub mod Naming
+pub mod OtherFiles
 pub mod Pending
+pub mod Runs
+pub mod States
+pub mod Toolkit
+pub mod Woken
+pub use Rattle.toolkit_model.specs.applet_trait
+pub use Rattle.file_making.specs as file_making
+pub use Rattle.file_model.specs as file_model

@@ -1,14 +1,14 @@
 -- Commands on files, and those that make, delete and resize files, change no more than files.
 use Rattle.std.proofs.Common.{◌≡◌, ℕ, Bool, true, false, List, [], ◌∷◌, Option, refl}
 use Rattle.std.specs.Prelude.{◌==◌, if◌then◌else◌, MatchResult, ⊤, Result}
-use Rattle.uicc_types.specs.declared.answers.StatusWord.{StatusWord}
-use Rattle.access_rules.specs.declared.rules.Op.{Op}
-use Rattle.access_rules.specs.declared.rules.Op.TheVariants as op
-use Rattle.access_rules.specs.declared.rules.Verified.{Verified}
-use Rattle.apdu_form.specs.Model.{Apdu}
-use Rattle.card_layout.specs.Changing.{with_file_changed, with_life, with_newest_record, with_record}
-use Rattle.card_layout.specs.Kinds.{activated, deactivated}
-use Rattle.card_layout.specs.Persistent.{Persistent}
+use Rattle.file_model.specs.uicc_types.declared.answers.StatusWord.{StatusWord}
+use Rattle.file_model.specs.declared.rules.Op.{Op}
+use Rattle.file_model.specs.declared.rules.Op.TheVariants as op
+use Rattle.file_model.specs.declared.rules.Verified.{Verified}
+use Rattle.file_model.specs.apdu_form.Model.{Apdu}
+use Rattle.file_model.specs.card_layout.Changing.{with_file_changed, with_life, with_newest_record, with_record}
+use Rattle.file_model.specs.card_layout.Kinds.{activated, deactivated}
+use Rattle.file_model.specs.card_layout.Persistent.{Persistent}
 use Rattle.file_model.specs.declared.descriptors.Descriptor.{Descriptor}
 use Rattle.file_model.specs.declared.selections.Selection.{Selection}
 use Rattle.file_model.specs.Outcomes.{FileOutcome}

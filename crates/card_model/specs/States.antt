@@ -1,8 +1,8 @@
 -- The state of a card, and what a reset leaves of it.
 use Rattle.std.specs.Prelude.{◌≡◌, ◌≤◌, ℕ, ◌==◌, Bool, true, false, List, [], ◌∷◌, length, find, map, All, Option, Some, None, option_map, is_some, slice_index_or, IfSome, IsSomeAnd}
 use Rattle.std.specs.List.{enumerate_from}
-use Rattle.access_rules.specs.declared.rules.Verified.{Verified}
-use Rattle.card_layout.specs.Persistent.{Registration, Persistent}
+use Rattle.file_model.specs.declared.rules.Verified.{Verified}
+use Rattle.file_model.specs.card_layout.Persistent.{Registration, Persistent}
 use Rattle.file_model.specs.Files.{descriptors_in}
 use Rattle.file_model.specs.Laws.{IsSoundCard}
 use Rattle.file_model.specs.declared.selections.Selection.{Selection}

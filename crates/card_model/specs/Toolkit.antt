@@ -1,12 +1,12 @@
 -- The commands between a handset and the toolkit of a card (ETSI TS 102 221, 11.2), and those that install and delete applets:
 -- what each is refused for, in the written order, and what it makes of the toolkit.
 use Rattle.std.specs.Prelude.{ℕ, ◌+◌, ◌==◌, ◌&&◌, ◌||◌, nat_le, Bool, List, [], length, map, Option, unwrap_or, option_map, Result, Ok, Err}
-use Rattle.uicc_types.specs.declared.answers.StatusWord.{StatusWord}
-use Rattle.uicc_types.specs.declared.answers.TheConstants.StatusWord.{WRONG_LENGTH, WRONG_PARAMETERS, WRONG_DATA, NO_ROOM, TOOLKIT_BUSY, CONDITIONS_NOT_SATISFIED, SECURITY_NOT_SATISFIED, REFERENCE_NOT_FOUND}
-use Rattle.apdu_form.specs.Model.{Apdu}
-use Rattle.access_rules.specs.declared.rules.Verified.{Verified}
-use Rattle.card_layout.specs.Persistent.{Registration, Persistent}
-use Rattle.toolkit_commands.specs.Envelopes.{envelope_of}
+use Rattle.file_model.specs.uicc_types.declared.answers.StatusWord.{StatusWord}
+use Rattle.file_model.specs.uicc_types.declared.answers.TheConstants.StatusWord.{WRONG_LENGTH, WRONG_PARAMETERS, WRONG_DATA, NO_ROOM, TOOLKIT_BUSY, CONDITIONS_NOT_SATISFIED, SECURITY_NOT_SATISFIED, REFERENCE_NOT_FOUND}
+use Rattle.file_model.specs.apdu_form.Model.{Apdu}
+use Rattle.file_model.specs.declared.rules.Verified.{Verified}
+use Rattle.file_model.specs.card_layout.Persistent.{Registration, Persistent}
+use Rattle.toolkit_model.specs.toolkit_commands.Envelopes.{envelope_of}
 use Rattle.file_model.specs.Chains.{refused_if, given, and_given, needs}
 use Rattle.file_model.specs.Outcomes.{has_data, has_no_data, has_le_alone}
 use Rattle.file_model.specs.Records.{other_length}

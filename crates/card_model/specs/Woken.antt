@@ -4,16 +4,16 @@ use Rattle.std.specs.Prelude.{find, All, AllPairs, IsTrue, IsSomeAnd, IfSome, op
 use Rattle.std.specs.List.{enumerate_from}
 use Rattle.std.proofs.lemmas.List.{length-map, get_or-replicate, get_or_default, same_lists}
 use Rattle.std.proofs.lemmas.List.FromFn.{length-enumerate_from}
-use Rattle.general_laws.specs.Pairs.{pairs_nil}
-use Rattle.general_laws.specs.Finding.{find-map, numbered_found}
-use Rattle.card_layout.specs.Persistent.{Registration, Persistent}
-use Rattle.card_layout.specs.Soundness.{mf, IsSound}
+use Rattle.file_model.specs.uicc_types.Pairs.{pairs_nil}
+use Rattle.file_model.specs.uicc_types.Finding.{find-map, numbered_found}
+use Rattle.file_model.specs.card_layout.Persistent.{Registration, Persistent}
+use Rattle.file_model.specs.card_layout.Soundness.{mf, IsSound}
 use Rattle.file_model.specs.Files.{is_df, is_wanted, descriptor_in, descriptors_in, file_found}
 use Rattle.file_model.specs.Laws.{IsSoundCard}
 use Rattle.file_model.specs.Selections.{IsSelection}
 use Rattle.file_model.specs.declared.descriptors.Wanted.TheVariants.{Number}
 use Rattle.file_model.specs.declared.selections.TheConstants.Selection.{AT_START}
-use Rattle.uicc_types.specs.declared.identifiers.Shelf.{Shelf}
+use Rattle.file_model.specs.uicc_types.declared.identifiers.Shelf.{Shelf}
 use Rattle.toolkit_model.specs.Model.{AppletState, Sent, LateTrigger, fresh_session}
 use Rattle.toolkit_model.specs.Orderly.{IsRegistered, CanBeSent, asks, IsSuspended, IsOrderly}
 use Rattle.card_model.specs.States.{AreChannels, HasBox, IsOfSevenKinds, AreOfSevenKinds, IsGood, basic_channel_alone, row_on, woken_mind, woken_box, woken_boxes, woken}

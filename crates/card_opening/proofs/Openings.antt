@@ -2,8 +2,8 @@
 use Rattle.std.proofs.Common.{◌≡◌, ℕ, Bool, true, false, List, Option, None, Result, Ok, Err, option_map, refl, sym, ◌∙◌, ap, subst, inl}
 use Rattle.std.specs.Prelude.{All, IfErr, IfSome, IsErrAnd, IsOkAnd, if◌then◌else◌}
 use Rattle.std.proofs.lemmas.List.Elements.{All-contains}
-use Rattle.uicc_types.specs.Counts.{raised}
-use Rattle.applet_trait.specs.Minds.{AppletState}
+use Rattle.card_layout.specs.uicc_types.Counts.{raised}
+use Rattle.card_model.specs.applet_trait.Minds.{AppletState}
 use Rattle.card_layout.specs.declared.entries.Loaded.{Loaded}
 use Rattle.card_layout.specs.Decoding.{table_of}
 use Rattle.card_layout.specs.Memory.{Memory, held}
@@ -16,8 +16,8 @@ use Rattle.layout_mount.specs.Mounted.{HasRead, IsTable, HoldsNoCard}
 use Rattle.layout_mount.specs.declared.mounting.MountFault.{MountFault}
 use Rattle.layout_mount.specs.declared.mounting.MountFault.TheVariants as mount
 use Rattle.layout_standing.specs.Known.{StandingIsOfTable}
-use Rattle.store_form.specs.declared.store.StoreFault.{StoreFault}
-use Rattle.store_form.specs.declared.store.StoreFault.TheVariants as store
+use Rattle.card_layout.specs.store_form.declared.store.StoreFault.{StoreFault}
+use Rattle.card_layout.specs.store_form.declared.store.StoreFault.TheVariants as store
 use Rattle.card_opening.specs.Boxes.{IsFirstWithoutBox}
 use Rattle.card_opening.specs.Faults.{of_mount, of_store}
 use Rattle.card_opening.specs.Migrations.{awaits_migration, migrated_table}
@@ -115,10 +115,6 @@ rows_when false table = refl
 
 pub migrated_rows : (table now : Loaded) → now ≡ migrated_table table → now.rows ≡ table.rows
 migrated_rows table now is = ap (λ (entries : Loaded). entries.rows) is ∙ rows_when (awaits_migration table) table
-
--- a table that awaits none stays
-pub stays_table : (table : Loaded) → awaits_migration table ≡ false → table ≡ migrated_table table
-stays_table table is = sym (ap (λ (migrates : Bool). if migrates then record table { wide = true } else table) is)
 
 pub read_opened : (old now : Memory) (table : Loaded) → IsTable old.mark old.told table → now.table ≡ migrated_table table → now.commits ≡ (if awaits_migration table then raised old.commits else old.commits)
     → HasRead old.told (IsOpenedFrom old now)

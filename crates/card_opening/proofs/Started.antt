@@ -5,8 +5,8 @@ use Rattle.std.specs.List.{list_all}
 use Rattle.std.specs.Result.{result_ok}
 use Rattle.std.proofs.lemmas.Bool.{false≢true}
 use Rattle.std.proofs.lemmas.List.Elements.{All-contains}
-use Rattle.uicc_types.specs.Told.{AreBytes}
-use Rattle.applet_trait.specs.Minds.{AppletState}
+use Rattle.card_layout.specs.uicc_types.Told.{AreBytes}
+use Rattle.card_model.specs.applet_trait.Minds.{AppletState}
 use Rattle.card_layout.specs.declared.entries.Row.{Row}
 use Rattle.card_layout.specs.declared.entries.Loaded.{Loaded}
 use Rattle.card_layout.specs.Migration.{ends_low, migrated}
@@ -14,14 +14,14 @@ use Rattle.card_layout.specs.Persistent.{Contents, Files, Bytes, Records, File, 
 use Rattle.card_layout.specs.Standing.{stands_for, standing, Agrees}
 use Rattle.card_layout.specs.States.{rows_of, used_rows, registration_of}
 use Rattle.card_model.specs.States.{HasBox}
-use Rattle.file_model.specs.Files.{record_width}
-use Rattle.file_model.specs.Laws.{IsSoundCard}
-use Rattle.store_form.specs.declared.store.StoreFault.{StoreFault}
-use Rattle.store_form.specs.declared.store.StoreFault.TheVariants as store
+use Rattle.card_model.specs.file_model.Files.{record_width}
+use Rattle.card_model.specs.file_model.Laws.{IsSoundCard}
+use Rattle.card_layout.specs.store_form.declared.store.StoreFault.{StoreFault}
+use Rattle.card_layout.specs.store_form.declared.store.StoreFault.TheVariants as store
 use Rattle.layout_mount.specs.Mounted.{IsTable, HoldsNoCard, read_told}
 use Rattle.layout_mount.specs.declared.mounting.MountFault.{MountFault}
 use Rattle.layout_mount.specs.declared.mounting.MountFault.TheVariants as mount
-use Rattle.layout_soundness.specs.Laws.{StandingIsSound, RecordsAreShort, HasShortRecords}
+use Rattle.layout_standing.specs.SoundnessLaws.{StandingIsSound, RecordsAreShort, HasShortRecords}
 use Rattle.layout_standing.specs.Known.{StandingIsOfTable}
 use Rattle.card_opening.specs.Boxes.{IsFirstWithoutBox}
 use Rattle.card_opening.specs.Faults.{of_mount, of_store}

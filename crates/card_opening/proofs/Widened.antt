@@ -1,8 +1,8 @@
 -- What a store stands for while its card is migrated.
 use Rattle.std.proofs.Common.{◌≡◌, ◌⊎◌, ℕ, true, false, List, Option, Some, None, option_map, refl, sym, ◌∙◌, ap, subst, inl, inr, ⊎_elim}
 use Rattle.std.specs.Result.{result_ok}
-use Rattle.uicc_types.specs.Patches.{patched, Torn}
-use Rattle.uicc_types.specs.Told.{Becomes}
+use Rattle.card_layout.specs.uicc_types.Patches.{patched, Torn}
+use Rattle.card_layout.specs.uicc_types.Told.{Becomes}
 use Rattle.card_layout.specs.declared.entries.Loaded.{Loaded}
 use Rattle.card_layout.specs.Laws.{after}
 use Rattle.card_layout.specs.Migration.{migrated, entries_end_low, no_upper_rows, length-no_upper_rows}
@@ -10,7 +10,7 @@ use Rattle.card_layout.specs.Persistent.{Persistent}
 use Rattle.card_layout.specs.Places.{data_end}
 use Rattle.card_layout.specs.Spelling.{version_part}
 use Rattle.card_layout.specs.Standing.{standing, stands_for, Agrees}
-use Rattle.layout_changes.specs.Cards.{IsFreeRange}
+use Rattle.layout_standing.specs.Cards.{IsFreeRange}
 use Rattle.layout_standing.specs.Migrating.{OthersStay, UpperRowsAreFree, WideVersionStands}
 use Rattle.layout_standing.specs.Stores.{StandsWith, WrittenStands, PreparedStands, TornStands}
 

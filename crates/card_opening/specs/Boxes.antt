@@ -1,13 +1,9 @@
 -- The boxes of applets on their shelves, as a contract sees them: by their minds.
-use Rattle.std.specs.Prelude.{◌≡◌, ◌==◌, ◌<◌, ◌&&◌, not, ℕ, Bool, false, if◌then◌else◌, List, map, All, Contains, Option, Some, None, option_map}
-use Rattle.applet_trait.specs.Minds.{AppletState, fresh}
+use Rattle.std.specs.Prelude.{◌≡◌, ◌==◌, ◌<◌, ◌&&◌, not, ℕ, Bool, false, if◌then◌else◌, List, All, Contains, Option, Some, None, option_map}
+use Rattle.card_model.specs.applet_trait.Minds.{AppletState, fresh}
 use Rattle.card_layout.specs.declared.entries.Row.{Row}
 use Rattle.card_layout.specs.Persistent.{Registration}
 use Rattle.card_model.specs.States.{HasBox}
-
--- the mind in each box
-abbrev pub minds_of : {B : Type 0} → (B → AppletState) → List (Option B) → List (Option AppletState)
-minds_of mind boxes = map (option_map mind) boxes
 
 -- a box has an applet of this kind
 abbrev pub is_of_kind : ℕ → Option AppletState → Bool

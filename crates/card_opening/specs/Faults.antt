@@ -1,6 +1,6 @@
 -- The fault of an opening that a fault of its store, or of its mount, is.
-use Rattle.store_form.specs.declared.store.StoreFault.{StoreFault}
-use Rattle.store_form.specs.declared.store.StoreFault.TheVariants as store
+use Rattle.card_layout.specs.store_form.declared.store.StoreFault.{StoreFault}
+use Rattle.card_layout.specs.store_form.declared.store.StoreFault.TheVariants as store
 use Rattle.layout_mount.specs.declared.mounting.MountFault.{MountFault}
 use Rattle.layout_mount.specs.declared.mounting.MountFault.TheVariants as mount
 use Rattle.card_opening.specs.declared.faults.OpenFault.{OpenFault}

@@ -1,9 +1,9 @@
 -- Which cards an opening migrates, and the commits that it makes.
 use Rattle.std.specs.Prelude.{◌≡◌, ◌⊎◌, ℕ, Bool, true, not, ◌&&◌, if◌then◌else◌, Option, Some, None, is_some, Result, OnOk}
 use Rattle.std.specs.List.{list_all}
-use Rattle.uicc_types.specs.Counts.{raised}
-use Rattle.store_form.specs.declared.store.StoreFault.{StoreFault}
-use Rattle.store_form.specs.Faults.{HasCause, with_commit}
+use Rattle.card_layout.specs.uicc_types.Counts.{raised}
+use Rattle.card_layout.specs.store_form.declared.store.StoreFault.{StoreFault}
+use Rattle.card_layout.specs.store_form.Faults.{HasCause, with_commit}
 use Rattle.card_layout.specs.declared.entries.Loaded.{Loaded}
 use Rattle.card_layout.specs.Memory.{Memory}
 use Rattle.card_layout.specs.Migration.{ends_low, entries_end_low}

@@ -1,7 +1,7 @@
 -- How a card is opened, what is found and left where it is refused, and how it is started again.
 use Rattle.std.specs.Prelude.{◌≡◌, ◌⊎◌, ℕ, false, if◌then◌else◌, List, All, Option, Some, None, is_some, option_map, IfSome, IsOkAnd}
-use Rattle.uicc_types.specs.Counts.{Caused, raised}
-use Rattle.applet_trait.specs.Minds.{AppletState}
+use Rattle.card_layout.specs.uicc_types.Counts.{Caused, raised}
+use Rattle.card_model.specs.applet_trait.Minds.{AppletState}
 use Rattle.card_layout.specs.declared.entries.Loaded.{Loaded}
 use Rattle.card_layout.specs.Decoding.{table_of}
 use Rattle.card_layout.specs.Memory.{Memory, IsMounted, held}
@@ -10,7 +10,7 @@ use Rattle.card_layout.specs.Places.{memory_size}
 use Rattle.card_layout.specs.Standing.{stands_for, standing, state_in, Stands, Agrees}
 use Rattle.card_layout.specs.States.{rows_of}
 use Rattle.card_model.specs.States.{HasBox, AreOfSevenKinds}
-use Rattle.file_model.specs.Laws.{IsSoundCard}
+use Rattle.card_model.specs.file_model.Laws.{IsSoundCard}
 use Rattle.layout_mount.specs.Mounted.{HasRead, HoldsNoCard}
 use Rattle.card_opening.specs.Boxes.{IsFirstWithoutBox}
 use Rattle.card_opening.specs.Migrations.{awaits_migration, migrated_table, CountsMigration}

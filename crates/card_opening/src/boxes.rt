@@ -3,11 +3,12 @@ ghost use Rattle.std.specs.Prelude.{◌≡◌, length, All, IfSome, IfNone, opti
 ghost use Rattle.card_layout.specs.declared.sizes.TheConstants.{ROW_COUNT};
 ghost use Rattle.card_layout.specs.States.{rows_of};
 ghost use Rattle.card_model.specs.States.{HasBox, IsOfSevenKinds, AreOfSevenKinds, woken_boxes};
-ghost use Rattle.card_opening.specs.Boxes.{minds_of, lacks_box, woken_beside, IsFirstWithoutBox};
+ghost use Rattle.card_opening.specs.Boxes.{lacks_box, woken_beside, IsFirstWithoutBox};
+ghost use Rattle.card_model.specs.applet_trait.Minds.{minds_of};
 
-use applet_trait::Applet;
 use card_layout::sizes::ROW_COUNT;
 use card_layout::{Loaded, Row, states_are_of_entries};
+use card_model::applet_trait::Applet;
 
 // Whether the applet of a row has no box of its kind. A box is asked for its kind also where no applet is registered, so that
 // the kind is known.

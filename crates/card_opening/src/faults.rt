@@ -1,7 +1,7 @@
 //! Why a card is not opened.
 
+use card_layout::store_form::StoreFault;
 use layout_mount::MountFault;
-use store_form::StoreFault;
 use thiserror::Error;
 
 /// Why a card was not opened.

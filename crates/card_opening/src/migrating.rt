@@ -1,7 +1,7 @@
 //! The migration of a card of version 1 of the layout.
 ghost use Rattle.std.specs.Prelude.{◌≡◌, ◌⊎◌, true, false, OnOk, OnErr, option_map};
-ghost use Rattle.uicc_types.specs.Patches.{patched, Torn};
-ghost use Rattle.uicc_types.specs.Told.{Becomes};
+ghost use Rattle.card_layout.specs.uicc_types.Patches.{patched, Torn};
+ghost use Rattle.card_layout.specs.uicc_types.Told.{Becomes};
 ghost use Rattle.card_layout.specs.Laws.{after};
 ghost use Rattle.card_layout.specs.Migration.{entry_ends_low, entries_end_low, migrated, no_upper_rows};
 ghost use Rattle.card_layout.specs.Places.{memory_size, data_end};
@@ -9,14 +9,14 @@ ghost use Rattle.card_layout.specs.Spelling.{version_part};
 ghost use Rattle.card_layout.specs.Memory.{Committed, IsMounted, Keeps, held_by, memory};
 ghost use Rattle.card_opening.specs.Migrations.{migrated_table, with_migration, KeepsMigrating};
 ghost use Rattle.layout_mount.specs.Mounted.{unread};
-ghost use Rattle.store_form.specs.Faults.{with_commit};
+ghost use Rattle.card_layout.specs.store_form.Faults.{with_commit};
 
 use card_layout::kinds::is_ef;
 use card_layout::places::UPPER_ROWS;
+use card_layout::store_form::{Store, StoreFault, Writes};
+use card_layout::uicc_types::Full;
 use card_layout::{Loaded, Node, version_write};
 use layout_standing::{migration_stands, stores_stand};
-use store_form::{Store, StoreFault, Writes};
-use uicc_types::Full;
 
 // Whether the bytes of a file lie below those that a wide card has behind its files.
 fn ends_low(node: &Node) -> bool

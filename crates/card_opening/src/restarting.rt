@@ -4,15 +4,15 @@ ghost use Rattle.card_layout.specs.declared.sizes.TheConstants.{ROW_COUNT};
 ghost use Rattle.card_layout.specs.Memory.{Reads, memory};
 ghost use Rattle.card_layout.specs.States.{rows_of};
 ghost use Rattle.card_model.specs.States.{woken_boxes};
-ghost use Rattle.card_opening.specs.Boxes.{minds_of};
+ghost use Rattle.card_model.specs.applet_trait.Minds.{minds_of};
 ghost use Rattle.card_opening.specs.Starts.{MayRestart, RestartsMemory};
 
 use crate::boxes::{first_without_box, wake_boxes};
-use applet_trait::Applet;
 use card_layout::Loaded;
+use card_layout::store_form::{Store, StoreFault};
+use card_model::applet_trait::Applet;
 use layout_mount::{MountFault, mount};
 use layout_standing::cards_are_known;
-use store_form::{Store, StoreFault};
 
 // Mounts what the store holds, if that is a card each of whose applets has its box; else the table stays. A store that tells its
 // bytes holds one, and what another holds can't be relied on.

@@ -4,18 +4,17 @@ ghost use Rattle.card_layout.specs.declared.sizes.TheConstants.{ROW_COUNT};
 ghost use Rattle.card_layout.specs.Memory.{memory};
 ghost use Rattle.card_layout.specs.Places.{memory_size};
 ghost use Rattle.layout_mount.specs.Mounted.{IsTable, unread};
-ghost use Rattle.card_opening.specs.Boxes.{minds_of};
+ghost use Rattle.card_model.specs.applet_trait.Minds.{minds_of};
 ghost use Rattle.card_opening.specs.Starts.{Opens, Refuses, IsKept};
 
 use crate::OpenFault;
 use crate::boxes::first_without_box;
 use crate::migrating::migrate;
-use applet_trait::Applet;
 use card_layout::Loaded;
+use card_layout::store_form::Store;
+use card_model::applet_trait::Applet;
 use layout_mount::mount;
-use layout_soundness::standing_is_sound;
-use layout_standing::{cards_are_known, migration_stands};
-use store_form::Store;
+use layout_standing::{cards_are_known, migration_stands, standing_is_sound};
 
 // Tests that the applet of each row has its box, and then migrates the card.
 fn test_and_migrate<S: Store, B: Applet>(

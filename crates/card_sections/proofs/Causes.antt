@@ -2,8 +2,8 @@
 use Rattle.std.proofs.Common.{◌≡◌, ℕ, ◌+◌, List, [], ◌∷◌, ◌++◌, Bool, true, false, Option, Some, None, Ok, Err, refl, sym, ap, ◌∙◌, subst}
 use Rattle.std.proofs.lemmas.List.{append-nil}
 use Rattle.applet_trait.specs.Minds.{AppletState}
-use Rattle.byte_streams.specs.Laws.{IsTakenFor-read_out}
-use Rattle.byte_streams.specs.Lines.{LineList}
+use Rattle.script_form.specs.byte_streams.Laws.{IsTakenFor-read_out}
+use Rattle.script_form.specs.byte_streams.Lines.{LineList}
 use Rattle.card_layout.specs.Persistent.{Persistent}
 use Rattle.card_layout.specs.declared.faults.SectionFault.TheVariants.{NoRoom as has_no_room}
 use Rattle.card_sections.specs.LineLaws.{AreRead-more}

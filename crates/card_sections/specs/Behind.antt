@@ -1,8 +1,8 @@
 -- Which lines of a script were read behind `start`, and why no more of them were, whatever the card makes of them.
 use Rattle.std.specs.List.{AllPass}
 use Rattle.std.specs.Prelude.{◌≡◌, ℕ, Bool, false, List, [], ◌∷◌, ◌++◌, Option, Some, None, Result, Ok, Err}
-use Rattle.byte_streams.specs.Lines.{LineList}
-use Rattle.byte_streams.specs.Reading.{IsTextCutShort, IsReadOut}
+use Rattle.script_form.specs.byte_streams.Lines.{LineList}
+use Rattle.script_form.specs.byte_streams.Reading.{IsTextCutShort, IsReadOut}
 use Rattle.card_sections.specs.Reading.{Finds, Follows, GoesOn}
 use Rattle.card_sections.specs.Script.{AreRead}
 use Rattle.card_sections.specs.declared.behind.PlayEnd.{PlayEnd}

@@ -2,7 +2,7 @@
 use Rattle.std.proofs.Common.{◌≡◌, ℕ, Bool, true, false, List, [], ◌∷◌, ◌++◌, Option, Some, None, Err, sym, ◌∙◌, subst}
 use Rattle.std.proofs.lemmas.List.{append-nil, append_assoc}
 use Rattle.std.proofs.lemmas.List.Elements.{All-nil, All-push}
-use Rattle.byte_streams.specs.Lines.{LineList}
+use Rattle.script_form.specs.byte_streams.Lines.{LineList}
 use Rattle.card_sections.specs.Behind.{EndsReading, IsBadBehind, IsReading, LinesReadTo, StopsReading}
 use Rattle.card_sections.specs.LineLaws.{AreRead-more}
 use Rattle.card_sections.specs.Reading.{Finds, Follows, GivesNext, IsUnread}

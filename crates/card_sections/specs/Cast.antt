@@ -1,10 +1,6 @@
 -- The boxes of applets that a card is given, as a contract sees them: by their minds.
-use Rattle.std.specs.Prelude.{ℕ, List, map, Option, None, option_map, slice_index_or}
+use Rattle.std.specs.Prelude.{ℕ, List, Option, None, option_map, slice_index_or}
 use Rattle.applet_trait.specs.Minds.{AppletState}
-
--- the mind in each box
-abbrev pub minds_of : {B : Type 0} → (B → AppletState) → List (Option B) → List (Option AppletState)
-minds_of mind boxes = map (option_map mind) boxes
 
 -- the kind of the applet in the box on this shelf, if there is one; there is none behind the last shelf
 abbrev pub kind_of_box : List (Option AppletState) → ℕ → Option ℕ

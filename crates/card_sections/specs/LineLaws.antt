@@ -1,6 +1,6 @@
 -- Lines of a text, and what they say, one for one.
 use Rattle.std.proofs.Common.{ℕ, List, [], ◌∷◌, ◌++◌, Some, None}
-use Rattle.byte_streams.specs.Lines.{LineList}
+use Rattle.script_form.specs.byte_streams.Lines.{LineList}
 use Rattle.script_form.specs.Forms.{IsLine}
 use Rattle.script_form.specs.Reads.{IsOnly}
 use Rattle.script_form.specs.declared.lines.ScriptLine.{ScriptLine}

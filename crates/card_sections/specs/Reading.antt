@@ -1,8 +1,8 @@
 -- Where the reading of a script stands between two lines, and what ends it before `start`.
 use Rattle.std.specs.Prelude.{◌≡◌, ℕ, ◌+◌, List, [], ◌∷◌, ◌++◌, Bool, true, false, length, Option, Some, None, Result, Ok, Err}
 use Rattle.applet_trait.specs.Minds.{AppletState}
-use Rattle.byte_streams.specs.Lines.{LineList, lines}
-use Rattle.byte_streams.specs.Reading.{Reading, HasRead, IsTextCutShort, IsReadOut, IsTakenFor}
+use Rattle.script_form.specs.byte_streams.Lines.{LineList, lines}
+use Rattle.script_form.specs.byte_streams.Reading.{Reading, HasRead, IsTextCutShort, IsReadOut, IsTakenFor}
 use Rattle.card_layout.specs.Persistent.{Persistent}
 use Rattle.card_layout.specs.declared.faults.SectionFault.{SectionFault}
 use Rattle.card_layout.specs.declared.faults.SectionFault.TheVariants.{Bad, NoRoom as has_no_room}

@@ -15,7 +15,7 @@ use Rattle.card_sections.specs.Script.{described, then_on, with_lines}
 use Rattle.card_sections.specs.SectionLaws.{splits}
 use Rattle.script_form.specs.declared.lines.ScriptLine.{ScriptLine}
 use Rattle.script_form.specs.declared.lines.ScriptLine.TheVariants.{Passed, Start, Reset, Df, Transparent, Linear, Cyclic, Fill, Rec, Pin, Row, Apdu, Tpdu, Cut, Fail, ReadFail, Handset, Cmd, Echo, Lose}
-use Rattle.uicc_types.specs.declared.identifiers.FileId.{FileId}
+use Rattle.card_layout.specs.uicc_types.declared.identifiers.FileId.{FileId}
 
 -- there is a box on the row's shelf, and the row is of its kind
 abbrev pub IsOfItsBox : List (Option AppletState) → Registration → Type 0

@@ -1,7 +1,7 @@
 -- What the lines of a script say together before `start`: the card that they describe.
 use Rattle.std.specs.Prelude.{ℕ, List, [], ◌∷◌, Option, Some, None, Result, Ok, Err}
 use Rattle.applet_trait.specs.Minds.{AppletState}
-use Rattle.byte_streams.specs.Lines.{LineList}
+use Rattle.script_form.specs.byte_streams.Lines.{LineList}
 use Rattle.card_layout.specs.NewFiles.{rule_from}
 use Rattle.card_layout.specs.Persistent.{Persistent}
 use Rattle.card_layout.specs.Sections.{line_added, DfLine, EfLine, FillLine, RecordLine, PinLine, RowLine}

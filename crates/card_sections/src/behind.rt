@@ -1,17 +1,17 @@
 //! The lines of a script behind `start`.
 ghost use Rattle.std.specs.Prelude.{◌≡◌, ◌≢◌, ◌<◌, ◌+◌, Bool, List, ℕ, Err, OnOk};
-ghost use Rattle.byte_streams.specs.Lines.{LineList};
-ghost use Rattle.byte_streams.specs.Reading.{IsWithin};
+ghost use Rattle.script_form.specs.byte_streams.Lines.{LineList};
+ghost use Rattle.script_form.specs.byte_streams.Reading.{IsWithin};
 ghost use Rattle.card_sections.specs.Behind.{GivesLine};
 ghost use Rattle.card_sections.specs.Reading.{Follows, line_count, reading, room_of};
 ghost use Rattle.script_form.specs.Bounds.{IsBounded};
 ghost use Rattle.script_form.specs.declared.lines.ScriptLine.{ScriptLine as AnyLine};
-ghost use Rattle.uicc_types.specs.Counts.{CountsFailure};
+ghost use Rattle.card_layout.specs.uicc_types.Counts.{CountsFailure};
 
 use crate::faults::ScriptFault;
 use crate::script_reader::ScriptReader;
-use byte_streams::Source;
 use script_form::ScriptLine;
+use script_form::byte_streams::Source;
 
 /// Why a run ends after `start`.
 #[derive(Clone, Copy, Debug, PartialEq, Eq)]

@@ -1,9 +1,9 @@
 //! The lines of a script, read and counted.
 ghost use Rattle.std.specs.Prelude.{◌≡◌, ◌+◌, ◌≤◌, ◌<◌, List, ℕ, Ok, Err, true};
-ghost use Rattle.byte_streams.specs.declared.limits.TheConstants.{MOST_BYTES};
+ghost use Rattle.script_form.specs.byte_streams.declared.limits.TheConstants.{MOST_BYTES};
 
 use crate::faults::ScriptFault;
-use byte_streams::{LineReader, NextLine, Source};
+use script_form::byte_streams::{LineReader, NextLine, Source};
 use script_form::{LineFault, ScriptLine, read_line_into};
 
 /// Hands out what the lines of a script say, one after the other. It takes at most 16,777,217 bytes.
@@ -18,11 +18,11 @@ pub struct ScriptReader {
 }
 
 impl ScriptReader {
-    ghost use Rattle.byte_streams.specs.Lines.{LineList};
-    ghost use Rattle.byte_streams.specs.Reading.{IsWithin, at_start};
+    ghost use Rattle.script_form.specs.byte_streams.Lines.{LineList};
+    ghost use Rattle.script_form.specs.byte_streams.Reading.{IsWithin, at_start};
     ghost use Rattle.card_sections.specs.Reading.{Follows, GivesNext, reading, line_count, room_of};
     ghost use Rattle.script_form.specs.Bounds.{IsBounded};
-    ghost use Rattle.uicc_types.specs.Counts.{CountsFailure};
+    ghost use Rattle.card_layout.specs.uicc_types.Counts.{CountsFailure};
 
     /// A reader at the beginning of a script.
     pub fn new() -> Self

@@ -1,21 +1,22 @@
 //! The first part of a script: what the card holds.
 ghost use Rattle.std.specs.Prelude.{◌≡◌, ◌<◌, List, ℕ, Option, IfSome, Ok, Err, true, false};
-ghost use Rattle.byte_streams.specs.Reading.{IsWithin};
-ghost use Rattle.card_sections.specs.Cast.{minds_of, kind_of_box};
+ghost use Rattle.script_form.specs.byte_streams.Reading.{IsWithin};
+ghost use Rattle.card_sections.specs.Cast.{kind_of_box};
+ghost use Rattle.applet_trait.specs.Minds.{minds_of};
 ghost use Rattle.card_sections.specs.Reading.{GivesSection, GivesSectionLine, InSection, IsAdded, reading, room_of};
 ghost use Rattle.card_sections.specs.Script.{described, ef_described, file_described};
 ghost use Rattle.card_layout.specs.Persistent.{Persistent};
 ghost use Rattle.layout_section.specs.Adding.{Adds, IsKind};
-ghost use Rattle.uicc_types.specs.Counts.{CountsFailure};
+ghost use Rattle.card_layout.specs.uicc_types.Counts.{CountsFailure};
 
 use crate::faults::ScriptFault;
 use crate::script_reader::ScriptReader;
 use applet_trait::Applet;
-use byte_streams::Source;
+use card_layout::uicc_types::Shelf;
 use card_layout::{SectionFault, Shape};
 use layout_section::Section;
 use script_form::ScriptLine;
-use uicc_types::Shelf;
+use script_form::byte_streams::Source;
 
 /// Reads the lines up to `start`, and adds what they describe to the card, whose applets are these. Without a card, as where
 /// one that is there is opened, they are empty or comments.

@@ -1,24 +1,24 @@
 -- What a command and a reset make of a card.
 use Rattle.std.proofs.Common.{◌≡◌, ℕ, Bool, true, false, List, [], ◌∷◌, Option, Some, None, refl, sym, ap, ◌∙◌, subst, inl, inr, option_map}
 use Rattle.std.specs.Prelude.{IfSome, IsSomeAnd, MatchBool, not, ◌==◌, ◌≢◌, ◌⊎◌}
-use Rattle.general_laws.specs.Optional.{if_some_at}
+use Rattle.script_form.specs.uicc_types.Optional.{if_some_at}
 use Rattle.card_core.specs.Cards.{card_of}
 use Rattle.card_core.specs.Moves.{Answers, Fails}
 use Rattle.card_core.specs.Parts.{CardParts}
-use Rattle.card_model.specs.Answers.{answer, passed}
-use Rattle.card_model.specs.Runs.{Commands, IsLeft, MeetsNoPower, StepGives}
-use Rattle.card_model.specs.States.{CardState, Machine, powered, unpowered, restarted}
+use Rattle.card_core.specs.card_model.Answers.{answer, passed}
+use Rattle.card_core.specs.card_model.Runs.{Commands, IsLeft, MeetsNoPower, StepGives}
+use Rattle.card_core.specs.card_model.States.{CardState, Machine, powered, unpowered, restarted}
 use Rattle.card_steps.specs.Runs.{is_calm, machine_of}
 use Rattle.card_steps.specs.Standing.{card_stands, is_machine, machine_is}
 use Rattle.card_steps.specs.Stepping.{IsBare, IsReply, Resets, Sends}
 use Rattle.card_steps.specs.declared.steps.ResetOutcome.TheVariants as restart
-use Rattle.uicc_types.specs.Counts.{Caused, Meter}
-use Rattle.uicc_types.specs.declared.answers.Answer.{Answer}
-use Rattle.uicc_types.specs.declared.answers.StatusWord.{StatusWord}
-use Rattle.uicc_types.specs.declared.answers.TheConstants.StatusWord.{MEMORY_PROBLEM}
-use Rattle.uicc_types.specs.declared.runs.Step.TheVariants as step
-use Rattle.uicc_types.specs.declared.runs.TraceItem.{TraceItem}
-use Rattle.uicc_types.specs.declared.runs.TraceItem.TheVariants as item
+use Rattle.script_form.specs.uicc_types.Counts.{Caused, Meter}
+use Rattle.script_form.specs.uicc_types.declared.answers.Answer.{Answer}
+use Rattle.script_form.specs.uicc_types.declared.answers.StatusWord.{StatusWord}
+use Rattle.script_form.specs.uicc_types.declared.answers.TheConstants.StatusWord.{MEMORY_PROBLEM}
+use Rattle.script_form.specs.uicc_types.declared.runs.Step.TheVariants as step
+use Rattle.script_form.specs.uicc_types.declared.runs.TraceItem.{TraceItem}
+use Rattle.script_form.specs.uicc_types.declared.runs.TraceItem.TheVariants as item
 
 -- an answer that tells of no failing memory
 calm_usual : (status : StatusWord) → not (status.0 == MEMORY_PROBLEM.0) ≡ true → status ≡ MEMORY_PROBLEM → ⊥

@@ -1,11 +1,11 @@
 -- A terminal's command that comes to the card, by itself or over a link.
 use Rattle.std.proofs.Common.{◌≡◌, ℕ, Bool, true, false, List, [], ◌∷◌, Option, Some, None, Result, Ok, Err, refl, sym, ap, ◌∙◌, subst, arith}
 use Rattle.std.specs.Prelude.{IfSome, IsTrue, ⊤}
-use Rattle.general_laws.specs.Optional.{if_some_at}
-use Rattle.apdu_form.specs.Model.{Apdu, command_in}
+use Rattle.script_form.specs.uicc_types.Optional.{if_some_at}
+use Rattle.card_core.specs.apdu_form.Model.{Apdu, command_in}
 use Rattle.card_core.specs.Cards.{IsCardReady, card_of}
-use Rattle.card_model.specs.Counts.{IsCounted}
-use Rattle.card_model.specs.States.{IsGood, Machine}
+use Rattle.card_core.specs.card_model.Counts.{IsCounted}
+use Rattle.card_core.specs.card_model.States.{IsGood, Machine}
 use Rattle.card_steps.proofs.CardLemmas.{bare_reply, sends_off}
 use Rattle.card_steps.proofs.Delivered.{off_counted}
 use Rattle.card_steps.proofs.LinkCounts.{IsShownAs, IsShownAsOne, command_shown, counted_over, cut, cut_over, failed}
@@ -14,8 +14,8 @@ use Rattle.card_steps.specs.Ends.{Comes, End, Meets, MeetsAnswer, MeetsCut, end_
 use Rattle.card_steps.specs.Runs.{is_calm, machine_of}
 use Rattle.card_steps.specs.Standing.{machine_is}
 use Rattle.card_steps.specs.Stepping.{IsBare, IsReply, Sends, seen}
-use Rattle.link_laws.specs.Shown.{item_of, shown_over, without_bytes}
-use Rattle.link_laws.specs.Stepped.{GivesOwnStep, LinkChangesNoStep}
+use Rattle.card_steps.specs.Shown.{item_of, shown_over, without_bytes}
+use Rattle.card_steps.specs.Stepped.{GivesOwnStep, LinkChangesNoStep}
 use Rattle.t0_link.proofs.Passed.{carried_gives}
 use Rattle.t0_link.specs.Carrying.{carried, command_answer, is_carried, is_some_carried}
 use Rattle.t0_link.specs.Exchanging.{Exchanges}
@@ -24,10 +24,10 @@ use Rattle.t0_link.specs.Passing.{GivesAnswer, passed_apdu}
 use Rattle.t0_link.specs.Transmitting.{Transmits}
 use Rattle.t0_link.specs.declared.endpoint.LinkFault.{LinkFault}
 use Rattle.t0_link.specs.declared.endpoint.LinkFault.TheVariants.{PowerLost, NoPower}
-use Rattle.uicc_types.specs.Told.{AreBytes}
-use Rattle.uicc_types.specs.declared.answers.Answer.{Answer}
-use Rattle.uicc_types.specs.declared.runs.TraceItem.{TraceItem}
-use Rattle.uicc_types.specs.declared.runs.TraceItem.TheVariants as item
+use Rattle.script_form.specs.uicc_types.Told.{AreBytes}
+use Rattle.script_form.specs.uicc_types.declared.answers.Answer.{Answer}
+use Rattle.script_form.specs.uicc_types.declared.runs.TraceItem.{TraceItem}
+use Rattle.script_form.specs.uicc_types.declared.runs.TraceItem.TheVariants as item
 
 -- ---- by itself
 

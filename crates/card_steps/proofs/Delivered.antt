@@ -3,11 +3,11 @@ use Rattle.std.proofs.Common.{◌≡◌, ℕ, Bool, true, false, List, [], ◌�
 use Rattle.std.specs.Prelude.{OnErr, ⊤}
 use Rattle.card_steps.specs.Ends.{End, MeetsAnswer, MeetsCut, TakesCommand, planned, reply_for, unplanned, with_plan_set, without_plan}
 use Rattle.card_steps.specs.Tpdus.{Delivers, IsPrepared}
-use Rattle.link_laws.specs.Shown.{item_of, kept_over, shown_over}
-use Rattle.card_model.specs.Counts.{IsCounted}
-use Rattle.card_model.specs.Laws.{PlansAreCounted}
-use Rattle.card_model.specs.Runs.{due}
-use Rattle.card_model.specs.States.{Machine}
+use Rattle.card_steps.specs.Shown.{item_of, kept_over, shown_over}
+use Rattle.card_core.specs.card_model.Counts.{IsCounted}
+use Rattle.card_core.specs.card_model.Laws.{PlansAreCounted}
+use Rattle.card_core.specs.card_model.Runs.{due}
+use Rattle.card_core.specs.card_model.States.{Machine}
 use Rattle.card_steps.specs.Runs.{machine_of}
 use Rattle.card_steps.specs.Stepping.{IsBare, Sends, seen}
 use Rattle.card_steps.proofs.CardLemmas.{bare_reply, sends_off}
@@ -21,11 +21,11 @@ use Rattle.t0_link.specs.Exchanging.{Exchanges}
 use Rattle.t0_link.specs.Linking.{Linked, Course, Answers, Passes, course_of, link_answer}
 use Rattle.t0_link.specs.Transmitting.{Transmits}
 use Rattle.t0_link.specs.Tpdus.{is_passed, is_passed_by, transfer_in}
-use Rattle.uicc_types.specs.Counts.{Meter, names_fault}
-use Rattle.uicc_types.specs.declared.answers.Answer.{Answer}
-use Rattle.uicc_types.specs.declared.plans.Plan.{Plan}
-use Rattle.uicc_types.specs.declared.runs.TraceItem.{TraceItem}
-use Rattle.uicc_types.specs.declared.runs.TraceItem.TheVariants as item
+use Rattle.script_form.specs.uicc_types.Counts.{Meter, names_fault}
+use Rattle.script_form.specs.uicc_types.declared.answers.Answer.{Answer}
+use Rattle.script_form.specs.uicc_types.declared.plans.Plan.{Plan}
+use Rattle.script_form.specs.uicc_types.declared.runs.TraceItem.{TraceItem}
+use Rattle.script_form.specs.uicc_types.declared.runs.TraceItem.TheVariants as item
 
 -- ---- a command that is passed to a card's end
 

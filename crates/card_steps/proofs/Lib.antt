@@ -6,3 +6,9 @@ mod Shown
 pub mod StepLemmas
 pub mod Worked
 mod Written
+mod Cutting
+mod Answering
+mod Spelling
+mod Passing
+mod Stepping
+mod WorkedLink

@@ -3,22 +3,22 @@ use Rattle.std.proofs.Common.{◌≡◌, ℕ, ◌+◌, ◌*◌, ◌≤◌, ◌<�
 use Rattle.std.proofs.lemmas.Bool.{eqb-true, false≢true, ne_eqb}
 use Rattle.std.proofs.lemmas.List.{take_all}
 use Rattle.std.specs.Prelude.{◌/◌, ◌%◌, ◌==◌, cond, count_by, if◌then◌else◌, ⊤}
-use Rattle.apdu_form.specs.Model.{Apdu, ne_of}
-use Rattle.card_model.specs.Counts.{IsCounted, is_cut, is_failure}
+use Rattle.card_core.specs.apdu_form.Model.{Apdu, ne_of}
+use Rattle.card_core.specs.card_model.Counts.{IsCounted, is_cut, is_failure}
 use Rattle.card_steps.specs.Stepping.{IsBare}
-use Rattle.link_laws.specs.Shown.{item_of, kept_over, shown_over}
+use Rattle.card_steps.specs.Shown.{item_of, kept_over, shown_over}
 use Rattle.t0_link.specs.Carrying.{command_answer, followed, front_of, received, then_received, tpdu_of}
 use Rattle.t0_link.specs.Linking.{Answers, Course, Linked, Passes, counting, course_of, fetched, given, kept_back, link_answer, status_alone}
 use Rattle.t0_link.specs.Tpdus.{transfer_in}
 use Rattle.t0_link.specs.declared.answers.TheConstants.{MORE_DATA, WRONG_LE}
 use Rattle.t0_link.specs.declared.tpdus.Transfer.{Transfer}
 use Rattle.t0_link.specs.declared.tpdus.Transfer.TheVariants.{GetResponse, Incoming, Outgoing}
-use Rattle.uicc_types.specs.Counts.{Meter, raised_by}
-use Rattle.uicc_types.specs.declared.answers.Answer.{Answer}
-use Rattle.uicc_types.specs.declared.answers.StatusWord.{StatusWord}
-use Rattle.uicc_types.specs.declared.plans.Plan.{Plan}
-use Rattle.uicc_types.specs.declared.runs.TraceItem.{TraceItem}
-use Rattle.uicc_types.specs.declared.runs.TraceItem.TheVariants as item
+use Rattle.script_form.specs.uicc_types.Counts.{Meter, raised_by}
+use Rattle.script_form.specs.uicc_types.declared.answers.Answer.{Answer}
+use Rattle.script_form.specs.uicc_types.declared.answers.StatusWord.{StatusWord}
+use Rattle.script_form.specs.uicc_types.declared.plans.Plan.{Plan}
+use Rattle.script_form.specs.uicc_types.declared.runs.TraceItem.{TraceItem}
+use Rattle.script_form.specs.uicc_types.declared.runs.TraceItem.TheVariants as item
 
 -- the failure that one item shows, and the one that is still to be shown of what the link keeps
 abbrev pub failed : TraceItem → ℕ

@@ -3,10 +3,10 @@ use Rattle.std.proofs.Common.{◌≡◌, ℕ, Bool, false, List, [], ◌∷◌, 
 use Rattle.std.specs.Prelude.{OnErr, OnOk, ⊤}
 use Rattle.std.proofs.lemmas.List.{append-nil}
 use Rattle.std.specs.Io.KnownBytes.{append_known}
-use Rattle.byte_streams.specs.Streams.{TakesFront}
-use Rattle.card_model.specs.Counts.{IsCounted}
-use Rattle.card_model.specs.Laws.{PlansAreCounted}
-use Rattle.card_model.specs.Runs.{armed_after, due, joined}
+use Rattle.script_form.specs.byte_streams.Streams.{TakesFront}
+use Rattle.card_core.specs.card_model.Counts.{IsCounted}
+use Rattle.card_core.specs.card_model.Laws.{PlansAreCounted}
+use Rattle.card_core.specs.card_model.Runs.{armed_after, due, joined}
 use Rattle.card_steps.proofs.CardLemmas.{bare_reply}
 use Rattle.card_steps.proofs.Delivered.{off_counted}
 use Rattle.card_steps.proofs.StepLemmas.{ToldFront, WithPlan, counted_after, idle_counted, in_one_line, none_waits, text_of_one, text_of_two, told_front, told_more, with_command}
@@ -18,7 +18,7 @@ use Rattle.card_steps.specs.Stepping.{IsReply, seen}
 use Rattle.card_steps.specs.Tpdus.{IsPrepared, steps_of}
 use Rattle.card_steps.specs.declared.steps.StepEnd.{StepEnd}
 use Rattle.card_steps.specs.declared.steps.StepEnd.TheVariants.{SinkFailed, ResetFailed}
-use Rattle.link_laws.specs.Shown.{item_of, kept_over, shown_for, shown_over}
+use Rattle.card_steps.specs.Shown.{item_of, kept_over, shown_for, shown_over}
 use Rattle.script_form.specs.Traces.{trace_text}
 use Rattle.script_form.specs.declared.trace.TraceLine.TheVariants as line
 use Rattle.t0_link.specs.declared.endpoint.Endpoint.{Ghosts as EndpointWords}
@@ -27,13 +27,13 @@ use Rattle.t0_link.specs.declared.endpoint.LinkFault.TheVariants.{PowerLost, NoP
 use Rattle.t0_link.specs.Exchanging.{Exchanges}
 use Rattle.t0_link.specs.Linking.{Linked, Course, Answers, Passes}
 use Rattle.t0_link.specs.Transmitting.{Transmits}
-use Rattle.uicc_types.specs.Counts.{names_fault}
-use Rattle.uicc_types.specs.Told.{Becomes}
-use Rattle.uicc_types.specs.declared.answers.Answer.{Answer}
-use Rattle.uicc_types.specs.declared.plans.Plan.{Plan}
-use Rattle.uicc_types.specs.declared.runs.Step.TheVariants as step
-use Rattle.uicc_types.specs.declared.runs.TraceItem.{TraceItem}
-use Rattle.uicc_types.specs.declared.runs.TraceItem.TheVariants as item
+use Rattle.script_form.specs.uicc_types.Counts.{names_fault}
+use Rattle.script_form.specs.uicc_types.Told.{Becomes}
+use Rattle.script_form.specs.uicc_types.declared.answers.Answer.{Answer}
+use Rattle.script_form.specs.uicc_types.declared.plans.Plan.{Plan}
+use Rattle.script_form.specs.uicc_types.declared.runs.Step.TheVariants as step
+use Rattle.script_form.specs.uicc_types.declared.runs.TraceItem.{TraceItem}
+use Rattle.script_form.specs.uicc_types.declared.runs.TraceItem.TheVariants as item
 
 -- ---- a step
 

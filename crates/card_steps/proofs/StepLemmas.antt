@@ -3,15 +3,15 @@ use Rattle.std.proofs.Common.{◌≡◌, ◌≤◌, ℕ, Bool, true, false, if�
 use Rattle.std.specs.Prelude.{OnOk, OnErr}
 use Rattle.std.proofs.lemmas.List.{append-nil}
 use Rattle.std.specs.Io.KnownBytes.{append_known}
-use Rattle.byte_streams.specs.Streams.{TakesFront}
+use Rattle.script_form.specs.byte_streams.Streams.{TakesFront}
 use Rattle.card_core.specs.Cards.{held_by}
 use Rattle.card_core.specs.Parts.{CardParts}
 use Rattle.card_steps.specs.declared.steps.ResetOutcome.{ResetOutcome}
 use Rattle.card_steps.specs.declared.steps.ResetOutcome.TheVariants as restart
-use Rattle.card_model.specs.Counts.{IsCounted}
-use Rattle.card_model.specs.Laws.{PlansAreCounted}
-use Rattle.card_model.specs.Runs.{StepGives, armed_after, due, joined, waiting_after}
-use Rattle.card_model.specs.States.{Machine, powered, unpowered, restarted}
+use Rattle.card_core.specs.card_model.Counts.{IsCounted}
+use Rattle.card_core.specs.card_model.Laws.{PlansAreCounted}
+use Rattle.card_core.specs.card_model.Runs.{StepGives, armed_after, due, joined, waiting_after}
+use Rattle.card_core.specs.card_model.States.{Machine, powered, unpowered, restarted}
 use Rattle.script_form.specs.Traces.{trace_text}
 use Rattle.script_form.specs.declared.trace.TraceLine.TheVariants as line
 use Rattle.card_steps.specs.Ends.{Comes, End, disarmed, moment_at, planned, unplanned, with_plan_set, without_plan}
@@ -20,15 +20,15 @@ use Rattle.card_steps.specs.Stepping.{BreaksOff, BreaksStep, EndsStep, GivesShow
 use Rattle.card_steps.specs.declared.steps.StepEnd.{StepEnd}
 use Rattle.card_steps.specs.declared.steps.StepEnd.TheVariants.{SinkFailed, ResetFailed}
 use Rattle.card_steps.specs.Standing.{machine_stands}
-use Rattle.uicc_types.specs.Counts.{Meter, armed as plan_given, names_fault, raised}
-use Rattle.uicc_types.specs.Told.{Becomes, IsFront}
-use Rattle.uicc_types.specs.declared.plans.Plan.{Plan}
-use Rattle.uicc_types.specs.declared.plans.TheConstants.Plan.{NONE}
-use Rattle.uicc_types.specs.declared.runs.Step.{Step}
-use Rattle.uicc_types.specs.declared.runs.Step.TheVariants as step
-use Rattle.uicc_types.specs.declared.runs.TraceItem.{TraceItem}
+use Rattle.script_form.specs.uicc_types.Counts.{Meter, armed as plan_given, names_fault, raised}
+use Rattle.script_form.specs.uicc_types.Told.{Becomes, IsFront}
+use Rattle.script_form.specs.uicc_types.declared.plans.Plan.{Plan}
+use Rattle.script_form.specs.uicc_types.declared.plans.TheConstants.Plan.{NONE}
+use Rattle.script_form.specs.uicc_types.declared.runs.Step.{Step}
+use Rattle.script_form.specs.uicc_types.declared.runs.Step.TheVariants as step
+use Rattle.script_form.specs.uicc_types.declared.runs.TraceItem.{TraceItem}
 use Rattle.card_core.proofs.Restarts.{metered_same}
-use Rattle.uicc_types.specs.declared.runs.TraceItem.TheVariants as item
+use Rattle.script_form.specs.uicc_types.declared.runs.TraceItem.TheVariants as item
 
 -- ---- what was taken
 

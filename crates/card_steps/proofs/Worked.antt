@@ -2,17 +2,17 @@
 use Rattle.std.proofs.Common.{◌≡◌, ℕ, false, List, [], ◌∷◌, Some, None, refl, subst, sym}
 use Rattle.std.specs.Prelude.{MatchBool}
 use Rattle.card_steps.specs.Tpdus.{CourseGives, steps_of}
-use Rattle.link_laws.specs.Shown.{item_of, kept_over, shown_over}
-use Rattle.card_model.specs.Runs.{Commands, MeetsNoPower, armed_after, waiting_after}
-use Rattle.card_model.specs.States.{Machine}
+use Rattle.card_steps.specs.Shown.{item_of, kept_over, shown_over}
+use Rattle.card_core.specs.card_model.Runs.{Commands, MeetsNoPower, armed_after, waiting_after}
+use Rattle.card_core.specs.card_model.States.{Machine}
 use Rattle.t0_link.specs.Linking.{given, kept_back, link_answer}
 use Rattle.t0_link.specs.Tpdus.{transfer_in}
-use Rattle.uicc_types.specs.declared.answers.Answer.{Answer}
-use Rattle.uicc_types.specs.declared.plans.Plan.{Plan}
-use Rattle.uicc_types.specs.declared.plans.TheConstants.Plan.{NONE}
-use Rattle.uicc_types.specs.declared.runs.Step.TheVariants as step
-use Rattle.uicc_types.specs.declared.runs.TraceItem.{TraceItem}
-use Rattle.uicc_types.specs.declared.runs.TraceItem.TheVariants as item
+use Rattle.script_form.specs.uicc_types.declared.answers.Answer.{Answer}
+use Rattle.script_form.specs.uicc_types.declared.plans.Plan.{Plan}
+use Rattle.script_form.specs.uicc_types.declared.plans.TheConstants.Plan.{NONE}
+use Rattle.script_form.specs.uicc_types.declared.runs.Step.TheVariants as step
+use Rattle.script_form.specs.uicc_types.declared.runs.TraceItem.{TraceItem}
+use Rattle.script_form.specs.uicc_types.declared.runs.TraceItem.TheVariants as item
 
 abbrev answered : List ℕ → ℕ → Answer
 answered body status = record { body = body; status = record { 0 = status } }

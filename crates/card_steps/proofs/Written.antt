@@ -1,23 +1,23 @@
 -- What the sink has taken of a TPDU's lines.
 use Rattle.std.proofs.Common.{◌≡◌, ℕ, List, [], ◌∷◌, ◌++◌, Option, Some, refl, sym, ap, ◌∙◌, append_assoc, inl, inr}
 use Rattle.std.specs.Io.KnownBytes.{append_known}
-use Rattle.byte_streams.specs.Streams.{TakesFront}
+use Rattle.script_form.specs.byte_streams.Streams.{TakesFront}
 use Rattle.card_steps.specs.Ends.{End, moment_at}
 use Rattle.card_steps.specs.Tpdus.{BreaksTpdu, Delivers, TakesTpdu, steps_of}
 use Rattle.card_steps.proofs.StepLemmas.{ToldFront, in_one_line, text_of_one, text_of_two, told_front, told_more}
-use Rattle.link_laws.specs.Shown.{shown_for}
-use Rattle.card_model.specs.Counts.{IsCounted}
-use Rattle.card_model.specs.Runs.{armed_after}
-use Rattle.card_model.specs.States.{Machine}
+use Rattle.card_steps.specs.Shown.{shown_for}
+use Rattle.card_core.specs.card_model.Counts.{IsCounted}
+use Rattle.card_core.specs.card_model.Runs.{armed_after}
+use Rattle.card_core.specs.card_model.States.{Machine}
 use Rattle.card_steps.specs.Runs.{item_text, machine_of}
 use Rattle.card_steps.specs.Standing.{machine_stands}
 use Rattle.script_form.specs.Traces.{trace_text}
 use Rattle.script_form.specs.declared.trace.TraceLine.TheVariants as line
 use Rattle.t0_link.specs.Linking.{Course}
-use Rattle.uicc_types.specs.Told.{Becomes}
-use Rattle.uicc_types.specs.declared.answers.Answer.{Answer}
-use Rattle.uicc_types.specs.declared.runs.TraceItem.{TraceItem}
-use Rattle.uicc_types.specs.declared.runs.TraceItem.TheVariants as item
+use Rattle.script_form.specs.uicc_types.Told.{Becomes}
+use Rattle.script_form.specs.uicc_types.declared.answers.Answer.{Answer}
+use Rattle.script_form.specs.uicc_types.declared.runs.TraceItem.{TraceItem}
+use Rattle.script_form.specs.uicc_types.declared.runs.TraceItem.TheVariants as item
 
 module _ (tpdu before : List ℕ) (old : Machine) (course : Course) (keeps kept : Option Answer) where
   -- both lines were written

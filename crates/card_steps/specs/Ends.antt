@@ -1,24 +1,24 @@
 -- A card's end of a link, and what becomes of a command that comes to it.
 use Rattle.std.specs.Prelude.{◌≡◌, ◌≤◌, Bool, true, false, if◌then◌else◌, ℕ, List, [], ◌∷◌, Option, Some, Result, Ok, Err, ⊤}
 use Rattle.card_core.specs.Parts.{CardParts}
-use Rattle.card_model.specs.Counts.{IsCounted, is_cut, is_failure}
-use Rattle.card_model.specs.States.{Machine}
+use Rattle.card_core.specs.card_model.Counts.{IsCounted, is_cut, is_failure}
+use Rattle.card_core.specs.card_model.States.{Machine}
 use Rattle.card_steps.specs.Runs.{machine_of}
 use Rattle.card_steps.specs.Stepping.{IsReply, Moment, Resets, Sends, moment, shown_of}
 use Rattle.card_steps.specs.declared.steps.Reply.{Reply}
 use Rattle.card_steps.specs.declared.steps.Reply.TheVariants as reply
 use Rattle.card_steps.specs.declared.steps.ResetOutcome.{ResetOutcome}
 use Rattle.card_steps.specs.declared.steps.ResetOutcome.TheVariants as outcomes
-use Rattle.link_laws.specs.Shown.{item_of}
+use Rattle.card_steps.specs.Shown.{item_of}
 use Rattle.t0_link.specs.declared.endpoint.Endpoint.{Ghosts as EndpointWords}
 use Rattle.t0_link.specs.declared.endpoint.LinkFault.{LinkFault}
 use Rattle.t0_link.specs.declared.endpoint.LinkFault.TheVariants.{PowerLost, NoPower}
-use Rattle.uicc_types.specs.Counts.{Caused, Meter, armed, names_fault, raised}
-use Rattle.uicc_types.specs.declared.answers.Answer.{Answer}
-use Rattle.uicc_types.specs.declared.plans.Plan.{Plan}
-use Rattle.uicc_types.specs.declared.plans.TheConstants.Plan.{NONE}
-use Rattle.uicc_types.specs.declared.runs.TraceItem.{TraceItem}
-use Rattle.uicc_types.specs.declared.runs.TraceItem.TheVariants as item
+use Rattle.script_form.specs.uicc_types.Counts.{Caused, Meter, armed, names_fault, raised}
+use Rattle.script_form.specs.uicc_types.declared.answers.Answer.{Answer}
+use Rattle.script_form.specs.uicc_types.declared.plans.Plan.{Plan}
+use Rattle.script_form.specs.uicc_types.declared.plans.TheConstants.Plan.{NONE}
+use Rattle.script_form.specs.uicc_types.declared.runs.TraceItem.{TraceItem}
+use Rattle.script_form.specs.uicc_types.declared.runs.TraceItem.TheVariants as item
 
 -- what is seen of it: the parts of the card, and the plan of faults that waits for the next command or reset
 pub record End : Type 0 where

@@ -2,9 +2,9 @@
 use Rattle.std.specs.Prelude.{◌≤◌, length}
 use Rattle.card_steps.specs.declared.moves.Move.{Move}
 use Rattle.card_steps.specs.declared.moves.Move.TheVariants as move
-use Rattle.uicc_types.specs.declared.byte_lists.TheConstants.{LONGEST_COMMAND}
-use Rattle.uicc_types.specs.declared.runs.Step.{Step}
-use Rattle.uicc_types.specs.declared.runs.Step.TheVariants as step
+use Rattle.script_form.specs.uicc_types.declared.byte_lists.TheConstants.{LONGEST_COMMAND}
+use Rattle.script_form.specs.uicc_types.declared.runs.Step.{Step}
+use Rattle.script_form.specs.uicc_types.declared.runs.Step.TheVariants as step
 
 -- the step that a move is
 abbrev pub step_of : Move → Step

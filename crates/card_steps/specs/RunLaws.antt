@@ -2,12 +2,12 @@
 use Rattle.std.proofs.Common.{◌≡◌, Bool, true, List, [], ◌∷◌, ◌++◌, refl, sym, ap, ◌∙◌, append_assoc, subst, inl, inr}
 use Rattle.std.proofs.lemmas.List.{append-nil}
 use Rattle.std.proofs.lemmas.List.Concat.{flat_map-append}
-use Rattle.card_model.specs.Runs.{IsRun, StepEnds, StepGives}
-use Rattle.card_model.specs.States.{Machine}
+use Rattle.card_core.specs.card_model.Runs.{IsRun, StepEnds, StepGives}
+use Rattle.card_core.specs.card_model.States.{Machine}
 use Rattle.card_steps.specs.Runs.{GoesOn, ends_calm, item_text, text_of}
 use Rattle.card_steps.specs.Showing.{MayShow, MayShowAll}
-use Rattle.uicc_types.specs.declared.runs.Step.{Step}
-use Rattle.uicc_types.specs.declared.runs.TraceItem.{TraceItem}
+use Rattle.script_form.specs.uicc_types.declared.runs.Step.{Step}
+use Rattle.script_form.specs.uicc_types.declared.runs.TraceItem.{TraceItem}
 
 -- a run that shows nothing and moves nothing comes first
 run_same : (old new : Machine) (more : List Step) (none items : List TraceItem) (middle : Machine) → none ≡ [] → middle ≡ old → GoesOn middle more items new → GoesOn old more (none ++ items) new

@@ -3,15 +3,15 @@ use Rattle.std.specs.List.{flat_map}
 use Rattle.std.specs.Prelude.{ℕ, Bool, true, false, not, ◌==◌, List, [], ◌∷◌, Option, option_map}
 use Rattle.card_core.specs.Cards.{card_of}
 use Rattle.card_core.specs.Parts.{CardParts}
-use Rattle.card_model.specs.Runs.{StepGives, Then, Waits}
-use Rattle.card_model.specs.States.{Machine}
+use Rattle.card_core.specs.card_model.Runs.{StepGives, Then, Waits}
+use Rattle.card_core.specs.card_model.States.{Machine}
 use Rattle.script_form.specs.Traces.{trace_text}
 use Rattle.script_form.specs.declared.trace.TraceLine.{TraceLine}
 use Rattle.script_form.specs.declared.trace.TraceLine.TheVariants as line
-use Rattle.uicc_types.specs.declared.answers.TheConstants.StatusWord.{MEMORY_PROBLEM}
-use Rattle.uicc_types.specs.declared.runs.Step.{Step}
-use Rattle.uicc_types.specs.declared.runs.TraceItem.{TraceItem}
-use Rattle.uicc_types.specs.declared.runs.TraceItem.TheVariants as item
+use Rattle.script_form.specs.uicc_types.declared.answers.TheConstants.StatusWord.{MEMORY_PROBLEM}
+use Rattle.script_form.specs.uicc_types.declared.runs.Step.{Step}
+use Rattle.script_form.specs.uicc_types.declared.runs.TraceItem.{TraceItem}
+use Rattle.script_form.specs.uicc_types.declared.runs.TraceItem.TheVariants as item
 
 -- the line of the trace that shows an item
 abbrev pub line_of : TraceItem → TraceLine

@@ -1,23 +1,23 @@
 -- What a step or a TPDU comes to over any store, also one that tells nothing: what is shown, what the sink has taken of that, what the
 -- device has counted, and which plan waits. Of the card nothing is said but its power.
 use Rattle.std.specs.Prelude.{◌≡◌, ◌⊎◌, ℕ, Bool, true, false, List, [], ◌∷◌, ◌++◌, Option, Some, Result, Ok, Err, ⊤}
-use Rattle.byte_streams.specs.declared.streams.Failed.{Failed}
-use Rattle.card_model.specs.Counts.{IsCounted}
-use Rattle.card_model.specs.Runs.{armed_after, waiting_after}
+use Rattle.script_form.specs.byte_streams.declared.streams.Failed.{Failed}
+use Rattle.card_core.specs.card_model.Counts.{IsCounted}
+use Rattle.card_core.specs.card_model.Runs.{armed_after, waiting_after}
 use Rattle.card_steps.specs.Ends.{End}
 use Rattle.card_steps.specs.Runs.{text_of}
 use Rattle.card_steps.specs.Stepping.{IsBare, IsCutOff, IsReply, Moment}
 use Rattle.card_steps.specs.Tpdus.{steps_of}
 use Rattle.card_steps.specs.declared.steps.StepEnd.{StepEnd}
 use Rattle.card_steps.specs.declared.steps.StepEnd.TheVariants.{SinkFailed, ResetFailed}
-use Rattle.link_laws.specs.Shown.{item_of, kept_over, shown_for, shown_over}
+use Rattle.card_steps.specs.Shown.{item_of, kept_over, shown_for, shown_over}
 use Rattle.t0_link.specs.Linking.{Course, Answers, Linked, Passes}
-use Rattle.uicc_types.specs.declared.answers.Answer.{Answer}
-use Rattle.uicc_types.specs.declared.plans.Plan.{Plan}
-use Rattle.uicc_types.specs.declared.runs.Step.{Step}
-use Rattle.uicc_types.specs.declared.runs.Step.TheVariants as step
-use Rattle.uicc_types.specs.declared.runs.TraceItem.{TraceItem}
-use Rattle.uicc_types.specs.declared.runs.TraceItem.TheVariants as item
+use Rattle.script_form.specs.uicc_types.declared.answers.Answer.{Answer}
+use Rattle.script_form.specs.uicc_types.declared.plans.Plan.{Plan}
+use Rattle.script_form.specs.uicc_types.declared.runs.Step.{Step}
+use Rattle.script_form.specs.uicc_types.declared.runs.Step.TheVariants as step
+use Rattle.script_form.specs.uicc_types.declared.runs.TraceItem.{TraceItem}
+use Rattle.script_form.specs.uicc_types.declared.runs.TraceItem.TheVariants as item
 
 -- ---- what may be shown
 

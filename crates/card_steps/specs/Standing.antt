@@ -1,10 +1,10 @@
 -- What a card of the code stands for as a machine: what its store holds, and the minds in its boxes.
 use Rattle.std.proofs.Common.{◌≡◌, Bool, true, false, Some, refl, sym, ap, ◌∙◌, option_map}
-use Rattle.general_laws.specs.Choices.{mapped_Some}
+use Rattle.script_form.specs.uicc_types.Choices.{mapped_Some}
 use Rattle.card_core.specs.Cards.{card_of, card_with, held_by}
 use Rattle.card_core.specs.Parts.{CardParts}
-use Rattle.card_layout.specs.Persistent.{Persistent}
-use Rattle.card_model.specs.States.{CardState, Machine, woken}
+use Rattle.card_core.specs.card_layout.Persistent.{Persistent}
+use Rattle.card_core.specs.card_model.States.{CardState, Machine, woken}
 use Rattle.card_steps.specs.Runs.{machine_of}
 
 -- the card of a machine, and its power

@@ -1,12 +1,12 @@
 -- What one step comes to: between two steps a card stands somewhere, the sink has taken something, and a plan may wait.
 use Rattle.std.specs.Prelude.{◌≡◌, ◌⊎◌, ℕ, Bool, true, false, List, [], ◌∷◌, ◌++◌, Option, Some, Result, Ok, Err, ⊤}
-use Rattle.applet_trait.specs.Minds.{AppletState}
+use Rattle.card_core.specs.applet_trait.Minds.{AppletState}
 use Rattle.card_core.specs.Cards.{held_by}
 use Rattle.card_core.specs.Parts.{CardParts}
-use Rattle.card_layout.specs.Persistent.{Persistent}
-use Rattle.card_model.specs.Counts.{IsCounted, is_failure}
-use Rattle.card_model.specs.Runs.{StepGives, StepEnds, armed_after, waiting_after}
-use Rattle.card_model.specs.States.{Machine, powered, unpowered, restarted}
+use Rattle.card_core.specs.card_layout.Persistent.{Persistent}
+use Rattle.card_core.specs.card_model.Counts.{IsCounted, is_failure}
+use Rattle.card_core.specs.card_model.Runs.{StepGives, StepEnds, armed_after, waiting_after}
+use Rattle.card_core.specs.card_model.States.{Machine, powered, unpowered, restarted}
 use Rattle.card_steps.specs.Runs.{ends_calm, is_calm, item_text, machine_of, text_of}
 use Rattle.card_steps.specs.declared.steps.Reply.{Reply}
 use Rattle.card_steps.specs.declared.steps.Reply.TheVariants as reply
@@ -16,14 +16,14 @@ use Rattle.card_steps.specs.declared.steps.Restarted.{Restarted}
 use Rattle.card_steps.specs.declared.steps.Restarted.TheVariants as ended
 use Rattle.card_steps.specs.declared.steps.StepEnd.{StepEnd}
 use Rattle.card_steps.specs.declared.steps.StepEnd.TheVariants.{SinkFailed, ResetFailed}
-use Rattle.uicc_types.specs.Counts.{Meter}
-use Rattle.uicc_types.specs.Told.{IsFront}
-use Rattle.uicc_types.specs.declared.answers.Answer.{Answer}
-use Rattle.uicc_types.specs.declared.plans.Plan.{Plan}
-use Rattle.uicc_types.specs.declared.runs.Step.{Step}
-use Rattle.uicc_types.specs.declared.runs.Step.TheVariants as step
-use Rattle.uicc_types.specs.declared.runs.TraceItem.{TraceItem}
-use Rattle.uicc_types.specs.declared.runs.TraceItem.TheVariants as item
+use Rattle.script_form.specs.uicc_types.Counts.{Meter}
+use Rattle.script_form.specs.uicc_types.Told.{IsFront}
+use Rattle.script_form.specs.uicc_types.declared.answers.Answer.{Answer}
+use Rattle.script_form.specs.uicc_types.declared.plans.Plan.{Plan}
+use Rattle.script_form.specs.uicc_types.declared.runs.Step.{Step}
+use Rattle.script_form.specs.uicc_types.declared.runs.Step.TheVariants as step
+use Rattle.script_form.specs.uicc_types.declared.runs.TraceItem.{TraceItem}
+use Rattle.script_form.specs.uicc_types.declared.runs.TraceItem.TheVariants as item
 
 -- the card with its power and what its store stands for, where that tells its bytes; whether it has power, which is known over any
 -- store; what the sink has taken; the counts of the device; the minds in the boxes; whether the card still has to wake them, as after a

@@ -1,8 +1,8 @@
 -- What is counted at the two ends of a run, over any memory and any sink.
 use Rattle.std.specs.Prelude.{◌≡◌, ◌≤◌, ℕ, List, Option, is_some}
-use Rattle.byte_streams.specs.declared.streams.Sink.{Ghosts as SinkWords}
+use Rattle.script_form.specs.byte_streams.declared.streams.Sink.{Ghosts as SinkWords}
 use Rattle.card_steps.specs.Ends.{End}
-use Rattle.uicc_types.specs.Counts.{CountsFailure}
+use Rattle.script_form.specs.uicc_types.Counts.{CountsFailure}
 
 -- how often the device of the card's memory has failed, how often the sink of the trace has, and what the sink has taken, where it tells that
 pub record Tally : Type 0 where

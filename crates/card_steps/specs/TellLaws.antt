@@ -1,8 +1,8 @@
 -- A sink that tells what it has taken goes on telling it, and one that tells nothing goes on so.
 use Rattle.std.proofs.Common.{◌≡◌, ℕ, List, Option, Some, None, is_some, refl, ap}
 use Rattle.std.specs.Io.KnownBytes.{append_known}
-use Rattle.byte_streams.specs.Streams.{TakesFront}
-use Rattle.uicc_types.specs.Told.{Becomes}
+use Rattle.script_form.specs.byte_streams.Streams.{TakesFront}
+use Rattle.script_form.specs.uicc_types.Told.{Becomes}
 
 -- where a text was taken whole
 pub tells_whole : (text : List ℕ) (before now : Option (List ℕ)) → now ≡ append_known before text → is_some now ≡ is_some before

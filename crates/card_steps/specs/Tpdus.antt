@@ -1,21 +1,21 @@
 -- What a TPDU comes to, by the course that the link takes with it: what is shown, what the card makes of it, and what the link keeps.
 use Rattle.std.specs.Prelude.{◌≡◌, ◌⊎◌, ℕ, Bool, false, true, List, [], ◌∷◌, ◌++◌, Option, Some, Result, Ok, Err, ⊤}
-use Rattle.card_model.specs.Counts.{IsCounted}
-use Rattle.card_model.specs.Runs.{StepGives, armed_after, waiting_after}
-use Rattle.card_model.specs.States.{Machine}
+use Rattle.card_core.specs.card_model.Counts.{IsCounted}
+use Rattle.card_core.specs.card_model.Runs.{StepGives, armed_after, waiting_after}
+use Rattle.card_core.specs.card_model.States.{Machine}
 use Rattle.card_steps.specs.Runs.{ends_calm, machine_of, text_of}
 use Rattle.card_steps.specs.Stepping.{IsBare, IsCutOff, Moment}
-use Rattle.byte_streams.specs.declared.streams.Failed.{Failed}
+use Rattle.script_form.specs.byte_streams.declared.streams.Failed.{Failed}
 use Rattle.card_steps.specs.Ends.{End, with_plan_set}
-use Rattle.link_laws.specs.Shown.{item_of, kept_over, shown_for, shown_over}
+use Rattle.card_steps.specs.Shown.{item_of, kept_over, shown_for, shown_over}
 use Rattle.t0_link.specs.Linking.{Course, Answers, Linked, Passes}
-use Rattle.uicc_types.specs.Counts.{names_fault}
-use Rattle.uicc_types.specs.declared.answers.Answer.{Answer}
-use Rattle.uicc_types.specs.declared.plans.Plan.{Plan}
-use Rattle.uicc_types.specs.declared.runs.Step.{Step}
-use Rattle.uicc_types.specs.declared.runs.Step.TheVariants as step
-use Rattle.uicc_types.specs.declared.runs.TraceItem.{TraceItem}
-use Rattle.uicc_types.specs.declared.runs.TraceItem.TheVariants as item
+use Rattle.script_form.specs.uicc_types.Counts.{names_fault}
+use Rattle.script_form.specs.uicc_types.declared.answers.Answer.{Answer}
+use Rattle.script_form.specs.uicc_types.declared.plans.Plan.{Plan}
+use Rattle.script_form.specs.uicc_types.declared.runs.Step.{Step}
+use Rattle.script_form.specs.uicc_types.declared.runs.Step.TheVariants as step
+use Rattle.script_form.specs.uicc_types.declared.runs.TraceItem.{TraceItem}
+use Rattle.script_form.specs.uicc_types.declared.runs.TraceItem.TheVariants as item
 
 -- the step that the card takes: that of the APDU that is passed, or none where the link answers by itself
 abbrev pub steps_of : Course → List Step

@@ -3,15 +3,15 @@ ghost use Rattle.std.specs.Prelude.{◌≡◌, IsTrue};
 ghost use Rattle.card_steps.specs.Ends.{Comes, reply_for};
 ghost use Rattle.card_steps.specs.Stepping.{seen};
 ghost use Rattle.t0_link.specs.Carrying.{carried};
-ghost use Rattle.uicc_types.specs.Told.{AreBytes};
+ghost use Rattle.script_form.specs.uicc_types.Told.{AreBytes};
 
 use crate::ends::CardEnd;
+use crate::link_changes_no_step;
 use crate::steps::Reply;
-use applet_trait::Applet;
-use link_laws::link_changes_no_step;
-use store_form::Store;
+use card_core::applet_trait::Applet;
+use card_core::store_form::Store;
+use script_form::uicc_types::Answer;
 use t0_link::{Endpoint, Link, LinkFault, is_carried};
-use uicc_types::Answer;
 
 /// How a terminal's commands come to the card.
 #[derive(Debug, Drop)]

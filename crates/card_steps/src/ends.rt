@@ -1,19 +1,19 @@
 //! A card at its end of a link.
 ghost use Rattle.std.specs.Prelude.{◌≡◌, ◌↔◌, false, [], Err, IsErrOf, OnErr};
 ghost use Rattle.card_core.specs.Cards.{parts_of, IsCardReady};
-ghost use Rattle.card_model.specs.Runs.{joined as plans_joined};
+ghost use Rattle.card_core.specs.card_model.Runs.{joined as plans_joined};
 ghost use Rattle.card_steps.specs.Ends.{TakesCommand, TakesReset, reply_for, with_plan_set, without_plan};
 ghost use Rattle.card_steps.specs.Stepping.{seen};
-ghost use Rattle.uicc_types.specs.Counts.{CountsFailure, names_fault as is_named};
+ghost use Rattle.script_form.specs.uicc_types.Counts.{CountsFailure, names_fault as is_named};
 
 use crate::steps::ResetOutcome;
-use applet_trait::Applet;
+use card_core::applet_trait::Applet;
+use card_core::card_model::runs_are_counted;
+use card_core::store_form::Store;
 use card_core::{CardFault, CardOver, ResetFault};
-use card_model::runs_are_counted;
+use script_form::uicc_types::{Answer, Plan};
 use std::marker::Model;
-use store_form::Store;
 use t0_link::{Endpoint, LinkFault};
-use uicc_types::{Answer, Plan};
 
 /// A card at its end of a link, with the plan of faults that waits for its next command or reset.
 #[derive(Drop)]

@@ -1,14 +1,26 @@
-//! A run, step by step: what is done to a card over any store, by itself or over a T=0 link, and what the trace shows of it.
+//! A run, step by step: what is done to a card over any store, by itself or over a T=0 link, and what the trace shows of it; and
+//! that the link changes no answer and no step of a run.
+//!
+//! It passes on the crates whose words it speaks, so that who stands on it need not list them.
 #![tactic(auto)]
 
 mod carriers;
 mod ends;
+mod link_laws;
 mod moves;
 mod steps;
 mod tpdus;
 
+pub use card_core;
+pub use card_core::{
+    apdu_form, applet_trait, card_layout, card_model, file_model, store_form, toolkit_model,
+};
 pub use carriers::Carrier;
 pub use ends::CardEnd;
+pub use link_laws::{le_cuts_alone, link_changes_no_answer, link_changes_no_step};
 pub use moves::Move;
+pub use script_form;
+pub use script_form::byte_streams;
 pub use steps::{Reply, Restarted, StepEnd, exchange, restart, take_step};
+pub use t0_link;
 pub use tpdus::take_tpdu;

@@ -1,8 +1,8 @@
 //! What is done to the card, and what the trace shows of it.
 ghost use Rattle.std.specs.Prelude.{◌≡◌, ◌≢◌, ◌≤◌, List, ℕ, Some, Err, OnOk, OnErr, is_some, length};
 ghost use Rattle.std.specs.Io.KnownBytes.{append_known};
-ghost use Rattle.byte_streams.specs.Streams.{TakesFront};
-ghost use Rattle.card_model.specs.States.{Machine};
+ghost use Rattle.script_form.specs.byte_streams.Streams.{TakesFront};
+ghost use Rattle.card_core.specs.card_model.States.{Machine};
 ghost use Rattle.card_steps.specs.Ends.{moment_at};
 ghost use Rattle.card_steps.specs.Moves.{IsShort, step_of};
 ghost use Rattle.card_steps.specs.Runs.{item_text, machine_of};
@@ -10,20 +10,20 @@ ghost use Rattle.card_steps.specs.Showing.{Shows, ShowsAny};
 ghost use Rattle.card_steps.specs.Stepping.{GivesShowing, GivesStep, exchanged, restarted_by, seen};
 ghost use Rattle.card_steps.specs.Tallies.{Tallies, tally};
 ghost use Rattle.script_form.specs.Traces.{trace_text};
-ghost use Rattle.uicc_types.specs.Counts.{CountsFailure, raised};
-ghost use Rattle.uicc_types.specs.Told.{Becomes};
-ghost use Rattle.uicc_types.specs.declared.byte_lists.TheConstants.{LONGEST_COMMAND};
-ghost use Rattle.uicc_types.specs.declared.runs.Step.TheVariants as step;
+ghost use Rattle.script_form.specs.uicc_types.Counts.{CountsFailure, raised};
+ghost use Rattle.script_form.specs.uicc_types.Told.{Becomes};
+ghost use Rattle.script_form.specs.uicc_types.declared.byte_lists.TheConstants.{LONGEST_COMMAND};
+ghost use Rattle.script_form.specs.uicc_types.declared.runs.Step.TheVariants as step;
 
 use crate::carriers::Carrier;
 use crate::ends::CardEnd;
 use crate::moves::Move;
-use applet_trait::Applet;
-use byte_streams::{Failed, Sink};
-use card_model::runs_are_counted;
+use card_core::applet_trait::Applet;
+use card_core::card_model::runs_are_counted;
+use card_core::store_form::Store;
+use script_form::byte_streams::{Failed, Sink};
+use script_form::uicc_types::Answer;
 use script_form::{TraceLine, write_answer, write_command, write_trace};
-use store_form::Store;
-use uicc_types::Answer;
 
 /// Why a step is the last.
 #[derive(Clone, Copy, Debug, PartialEq, Eq)]

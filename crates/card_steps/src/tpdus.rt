@@ -2,26 +2,26 @@
 ghost use Rattle.std.specs.Prelude.{◌≡◌, ◌≤◌, List, ℕ, Some, Option, IsErr, length};
 ghost use Rattle.card_steps.specs.Ends.{moment_at};
 ghost use Rattle.card_steps.specs.Tpdus.{Delivers, GivesTpdu, IsPrepared};
-ghost use Rattle.card_model.specs.States.{Machine};
+ghost use Rattle.card_core.specs.card_model.States.{Machine};
 ghost use Rattle.card_steps.specs.Runs.{machine_of};
 ghost use Rattle.card_steps.specs.Showing.{ShowsCourse, TpduShows};
 ghost use Rattle.card_steps.specs.Stepping.{seen};
 ghost use Rattle.card_steps.specs.Tallies.{Tallies, tally};
 ghost use Rattle.t0_link.specs.Exchanging.{IsPassed};
 ghost use Rattle.t0_link.specs.Linking.{link_answer};
-ghost use Rattle.uicc_types.specs.declared.answers.Answer.{Answer as AnyAnswer};
-ghost use Rattle.uicc_types.specs.declared.byte_lists.TheConstants.{LONGEST_COMMAND};
+ghost use Rattle.script_form.specs.uicc_types.declared.answers.Answer.{Answer as AnyAnswer};
+ghost use Rattle.script_form.specs.uicc_types.declared.byte_lists.TheConstants.{LONGEST_COMMAND};
 
 use crate::carriers::reply_of;
 use crate::ends::CardEnd;
 use crate::steps::{Reply, write_reply};
-use applet_trait::Applet;
-use byte_streams::{Failed, Sink};
-use card_model::runs_are_counted;
+use card_core::applet_trait::Applet;
+use card_core::card_model::runs_are_counted;
+use card_core::store_form::Store;
+use script_form::byte_streams::{Failed, Sink};
+use script_form::uicc_types::Answer;
 use script_form::write_command;
-use store_form::Store;
 use t0_link::{Link, is_passed};
-use uicc_types::Answer;
 
 // Sets the plan that waits, where an APDU is passed, and answers whether the device was given one.
 fn prepare<S: Store, B: Applet>(end: &mut CardEnd<S, B>, tpdu: &[u8]) -> bool

@@ -1,13 +1,13 @@
 //! Boxes and a sink that note what happens to them, where the test sees it.
 ghost use Rattle.std.specs.Prelude.{◌≤◌, length, IfOk};
 
-use applet_trait::{Act, Applet, Stimulus};
 use boxed_applets::{ProgramApplet, applet_of};
-use byte_streams::{Failed, ListSink, Sink};
-use card_layout::sizes::ROW_COUNT;
 use std::alloc::{AllocError, Global};
 use std::cell::Cell;
-use uicc_types::Kept;
+use uicc_run::applet_trait::{Act, Applet, Stimulus};
+use uicc_run::byte_streams::{Failed, ListSink, Sink};
+use uicc_run::card_layout::sizes::ROW_COUNT;
+use uicc_run::uicc_types::Kept;
 
 const MOST: usize = 64;
 

@@ -1,15 +1,15 @@
 //! A reset that fails.
 ghost use Rattle.std.specs.Prelude.{◌≡◌, ◌≤◌, length};
 
-use applet_trait::Applet;
-use card_core::{CardOver, OpenFault, ResetFault};
-use eeprom_model::BenchEeprom;
-use layout_section::{Section, format};
 use std::alloc::Global;
 use std::test::Fail;
-use store_form::Store;
-use uicc_types::{Answer, Plan, StatusWord};
-use update_journal::Journal;
+use uicc_run::applet_trait::Applet;
+use uicc_run::card_core::{CardOver, OpenFault, ResetFault};
+use uicc_run::eeprom_model::BenchEeprom;
+use uicc_run::layout_section::{Section, format};
+use uicc_run::store_form::Store;
+use uicc_run::uicc_types::{Answer, Plan, StatusWord};
+use uicc_run::update_journal::Journal;
 
 const SIZE: usize = 65_536;
 

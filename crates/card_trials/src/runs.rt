@@ -4,13 +4,13 @@ ghost use Rattle.uicc_run.specs.Stores.{IsSizeFor};
 
 use crate::boxes::{Noting, NotingSink};
 use boxed_applets::make_applets;
-use byte_streams::{ListSink, SliceSource};
-use card_layout::places::MEMORY_SIZE;
-use card_layout::sizes::ROW_COUNT;
-use eeprom_model::{BenchEeprom, Eeprom};
-use run_words::devices;
 use std::alloc::{AllocError, Global};
 use std::test::Fail;
+use uicc_run::byte_streams::{ListSink, SliceSource};
+use uicc_run::card_layout::places::MEMORY_SIZE;
+use uicc_run::card_layout::sizes::ROW_COUNT;
+use uicc_run::eeprom_model::{BenchEeprom, Eeprom};
+use uicc_run::run_words::devices;
 use uicc_run::{device_size, run};
 
 /// A script, and the trace that it is to have.

@@ -1,4 +1,4 @@
 pub mod Model
-pub mod Seen
 pub mod Reading
+pub mod Seen
 pub mod Writing

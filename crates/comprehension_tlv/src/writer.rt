@@ -59,8 +59,8 @@ impl TlvWriter {
     pub fn put_behind(&mut self, tag: u16, flag: bool, first: u8, rest: &[u8]) -> Result<(), Full>
         requires low { 1 ≤ tag }
         requires high { tag ≤ 126 }
-        ensures room { IsOk result
-            ↔ (length self.old + length (spelling (record { flag = flag; tag = tag; value = first ∷ rest.now })) ≤ 255) }
+        ensures room { IsOk result ↔ (length self.old
+            + length (spelling (record { flag = flag; tag = tag; value = first ∷ rest.now })) ≤ 255) }
         ensures ok { OnOk result (self.new
             ≡ self.old ++ spelling (record { flag = flag; tag = tag; value = first ∷ rest.now })) }
         ensures err { OnErr result (self.new ≡ self.old) }

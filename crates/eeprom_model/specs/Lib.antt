@@ -1,2 +1,3 @@
+pub mod Adapter
 pub mod Bench
 pub mod Faults

@@ -2,22 +2,23 @@
 use Rattle.std.proofs.Common.{◌≡◌, ℕ, List, [], ◌∷◌, length, Option, Some, None, option_map, refl, sym, ◌∙◌, ap, subst, inl, inr, arith}
 use Rattle.std.specs.Prelude.{◌⊎◌, IfSome, IsSomeAnd, IfOk, Contains, Result, Ok, Err}
 use Rattle.std.proofs.lemmas.Result.{on_ok_weaker, on_err_weaker}
-use Rattle.uicc_types.specs.Calls.{IsCalm, calm_same, calm_ok}
-use Rattle.uicc_types.specs.Counts.{Meter, Caused, raised_by}
-use Rattle.uicc_types.specs.declared.answers.StatusWord.{StatusWord}
-use Rattle.uicc_types.specs.declared.answers.TheConstants.StatusWord.{DONE}
-use Rattle.store_form.specs.declared.store.StoreFault.{StoreFault}
-use Rattle.store_form.specs.Faults.{HasCause}
-use Rattle.store_form.specs.Causes.{cause_of}
-use Rattle.card_layout.specs.declared.entries.Loaded.{Loaded}
-use Rattle.card_layout.specs.Memory.{Memory, held, IsMounted, Keeps, Committed}
-use Rattle.card_layout.specs.Persistent.{Persistent}
-use Rattle.card_layout.specs.Standing.{Stands}
+use Rattle.file_model.specs.uicc_types.Calls.{IsCalm, calm_same}
+use Rattle.file_model.specs.uicc_types.Counts.{Meter, Caused, raised_by}
+use Rattle.file_model.specs.uicc_types.declared.answers.StatusWord.{StatusWord}
+use Rattle.file_model.specs.uicc_types.declared.answers.TheConstants.StatusWord.{DONE}
+use Rattle.file_model.specs.store_form.declared.store.StoreFault.{StoreFault}
+use Rattle.file_model.specs.store_form.Faults.{HasCause}
+use Rattle.file_model.specs.store_form.Causes.{cause_of}
+use Rattle.file_model.specs.card_layout.declared.entries.Loaded.{Loaded}
+use Rattle.file_model.specs.card_layout.Memory.{Memory, held, IsMounted, Keeps, Committed}
+use Rattle.file_model.specs.card_layout.Persistent.{Persistent}
+use Rattle.file_model.specs.card_layout.Standing.{Stands}
+use Rattle.card_memory.specs.Keeping.{keeps_done}
 use Rattle.card_memory.specs.Performing.{PassesOne}
 use Rattle.file_model.specs.declared.selections.Selection.{Selection}
 use Rattle.file_model.specs.Outcomes.{last_of}
-use Rattle.layout_standing.specs.Known.{StandingIsOfTable}
-use Rattle.layout_standing.specs.Stores.{AgreeingStands}
+use Rattle.card_memory.specs.layout_standing.Known.{StandingIsOfTable}
+use Rattle.card_memory.specs.layout_standing.Stores.{AgreeingStands}
 use Rattle.file_making.specs.Outcomes.{TreeOutcome}
 use Rattle.file_admin.specs.Outcomes.{passed_by, IsTreeAnswer, AnswersTree, CommitsTree, TreeComesTo, PassesNothing, IfNothingPasses, IsDone}
 use Rattle.file_admin.proofs.Known.{stands_here}
@@ -42,12 +43,6 @@ caused_so old new failed failed' lost lost' c = record {
 
 calm_cause : {T : Type 0} (old new : Meter) (value : T) → IsCalm old new → HasCause old new (Ok value)
 calm_cause old new value calm = caused_so old new (λ none. absurd none) (λ is. cc) (λ none. absurd none) (λ is. cc) calm
-
-pub cause_ok : {T U : Type 0} (old new : Meter) (value : T) (other : U) → HasCause old new (Ok value) → HasCause old new (Ok other)
-cause_ok old new value other cause = calm_cause old new other (calm_ok old new (λ failed. cc) (λ lost. cc) cause)
-
-pub keeps_ok : {T U : Type 0} (old new : Memory) (value : T) (other : U) → Keeps old new (Ok value) → Keeps old new (Ok other)
-keeps_ok old new value other keeps = record { mounted = keeps.mounted; told = keeps.told; size = keeps.size; mark = keeps.mark; cause = cause_ok old.meter new.meter value other keeps.cause }
 
 pub keeps_err : {T U : Type 0} (old new : Memory) (fault : StoreFault) → Keeps {T = T} old new (Err fault) → Keeps {T = U} old new (Err fault)
 keeps_err {T} {U} old new fault keeps = record { mounted = tt; told = keeps.told; size = keeps.size; mark = keeps.mark; cause = cause_of {T = T} {U = U} old.meter new.meter fault keeps.cause }
@@ -108,7 +103,7 @@ module _ (of_table : StandingIsOfTable) (known : AgreeingStands) (before : Memor
       pub carried_out : {T : Type 0} (value : T) (after : Memory) (status : StatusWord) (new : List (Option Selection)) → AnswersTree before.table after.table status old new meaning → Committed before after (Ok value) change
           → IsDone (Ok status) before after old new meaning
       carried_out value after status new answers committed =
-          record { answers = answers; leaves = leaves (held before) refl; commits = commits; passes = tt; channels_kept = tt; keeps = keeps_ok before after value status committed.keeps }
+          record { answers = answers; leaves = leaves (held before) refl; commits = commits; passes = tt; channels_kept = tt; keeps = keeps_done before after value status committed.keeps }
         where
           leaves : (o : Option Persistent) → held before ≡ o → IfSome o (λ state. held after ≡ Some (last_of state (passed_by old (meaning state))))
           leaves None is = tt

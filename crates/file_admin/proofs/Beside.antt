@@ -2,14 +2,14 @@
 use Rattle.std.proofs.Common.{◌≡◌, ℕ, ◌≤◌, ◌+◌, List, Contains, sym, ◌∙◌, ap, subst, ⊎_elim}
 use Rattle.std.specs.Prelude.{◌⊎◌}
 use Rattle.std.proofs.lemmas.List.Elements.{All-contains}
-use Rattle.card_layout.specs.declared.entries.Loaded.{Loaded}
-use Rattle.card_layout.specs.Persistent.{File, Persistent}
-use Rattle.card_layout.specs.Soundness.{IsEf, IsSound, IsSoundFile}
-use Rattle.card_layout.specs.Standing.{Stands}
-use Rattle.card_layout.specs.States.{ef_file, file_of}
-use Rattle.layout_changes.specs.Cards.{IsFreeRange}
-use Rattle.layout_changes.specs.Files.{ef_of}
-use Rattle.layout_standing.specs.Known.{NodesAreFiles, IsBesideNodes}
+use Rattle.file_model.specs.card_layout.declared.entries.Loaded.{Loaded}
+use Rattle.file_model.specs.card_layout.Persistent.{File, Persistent}
+use Rattle.file_model.specs.card_layout.Soundness.{IsEf, IsSound, IsSoundFile}
+use Rattle.file_model.specs.card_layout.Standing.{Stands}
+use Rattle.file_model.specs.card_layout.States.{ef_file, file_of}
+use Rattle.card_memory.specs.layout_standing.Cards.{IsFreeRange}
+use Rattle.card_memory.specs.layout_standing.Files.{ef_of}
+use Rattle.card_memory.specs.layout_standing.Known.{NodesAreFiles, IsBesideNodes}
 
 pub beside_nodes : NodesAreFiles → (mark : ℕ) (content : List ℕ) (table : Loaded) (state : Persistent) → Stands mark content table state → IsSound state → (place count : ℕ) → IsFreeRange table.wide state.files place count
     → IsBesideNodes table place count

@@ -2,15 +2,15 @@
 use Rattle.std.proofs.Common.{◌≡◌, ℕ, List, Option, Some, None, refl, sym, ◌∙◌, ap, subst, inl}
 use Rattle.std.specs.Prelude.{◌⊎◌, option_map, Result, Ok, Err}
 use Rattle.std.proofs.lemmas.Result.{on_ok_weaker, on_err_weaker}
-use Rattle.uicc_types.specs.Calls.{caused_then, calm_ok}
-use Rattle.store_form.specs.declared.store.StoreFault.{StoreFault}
-use Rattle.store_form.specs.Faults.{with_commit}
-use Rattle.card_layout.specs.declared.entries.Node.{Node}
-use Rattle.card_layout.specs.Memory.{Memory, held, IsMounted, Committed}
-use Rattle.card_layout.specs.Persistent.{Persistent}
-use Rattle.card_layout.specs.Standing.{standing}
-use Rattle.prepared_commits.specs.Commits.{CommitsOver}
-use Rattle.prepared_commits.specs.Prepared.{Prepares}
+use Rattle.file_model.specs.uicc_types.Calls.{caused_then, calm_ok}
+use Rattle.file_model.specs.store_form.declared.store.StoreFault.{StoreFault}
+use Rattle.file_model.specs.store_form.Faults.{with_commit}
+use Rattle.file_model.specs.card_layout.declared.entries.Node.{Node}
+use Rattle.file_model.specs.card_layout.Memory.{Memory, held, IsMounted, Committed}
+use Rattle.file_model.specs.card_layout.Persistent.{Persistent}
+use Rattle.file_model.specs.card_layout.Standing.{standing}
+use Rattle.card_memory.specs.PreparedCommits.{CommitsOver}
+use Rattle.card_memory.specs.Prepared.{Prepares}
 use Rattle.file_admin.specs.Written.{IsWrittenOver, as_it_was}
 
 module _ (old : Memory) (mounted : IsMounted old) (number : ℕ) (node : Node) (from to : ℕ) (change : Persistent → Persistent) where

@@ -1,18 +1,18 @@
 -- What CREATE FILE has done to a card once the bytes of the file were prepared and its entry was committed.
 use Rattle.std.proofs.Common.{◌≡◌, ℕ, ◌≤◌, Bool, false, List, [], ◌∷◌, replicate, Option, Some, None, option_map, refl, sym, ◌∙◌, ap, subst, arith}
 use Rattle.std.specs.Prelude.{slice_set, IsTrue, IsSomeAnd, Result, Ok, Err}
-use Rattle.uicc_types.specs.Patches.{patched}
-use Rattle.uicc_types.specs.declared.answers.StatusWord.{StatusWord}
-use Rattle.uicc_types.specs.declared.answers.TheConstants.StatusWord.{DONE, NO_ROOM}
-use Rattle.card_layout.specs.declared.entries.Node.{Node}
-use Rattle.card_layout.specs.declared.entries.Loaded.{Loaded}
-use Rattle.card_layout.specs.Changing.{with_file_at}
-use Rattle.card_layout.specs.Laws.{after}
-use Rattle.card_layout.specs.Persistent.{File, Persistent}
-use Rattle.card_layout.specs.Ranges.{HasNodeRanges}
-use Rattle.card_layout.specs.Spelling.{node_part}
-use Rattle.card_layout.specs.Standing.{Stands}
-use Rattle.card_layout.specs.States.{state_of}
+use Rattle.file_model.specs.uicc_types.Patches.{patched}
+use Rattle.file_model.specs.uicc_types.declared.answers.StatusWord.{StatusWord}
+use Rattle.file_model.specs.uicc_types.declared.answers.TheConstants.StatusWord.{DONE, NO_ROOM}
+use Rattle.file_model.specs.card_layout.declared.entries.Node.{Node}
+use Rattle.file_model.specs.card_layout.declared.entries.Loaded.{Loaded}
+use Rattle.file_model.specs.card_layout.Changing.{with_file_at}
+use Rattle.file_model.specs.card_layout.Laws.{after}
+use Rattle.file_model.specs.card_layout.Persistent.{File, Persistent}
+use Rattle.file_model.specs.card_layout.Ranges.{HasNodeRanges}
+use Rattle.file_model.specs.card_layout.Spelling.{node_part}
+use Rattle.file_model.specs.card_layout.Standing.{Stands}
+use Rattle.file_model.specs.card_layout.States.{state_of}
 use Rattle.file_model.specs.declared.descriptors.Descriptor.{Descriptor}
 use Rattle.file_model.specs.declared.descriptors.Wanted.TheVariants.{Number}
 use Rattle.file_model.specs.declared.selections.Selection.{Selection}
@@ -20,10 +20,10 @@ use Rattle.file_model.specs.Chains.{given}
 use Rattle.file_model.specs.Files.{descriptors_of, descriptors_in, descriptor_in, file_found, is_df}
 use Rattle.file_model.specs.Laws.{TablesTellFiles}
 use Rattle.file_model.specs.Selections.{selection_of}
-use Rattle.layout_changes.specs.Cards.{IsFreeRange}
-use Rattle.layout_changes.specs.Changes.{with_node}
-use Rattle.layout_standing.specs.Known.{StandingIsCard, StandingIsOfTable, NodesAreFiles, IsBesideNodes}
-use Rattle.prepared_commits.specs.Prepared.{filled}
+use Rattle.card_memory.specs.layout_standing.Cards.{IsFreeRange}
+use Rattle.card_memory.specs.layout_standing.Changes.{with_node}
+use Rattle.card_memory.specs.layout_standing.Known.{StandingIsCard, StandingIsOfTable, NodesAreFiles, IsBesideNodes}
+use Rattle.card_memory.specs.Prepared.{filled}
 use Rattle.file_making.specs.declared.asked.NewFile.{NewFile}
 use Rattle.file_making.specs.declared.asked.NewFile.TheVariants.{Df, Ef}
 use Rattle.file_making.specs.declared.entries.NewEntry.{NewEntry}

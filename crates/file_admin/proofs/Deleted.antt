@@ -1,22 +1,22 @@
 -- What DELETE FILE has done to a card once the entry of the file was committed as one that is not used.
 use Rattle.std.proofs.Common.{◌≡◌, ℕ, false, List, [], ◌∷◌, Option, None, refl, sym, ◌∙◌, ap, subst}
 use Rattle.std.specs.Prelude.{Result, Ok}
-use Rattle.uicc_types.specs.declared.answers.StatusWord.{StatusWord}
-use Rattle.uicc_types.specs.declared.answers.TheConstants.StatusWord.{DONE}
-use Rattle.card_layout.specs.declared.entries.Node.{Node}
-use Rattle.card_layout.specs.declared.entries.Loaded.{Loaded}
-use Rattle.card_layout.specs.Changing.{with_file_at}
-use Rattle.card_layout.specs.Laws.{after}
-use Rattle.card_layout.specs.Persistent.{Persistent}
-use Rattle.card_layout.specs.Spelling.{node_part}
-use Rattle.card_layout.specs.Standing.{Stands}
-use Rattle.card_layout.specs.Used.{HasNode}
+use Rattle.file_model.specs.uicc_types.declared.answers.StatusWord.{StatusWord}
+use Rattle.file_model.specs.uicc_types.declared.answers.TheConstants.StatusWord.{DONE}
+use Rattle.file_model.specs.card_layout.declared.entries.Node.{Node}
+use Rattle.file_model.specs.card_layout.declared.entries.Loaded.{Loaded}
+use Rattle.file_model.specs.card_layout.Changing.{with_file_at}
+use Rattle.file_model.specs.card_layout.Laws.{after}
+use Rattle.file_model.specs.card_layout.Persistent.{Persistent}
+use Rattle.file_model.specs.card_layout.Spelling.{node_part}
+use Rattle.file_model.specs.card_layout.Standing.{Stands}
+use Rattle.file_model.specs.card_layout.Used.{HasNode}
 use Rattle.file_model.specs.declared.descriptors.Descriptor.{Descriptor}
 use Rattle.file_model.specs.declared.selections.Selection.{Selection}
 use Rattle.file_model.specs.Files.{descriptors_of, descriptors_in}
 use Rattle.file_model.specs.Laws.{TablesTellFiles}
-use Rattle.layout_changes.specs.Changes.{with_node}
-use Rattle.layout_standing.specs.Known.{StandingIsCard, StandingIsOfTable}
+use Rattle.card_memory.specs.layout_standing.Changes.{with_node}
+use Rattle.card_memory.specs.layout_standing.Known.{StandingIsCard, StandingIsOfTable}
 use Rattle.file_making.specs.Deleting.{is_in_use, deleting}
 use Rattle.file_making.specs.Outcomes.{TreeOutcome, all_without_ef, child_named}
 use Rattle.file_making.specs.Standing.{DeletedFilesStand}

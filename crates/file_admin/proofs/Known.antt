@@ -2,15 +2,15 @@
 use Rattle.std.proofs.Common.{◌≡◌, ℕ, List, Option, Some, None, option_map, sym, ◌∙◌, ap, subst}
 use Rattle.std.specs.Prelude.{IfSome}
 use Rattle.std.proofs.lemmas.Option.{same_Some, none-some}
-use Rattle.card_layout.specs.declared.entries.Loaded.{Loaded}
-use Rattle.card_layout.specs.Persistent.{Persistent}
-use Rattle.card_layout.specs.Soundness.{IsSound}
-use Rattle.card_layout.specs.Standing.{Stands, standing, Agrees}
-use Rattle.card_layout.specs.States.{state_of}
+use Rattle.file_model.specs.card_layout.declared.entries.Loaded.{Loaded}
+use Rattle.file_model.specs.card_layout.Persistent.{Persistent}
+use Rattle.file_model.specs.card_layout.Soundness.{IsSound}
+use Rattle.file_model.specs.card_layout.Standing.{Stands, standing, Agrees}
+use Rattle.file_model.specs.card_layout.States.{state_of}
 use Rattle.file_model.specs.Files.{descriptors_in, descriptors_of}
 use Rattle.file_model.specs.Laws.{TablesTellFiles}
-use Rattle.layout_standing.specs.Known.{StandingIsCard, StandingIsOfTable}
-use Rattle.layout_standing.specs.Stores.{AgreeingStands}
+use Rattle.card_memory.specs.layout_standing.Known.{StandingIsCard, StandingIsOfTable}
+use Rattle.card_memory.specs.layout_standing.Stores.{AgreeingStands}
 
 module _ (card : StandingIsCard) (of_table : StandingIsOfTable) (mark : ℕ) (content : List ℕ) (table : Loaded) (state : Persistent) (stands : Stands mark content table state) where
   pub same_state : state ≡ state_of table content

@@ -8,4 +8,3 @@ mod Deleted
 mod Known
 mod Performing
 mod Resized
-mod Selecting

@@ -1,20 +1,20 @@
 -- What a command has done, from what is known of its status, of what is selected and of the state.
 use Rattle.std.proofs.Common.{◌≡◌, ℕ, true, List, [], Option, Some, None, refl, sym, subst}
 use Rattle.std.specs.Prelude.{is_some, slice_index_or, IfSome, Result, Ok}
-use Rattle.apdu_form.specs.Model.{Apdu}
-use Rattle.access_rules.specs.declared.rules.Verified.{Verified}
-use Rattle.card_layout.specs.declared.entries.Loaded.{Loaded}
-use Rattle.card_layout.specs.Persistent.{Persistent}
-use Rattle.card_layout.specs.Memory.{Memory, held, IsMounted}
-use Rattle.card_layout.specs.Standing.{Agrees}
-use Rattle.uicc_types.specs.declared.answers.StatusWord.{StatusWord}
+use Rattle.file_model.specs.apdu_form.Model.{Apdu}
+use Rattle.file_model.specs.declared.rules.Verified.{Verified}
+use Rattle.file_model.specs.card_layout.declared.entries.Loaded.{Loaded}
+use Rattle.file_model.specs.card_layout.Persistent.{Persistent}
+use Rattle.file_model.specs.card_layout.Memory.{Memory, held, IsMounted}
+use Rattle.file_model.specs.card_layout.Standing.{Agrees}
+use Rattle.file_model.specs.uicc_types.declared.answers.StatusWord.{StatusWord}
 use Rattle.file_model.specs.declared.descriptors.Descriptor.{Descriptor}
 use Rattle.file_model.specs.declared.selections.Selection.{Selection}
 use Rattle.file_model.specs.Files.{descriptors_of}
 use Rattle.file_model.specs.Laws.{TablesTellFiles}
 use Rattle.file_model.specs.Outcomes.{last_of}
-use Rattle.layout_standing.specs.Known.{StandingIsCard, StandingIsOfTable}
-use Rattle.layout_standing.specs.Stores.{AgreeingStands}
+use Rattle.card_memory.specs.layout_standing.Known.{StandingIsCard, StandingIsOfTable}
+use Rattle.card_memory.specs.layout_standing.Stores.{AgreeingStands}
 use Rattle.file_making.specs.Lawful.{AreSelected, KeepsSelected}
 use Rattle.file_making.specs.Outcomes.{TreeOutcome, settled_tree}
 use Rattle.file_admin.specs.Outcomes.{passed_by, IsTreeOutcome, AnswersTree, IsDone}

@@ -3,32 +3,32 @@ use Rattle.std.proofs.Common.{◌≡◌, ℕ, ◌-◌, ◌≤◌, ◌<◌, Bool,
 use Rattle.std.specs.Prelude.{◌≢◌, ◌==◌, ◌&&◌, nat_le, is_none, if◌then◌else◌, IsTrue, Result, Ok, Err}
 use Rattle.std.proofs.lemmas.Bool.{cond-false, cond-true, eq-eqb, ne_eqb, lt-ltb, le-ltb, leb-true, and_parts}
 use Rattle.std.proofs.lemmas.List.{take_all}
-use Rattle.general_laws.specs.Ranges.{length-range}
-use Rattle.uicc_types.specs.Patches.{patched}
-use Rattle.uicc_types.specs.declared.answers.StatusWord.{StatusWord}
-use Rattle.uicc_types.specs.declared.answers.TheConstants.StatusWord.{DONE, NO_ROOM}
-use Rattle.card_layout.specs.declared.entries.Node.{Node}
-use Rattle.card_layout.specs.declared.entries.Loaded.{Loaded}
-use Rattle.card_layout.specs.declared.sizes.TheConstants.{SIZE_LIMIT}
-use Rattle.card_layout.specs.Changing.{with_file_at}
-use Rattle.card_layout.specs.Kinds.{df_kind, transparent_kind}
-use Rattle.card_layout.specs.Laws.{after}
-use Rattle.card_layout.specs.Persistent.{File, Persistent}
-use Rattle.card_layout.specs.Ranges.{HasNodeRanges}
-use Rattle.card_layout.specs.Spelling.{node_part}
-use Rattle.card_layout.specs.Standing.{Stands}
-use Rattle.card_layout.specs.States.{file_bytes, file_of, state_of}
-use Rattle.card_layout.specs.Used.{HasNode}
-use Rattle.card_layout.specs.RowPlaces.{data_end_inside}
+use Rattle.file_model.specs.uicc_types.Ranges.{length-range}
+use Rattle.file_model.specs.uicc_types.Patches.{patched}
+use Rattle.file_model.specs.uicc_types.declared.answers.StatusWord.{StatusWord}
+use Rattle.file_model.specs.uicc_types.declared.answers.TheConstants.StatusWord.{DONE, NO_ROOM}
+use Rattle.file_model.specs.card_layout.declared.entries.Node.{Node}
+use Rattle.file_model.specs.card_layout.declared.entries.Loaded.{Loaded}
+use Rattle.file_model.specs.card_layout.declared.sizes.TheConstants.{SIZE_LIMIT}
+use Rattle.file_model.specs.card_layout.Changing.{with_file_at}
+use Rattle.file_model.specs.card_layout.Kinds.{df_kind, transparent_kind}
+use Rattle.file_model.specs.card_layout.Laws.{after}
+use Rattle.file_model.specs.card_layout.Persistent.{File, Persistent}
+use Rattle.file_model.specs.card_layout.Ranges.{HasNodeRanges}
+use Rattle.file_model.specs.card_layout.Spelling.{node_part}
+use Rattle.file_model.specs.card_layout.Standing.{Stands}
+use Rattle.file_model.specs.card_layout.States.{file_bytes, file_of, state_of}
+use Rattle.file_model.specs.card_layout.Used.{HasNode}
+use Rattle.file_model.specs.card_layout.RowPlaces.{data_end_inside}
 use Rattle.file_model.specs.declared.descriptors.Descriptor.{Descriptor}
 use Rattle.file_model.specs.declared.selections.Selection.{Selection}
 use Rattle.file_model.specs.Chains.{refused_if}
 use Rattle.file_model.specs.Files.{df_descriptor, ef_descriptor, descriptor_of}
 use Rattle.file_model.specs.Outcomes.{last_of}
-use Rattle.layout_changes.specs.Cards.{IsFreeRange}
-use Rattle.layout_changes.specs.Changes.{with_node}
-use Rattle.layout_standing.specs.Known.{StandingIsCard, StandingIsOfTable, NodesAreFiles, IsBesideNodes}
-use Rattle.prepared_commits.specs.Prepared.{IsTransparentFile, moved}
+use Rattle.card_memory.specs.layout_standing.Cards.{IsFreeRange}
+use Rattle.card_memory.specs.layout_standing.Changes.{with_node}
+use Rattle.card_memory.specs.layout_standing.Known.{StandingIsCard, StandingIsOfTable, NodesAreFiles, IsBesideNodes}
+use Rattle.card_memory.specs.Prepared.{IsTransparentFile, moved}
 use Rattle.file_making.specs.Outcomes.{TreeOutcome}
 use Rattle.file_making.specs.Resizing.{may_have, refitted, has_no_room, file_resized, resizing, resized_if_room}
 use Rattle.file_making.specs.Rooms.{IsSmallestRoom, room_at}

@@ -1,14 +1,14 @@
 -- What is written for a change, over each memory that a table is of.
 use Rattle.std.specs.Prelude.{ℕ, List, option_map}
-use Rattle.card_layout.specs.declared.entries.Node.{Node}
-use Rattle.card_layout.specs.declared.entries.Loaded.{Loaded}
-use Rattle.card_layout.specs.Changing.{with_file_at}
-use Rattle.card_layout.specs.Laws.{after}
-use Rattle.card_layout.specs.Persistent.{Persistent}
-use Rattle.card_layout.specs.Spelling.{node_part}
-use Rattle.card_layout.specs.Standing.{Stands}
-use Rattle.card_layout.specs.StateLaws.{file_with_number}
-use Rattle.layout_changes.specs.Changes.{with_node}
+use Rattle.file_model.specs.card_layout.declared.entries.Node.{Node}
+use Rattle.file_model.specs.card_layout.declared.entries.Loaded.{Loaded}
+use Rattle.file_model.specs.card_layout.Changing.{with_file_at}
+use Rattle.file_model.specs.card_layout.Laws.{after}
+use Rattle.file_model.specs.card_layout.Persistent.{Persistent}
+use Rattle.file_model.specs.card_layout.Spelling.{node_part}
+use Rattle.file_model.specs.card_layout.Standing.{Stands}
+use Rattle.file_model.specs.card_layout.StateLaws.{file_with_number}
+use Rattle.card_memory.specs.layout_standing.Changes.{with_node}
 use Rattle.file_making.specs.Resizing.{file_resized}
 use Rattle.file_making.specs.Rooms.{room_at}
 

@@ -1,6 +1,6 @@
 //! CREATE FILE.
 ghost use Rattle.std.specs.Prelude.{◌≡◌, true, false, IsTrue, IsOk, OnOk, IsSomeAnd};
-ghost use Rattle.card_layout.specs.Memory.{IsMounted, memory};
+ghost use Rattle.file_model.specs.card_layout.Memory.{IsMounted, memory};
 ghost use Rattle.card_model.specs.Channels.{channel_of, is_open};
 ghost use Rattle.file_model.specs.Files.{descriptors_of, file_found, is_df};
 ghost use Rattle.file_model.specs.declared.descriptors.Wanted.TheVariants.{Number};
@@ -13,15 +13,14 @@ ghost use Rattle.file_admin.specs.Outcomes.{PerformsTree, AnswersTree, CommitsTr
 use crate::adding::add;
 use crate::channels::{channel_of, df_on, selection_of};
 use crate::refusals::try_creation;
-use access_rules::Verified;
-use apdu_form::Command;
-use card_layout::Loaded;
+use card_memory::layout_standing::{cards_are_known, stores_stand};
 use file_making::{NewFile, new_entry, selections_stay, written_files_stand};
-use file_model::files_are_found;
+use file_model::apdu_form::Command;
+use file_model::card_layout::Loaded;
+use file_model::store_form::{Store, StoreFault};
+use file_model::uicc_types::{Answer, StatusWord};
+use file_model::{Verified, files_are_found};
 use file_tree::Channels;
-use layout_standing::{cards_are_known, stores_stand};
-use store_form::{Store, StoreFault};
-use uicc_types::{Answer, StatusWord};
 
 // Makes this file in the current DF of the channel where there is room for it, and answers the status.
 fn create<S: Store>(

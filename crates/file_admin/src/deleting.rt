@@ -1,6 +1,6 @@
 //! DELETE FILE.
 ghost use Rattle.std.specs.Prelude.{◌≡◌, true, false, Ok, IsOk, OnOk};
-ghost use Rattle.card_layout.specs.Memory.{IsMounted, memory};
+ghost use Rattle.file_model.specs.card_layout.Memory.{IsMounted, memory};
 ghost use Rattle.card_model.specs.Channels.{channel_of, is_open};
 ghost use Rattle.file_model.specs.Files.{descriptors_of};
 ghost use Rattle.file_tree.specs.Tables.{IsNumbered};
@@ -11,16 +11,15 @@ ghost use Rattle.file_admin.specs.Outcomes.{PerformsTree, AnswersTree, CommitsTr
 use crate::channels::{channel_of, leave};
 use crate::entries::entry_of;
 use crate::refusals::try_deletion;
-use access_rules::Verified;
-use apdu_form::Command;
-use card_layout::{Loaded, Node};
+use card_memory::commit_node;
+use card_memory::layout_standing::{cards_are_known, stores_stand};
 use file_making::{selections_stay, written_files_stand};
-use file_model::files_are_found;
+use file_model::apdu_form::Command;
+use file_model::card_layout::{Loaded, Node};
+use file_model::store_form::{Store, StoreFault};
+use file_model::uicc_types::{Answer, StatusWord};
+use file_model::{Verified, files_are_found};
 use file_tree::{Channels, Descriptor};
-use layout_standing::{cards_are_known, stores_stand};
-use prepared_commits::commit_node;
-use store_form::{Store, StoreFault};
-use uicc_types::{Answer, StatusWord};
 
 // Deletes this file, and answers the status.
 fn delete<S: Store>(

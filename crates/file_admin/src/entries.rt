@@ -1,11 +1,11 @@
 //! The entry of a file.
 ghost use Rattle.std.specs.Prelude.{◌≡◌, ◌<◌};
-ghost use Rattle.card_layout.specs.Used.{HasNode};
+ghost use Rattle.file_model.specs.card_layout.Used.{HasNode};
 ghost use Rattle.file_model.specs.Files.{descriptor_of, descriptors_of};
 ghost use Rattle.file_tree.specs.Tables.{IsNumbered};
 
-use card_layout::sizes::NODE_COUNT;
-use card_layout::{Loaded, Node};
+use file_model::card_layout::sizes::NODE_COUNT;
+use file_model::card_layout::{Loaded, Node};
 use file_model::files_are_found;
 use file_tree::Descriptor;
 

@@ -1,16 +1,16 @@
 //! A file that grows: its bytes are prepared where none is a file's, and then place and size of its entry are committed.
 ghost use Rattle.std.specs.Prelude.{◌≡◌, ◌<◌, OnOk, OnErr};
-ghost use Rattle.card_layout.specs.Memory.{IsMounted, Committed, memory};
-ghost use Rattle.card_layout.specs.Persistent.{Persistent};
-ghost use Rattle.layout_changes.specs.Changes.{with_node};
-ghost use Rattle.layout_standing.specs.Known.{IsBesideNodes};
-ghost use Rattle.prepared_commits.specs.Prepared.{IsTransparentFile, moved};
+ghost use Rattle.file_model.specs.card_layout.Memory.{IsMounted, Committed, memory};
+ghost use Rattle.file_model.specs.card_layout.Persistent.{Persistent};
+ghost use Rattle.card_memory.specs.layout_standing.Changes.{with_node};
+ghost use Rattle.card_memory.specs.layout_standing.Known.{IsBesideNodes};
+ghost use Rattle.card_memory.specs.Prepared.{IsTransparentFile, moved};
 ghost use Rattle.file_admin.specs.Written.{IsWrittenOver};
 
-use card_layout::{Loaded, Node};
-use layout_standing::cards_are_known;
-use prepared_commits::{commit_node, prepare_moved};
-use store_form::{Store, StoreFault};
+use card_memory::layout_standing::cards_are_known;
+use card_memory::{commit_node, prepare_moved};
+use file_model::card_layout::{Loaded, Node};
+use file_model::store_form::{Store, StoreFault};
 
 /// Moves a transparent file to this place, where it has more bytes: those that it holds, and FF behind them. After a fault the
 /// table is as it was.

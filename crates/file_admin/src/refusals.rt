@@ -1,8 +1,8 @@
 //! What refuses the commands before room is looked for.
 ghost use Rattle.std.specs.Prelude.{◌≡◌, ◌≢◌, ◌≤◌, ◌+◌, ◌==◌, ◌&&◌, false, length, Some, Ok, Err, IsTrue, IfOk, IfErr, IfSome};
 ghost use Rattle.std.specs.List.{list_any};
-ghost use Rattle.card_layout.specs.Decoding.{number_at};
-ghost use Rattle.card_layout.specs.Kinds.{transparent_kind};
+ghost use Rattle.file_model.specs.card_layout.Decoding.{number_at};
+ghost use Rattle.file_model.specs.card_layout.Kinds.{transparent_kind};
 ghost use Rattle.file_model.specs.Files.{descriptor_of, descriptors_of, lies_in};
 ghost use Rattle.file_model.specs.LifeCycles.{has_no_parameters};
 ghost use Rattle.file_tree.specs.Tables.{IsCardTable, IsNumbered};
@@ -14,15 +14,14 @@ ghost use Rattle.file_making.specs.Templates.{may_be_made};
 ghost use Rattle.file_admin.specs.Outcomes.{WithFilesOf};
 
 use crate::channels::{df_on, is_current};
-use access_rules::Verified;
-use apdu_form::Command;
-use card_layout::kinds::{DEACTIVATED, DF, TRANSPARENT};
-use card_layout::sizes::{NODE_COUNT, SIZE_LIMIT};
-use card_layout::{Loaded, Node};
 use file_making::{NewFile, read_template};
-use file_model::has_data;
+use file_model::apdu_form::Command;
+use file_model::card_layout::kinds::{DEACTIVATED, DF, TRANSPARENT};
+use file_model::card_layout::sizes::{NODE_COUNT, SIZE_LIMIT};
+use file_model::card_layout::{Loaded, Node};
+use file_model::uicc_types::{FileId, StatusWord};
+use file_model::{Verified, has_data};
 use file_tree::{Channels, Descriptor, Wanted, first_file};
-use uicc_types::{FileId, StatusWord};
 
 fn has_no_parameters(command: &Command<'_>) -> bool
     ensures { result ≡ has_no_parameters command.now }

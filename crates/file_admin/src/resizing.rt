@@ -1,7 +1,7 @@
 //! RESIZE FILE.
 ghost use Rattle.std.specs.Prelude.{◌≡◌, ◌<◌, List, Option, true, IsTrue, IsOk, OnOk};
-ghost use Rattle.card_layout.specs.Kinds.{transparent_kind};
-ghost use Rattle.card_layout.specs.Memory.{IsMounted, memory};
+ghost use Rattle.file_model.specs.card_layout.Kinds.{transparent_kind};
+ghost use Rattle.file_model.specs.card_layout.Memory.{IsMounted, memory};
 ghost use Rattle.card_model.specs.Channels.{channel_of, is_open};
 ghost use Rattle.file_model.specs.Files.{descriptors_of};
 ghost use Rattle.file_model.specs.declared.selections.Selection.{Selection};
@@ -14,16 +14,15 @@ use crate::channels::channel_of;
 use crate::entries::entry_of;
 use crate::growing::grow;
 use crate::refusals::{size_asked, try_resizing};
-use access_rules::Verified;
-use apdu_form::Command;
-use card_layout::{Loaded, Node, node_ranges};
+use card_memory::commit_node;
+use card_memory::layout_standing::{cards_are_known, stores_stand};
 use file_making::{room, rooms_are_smallest, selections_stay, written_files_stand};
-use file_model::files_are_found;
+use file_model::apdu_form::Command;
+use file_model::card_layout::{Loaded, Node, node_ranges};
+use file_model::store_form::{Store, StoreFault};
+use file_model::uicc_types::{Answer, StatusWord};
+use file_model::{Verified, files_are_found};
 use file_tree::{Channels, Descriptor};
-use layout_standing::{cards_are_known, stores_stand};
-use prepared_commits::commit_node;
-use store_form::{Store, StoreFault};
-use uicc_types::{Answer, StatusWord};
 
 // Gives a transparent file fewer bytes, and answers the status.
 fn shrink_to<S: Store>(

@@ -4,9 +4,9 @@ use Rattle.std.specs.Prelude.{◌==◌, not}
 use Rattle.std.proofs.lemmas.List.{drop_all, append-nil}
 use Rattle.std.proofs.Math.Seq.{drop-cons}
 use Rattle.std.proofs.Math.Nat.{div-mul-le_self}
-use Rattle.access_rules.specs.Objects.{object}
-use Rattle.card_layout.specs.declared.entries.PinSlot.{PinSlot}
-use Rattle.card_layout.specs.States.{pin_state, present_pins}
+use Rattle.file_model.specs.Objects.{object}
+use Rattle.file_model.specs.card_layout.declared.entries.PinSlot.{PinSlot}
+use Rattle.file_model.specs.card_layout.States.{pin_state, present_pins}
 use Rattle.file_model.specs.Fcp.{enabled_bits}
 use Rattle.file_commands.specs.declared.telling.PinStatus.{PinStatus}
 use Rattle.file_commands.specs.Telling.{key_objects, pins_in, pin_told}

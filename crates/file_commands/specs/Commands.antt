@@ -1,8 +1,8 @@
 -- What the commands are given.
 use Rattle.std.specs.Prelude.{◌≡◌, ℕ, List}
-use Rattle.apdu_form.specs.Model.{Apdu, IsCommand}
-use Rattle.card_layout.specs.Kinds.{transparent_kind}
-use Rattle.card_layout.specs.Memory.{Memory, IsMounted}
+use Rattle.file_model.specs.apdu_form.Model.{Apdu, IsCommand}
+use Rattle.file_model.specs.card_layout.Kinds.{transparent_kind}
+use Rattle.file_model.specs.card_layout.Memory.{Memory, IsMounted}
 use Rattle.file_model.specs.declared.descriptors.Descriptor.{Descriptor}
 use Rattle.file_model.specs.declared.selections.Selection.{Selection}
 use Rattle.file_model.specs.Files.{descriptors_of}

@@ -2,10 +2,10 @@
 use Rattle.std.specs.Prelude.{ℕ, ◌+◌, ◌/◌, ◌==◌, if◌then◌else◌, List, [], ◌∷◌, ◌++◌, map}
 use Rattle.std.specs.List.{flat_map}
 use Rattle.std.specs.Int.{to_be_bytes, w16}
-use Rattle.access_rules.specs.Objects.{object}
-use Rattle.card_layout.specs.declared.entries.PinSlot.{PinSlot}
-use Rattle.card_layout.specs.Persistent.{Pin}
-use Rattle.card_layout.specs.States.{pin_state, present_pins}
+use Rattle.file_model.specs.Objects.{object}
+use Rattle.file_model.specs.card_layout.declared.entries.PinSlot.{PinSlot}
+use Rattle.file_model.specs.card_layout.Persistent.{Pin}
+use Rattle.file_model.specs.card_layout.States.{pin_state, present_pins}
 use Rattle.file_model.specs.declared.descriptors.Descriptor.{Descriptor}
 use Rattle.file_model.specs.Fcp.{kind_bytes, rule_object}
 use Rattle.file_commands.specs.declared.telling.PinStatus.{PinStatus}

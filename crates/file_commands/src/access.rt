@@ -1,19 +1,19 @@
 //! Who may do what with a file (ETSI TS 102 221, 9.2.7).
 ghost use Rattle.std.specs.Prelude.{◌≡◌, IfOk, IfSome, true};
-ghost use Rattle.card_layout.specs.Kinds.{linear_kind};
+ghost use Rattle.file_model.specs.card_layout.Kinds.{linear_kind};
 ghost use Rattle.file_model.specs.Files.{descriptors_of};
 ghost use Rattle.file_model.specs.Access.{granted_by, record_numbered, ruling_record, may};
 ghost use Rattle.file_model.specs.Holdings.{records_in};
 ghost use Rattle.file_tree.specs.Tables.{IsNumbered};
-ghost use Rattle.card_layout.specs.Memory.{IsMounted, Reads, held_by, memory};
+ghost use Rattle.file_model.specs.card_layout.Memory.{IsMounted, Reads, held_by, memory};
 
 use crate::laws::is_card_table;
-use access_rules::{Op, Verified, allowed};
-use card_layout::Loaded;
-use card_layout::kinds::LINEAR;
 use card_memory::{contents_are_whole, read_record, tables_tell_states};
+use file_model::card_layout::Loaded;
+use file_model::card_layout::kinds::LINEAR;
+use file_model::store_form::{Store, StoreFault};
+use file_model::{Op, Verified, allowed};
 use file_tree::{Descriptor, RuleReference, nearest_ef};
-use store_form::{Store, StoreFault};
 
 /// Whether this may be done with the file where these keys' conditions are satisfied: by the record of the nearest EF_ARR that
 /// rules it, or always where there is no rule.

@@ -8,21 +8,20 @@ ghost use Rattle.card_memory.specs.Model.{Performs, StaysStill};
 ghost use Rattle.file_commands.specs.Commands.{IsSomeCommand, IsInPlace, IsBinaryFile, IsBinaryTarget};
 ghost use Rattle.file_commands.specs.Ends.{EndsTry, EndsWell, GivesTried, Passes};
 ghost use Rattle.file_commands.specs.Targets.{IsRefused};
-ghost use Rattle.card_layout.specs.Memory.{IsMounted, Reads, held_by, memory};
+ghost use Rattle.file_model.specs.card_layout.Memory.{IsMounted, Reads, held_by, memory};
 
 use crate::access::is_allowed;
 use crate::laws::is_card_table;
 use crate::settling::settle;
 use crate::targets::{binary_file, offset_in, pointer_in, worked_on};
 use crate::telling::append;
-use access_rules::{Op, Verified};
-use apdu_form::Command;
-use card_layout::Loaded;
 use card_memory::{contents_are_whole, read_bytes, tables_tell_states, write_bytes};
-use file_model::{has_data, has_le_alone};
+use file_model::apdu_form::Command;
+use file_model::card_layout::Loaded;
+use file_model::store_form::{Store, StoreFault};
+use file_model::uicc_types::{Answer, AnswerData, StatusWord};
+use file_model::{Op, Verified, has_data, has_le_alone};
 use file_tree::{Descriptor, Selection};
-use store_form::{Store, StoreFault};
-use uicc_types::{Answer, AnswerData, StatusWord};
 
 // Has so many bytes of the file from this offset on, or those that there are, in an answer that is empty before.
 fn read_part<S: Store>(

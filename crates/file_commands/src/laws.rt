@@ -1,9 +1,9 @@
 //! What is known of a card over a store. The function does nothing.
 ghost use Rattle.file_tree.specs.Tables.{IsCardTable};
-ghost use Rattle.card_layout.specs.Memory.{IsMounted, memory};
+ghost use Rattle.file_model.specs.card_layout.Memory.{IsMounted, memory};
 
-use card_layout::Loaded;
-use store_form::Store;
+use file_model::card_layout::Loaded;
+use file_model::store_form::Store;
 
 /// The table of a mounted card is that of a card.
 pub fn is_card_table<S: Store>(store: &S, loaded: &Loaded)

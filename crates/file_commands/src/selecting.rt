@@ -1,7 +1,7 @@
 //! SELECT and STATUS.
 ghost use Rattle.std.specs.Prelude.{◌≡◌, ◌≢◌, ◌%◌, [], ◌==◌, ◌&&◌, true, if◌then◌else◌, length, IfSome, IsOk};
-ghost use Rattle.card_layout.specs.States.{pins_of};
-ghost use Rattle.card_layout.specs.Persistent.{Persistent};
+ghost use Rattle.file_model.specs.card_layout.States.{pins_of};
+ghost use Rattle.file_model.specs.card_layout.Persistent.{Persistent};
 ghost use Rattle.file_model.specs.Files.{descriptors_of};
 ghost use Rattle.file_model.specs.Fcp.{fcp};
 ghost use Rattle.file_model.specs.Selections.{IsSelection, selection_of, chosen};
@@ -12,24 +12,23 @@ ghost use Rattle.file_tree.specs.Tables.{IsCardTable, IsNumbered};
 ghost use Rattle.file_commands.specs.Commands.{IsSomeCommand, IsInPlace};
 ghost use Rattle.file_commands.specs.Ends.{EndsWell};
 ghost use Rattle.file_commands.specs.Targets.{EndsLawfully, IsAnswer, Tells};
-ghost use Rattle.card_layout.specs.Memory.{Reads, memory};
+ghost use Rattle.file_model.specs.card_layout.Memory.{Reads, memory};
 
 use crate::laws::is_card_table;
 use crate::settling::settle;
 use crate::targets::is_deactivated;
 use crate::telling::put_parameters;
-use access_rules::Verified;
-use apdu_form::Command;
-use card_layout::Loaded;
-use card_layout::kinds::DF;
 use card_memory::tables_tell_states;
-use file_model::has_no_data;
+use file_model::apdu_form::Command;
+use file_model::card_layout::Loaded;
+use file_model::card_layout::kinds::DF;
+use file_model::store_form::{Store, StoreFault};
+use file_model::uicc_types::{Answer, AnswerData, FileId, StatusWord};
+use file_model::{Verified, has_no_data};
 use file_tree::{
     Descriptor, Selection, Wanted, above, chosen_by_identifier, chosen_by_path,
     files_may_be_selected, first_file, short_identifiers_fit,
 };
-use store_form::{Store, StoreFault};
-use uicc_types::{Answer, AnswerData, FileId, StatusWord};
 
 fn has_select_parameters(command: &Command<'_>) -> bool
     ensures { result ≡ has_select_parameters command.now }
@@ -234,12 +233,10 @@ pub fn select<S: Store>(
         (λ state. settled_file selection.old (file_selected state selection.old command.now)) }
     ensures ends { EndsWell result (memory S.Store store.old loaded.old) (memory S.Store store.new loaded.new)
         out.new selection.new }
-    ensures table { loaded.new ≡ loaded.old }
     ensures reads { Reads (memory S.Store store.old loaded.old) (memory S.Store store.new loaded.new) result }
     ensures answers { (state : Persistent) → IsTold loaded.old state
         → IsAnswer (settled_file selection.old (file_selected state selection.old command.now)) out.new selection.new }
-    ensures done { IsOk result }
-    ensures unread { store.new ≡ store.old }
+    ensures unread { IsOk result × (store.new ≡ store.old) × (loaded.new ≡ loaded.old) }
 {
     out.body.clear();
     is_card_table(store, loaded);
@@ -266,12 +263,10 @@ pub fn status<S: Store>(
         (λ state. settled_file selection.old (status_told state selection.old command.now)) }
     ensures ends { EndsWell result (memory S.Store store.old loaded.old) (memory S.Store store.new loaded.new)
         out.new selection.new }
-    ensures table { loaded.new ≡ loaded.old }
     ensures reads { Reads (memory S.Store store.old loaded.old) (memory S.Store store.new loaded.new) result }
     ensures answers { (state : Persistent) → IsTold loaded.old state
         → IsAnswer (settled_file selection.old (status_told state selection.old command.now)) out.new selection.new }
-    ensures done { IsOk result }
-    ensures unread { store.new ≡ store.old }
+    ensures unread { IsOk result × (store.new ≡ store.old) × (loaded.new ≡ loaded.old) }
 {
     out.body.clear();
     is_card_table(store, loaded);

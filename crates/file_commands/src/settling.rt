@@ -3,13 +3,13 @@ ghost use Rattle.std.specs.Prelude.{◌≡◌, ◌≢◌, List, Result, Err};
 ghost use Rattle.file_model.specs.Outcomes.{FileOutcome, settled_file};
 ghost use Rattle.file_model.specs.Selections.{IsSelection};
 ghost use Rattle.file_model.specs.declared.descriptors.Descriptor.{Descriptor};
-ghost use Rattle.card_layout.specs.Persistent.{Persistent};
-ghost use Rattle.card_layout.specs.Memory.{Memory};
+ghost use Rattle.file_model.specs.card_layout.Persistent.{Persistent};
+ghost use Rattle.file_model.specs.card_layout.Memory.{Memory};
 ghost use Rattle.card_memory.specs.Performing.{IsOutcome};
 ghost use Rattle.file_commands.specs.Targets.{EndsLawfully, Gives, IsAnswer, IsRefused, Tells};
 
+use file_model::uicc_types::{Answer, StatusWord};
 use file_tree::Selection;
-use uicc_types::{Answer, StatusWord};
 
 /// Ends a command that was carried out, with its answer in `out` and this selection, or refused with this status.
 pub fn settle(tried: Result<Selection, StatusWord>, selection: &mut Selection, out: &mut Answer)

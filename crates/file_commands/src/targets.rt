@@ -7,11 +7,11 @@ ghost use Rattle.file_model.specs.Binaries.{has_short, has_binary_parameters, sh
 ghost use Rattle.file_tree.specs.Tables.{IsCardTable, IsNumbered};
 ghost use Rattle.file_commands.specs.Commands.{IsBinaryTarget};
 
-use apdu_form::Command;
-use card_layout::Loaded;
-use card_layout::kinds::{DEACTIVATED, TRANSPARENT};
+use file_model::apdu_form::Command;
+use file_model::card_layout::Loaded;
+use file_model::card_layout::kinds::{DEACTIVATED, TRANSPARENT};
+use file_model::uicc_types::StatusWord;
 use file_tree::{Descriptor, Selection, Wanted, current_ef, first_file};
-use uicc_types::StatusWord;
 
 fn has_short(command: &Command<'_>) -> bool
     ensures { result ≡ has_short command.now.p1 }

@@ -1,16 +1,16 @@
 //! The file control parameters (ETSI TS 102 221, 11.1.1.3).
 ghost use Rattle.std.specs.Prelude.{◌≡◌, ◌+◌, ◌*◌, ◌≤◌, [], ◌++◌, ◌==◌, if◌then◌else◌, length};
 ghost use Rattle.std.specs.Int.{to_be_bytes};
-ghost use Rattle.access_rules.specs.Objects.{object};
-ghost use Rattle.card_layout.specs.States.{pins_of};
+ghost use Rattle.file_model.specs.Objects.{object};
+ghost use Rattle.file_model.specs.card_layout.States.{pins_of};
 ghost use Rattle.file_model.specs.Files.{is_df};
 ghost use Rattle.file_model.specs.Fcp.{kind_bytes, rule_object, enabled_bits, pin_object, df_objects, ef_objects, fcp};
 ghost use Rattle.file_commands.specs.Telling.{key_objects, file_objects, pin_told};
 
-use card_layout::kinds::{self, DF};
-use card_layout::{Loaded, PinSlot};
+use file_model::card_layout::kinds::{self, DF};
+use file_model::card_layout::{Loaded, PinSlot};
+use file_model::uicc_types::{AnswerData, Full};
 use file_tree::{Descriptor, RuleReference};
-use uicc_types::{AnswerData, Full};
 
 /// Puts bytes at the end, for which there is room.
 pub fn append(out: &mut AnswerData, part: &[u8])
@@ -24,7 +24,7 @@ pub fn append(out: &mut AnswerData, part: &[u8])
 }
 
 // Puts an object at the end.
-#[tactic(auto, unfolding(access_rules::specs::Objects::object))]
+#[tactic(auto, unfolding(file_model::specs::Objects::object))]
 fn put(out: &mut AnswerData, tag: u8, value: &[u8])
     requires short { length value.now ≤ 127 }
     requires room { length out.old + length value.now + 2 ≤ 256 }

@@ -7,19 +7,19 @@ use Rattle.std.proofs.lemmas.Option.{option_and_then_some}
 use Rattle.std.proofs.lemmas.List.{length-replicate}
 use Rattle.std.proofs.lemmas.List.Elements.{All-replicate, Contains-get_or}
 use Rattle.std.proofs.lemmas.List.FromFn.{length-range_with_len, get_or-range_with_len}
-use Rattle.general_laws.specs.Choices.{mapped_Some, second_false}
-use Rattle.general_laws.specs.Finding.{find-map, find_Some}
-use Rattle.general_laws.specs.Optional.{none_of}
-use Rattle.uicc_types.specs.declared.identifiers.FileId.{FileId}
-use Rattle.card_layout.specs.declared.shapes.Shape.{Shape}
-use Rattle.card_layout.specs.declared.shapes.Shape.TheVariants.{Transparent, Linear, Cyclic}
-use Rattle.card_layout.specs.Checks.{is_free_id}
-use Rattle.card_layout.specs.Kinds.{df_kind, is_ef_kind, mf_id, current_adf_id}
-use Rattle.card_layout.specs.Persistent.{File, Persistent}
-use Rattle.card_layout.specs.Sections.{kind_of, size_of, is_shape, blank_contents}
-use Rattle.card_layout.specs.Soundness.{mf, IsDf, IsEf, AreRecords, AreContents, IsInTree, IsSoundFile, IsSound}
-use Rattle.card_layout.specs.StateLaws.{file_with_number}
-use Rattle.card_layout.specs.NewFileLaws.{some_bytes, is_ef_shape}
+use Rattle.file_model.specs.uicc_types.Choices.{mapped_Some, second_false}
+use Rattle.file_model.specs.uicc_types.Finding.{find-map, find_Some}
+use Rattle.file_model.specs.uicc_types.Optional.{none_of}
+use Rattle.file_model.specs.uicc_types.declared.identifiers.FileId.{FileId}
+use Rattle.file_model.specs.card_layout.declared.shapes.Shape.{Shape}
+use Rattle.file_model.specs.card_layout.declared.shapes.Shape.TheVariants.{Transparent, Linear, Cyclic}
+use Rattle.file_model.specs.card_layout.Checks.{is_free_id}
+use Rattle.file_model.specs.card_layout.Kinds.{df_kind, is_ef_kind, mf_id, current_adf_id}
+use Rattle.file_model.specs.card_layout.Persistent.{File, Persistent}
+use Rattle.file_model.specs.card_layout.Sections.{kind_of, size_of, is_shape, blank_contents}
+use Rattle.file_model.specs.card_layout.Soundness.{mf, IsDf, IsEf, AreRecords, AreContents, IsInTree, IsSoundFile, IsSound}
+use Rattle.file_model.specs.card_layout.StateLaws.{file_with_number}
+use Rattle.file_model.specs.card_layout.NewFileLaws.{some_bytes, is_ef_shape}
 use Rattle.file_model.specs.declared.descriptors.Descriptor.{Descriptor}
 use Rattle.file_model.specs.declared.descriptors.Wanted.{Wanted}
 use Rattle.file_model.specs.declared.descriptors.Wanted.TheVariants.{Number, Child, Short}

@@ -1,7 +1,7 @@
 -- A selection stays lawful where the files that it names are still there.
 use Rattle.std.proofs.Common.{◌≡◌, ℕ, ◌≤◌, List, Option, Some, None, refl, sym, ◌∙◌, ap, subst, arith}
 use Rattle.std.specs.Prelude.{◌==◌, ◌&&◌, not, IfSome, IsSomeAnd, IsTrue}
-use Rattle.card_layout.specs.Kinds.{df_kind, is_ef_kind}
+use Rattle.file_model.specs.card_layout.Kinds.{df_kind, is_ef_kind}
 use Rattle.file_model.specs.declared.descriptors.Descriptor.{Descriptor}
 use Rattle.file_model.specs.declared.descriptors.Wanted.TheVariants.{Number}
 use Rattle.file_model.specs.Files.{is_df, is_ef, lies_in, file_found}

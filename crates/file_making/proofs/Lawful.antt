@@ -8,16 +8,16 @@ use Rattle.std.proofs.lemmas.Option.{option_and_then_some, same_Some}
 use Rattle.std.proofs.lemmas.List.{length-set, length-map, length-replicate}
 use Rattle.std.proofs.lemmas.List.Folds.{list_any_at}
 use Rattle.std.proofs.lemmas.List.Elements.{All-weaker, All-set, All-map, All-append, All-filter, All-cons, All-nil, All-contains}
-use Rattle.general_laws.specs.Choices.{mapped_Some, second_false}
-use Rattle.general_laws.specs.Finding.{find_Some, numbered_found}
-use Rattle.uicc_types.specs.declared.answers.StatusWord.{StatusWord}
-use Rattle.card_layout.specs.declared.shapes.Shape.TheVariants.{Transparent, Linear, Cyclic}
-use Rattle.card_layout.specs.Changing.{listed, placed, with_file_at}
-use Rattle.card_layout.specs.Kinds.{df_kind, transparent_kind, is_ef_kind}
-use Rattle.card_layout.specs.Persistent.{Contents, Files, Bytes, Records, File, Persistent}
-use Rattle.card_layout.specs.Soundness.{mf, IsSound}
-use Rattle.card_layout.specs.StateLaws.{file_with_number}
-use Rattle.card_layout.specs.NewFileLaws.{is_ef_shape}
+use Rattle.file_model.specs.uicc_types.Choices.{mapped_Some, second_false}
+use Rattle.file_model.specs.uicc_types.Finding.{find_Some, numbered_found}
+use Rattle.file_model.specs.uicc_types.declared.answers.StatusWord.{StatusWord}
+use Rattle.file_model.specs.card_layout.declared.shapes.Shape.TheVariants.{Transparent, Linear, Cyclic}
+use Rattle.file_model.specs.card_layout.Changing.{listed, placed, with_file_at}
+use Rattle.file_model.specs.card_layout.Kinds.{df_kind, transparent_kind, is_ef_kind}
+use Rattle.file_model.specs.card_layout.Persistent.{Contents, Files, Bytes, Records, File, Persistent}
+use Rattle.file_model.specs.card_layout.Soundness.{mf, IsSound}
+use Rattle.file_model.specs.card_layout.StateLaws.{file_with_number}
+use Rattle.file_model.specs.card_layout.NewFileLaws.{is_ef_shape}
 use Rattle.file_model.specs.declared.descriptors.Descriptor.{Descriptor}
 use Rattle.file_model.specs.declared.descriptors.Wanted.TheVariants.{Number}
 use Rattle.file_model.specs.declared.selections.Selection.{Selection}
@@ -29,7 +29,7 @@ use Rattle.file_model.specs.LifeCycles.{has_no_parameters}
 use Rattle.file_model.specs.Outcomes.{has_data, is_deactivated}
 use Rattle.file_model.specs.Selections.{IsSelection, selection_of}
 use Rattle.layout_standing.specs.Fitting.{FitsAmong}
-use Rattle.layout_standing.specs.Laws.{FileFits, FileMayGo}
+use Rattle.layout_standing.specs.StandingLaws.{FileFits, FileMayGo}
 use Rattle.file_making.specs.declared.asked.NewFile.{NewFile}
 use Rattle.file_making.specs.declared.asked.NewFile.TheVariants.{Df, Ef}
 use Rattle.file_making.specs.Creating.{is_there, file_made, place_for, made_in, creating, created}
@@ -240,10 +240,6 @@ created_so fits state seen channels channel apdu card selected =
     (made_lawful fits state channels channel df numbered.0 place asked card selected has may (new_number state df numbered.0 numbered.1) (subst (FitsAmong state) (sym numbered.2) among)))))))))
 
 -- ---- DELETE FILE
-
--- the file of this number is no other
-found_one : (state : Persistent) (told other : Descriptor) (n : ℕ) → file_found (descriptors_in state) (Number told.number) ≡ Some told → file_found (descriptors_in state) (Number n) ≡ Some other → n ≡ told.number → other ≡ told
-found_one state told other n this that same = same_Some other told (sym that ∙ ap (λ (m : ℕ). file_found (descriptors_in state) (Number m)) same ∙ this)
 
 module _ (state : Persistent) (channels : List (Option Selection)) (told : Descriptor) (this : file_found (descriptors_in state) (Number told.number) ≡ Some told)
     (unused : is_in_use (descriptors_in state) channels told ≡ false) where

@@ -5,14 +5,14 @@ use Rattle.std.specs.List.{list_any}
 use Rattle.std.proofs.lemmas.Bool.{and_parts, and_from, or_parts, both_ways, not-true, eqb-true, eqb-false, eq-eqb, ne_eqb, cases_eq, not_from_false}
 use Rattle.std.proofs.lemmas.List.Elements.{Contains-get_or}
 use Rattle.std.proofs.lemmas.List.Folds.{list_any_at}
-use Rattle.general_laws.specs.Choices.{mapped_Some, second_false}
-use Rattle.general_laws.specs.Finding.{find-map, find_Some}
-use Rattle.general_laws.specs.Numbered.{mapped_too}
-use Rattle.layout_changes.specs.Numbered.{beside, contained}
-use Rattle.card_layout.specs.Kinds.{df_kind}
-use Rattle.card_layout.specs.Decoding.{number_at}
-use Rattle.card_layout.specs.Persistent.{File, Persistent}
-use Rattle.card_layout.specs.Soundness.{IsDf, AreDistinct, IsInTree, IsSound}
+use Rattle.file_model.specs.uicc_types.Choices.{mapped_Some, second_false}
+use Rattle.file_model.specs.uicc_types.Finding.{find-map, find_Some}
+use Rattle.file_model.specs.uicc_types.Numbered.{mapped_too}
+use Rattle.layout_standing.specs.Numbered.{beside, contained}
+use Rattle.file_model.specs.card_layout.Kinds.{df_kind}
+use Rattle.file_model.specs.card_layout.Decoding.{number_at}
+use Rattle.file_model.specs.card_layout.Persistent.{File, Persistent}
+use Rattle.file_model.specs.card_layout.Soundness.{IsDf, AreDistinct, IsInTree, IsSound}
 use Rattle.file_model.specs.declared.descriptors.Descriptor.{Descriptor}
 use Rattle.file_model.specs.declared.descriptors.Wanted.TheVariants.{Child}
 use Rattle.file_model.specs.declared.selections.Selection.{Selection}

@@ -2,17 +2,17 @@
 use Rattle.std.proofs.Common.{◌≡◌, ℕ, true, false, List, replicate, Option, Some, None, refl, ◌∙◌, ap}
 use Rattle.std.specs.Prelude.{◌==◌, option_map, IsTrue}
 use Rattle.std.proofs.lemmas.Bool.{cond-false}
-use Rattle.uicc_types.specs.declared.identifiers.FileId.{FileId}
-use Rattle.card_layout.specs.declared.entries.Node.{Node}
-use Rattle.card_layout.specs.declared.shapes.Shape.{Shape}
-use Rattle.card_layout.specs.declared.shapes.Shape.TheVariants.{Transparent, Linear, Cyclic}
-use Rattle.card_layout.specs.Decoding.{bytes_at}
-use Rattle.card_layout.specs.Kinds.{df_kind, activated}
-use Rattle.card_layout.specs.NewFiles.{ef_node}
-use Rattle.card_layout.specs.NewFileLaws.{new_file_is_blank, new_rule}
-use Rattle.card_layout.specs.Persistent.{Rule, Contents, File}
-use Rattle.card_layout.specs.Sections.{kind_of, size_of, is_shape, blank_contents}
-use Rattle.card_layout.specs.States.{contents_in, contents_of, rule_of, df_file, ef_file, file_of}
+use Rattle.file_model.specs.uicc_types.declared.identifiers.FileId.{FileId}
+use Rattle.file_model.specs.card_layout.declared.entries.Node.{Node}
+use Rattle.file_model.specs.card_layout.declared.shapes.Shape.{Shape}
+use Rattle.file_model.specs.card_layout.declared.shapes.Shape.TheVariants.{Transparent, Linear, Cyclic}
+use Rattle.file_model.specs.card_layout.Decoding.{bytes_at}
+use Rattle.file_model.specs.card_layout.Kinds.{df_kind, activated}
+use Rattle.file_model.specs.card_layout.NewFiles.{ef_node}
+use Rattle.file_model.specs.card_layout.NewFileLaws.{new_file_is_blank, new_rule}
+use Rattle.file_model.specs.card_layout.Persistent.{Rule, Contents, File}
+use Rattle.file_model.specs.card_layout.Sections.{kind_of, size_of, is_shape, blank_contents}
+use Rattle.file_model.specs.card_layout.States.{contents_in, contents_of, rule_of, df_file, ef_file, file_of}
 use Rattle.file_model.specs.declared.descriptors.RuleReference.{RuleReference}
 use Rattle.file_making.specs.declared.asked.NewFile.{NewFile}
 use Rattle.file_making.specs.declared.asked.NewFile.TheVariants.{Df, Ef}

@@ -4,13 +4,13 @@ use Rattle.std.specs.Prelude.{◌⊎◌, ◌-◌, not, find, is_none, option_and
 use Rattle.std.specs.List.{range_with_len}
 use Rattle.std.proofs.lemmas.Bool.{cases_eq}
 use Rattle.std.proofs.lemmas.Option.{slice_get-get_or}
-use Rattle.card_layout.specs.Blank.{unused_node}
-use Rattle.card_layout.specs.declared.entries.Node.{Node}
-use Rattle.card_layout.specs.declared.entries.Loaded.{Loaded}
-use Rattle.card_layout.specs.Persistent.{File}
-use Rattle.card_layout.specs.States.{file_of, state_of}
-use Rattle.card_layout.specs.StateLaws.{file_with_number, FilesAreEntries}
-use Rattle.card_layout.specs.Used.{file_if}
+use Rattle.file_model.specs.card_layout.Blank.{unused_node}
+use Rattle.file_model.specs.card_layout.declared.entries.Node.{Node}
+use Rattle.file_model.specs.card_layout.declared.entries.Loaded.{Loaded}
+use Rattle.file_model.specs.card_layout.Persistent.{File}
+use Rattle.file_model.specs.card_layout.States.{file_of, state_of}
+use Rattle.file_model.specs.card_layout.StateLaws.{file_with_number, FilesAreEntries}
+use Rattle.file_model.specs.card_layout.Used.{file_if}
 use Rattle.file_making.specs.Rooms.{free_number}
 
 -- ---- the first of some numbers, one after the other, that passes

@@ -7,20 +7,20 @@ use Rattle.std.proofs.lemmas.Bool.Decides.{nat_tests}
 use Rattle.std.proofs.lemmas.Option.{option_and_then_some, same_Some}
 use Rattle.std.proofs.lemmas.List.{length-take, get_or-take, get_or-replicate, get_or_append_left, get_or-append_right}
 use Rattle.std.proofs.lemmas.List.Elements.{All-replicate, All-contains}
-use Rattle.general_laws.specs.Choices.{mapped_Some}
-use Rattle.general_laws.specs.Finding.{find_Some, numbered_found}
-use Rattle.general_laws.specs.Optional.{none_of}
-use Rattle.general_laws.specs.Pairs.{pairs_head, pairs_tail}
-use Rattle.uicc_types.specs.declared.answers.StatusWord.{StatusWord}
-use Rattle.card_layout.specs.declared.shapes.Shape.{Shape}
-use Rattle.card_layout.specs.declared.shapes.Shape.TheVariants.{Transparent, Linear, Cyclic}
-use Rattle.card_layout.specs.Changing.{listed, placed, with_file_at}
-use Rattle.card_layout.specs.Decoding.{number_at}
-use Rattle.card_layout.specs.Kinds.{transparent_kind, has_records}
-use Rattle.card_layout.specs.Persistent.{Contents, Files, Bytes, Records, File, Persistent}
-use Rattle.card_layout.specs.Sections.{blank_contents}
-use Rattle.card_layout.specs.Soundness.{AreContents, IsSound, IsSoundFile}
-use Rattle.card_layout.specs.StateLaws.{file_with_number}
+use Rattle.file_model.specs.uicc_types.Choices.{mapped_Some}
+use Rattle.file_model.specs.uicc_types.Finding.{find_Some, numbered_found}
+use Rattle.file_model.specs.uicc_types.Optional.{none_of}
+use Rattle.file_model.specs.uicc_types.Pairs.{pairs_head, pairs_tail}
+use Rattle.file_model.specs.uicc_types.declared.answers.StatusWord.{StatusWord}
+use Rattle.file_model.specs.card_layout.declared.shapes.Shape.{Shape}
+use Rattle.file_model.specs.card_layout.declared.shapes.Shape.TheVariants.{Transparent, Linear, Cyclic}
+use Rattle.file_model.specs.card_layout.Changing.{listed, placed, with_file_at}
+use Rattle.file_model.specs.card_layout.Decoding.{number_at}
+use Rattle.file_model.specs.card_layout.Kinds.{transparent_kind, has_records}
+use Rattle.file_model.specs.card_layout.Persistent.{Contents, Files, Bytes, Records, File, Persistent}
+use Rattle.file_model.specs.card_layout.Sections.{blank_contents}
+use Rattle.file_model.specs.card_layout.Soundness.{AreContents, IsSound, IsSoundFile}
+use Rattle.file_model.specs.card_layout.StateLaws.{file_with_number}
 use Rattle.file_model.specs.declared.descriptors.Descriptor.{Descriptor}
 use Rattle.file_model.specs.Files.{descriptor_in, descriptors_in}
 use Rattle.file_model.specs.LifeCycles.{has_no_parameters}
@@ -36,7 +36,7 @@ use Rattle.file_making.specs.Resizing.{size_asked, may_have, refitted, contents_
 use Rattle.file_making.specs.Rooms.{room_at, free_number}
 use Rattle.file_making.specs.Templates.{template, asked_in, may_be_made}
 use Rattle.file_making.proofs.Fitting.{new_number, blank}
-use Rattle.file_making.proofs.Lawful.{unless_so, given_so}
+use Rattle.file_making.proofs.Lawful.{unless_so, given_so, number_made}
 use Rattle.file_making.proofs.Leaving.{IsChild, child_there}
 use Rattle.file_making.proofs.Lookups.{others_stay, this_is}
 use Rattle.file_making.proofs.ReadBack.{parts_of, asked_found}
@@ -149,10 +149,6 @@ made_blank number df place (Ef id shape short rule) = all_blank shape
 made_whole : (number df place : ℕ) (asked : NewFile) → may_be_made asked ≡ true → (let file = file_made number df place asked in AreContents file.kind file.size file.contents)
 made_whole number df place (Df id) may = refl
 made_whole number df place (Ef id shape short rule) may = blank shape (parts_of id shape short rule may).second
-
-number_made : (number df place : ℕ) (asked : NewFile) → (file_made number df place asked).number ≡ number
-number_made number df place (Df id) = refl
-number_made number df place (Ef id shape short rule) = refl
 
 parent_made : (number df place : ℕ) (asked : NewFile) → (file_made number df place asked).parent ≡ df
 parent_made number df place (Df id) = refl

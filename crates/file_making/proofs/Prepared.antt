@@ -5,34 +5,34 @@ use Rattle.std.proofs.lemmas.Bool.{cond-true}
 use Rattle.std.proofs.lemmas.List.{length-replicate}
 use Rattle.std.proofs.lemmas.Option.{option_and_then_some}
 use Rattle.std.proofs.Math.Nat.{mul-div_cancel_left}
-use Rattle.general_laws.specs.Choices.{mapped_Some}
-use Rattle.uicc_types.specs.declared.identifiers.FileId.{FileId}
-use Rattle.uicc_types.specs.Patches.{patched, patched-nil, Torn_patched, range-patched_there}
-use Rattle.card_layout.specs.declared.entries.Node.{Node}
-use Rattle.card_layout.specs.declared.entries.Loaded.{Loaded}
-use Rattle.card_layout.specs.declared.shapes.Shape.{Shape}
-use Rattle.card_layout.specs.declared.shapes.Shape.TheVariants.{Transparent, Linear, Cyclic}
-use Rattle.card_layout.specs.Changing.{with_file_at}
-use Rattle.card_layout.specs.Decoding.{bytes_at}
-use Rattle.card_layout.specs.Laws.{after}
-use Rattle.card_layout.specs.NewFiles.{ef_node}
-use Rattle.card_layout.specs.Persistent.{File, Persistent}
-use Rattle.card_layout.specs.Places.{data_place, data_end}
-use Rattle.card_layout.specs.Sections.{size_of, is_shape}
-use Rattle.card_layout.specs.Soundness.{IsSound}
-use Rattle.card_layout.specs.Spelling.{node_part}
-use Rattle.card_layout.specs.Standing.{Stands}
-use Rattle.card_layout.specs.States.{file_of}
-use Rattle.card_layout.specs.Used.{file_if}
-use Rattle.card_layout.specs.NewFileLaws.{some_bytes}
-use Rattle.card_layout.specs.RowPlaces.{data_end_inside}
+use Rattle.file_model.specs.uicc_types.Choices.{mapped_Some}
+use Rattle.file_model.specs.uicc_types.declared.identifiers.FileId.{FileId}
+use Rattle.file_model.specs.uicc_types.Patches.{patched, patched-nil, Torn_patched, range-patched_there}
+use Rattle.file_model.specs.card_layout.declared.entries.Node.{Node}
+use Rattle.file_model.specs.card_layout.declared.entries.Loaded.{Loaded}
+use Rattle.file_model.specs.card_layout.declared.shapes.Shape.{Shape}
+use Rattle.file_model.specs.card_layout.declared.shapes.Shape.TheVariants.{Transparent, Linear, Cyclic}
+use Rattle.file_model.specs.card_layout.Changing.{with_file_at}
+use Rattle.file_model.specs.card_layout.Decoding.{bytes_at}
+use Rattle.file_model.specs.card_layout.Laws.{after}
+use Rattle.file_model.specs.card_layout.NewFiles.{ef_node}
+use Rattle.file_model.specs.card_layout.Persistent.{File, Persistent}
+use Rattle.file_model.specs.card_layout.Places.{data_place, data_end}
+use Rattle.file_model.specs.card_layout.Sections.{size_of, is_shape}
+use Rattle.file_model.specs.card_layout.Soundness.{IsSound}
+use Rattle.file_model.specs.card_layout.Spelling.{node_part}
+use Rattle.file_model.specs.card_layout.Standing.{Stands}
+use Rattle.file_model.specs.card_layout.States.{file_of}
+use Rattle.file_model.specs.card_layout.Used.{file_if}
+use Rattle.file_model.specs.card_layout.NewFileLaws.{some_bytes}
+use Rattle.file_model.specs.card_layout.RowPlaces.{data_end_inside}
 use Rattle.file_model.specs.declared.descriptors.RuleReference.{RuleReference}
-use Rattle.layout_changes.specs.Cards.{IsFreeRange}
-use Rattle.layout_changes.specs.Changes.{with_node}
-use Rattle.layout_soundness.specs.Forms.{HasRightHead}
+use Rattle.layout_standing.specs.Cards.{IsFreeRange}
+use Rattle.layout_standing.specs.Changes.{with_node}
+use Rattle.layout_standing.specs.Forms.{HasRightHead}
 use Rattle.layout_standing.specs.Fitting.{FitsAmong}
 use Rattle.layout_standing.specs.Known.{StandingIsCard, StandingIsOfTable}
-use Rattle.layout_standing.specs.Laws.{FreeBytesDontCount, AddedFileStands, FileFits}
+use Rattle.layout_standing.specs.StandingLaws.{FreeBytesDontCount, AddedFileStands, FileFits}
 use Rattle.layout_standing.specs.Writing.{IsWholeFile}
 use Rattle.file_making.specs.declared.asked.NewFile.{NewFile}
 use Rattle.file_making.specs.declared.asked.NewFile.TheVariants.{Df, Ef}

@@ -6,13 +6,13 @@ use Rattle.std.proofs.lemmas.Nat.{from_be_bytes-to_be_bytes_2}
 use Rattle.std.proofs.lemmas.Bool.{and_parts, and_from, leb-true, cond-true, cond-false, eq-eqb, ne_eqb, cases_eq}
 use Rattle.std.proofs.lemmas.Option.{cond_some}
 use Rattle.std.proofs.lemmas.Slice.Eq.{bytes_eq-Decides}
-use Rattle.uicc_types.specs.declared.identifiers.FileId.{FileId}
-use Rattle.access_rules.specs.Objects.{object}
-use Rattle.card_layout.specs.declared.shapes.Shape.{Shape}
-use Rattle.card_layout.specs.declared.shapes.Shape.TheVariants.{Transparent, Linear, Cyclic}
-use Rattle.card_layout.specs.Checks.{is_free_id}
-use Rattle.card_layout.specs.Sections.{size_of, is_shape}
-use Rattle.card_layout.specs.Spelling.{two_bytes}
+use Rattle.file_model.specs.uicc_types.declared.identifiers.FileId.{FileId}
+use Rattle.file_model.specs.Objects.{object}
+use Rattle.file_model.specs.card_layout.declared.shapes.Shape.{Shape}
+use Rattle.file_model.specs.card_layout.declared.shapes.Shape.TheVariants.{Transparent, Linear, Cyclic}
+use Rattle.file_model.specs.card_layout.Checks.{is_free_id}
+use Rattle.file_model.specs.card_layout.Sections.{size_of, is_shape}
+use Rattle.file_model.specs.card_layout.Spelling.{two_bytes}
 use Rattle.file_model.specs.Fcp.{rule_object}
 use Rattle.file_model.specs.declared.descriptors.RuleReference.{RuleReference}
 use Rattle.file_making.specs.declared.asked.NewFile.{NewFile}

@@ -3,28 +3,28 @@ use Rattle.std.proofs.Common.{◌≡◌, ℕ, ◌+◌, ◌≤◌, Bool, true, fa
 use Rattle.std.specs.Prelude.{◌-◌, ◌==◌, nat_lt, nat_le, if◌then◌else◌, is_none, unwrap_or, IsTrue}
 use Rattle.std.proofs.lemmas.Bool.{and_parts, and_left, and_right, lt-ltb, le-ltb, leb-true, eq-eqb, ne_eqb, cond-true, cond-false}
 use Rattle.std.proofs.lemmas.List.{append-nil, take-take}
-use Rattle.general_laws.specs.Ranges.{length-range}
-use Rattle.uicc_types.specs.Patches.{patched}
-use Rattle.card_layout.specs.declared.entries.Node.{Node}
-use Rattle.card_layout.specs.declared.entries.Loaded.{Loaded}
-use Rattle.card_layout.specs.Changing.{with_file_at}
-use Rattle.card_layout.specs.Decoding.{bytes_at}
-use Rattle.card_layout.specs.EntryLaws.{number_of_file}
-use Rattle.card_layout.specs.Fields.{merged_node}
-use Rattle.card_layout.specs.Kinds.{df_kind, transparent_kind, is_ef_kind}
-use Rattle.card_layout.specs.Laws.{after}
-use Rattle.card_layout.specs.Persistent.{Contents, Files, Bytes, Records, File, Persistent}
-use Rattle.card_layout.specs.Soundness.{IsSound}
-use Rattle.card_layout.specs.Spelling.{node_part}
-use Rattle.card_layout.specs.Standing.{Stands}
-use Rattle.card_layout.specs.States.{file_bytes, records_of, record_count, from_head, contents_of, ef_file, file_of}
-use Rattle.card_layout.specs.Used.{file_if}
-use Rattle.card_layout.specs.RowPlaces.{data_end_inside}
+use Rattle.file_model.specs.uicc_types.Ranges.{length-range}
+use Rattle.file_model.specs.uicc_types.Patches.{patched}
+use Rattle.file_model.specs.card_layout.declared.entries.Node.{Node}
+use Rattle.file_model.specs.card_layout.declared.entries.Loaded.{Loaded}
+use Rattle.file_model.specs.card_layout.Changing.{with_file_at}
+use Rattle.file_model.specs.card_layout.Decoding.{bytes_at}
+use Rattle.file_model.specs.card_layout.EntryLaws.{number_of_file}
+use Rattle.file_model.specs.card_layout.Fields.{merged_node}
+use Rattle.file_model.specs.card_layout.Kinds.{df_kind, transparent_kind, is_ef_kind}
+use Rattle.file_model.specs.card_layout.Laws.{after}
+use Rattle.file_model.specs.card_layout.Persistent.{Contents, Files, Bytes, Records, File, Persistent}
+use Rattle.file_model.specs.card_layout.Soundness.{IsSound}
+use Rattle.file_model.specs.card_layout.Spelling.{node_part}
+use Rattle.file_model.specs.card_layout.Standing.{Stands}
+use Rattle.file_model.specs.card_layout.States.{file_bytes, records_of, record_count, from_head, contents_of, ef_file, file_of}
+use Rattle.file_model.specs.card_layout.Used.{file_if}
+use Rattle.file_model.specs.card_layout.RowPlaces.{data_end_inside}
 use Rattle.file_model.specs.Files.{descriptor_in}
-use Rattle.layout_changes.specs.Changes.{with_node}
-use Rattle.layout_soundness.specs.Forms.{HasRightHead}
+use Rattle.layout_standing.specs.Changes.{with_node}
+use Rattle.layout_standing.specs.Forms.{HasRightHead}
 use Rattle.layout_standing.specs.Known.{StandingIsCard, StandingIsOfTable, NodesAreFiles}
-use Rattle.layout_standing.specs.Laws.{FreeBytesDontCount, ChangedFileStands, RemovedFileStands, FileFits}
+use Rattle.layout_standing.specs.StandingLaws.{FreeBytesDontCount, ChangedFileStands, RemovedFileStands, FileFits}
 use Rattle.layout_standing.specs.Standing.{IsFileEntry}
 use Rattle.layout_standing.specs.Writing.{IsFileChange}
 use Rattle.file_making.specs.Resizing.{may_have, refitted, contents_refitted, has_no_room, file_resized}

@@ -4,15 +4,15 @@ use Rattle.std.specs.Prelude.{◌⊎◌, ◌==◌, ◌&&◌, find, slice_get, Co
 use Rattle.std.proofs.lemmas.Bool.{and_parts, and_from, both_ways, cond-true, cond-false}
 use Rattle.std.proofs.lemmas.Option.{slice_get-get_or, get_or_from_slice_get, slice_get_within}
 use Rattle.std.proofs.lemmas.List.Elements.{All-contains, Contains-get_or}
-use Rattle.general_laws.specs.Finding.{find_Some}
-use Rattle.card_layout.specs.declared.entries.Node.{Node}
-use Rattle.card_layout.specs.declared.entries.Loaded.{Loaded}
-use Rattle.card_layout.specs.Kinds.{df_kind, is_ef_kind}
-use Rattle.card_layout.specs.Places.{data_place, data_end}
-use Rattle.card_layout.specs.Persistent.{File}
-use Rattle.card_layout.specs.States.{df_file, ef_file, file_of, state_of}
-use Rattle.card_layout.specs.StateLaws.{FilesAreEntries, FilesComeFromEntries, IsOfNode}
-use Rattle.card_layout.specs.Used.{HasNode, file_if}
+use Rattle.file_model.specs.uicc_types.Finding.{find_Some}
+use Rattle.file_model.specs.card_layout.declared.entries.Node.{Node}
+use Rattle.file_model.specs.card_layout.declared.entries.Loaded.{Loaded}
+use Rattle.file_model.specs.card_layout.Kinds.{df_kind, is_ef_kind}
+use Rattle.file_model.specs.card_layout.Places.{data_place, data_end}
+use Rattle.file_model.specs.card_layout.Persistent.{File}
+use Rattle.file_model.specs.card_layout.States.{df_file, ef_file, file_of, state_of}
+use Rattle.file_model.specs.card_layout.StateLaws.{FilesAreEntries, FilesComeFromEntries, IsOfNode}
+use Rattle.file_model.specs.card_layout.Used.{HasNode, file_if}
 use Rattle.layout_standing.proofs.Attributes.{not_df}
 use Rattle.file_making.specs.Rooms.{IsRoom, share_a_byte}
 use Rattle.file_making.specs.Tables.{is_node_in_the_way}

@@ -2,14 +2,14 @@
 use Rattle.std.proofs.Common.{◌≡◌, ℕ, ◌+◌, true, false, List, [], ◌∷◌, ◌++◌, map, replicate, Option, Some, None, Ok, Err, refl}
 use Rattle.std.specs.Prelude.{Result}
 use Rattle.std.specs.List.{range_with_len}
-use Rattle.uicc_types.specs.declared.answers.StatusWord.{StatusWord}
-use Rattle.uicc_types.specs.declared.answers.TheConstants.StatusWord.{WRONG_PARAMETERS, WRONG_LENGTH, SECURITY_NOT_SATISFIED, CONDITIONS_NOT_SATISFIED, WRONG_STRUCTURE, WRONG_DATA, FILE_NOT_FOUND, NO_ROOM, FILE_ALREADY_THERE, DONE}
-use Rattle.apdu_form.specs.Model.{Apdu}
-use Rattle.access_rules.specs.Objects.{object}
-use Rattle.access_rules.specs.declared.rules.Verified.{Verified}
-use Rattle.card_layout.specs.declared.shapes.Shape.TheVariants.{Transparent, Cyclic}
-use Rattle.card_layout.specs.Persistent.{Contents, Bytes, Records, File, Persistent}
-use Rattle.card_layout.specs.Soundness.{mf}
+use Rattle.file_model.specs.uicc_types.declared.answers.StatusWord.{StatusWord}
+use Rattle.file_model.specs.uicc_types.declared.answers.TheConstants.StatusWord.{WRONG_PARAMETERS, WRONG_LENGTH, SECURITY_NOT_SATISFIED, CONDITIONS_NOT_SATISFIED, WRONG_STRUCTURE, WRONG_DATA, FILE_NOT_FOUND, NO_ROOM, FILE_ALREADY_THERE, DONE}
+use Rattle.file_model.specs.apdu_form.Model.{Apdu}
+use Rattle.file_model.specs.Objects.{object}
+use Rattle.file_model.specs.declared.rules.Verified.{Verified}
+use Rattle.file_model.specs.card_layout.declared.shapes.Shape.TheVariants.{Transparent, Cyclic}
+use Rattle.file_model.specs.card_layout.Persistent.{Contents, Bytes, Records, File, Persistent}
+use Rattle.file_model.specs.card_layout.Soundness.{mf}
 use Rattle.file_model.specs.declared.selections.Selection.{Selection}
 use Rattle.file_model.specs.Access.{may}
 use Rattle.file_model.specs.Binaries.{binary_file, read_from, reading, binary_read}

@@ -1,9 +1,9 @@
 -- The commands that make, delete and resize files, by their names.
 use Rattle.std.specs.Prelude.{ℕ, List, Option, Result}
-use Rattle.uicc_types.specs.declared.answers.StatusWord.{StatusWord}
-use Rattle.apdu_form.specs.Model.{Apdu}
-use Rattle.access_rules.specs.declared.rules.Verified.{Verified}
-use Rattle.card_layout.specs.Persistent.{Persistent}
+use Rattle.file_model.specs.uicc_types.declared.answers.StatusWord.{StatusWord}
+use Rattle.file_model.specs.apdu_form.Model.{Apdu}
+use Rattle.file_model.specs.declared.rules.Verified.{Verified}
+use Rattle.file_model.specs.card_layout.Persistent.{Persistent}
 use Rattle.file_model.specs.declared.selections.Selection.{Selection}
 use Rattle.file_making.specs.declared.commands.TreeCommand.{TreeCommand}
 use Rattle.file_making.specs.declared.commands.TreeCommand.TheVariants.{Create, Delete, Resize}

@@ -1,14 +1,14 @@
 -- CREATE FILE (ETSI TS 102 222, 6.3).
 use Rattle.std.specs.Prelude.{ℕ, ◌==◌, not, ◌&&◌, ◌||◌, Bool, List, [], ◌∷◌, Option, Some, is_some, option_map, option_and_then, slice_set, Result, Ok}
-use Rattle.uicc_types.specs.declared.answers.StatusWord.{StatusWord}
-use Rattle.uicc_types.specs.declared.answers.TheConstants.StatusWord.{WRONG_PARAMETERS, WRONG_LENGTH, SECURITY_NOT_SATISFIED, WRONG_DATA, NO_ROOM, FILE_ALREADY_THERE}
-use Rattle.apdu_form.specs.Model.{Apdu}
-use Rattle.access_rules.specs.declared.rules.Verified.{Verified}
-use Rattle.card_layout.specs.Kinds.{activated}
-use Rattle.card_layout.specs.Persistent.{Rule, File, Persistent}
-use Rattle.card_layout.specs.Changing.{with_file_at}
-use Rattle.card_layout.specs.Sections.{kind_of, size_of, blank_contents}
-use Rattle.card_layout.specs.Soundness.{mf}
+use Rattle.file_model.specs.uicc_types.declared.answers.StatusWord.{StatusWord}
+use Rattle.file_model.specs.uicc_types.declared.answers.TheConstants.StatusWord.{WRONG_PARAMETERS, WRONG_LENGTH, SECURITY_NOT_SATISFIED, WRONG_DATA, NO_ROOM, FILE_ALREADY_THERE}
+use Rattle.file_model.specs.apdu_form.Model.{Apdu}
+use Rattle.file_model.specs.declared.rules.Verified.{Verified}
+use Rattle.file_model.specs.card_layout.Kinds.{activated}
+use Rattle.file_model.specs.card_layout.Persistent.{Rule, File, Persistent}
+use Rattle.file_model.specs.card_layout.Changing.{with_file_at}
+use Rattle.file_model.specs.card_layout.Sections.{kind_of, size_of, blank_contents}
+use Rattle.file_model.specs.card_layout.Soundness.{mf}
 use Rattle.file_model.specs.declared.descriptors.Descriptor.{Descriptor}
 use Rattle.file_model.specs.declared.descriptors.RuleReference.{RuleReference}
 use Rattle.file_model.specs.declared.descriptors.Wanted.TheVariants.{Child, Short}

@@ -1,9 +1,9 @@
 -- The entry that is written for a file that is made.
 use Rattle.std.specs.Prelude.{ℕ, List, replicate, option_map}
-use Rattle.card_layout.specs.declared.entries.Node.{Node}
-use Rattle.card_layout.specs.NewFiles.{df_node, ef_node}
-use Rattle.card_layout.specs.Sections.{size_of}
-use Rattle.uicc_types.specs.declared.identifiers.FileId.{FileId}
+use Rattle.file_model.specs.card_layout.declared.entries.Node.{Node}
+use Rattle.file_model.specs.card_layout.NewFiles.{df_node, ef_node}
+use Rattle.file_model.specs.card_layout.Sections.{size_of}
+use Rattle.file_model.specs.uicc_types.declared.identifiers.FileId.{FileId}
 use Rattle.file_model.specs.declared.descriptors.RuleReference.{RuleReference}
 use Rattle.file_making.specs.declared.asked.NewFile.{NewFile}
 use Rattle.file_making.specs.declared.asked.NewFile.TheVariants.{Df, Ef}

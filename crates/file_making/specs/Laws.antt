@@ -1,6 +1,6 @@
 -- What holds of the definitions, whatever they are given.
 use Rattle.std.specs.Prelude.{◌≡◌, ℕ, List, Option, Some, IsTrue}
-use Rattle.card_layout.specs.Persistent.{Persistent}
+use Rattle.file_model.specs.card_layout.Persistent.{Persistent}
 use Rattle.file_making.specs.declared.asked.NewFile.{NewFile}
 use Rattle.file_making.specs.Rooms.{IsSmallestRoom, room_at}
 use Rattle.file_making.specs.Templates.{template, may_be_made, IsInRange, asked_in}

@@ -1,13 +1,13 @@
 -- What a command that was carried out has made of the files of a card.
 use Rattle.std.specs.Prelude.{◌≡◌, ◌≢◌, ℕ, ◌+◌, ◌≤◌, ◌<◌, true, List, length, All, Option, Some, None, is_some, option_map, slice_index, IfOk, ⊤}
-use Rattle.apdu_form.specs.Model.{Apdu}
-use Rattle.access_rules.specs.declared.rules.Verified.{Verified}
-use Rattle.card_layout.specs.Decoding.{number_at}
-use Rattle.card_layout.specs.Kinds.{df_kind, activated}
-use Rattle.card_layout.specs.Persistent.{Contents, Files, Bytes, Records, File, Persistent}
-use Rattle.card_layout.specs.Sections.{kind_of, size_of}
-use Rattle.card_layout.specs.Soundness.{AreContents, IsSound}
-use Rattle.card_layout.specs.StateLaws.{file_with_number}
+use Rattle.file_model.specs.apdu_form.Model.{Apdu}
+use Rattle.file_model.specs.declared.rules.Verified.{Verified}
+use Rattle.file_model.specs.card_layout.Decoding.{number_at}
+use Rattle.file_model.specs.card_layout.Kinds.{df_kind, activated}
+use Rattle.file_model.specs.card_layout.Persistent.{Contents, Files, Bytes, Records, File, Persistent}
+use Rattle.file_model.specs.card_layout.Sections.{kind_of, size_of}
+use Rattle.file_model.specs.card_layout.Soundness.{AreContents, IsSound}
+use Rattle.file_model.specs.card_layout.StateLaws.{file_with_number}
 use Rattle.file_model.specs.declared.selections.Selection.{Selection}
 use Rattle.file_model.specs.Outcomes.{last_of}
 use Rattle.file_making.specs.declared.asked.NewFile.{NewFile}

@@ -2,12 +2,12 @@
 use Rattle.std.specs.Prelude.{ℕ, ◌+◌, ◌-◌, ◌≤◌, ◌<◌, min, max, Bool, not, ◌&&◌, nat_lt, nat_le, List, [], ◌∷◌, map, filter, find, All, Option, Some, None, is_none}
 use Rattle.std.specs.Option.{option_map_or}
 use Rattle.std.specs.List.{range_with_len, list_any}
-use Rattle.card_layout.specs.declared.sizes.TheConstants.{NODE_COUNT}
-use Rattle.card_layout.specs.Kinds.{is_ef_kind}
-use Rattle.card_layout.specs.Places.{data_place, data_end}
-use Rattle.card_layout.specs.Persistent.{File, Persistent}
-use Rattle.card_layout.specs.Soundness.{IsEf}
-use Rattle.card_layout.specs.StateLaws.{file_with_number}
+use Rattle.file_model.specs.card_layout.declared.sizes.TheConstants.{NODE_COUNT}
+use Rattle.file_model.specs.card_layout.Kinds.{is_ef_kind}
+use Rattle.file_model.specs.card_layout.Places.{data_place, data_end}
+use Rattle.file_model.specs.card_layout.Persistent.{File, Persistent}
+use Rattle.file_model.specs.card_layout.Soundness.{IsEf}
+use Rattle.file_model.specs.card_layout.StateLaws.{file_with_number}
 
 -- ---- room for bytes
 

@@ -1,25 +1,25 @@
 -- What the memory of a card stands for once a file was made or resized: bytes are prepared where none is a file's, which changes
 -- nothing, and then its entry is committed.
 use Rattle.std.specs.Prelude.{◌≡◌, ℕ, ◌≤◌, ◌<◌, false, List, Option, Some, None, IsTrue, IsSomeAnd}
-use Rattle.uicc_types.specs.Patches.{patched}
-use Rattle.card_layout.specs.declared.entries.Node.{Node}
-use Rattle.card_layout.specs.declared.entries.Loaded.{Loaded}
-use Rattle.card_layout.specs.Changing.{with_file_at}
-use Rattle.card_layout.specs.Kinds.{transparent_kind}
-use Rattle.card_layout.specs.Laws.{after}
-use Rattle.card_layout.specs.Persistent.{Persistent}
-use Rattle.card_layout.specs.Ranges.{HasNodeRanges}
-use Rattle.card_layout.specs.Soundness.{IsSound}
-use Rattle.card_layout.specs.Spelling.{node_part}
-use Rattle.card_layout.specs.Standing.{Stands}
-use Rattle.card_layout.specs.States.{file_bytes, file_of}
-use Rattle.card_layout.specs.Used.{HasNode}
+use Rattle.file_model.specs.uicc_types.Patches.{patched}
+use Rattle.file_model.specs.card_layout.declared.entries.Node.{Node}
+use Rattle.file_model.specs.card_layout.declared.entries.Loaded.{Loaded}
+use Rattle.file_model.specs.card_layout.Changing.{with_file_at}
+use Rattle.file_model.specs.card_layout.Kinds.{transparent_kind}
+use Rattle.file_model.specs.card_layout.Laws.{after}
+use Rattle.file_model.specs.card_layout.Persistent.{Persistent}
+use Rattle.file_model.specs.card_layout.Ranges.{HasNodeRanges}
+use Rattle.file_model.specs.card_layout.Soundness.{IsSound}
+use Rattle.file_model.specs.card_layout.Spelling.{node_part}
+use Rattle.file_model.specs.card_layout.Standing.{Stands}
+use Rattle.file_model.specs.card_layout.States.{file_bytes, file_of}
+use Rattle.file_model.specs.card_layout.Used.{HasNode}
 use Rattle.file_model.specs.declared.descriptors.Descriptor.{Descriptor}
 use Rattle.file_model.specs.declared.descriptors.Wanted.TheVariants.{Number}
 use Rattle.file_model.specs.declared.selections.Selection.{Selection}
 use Rattle.file_model.specs.Files.{descriptors_in, is_df, file_found}
-use Rattle.layout_changes.specs.Cards.{IsFreeRange}
-use Rattle.layout_changes.specs.Changes.{with_node}
+use Rattle.layout_standing.specs.Cards.{IsFreeRange}
+use Rattle.layout_standing.specs.Changes.{with_node}
 use Rattle.file_making.specs.declared.asked.NewFile.{NewFile}
 use Rattle.file_making.specs.Creating.{is_there, file_made, made_in}
 use Rattle.file_making.specs.Deleting.{is_in_use}

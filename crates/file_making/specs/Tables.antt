@@ -1,7 +1,7 @@
 -- What is asked of a table of entries, where the state asks it of files.
 use Rattle.std.specs.Prelude.{ℕ, ◌&&◌, Bool}
-use Rattle.card_layout.specs.declared.entries.Node.{Node}
-use Rattle.card_layout.specs.Kinds.{is_ef_kind}
+use Rattle.file_model.specs.card_layout.declared.entries.Node.{Node}
+use Rattle.file_model.specs.card_layout.Kinds.{is_ef_kind}
 use Rattle.file_making.specs.Rooms.{share_a_byte}
 
 -- an EF's entry, with a byte in this range

@@ -2,16 +2,16 @@
 -- (TS 102 221, 11.1.1.4), without the life cycle status and the PIN status.
 use Rattle.std.specs.Prelude.{ℕ, ◌+◌, ◌*◌, ◌/◌, ◌^◌, ◌<◌, ◌==◌, ◌&&◌, nat_le, Bool, true, if◌then◌else◌, List, [], ◌∷◌, ◌++◌, slice_index, Option, Some, None, ⊤}
 use Rattle.std.specs.Str.{bytes_eq}
-use Rattle.uicc_types.specs.declared.identifiers.FileId.{FileId}
-use Rattle.access_rules.specs.Objects.{object}
-use Rattle.card_layout.specs.declared.shapes.Shape.{Shape}
-use Rattle.card_layout.specs.declared.shapes.Shape.TheVariants.{Transparent, Linear, Cyclic}
-use Rattle.card_layout.specs.declared.sizes.TheConstants.{RECORD_LIMIT}
-use Rattle.card_layout.specs.Kinds.{df_kind, transparent_kind, linear_kind, cyclic_kind, has_records}
-use Rattle.card_layout.specs.Checks.{is_free_id}
-use Rattle.card_layout.specs.Decoding.{number_at}
-use Rattle.card_layout.specs.Sections.{size_of, is_shape}
-use Rattle.card_layout.specs.Spelling.{two_bytes}
+use Rattle.file_model.specs.uicc_types.declared.identifiers.FileId.{FileId}
+use Rattle.file_model.specs.Objects.{object}
+use Rattle.file_model.specs.card_layout.declared.shapes.Shape.{Shape}
+use Rattle.file_model.specs.card_layout.declared.shapes.Shape.TheVariants.{Transparent, Linear, Cyclic}
+use Rattle.file_model.specs.card_layout.declared.sizes.TheConstants.{RECORD_LIMIT}
+use Rattle.file_model.specs.card_layout.Kinds.{df_kind, transparent_kind, linear_kind, cyclic_kind, has_records}
+use Rattle.file_model.specs.card_layout.Checks.{is_free_id}
+use Rattle.file_model.specs.card_layout.Decoding.{number_at}
+use Rattle.file_model.specs.card_layout.Sections.{size_of, is_shape}
+use Rattle.file_model.specs.card_layout.Spelling.{two_bytes}
 use Rattle.file_model.specs.declared.descriptors.RuleReference.{RuleReference}
 use Rattle.file_model.specs.Fcp.{rule_object}
 use Rattle.file_making.specs.declared.asked.NewFile.{NewFile}

@@ -1,14 +1,14 @@
 //! What is written for a file that is made.
 ghost use Rattle.std.specs.Prelude.{◌≡◌, ◌<◌, List, ℕ, IfSome, option_map};
-ghost use Rattle.card_layout.specs.Ranges.{HasNodeRanges};
-ghost use Rattle.card_layout.specs.States.{state_of};
+ghost use Rattle.file_model.specs.card_layout.Ranges.{HasNodeRanges};
+ghost use Rattle.file_model.specs.card_layout.States.{state_of};
 ghost use Rattle.file_making.specs.Creating.{file_made, place_for, made_in};
 ghost use Rattle.file_making.specs.Entries.{node_made};
 
 use crate::asked::NewFile;
 use crate::rooms::{free_number, room};
-use card_layout::sizes::NODE_COUNT;
-use card_layout::{Loaded, Node, new_df, new_ef, size_for};
+use file_model::card_layout::sizes::NODE_COUNT;
+use file_model::card_layout::{Loaded, Node, new_df, new_ef, size_for};
 
 /// An entry, and the number of its file.
 #[derive(Clone, Copy, Debug)]

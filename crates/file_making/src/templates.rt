@@ -1,18 +1,18 @@
 //! The template of CREATE FILE (ETSI TS 102 222, 6.3), written and read. What its bytes say is read at their places, and
 //! written again: a template is taken where both are the same, so exactly the templates are.
 ghost use Rattle.std.specs.Prelude.{◌≡◌, ◌+◌, ◌≤◌, ◌++◌, length, slice_index, Some, IsTrue, IfSome};
-ghost use Rattle.access_rules.specs.Objects.{object};
-ghost use Rattle.card_layout.specs.Decoding.{number_at};
+ghost use Rattle.file_model.specs.Objects.{object};
+ghost use Rattle.file_model.specs.card_layout.Decoding.{number_at};
 ghost use Rattle.file_model.specs.Fcp.{rule_object};
 ghost use Rattle.file_making.specs.Templates.{ef_kind_bytes, short_value, objects_of, template, may_rule, has_short_records, may_be_made, IsInRange, id_place, rule_told, size_place, shape_told, short_told, told, asked_in};
 
 use crate::asked::NewFile;
 use crate::laws::templates_are_read;
-use card_layout::kinds::{self, CYCLIC, DF, LINEAR, TRANSPARENT};
-use card_layout::sizes::RECORD_LIMIT;
-use card_layout::{Shape, may_be_shape, size_for};
 use file_model::RuleReference;
-use uicc_types::{ByteList, FileId, Full};
+use file_model::card_layout::kinds::{self, CYCLIC, DF, LINEAR, TRANSPARENT};
+use file_model::card_layout::sizes::RECORD_LIMIT;
+use file_model::card_layout::{Shape, may_be_shape, size_for};
+use file_model::uicc_types::{ByteList, FileId, Full};
 
 // How many bytes there is room for; a template has at most 25.
 const ROOM: usize = 32;
@@ -30,7 +30,7 @@ fn put(out: &mut TemplateBytes, part: &[u8])
     }
 }
 
-#[tactic(auto, unfolding(access_rules::specs::Objects::object))]
+#[tactic(auto, unfolding(file_model::specs::Objects::object))]
 fn put_object(out: &mut TemplateBytes, tag: u8, value: &[u8])
     requires { length out.old + length value.now + 2 ≤ ROOM }
     ensures value { out.new ≡ out.old ++ object tag value.now }

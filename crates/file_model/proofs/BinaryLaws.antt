@@ -4,7 +4,7 @@ use Rattle.std.specs.Prelude.{◌==◌, ◌||◌, nat_lt, if◌then◌else◌, C
 use Rattle.std.proofs.lemmas.Bool.{ltb-false}
 use Rattle.std.proofs.lemmas.List.{length-take}
 use Rattle.std.proofs.lemmas.List.Elements.{All-contains}
-use Rattle.uicc_types.specs.declared.answers.TheConstants.StatusWord.{DONE, END_OF_FILE}
+use Rattle.card_layout.specs.uicc_types.declared.answers.TheConstants.StatusWord.{DONE, END_OF_FILE}
 use Rattle.apdu_form.specs.Model.{Apdu}
 use Rattle.card_layout.specs.Persistent.{File, Persistent}
 use Rattle.card_layout.specs.Changing.{bytes_put}

@@ -3,8 +3,8 @@ use Rattle.std.proofs.Common.{get_or, ◌≡◌, ℕ, ◌≤◌, List, [], ◌�
 use Rattle.std.specs.Prelude.{◌⊎◌, ◌==◌, if◌then◌else◌, Contains}
 use Rattle.std.proofs.lemmas.Bool.{cases_eq, eq-eqb, ne_eqb, cond-true, cond-false}
 use Rattle.std.proofs.lemmas.List.Elements.{All-nil, All-cons, All-map, All-contains_itself}
-use Rattle.uicc_types.specs.declared.answers.StatusWord.{StatusWord}
-use Rattle.uicc_types.specs.declared.answers.TheConstants.StatusWord.{DONE, END_OF_FILE, FILE_DEACTIVATED}
+use Rattle.card_layout.specs.uicc_types.declared.answers.StatusWord.{StatusWord}
+use Rattle.card_layout.specs.uicc_types.declared.answers.TheConstants.StatusWord.{DONE, END_OF_FILE, FILE_DEACTIVATED}
 use Rattle.card_layout.specs.Kinds.{activated, deactivated}
 use Rattle.card_layout.specs.Persistent.{File, Persistent}
 use Rattle.card_layout.specs.Changing.{with_file_changed}

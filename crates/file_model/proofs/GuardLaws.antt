@@ -4,12 +4,12 @@ use Rattle.std.specs.Prelude.{◌⊎◌, ◌==◌, if◌then◌else◌, MatchRes
 use Rattle.std.specs.Str.{bytes_eq}
 use Rattle.std.proofs.lemmas.Bool.{eqb-true, cases_eq, eq-eqb, ne_eqb, cond-true, cond-false, eqb-false}
 use Rattle.std.proofs.lemmas.Option.{same_Some}
-use Rattle.general_laws.specs.Choices.{mapped_Some}
-use Rattle.general_laws.specs.Finding.{find-map, find_alike, find_Some}
-use Rattle.uicc_types.specs.declared.answers.StatusWord.{StatusWord}
-use Rattle.uicc_types.specs.declared.answers.TheConstants.StatusWord.{DONE}
+use Rattle.card_layout.specs.uicc_types.Choices.{mapped_Some}
+use Rattle.card_layout.specs.uicc_types.Finding.{find-map, find_alike, find_Some}
+use Rattle.card_layout.specs.uicc_types.declared.answers.StatusWord.{StatusWord}
+use Rattle.card_layout.specs.uicc_types.declared.answers.TheConstants.StatusWord.{DONE}
 use Rattle.apdu_form.specs.Model.{Apdu}
-use Rattle.access_rules.specs.declared.rules.Verified.{Verified}
+use Rattle.file_model.specs.declared.rules.Verified.{Verified}
 use Rattle.card_layout.specs.Persistent.{Pin}
 use Rattle.file_model.specs.Outcomes.{PinOutcome, has_no_data}
 use Rattle.file_model.specs.Pins.{pin_found, with_pin, marked, tries_left, pin_addressed, presented, pin_presented, unblock_presented, told, value_presented, new_value, pin_verified, pin_changed, pin_disabled, pin_enabled, pin_unblocked}
@@ -150,7 +150,7 @@ some_tries n none = some_number n (eqb-false n 0 none)
     some_number zero other = absurd (other refl)
     some_number (suc n) other = omega arith
 
-either_result : {X : Type 0} (P : X → Type 0) (R : StatusWord → Type 0) (b : Bool) (x y : Result X StatusWord) → MatchResult x P R → MatchResult y P R → MatchResult (if b then x else y) P R
+pub either_result : {X : Type 0} (P : X → Type 0) (R : StatusWord → Type 0) (b : Bool) (x y : Result X StatusWord) → MatchResult x P R → MatchResult y P R → MatchResult (if b then x else y) P R
 either_result P R true x y first second = first
 either_result P R false x y first second = second
 

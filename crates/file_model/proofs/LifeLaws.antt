@@ -2,10 +2,10 @@
 use Rattle.std.proofs.Common.{◌≡◌, ℕ, Bool, true, false, [], ◌∷◌, None, refl, subst, inl, inr, arith}
 use Rattle.std.specs.Prelude.{◌⊎◌, ◌==◌, if◌then◌else◌, Contains, MatchResult}
 use Rattle.std.proofs.lemmas.List.Elements.{All-contains}
-use Rattle.uicc_types.specs.declared.answers.TheConstants.StatusWord.{DONE}
+use Rattle.card_layout.specs.uicc_types.declared.answers.TheConstants.StatusWord.{DONE}
 use Rattle.apdu_form.specs.Model.{Apdu}
-use Rattle.access_rules.specs.declared.rules.Op.{Op}
-use Rattle.access_rules.specs.declared.rules.Op.TheVariants.{Deactivate, Activate}
+use Rattle.file_model.specs.declared.rules.Op.{Op}
+use Rattle.file_model.specs.declared.rules.Op.TheVariants.{Deactivate, Activate}
 use Rattle.card_layout.specs.Kinds.{activated, deactivated}
 use Rattle.card_layout.specs.Persistent.{File, Persistent}
 use Rattle.card_layout.specs.Changing.{with_life}

@@ -4,19 +4,19 @@ use Rattle.std.specs.Prelude.{◌⊎◌, ◌==◌, if◌then◌else◌, Contains
 use Rattle.std.specs.Str.{bytes_eq}
 use Rattle.std.proofs.lemmas.Bool.{eqb-true}
 use Rattle.std.proofs.lemmas.List.Elements.{All-nil, All-cons, All-map, All-contains}
-use Rattle.general_laws.specs.Finding.{find_Some}
-use Rattle.general_laws.specs.Pairs.{pairs_map}
-use Rattle.uicc_types.specs.declared.answers.StatusWord.{StatusWord}
-use Rattle.uicc_types.specs.declared.answers.TheConstants.StatusWord.{DONE}
+use Rattle.card_layout.specs.uicc_types.Finding.{find_Some}
+use Rattle.card_layout.specs.uicc_types.Pairs.{pairs_map}
+use Rattle.card_layout.specs.uicc_types.declared.answers.StatusWord.{StatusWord}
+use Rattle.card_layout.specs.uicc_types.declared.answers.TheConstants.StatusWord.{DONE}
 use Rattle.apdu_form.specs.Model.{Apdu}
-use Rattle.access_rules.specs.declared.rules.Verified.{Verified}
+use Rattle.file_model.specs.declared.rules.Verified.{Verified}
 use Rattle.card_layout.specs.Persistent.{Pin, Persistent}
 use Rattle.card_layout.specs.Soundness.{IsSoundPin, slot_of_key, IsSound}
 use Rattle.file_model.specs.Outcomes.{PinOutcome, has_no_data}
 use Rattle.file_model.specs.Pins.{pin_found, with_pin, marked, pin_addressed, presented, pin_presented, unblock_presented, told, value_presented, new_value, pin_verified, pin_changed, pin_disabled, pin_enabled, pin_unblocked}
 use Rattle.file_model.specs.Laws.{ChangesTriesAlone, TellsTries, IsLawfulPinOutcome, pin_refusals, IsLawfulPinCommand}
 use Rattle.file_model.specs.Chained.{unless_so, given_so}
-use Rattle.file_model.proofs.GuardLaws.{put_key}
+use Rattle.file_model.proofs.GuardLaws.{put_key, either_result}
 
 -- ---- one PIN is another
 
@@ -125,10 +125,6 @@ module _ (state : Persistent) (sound : IsSound state) (verified : Verified) (key
 found_so : (pins : List Pin) (key : ℕ) (pin : Pin) → pin_found pins key ≡ Some pin → Contains pins pin × (pin.key ≡ key)
 unfolding pin_found
 found_so pins key pin is = let found = find_Some (λ (p : Pin). p.key == key) pins pin is in (found.0, eqb-true pin.key key found.1)
-
-either_result : {X : Type 0} (P : X → Type 0) (R : StatusWord → Type 0) (b : Bool) (x y : Result X StatusWord) → MatchResult x P R → MatchResult y P R → MatchResult (if b then x else y) P R
-either_result P R true x y first second = first
-either_result P R false x y first second = second
 
 -- P1, the length, the key, and then what is done with the PIN
 pin_tests_so : (state : Persistent) (verified : Verified) (apdu : Apdu) (is_length is_key : Bool) (next : Pin → Result PinOutcome StatusWord)

@@ -7,10 +7,10 @@ use Rattle.std.proofs.lemmas.List.{length-reverse, get_or-reverse, get_or_past}
 use Rattle.std.proofs.lemmas.List.FromFn.{length-range_with_len, get_or-range_with_len}
 use Rattle.std.proofs.lemmas.List.Sums.{length-filter, count_by-le-length}
 use Rattle.std.proofs.lemmas.List.Elements.{All-contains, All-filter, All-head}
-use Rattle.general_laws.specs.Finding.{numbered_found}
-use Rattle.general_laws.specs.Optional.{if_some_at}
-use Rattle.general_laws.specs.Choices.{low_chosen}
-use Rattle.uicc_types.specs.declared.answers.TheConstants.StatusWord.{DONE, END_OF_FILE}
+use Rattle.card_layout.specs.uicc_types.Finding.{numbered_found}
+use Rattle.card_layout.specs.uicc_types.Optional.{if_some_at}
+use Rattle.card_layout.specs.uicc_types.Choices.{low_chosen}
+use Rattle.card_layout.specs.uicc_types.declared.answers.TheConstants.StatusWord.{DONE, END_OF_FILE}
 use Rattle.apdu_form.specs.Model.{Apdu}
 use Rattle.card_layout.specs.Kinds.{has_records, is_ef_kind, cyclic_kind}
 use Rattle.card_layout.specs.Persistent.{Contents, Files, Bytes, Records, File, Persistent}

@@ -5,13 +5,13 @@ use Rattle.std.specs.List.{flat_map}
 use Rattle.std.specs.Int.{to_be_bytes, w16}
 use Rattle.std.proofs.lemmas.Bool.{eq-eqb, ne_eqb, cond-true, cond-false}
 use Rattle.std.proofs.lemmas.List.Elements.{All-map, All-contains, All-append, All-filter, All-contains_itself}
-use Rattle.general_laws.specs.Finding.{find_Some}
-use Rattle.general_laws.specs.Pairs.{pairs_head, pairs_tail}
-use Rattle.general_laws.specs.Choices.{low_chosen}
-use Rattle.uicc_types.specs.declared.answers.TheConstants.StatusWord.{DONE, FILE_DEACTIVATED}
-use Rattle.uicc_types.specs.declared.identifiers.FileId.{FileId}
+use Rattle.card_layout.specs.uicc_types.Finding.{find_Some}
+use Rattle.card_layout.specs.uicc_types.Pairs.{pairs_head, pairs_tail}
+use Rattle.card_layout.specs.uicc_types.Choices.{low_chosen}
+use Rattle.card_layout.specs.uicc_types.declared.answers.TheConstants.StatusWord.{DONE, FILE_DEACTIVATED}
+use Rattle.card_layout.specs.uicc_types.declared.identifiers.FileId.{FileId}
 use Rattle.apdu_form.specs.Model.{Apdu}
-use Rattle.access_rules.specs.Objects.{object, length_bytes}
+use Rattle.file_model.specs.Objects.{object, length_bytes}
 use Rattle.card_layout.specs.Kinds.{df_kind, has_records}
 use Rattle.card_layout.specs.Persistent.{File, Pin, Persistent}
 use Rattle.card_layout.specs.Soundness.{IsDf, IsEf, IsInTree, IsSoundFile, slot_of_key, IsSound}

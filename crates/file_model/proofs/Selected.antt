@@ -3,10 +3,10 @@ use Rattle.std.proofs.Common.{◌≡◌, ℕ, ◌≤◌, Bool, true, false, cond
 use Rattle.std.specs.Prelude.{◌==◌, ◌&&◌, not, if◌then◌else◌, IsTrue, find, Contains, IsSomeAnd, IfSome, MatchResult, option_map, option_and_then}
 use Rattle.std.proofs.lemmas.Bool.{cases_eq, eq-eqb, ne_eqb, cond-true, cond-false, and_parts}
 use Rattle.std.proofs.lemmas.Option.{IfSome_then}
-use Rattle.general_laws.specs.Choices.{mapped_Some}
-use Rattle.general_laws.specs.Finding.{find-map, find_alike, find_Some, numbered_found}
-use Rattle.general_laws.specs.Optional.{if_some_at}
-use Rattle.uicc_types.specs.declared.answers.TheConstants.StatusWord.{NO_CURRENT_FILE, FILE_NOT_FOUND}
+use Rattle.card_layout.specs.uicc_types.Choices.{mapped_Some}
+use Rattle.card_layout.specs.uicc_types.Finding.{find-map, find_alike, find_Some, numbered_found}
+use Rattle.card_layout.specs.uicc_types.Optional.{if_some_at}
+use Rattle.card_layout.specs.uicc_types.declared.answers.TheConstants.StatusWord.{NO_CURRENT_FILE, FILE_NOT_FOUND}
 use Rattle.card_layout.specs.Kinds.{df_kind, is_ef_kind}
 use Rattle.card_layout.specs.Persistent.{File, Persistent}
 use Rattle.card_layout.specs.Changing.{with_file_changed}

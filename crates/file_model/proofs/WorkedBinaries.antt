@@ -2,8 +2,8 @@
 use Rattle.std.proofs.Common.{◌≡◌, [], ◌∷◌, Some, None, refl}
 use Rattle.file_model.specs.Chains.{refused_if, given, and_given}
 use Rattle.file_model.specs.Files.{descriptor_in, descriptors_in, file_found}
-use Rattle.uicc_types.specs.Patches.{patched}
-use Rattle.access_rules.specs.Reading.{length_in, part_of, part_in, key_truth, part_truth, condition_in, group_truth, mode_of, named_truth, pair_in, pairs_truth, grants}
+use Rattle.card_layout.specs.uicc_types.Patches.{patched}
+use Rattle.file_model.specs.Reading.{length_in, part_of, part_in, key_truth, part_truth, condition_in, group_truth, mode_of, named_truth, pair_in, pairs_truth, grants}
 use Rattle.card_layout.specs.Changing.{with_file_changed}
 use Rattle.file_model.specs.declared.selections.TheConstants.Selection.{AT_START}
 use Rattle.file_model.specs.Holdings.{held_by}

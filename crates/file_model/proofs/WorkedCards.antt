@@ -1,9 +1,9 @@
 -- The cards of the worked examples, and commands to them.
 use Rattle.std.proofs.Common.{ℕ, ◌+◌, ◌*◌, true, false, List, [], ◌∷◌, replicate, Option, Some, None, Ok, Err}
 use Rattle.std.specs.Prelude.{Result}
-use Rattle.uicc_types.specs.declared.answers.StatusWord.{StatusWord}
+use Rattle.card_layout.specs.uicc_types.declared.answers.StatusWord.{StatusWord}
 use Rattle.apdu_form.specs.Model.{Apdu}
-use Rattle.access_rules.specs.declared.rules.Verified.{Verified}
+use Rattle.file_model.specs.declared.rules.Verified.{Verified}
 use Rattle.card_layout.specs.Persistent.{Files, Bytes, Records, File, Pin, Persistent}
 use Rattle.card_layout.specs.Soundness.{mf}
 use Rattle.file_model.specs.declared.selections.Selection.{Selection}

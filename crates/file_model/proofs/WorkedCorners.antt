@@ -2,7 +2,7 @@
 -- ring, and numbers that are too wide.
 use Rattle.std.proofs.Common.{◌≡◌, ℕ, false, [], ◌∷◌, replicate, Option, Some, None, refl}
 use Rattle.std.specs.Prelude.{option_map}
-use Rattle.access_rules.specs.Objects.{object}
+use Rattle.file_model.specs.Objects.{object}
 use Rattle.card_layout.specs.Persistent.{Files, File, Persistent}
 use Rattle.card_layout.specs.Soundness.{mf}
 use Rattle.file_model.specs.declared.descriptors.Descriptor.{Descriptor}

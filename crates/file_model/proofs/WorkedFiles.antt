@@ -1,7 +1,7 @@
 -- How files are found and who may use them, worked out.
 use Rattle.std.proofs.Common.{◌≡◌, ℕ, true, false, [], ◌∷◌, Some, None, refl}
-use Rattle.access_rules.specs.Reading.{length_in, part_of, part_in, part_truth, condition_in, group_truth, mode_of, named_truth, pair_in, pairs_truth, truth_of_nothing, grants}
-use Rattle.access_rules.specs.declared.rules.Op.TheVariants.{ReadBinary, UpdateBinary}
+use Rattle.file_model.specs.Reading.{length_in, part_of, part_in, part_truth, condition_in, group_truth, mode_of, named_truth, pair_in, pairs_truth, truth_of_nothing, grants}
+use Rattle.file_model.specs.declared.rules.Op.TheVariants.{ReadBinary, UpdateBinary}
 use Rattle.card_layout.specs.Blank.{unused_node}
 use Rattle.card_layout.specs.Persistent.{Files, Bytes, Records, File, Persistent}
 use Rattle.card_layout.specs.declared.entries.Node.{Node}

@@ -2,7 +2,7 @@
 use Rattle.std.proofs.Common.{◌≡◌, [], ◌∷◌, Some, None, refl}
 use Rattle.file_model.specs.Chains.{refused_if, given, and_given}
 use Rattle.file_model.specs.Files.{descriptor_in, descriptors_in, file_found}
-use Rattle.access_rules.specs.Objects.{object}
+use Rattle.file_model.specs.Objects.{object}
 use Rattle.file_model.specs.declared.selections.TheConstants.Selection.{AT_START}
 use Rattle.file_model.specs.Selections.{selection_of, chosen_by_identifier, chosen_by_path, chosen}
 use Rattle.file_model.specs.Fcp.{fcp}

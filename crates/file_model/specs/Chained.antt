@@ -1,7 +1,7 @@
 -- What comes of a chain of tests: each refusal is one of the known ones, and what stands behind all tests is as it should be.
 use Rattle.std.proofs.Common.{◌≡◌, Bool, true, false, Option, Some, None, Result, Ok, Err, refl}
 use Rattle.std.specs.Prelude.{MatchResult}
-use Rattle.uicc_types.specs.declared.answers.StatusWord.{StatusWord}
+use Rattle.card_layout.specs.uicc_types.declared.answers.StatusWord.{StatusWord}
 use Rattle.file_model.specs.Chains.{refused_if, given, and_given}
 
 pub unless_so : {X : Type 0} (P : X → Type 0) (R : StatusWord → Type 0) (bad : Bool) (status : StatusWord) (next : Result X StatusWord)

@@ -2,7 +2,7 @@
 use Rattle.std.specs.Prelude.{ℕ, ◌+◌, ◌*◌, ◌/◌, ◌==◌, if◌then◌else◌, List, [], ◌∷◌, ◌++◌, Option, Some, None}
 use Rattle.std.specs.List.{flat_map}
 use Rattle.std.specs.Int.{to_be_bytes, w16}
-use Rattle.access_rules.specs.Objects.{object}
+use Rattle.file_model.specs.Objects.{object}
 use Rattle.card_layout.specs.Kinds.{has_records}
 use Rattle.card_layout.specs.Persistent.{Pin}
 use Rattle.file_model.specs.declared.descriptors.Descriptor.{Descriptor}

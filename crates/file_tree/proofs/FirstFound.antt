@@ -5,15 +5,15 @@ use Rattle.std.specs.List.{enumerate_from}
 use Rattle.std.proofs.lemmas.Bool.{cases_eq, cond-true, eqb-true, ne_eqb}
 use Rattle.std.proofs.lemmas.Option.{slice_get-get_or}
 use Rattle.std.proofs.lemmas.List.FromFn.{get_or-enumerate_from, length-enumerate_from}
-use Rattle.card_layout.specs.declared.entries.Node.{Node}
-use Rattle.card_layout.specs.declared.entries.Loaded.{Loaded}
-use Rattle.card_layout.specs.Kinds.{df_kind, is_ef_kind}
-use Rattle.card_layout.specs.Blank.{unused_node}
-use Rattle.card_layout.specs.Used.{HasNode}
+use Rattle.file_model.specs.card_layout.declared.entries.Node.{Node}
+use Rattle.file_model.specs.card_layout.declared.entries.Loaded.{Loaded}
+use Rattle.file_model.specs.card_layout.Kinds.{df_kind, is_ef_kind}
+use Rattle.file_model.specs.card_layout.Blank.{unused_node}
+use Rattle.file_model.specs.card_layout.Used.{HasNode}
 use Rattle.file_model.specs.declared.descriptors.Descriptor.{Descriptor}
 use Rattle.file_model.specs.declared.descriptors.Wanted.{Wanted}
 use Rattle.file_model.specs.declared.descriptors.Wanted.TheVariants.{Number, Named, Child, ChildDf, Short}
-use Rattle.uicc_types.specs.declared.identifiers.FileId.{FileId}
+use Rattle.file_model.specs.uicc_types.declared.identifiers.FileId.{FileId}
 use Rattle.file_model.specs.Selections.{chosen_by_identifier, parent_of}
 use Rattle.file_model.specs.Files.{df_descriptor, ef_descriptor, descriptor_of, descriptor_if, descriptors_of, is_df, is_ef, is_wanted, lies_in, file_found}
 use Rattle.file_model.specs.Laws.{FindsAmongEntries, FindsInFiveSearches, NumbersAreEntries}

@@ -3,10 +3,10 @@ use Rattle.std.proofs.Common.{get_or, ◌≡◌, ℕ, Bool, true, false, ◌<◌
 use Rattle.std.specs.Prelude.{◌==◌, ◌&&◌, not, Contains, AllPairs, IsTrue, option_map, IsSomeAnd}
 use Rattle.std.proofs.lemmas.Bool.{eq-eqb, ne_eqb}
 use Rattle.std.proofs.lemmas.List.Elements.{All-map, All-contains_itself}
-use Rattle.general_laws.specs.Finding.{numbered_found, find-map}
-use Rattle.card_layout.specs.Kinds.{df_kind, is_ef_kind}
-use Rattle.card_layout.specs.Persistent.{File, Persistent}
-use Rattle.card_layout.specs.Soundness.{IsDf, IsEf, IsInTree, IsSoundFile, IsSound}
+use Rattle.file_model.specs.uicc_types.Finding.{numbered_found, find-map}
+use Rattle.file_model.specs.card_layout.Kinds.{df_kind, is_ef_kind}
+use Rattle.file_model.specs.card_layout.Persistent.{File, Persistent}
+use Rattle.file_model.specs.card_layout.Soundness.{IsDf, IsEf, IsInTree, IsSoundFile, IsSound}
 use Rattle.file_model.specs.declared.descriptors.Descriptor.{Descriptor}
 use Rattle.file_model.specs.declared.descriptors.Wanted.TheVariants.{Number}
 use Rattle.file_model.specs.Files.{descriptor_in, descriptors_in, is_df, is_ef, lies_in, file_found}

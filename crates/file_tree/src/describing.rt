@@ -1,11 +1,11 @@
 //! What the entry of a file tells of it.
 ghost use Rattle.std.specs.Prelude.{◌≡◌, ◌==◌, ◌/◌, if◌then◌else◌, IsTrue};
-ghost use Rattle.card_layout.specs.Kinds.{has_records};
-ghost use Rattle.layout_soundness.specs.Holding.{HasFullRecords};
+ghost use Rattle.file_model.specs.card_layout.Kinds.{has_records};
+ghost use Rattle.layout_standing.specs.Holding.{HasFullRecords};
 ghost use Rattle.file_model.specs.Files.{descriptor_of, reference_of};
 
-use card_layout::Node;
-use card_layout::kinds::{self, ACTIVATED, DF};
+use file_model::card_layout::Node;
+use file_model::card_layout::kinds::{self, ACTIVATED, DF};
 use file_model::{Descriptor, RuleReference};
 
 fn reference_of(node: &Node) -> Option<RuleReference>

@@ -3,8 +3,8 @@ use Rattle.std.proofs.Common.{◌≡◌, ℕ, ◌<◌, ◌≤◌, List, [], ◌�
 use Rattle.std.specs.Prelude.{◌||◌, ◌==◌, if◌then◌else◌, Result, Ok, Err, ◌≢◌}
 use Rattle.std.proofs.Math.Path.{subst}
 use Rattle.std.proofs.lemmas.Grind.{common_steps}
-use Rattle.uicc_types.specs.declared.answers.Answer.{Answer}
-use Rattle.uicc_types.specs.declared.answers.TheConstants.StatusWord.{TOOLKIT_BUSY}
+use Rattle.script_form.specs.uicc_types.declared.answers.Answer.{Answer}
+use Rattle.script_form.specs.uicc_types.declared.answers.TheConstants.StatusWord.{TOOLKIT_BUSY}
 use Rattle.script_form.specs.declared.handset.Note.{Note}
 use Rattle.script_form.specs.declared.handset.Note.TheVariants.{Text, Ask, Choose, Menu, Tone, Idle, Call, Barred, Busy}
 use Rattle.toolkit_commands.specs.Reading.{proactive_of, details_found}

@@ -4,7 +4,7 @@ use Rattle.std.specs.Prelude.{reverse}
 use Rattle.std.proofs.lemmas.List.{reverse-reverse}
 use mathlib.Core.List.{reverse_aux}
 use Rattle.std.proofs.Math.Path.{subst}
-use Rattle.uicc_types.specs.declared.runs.TraceItem.TheVariants as item
+use Rattle.script_form.specs.uicc_types.declared.runs.TraceItem.TheVariants as item
 use Rattle.script_form.specs.declared.handset.HandsetLine.{HandsetLine}
 use Rattle.handset_model.specs.History.{Happened, Said, Sent, Answered, Noted, Restarted, PowerCut, FoundOff}
 use Rattle.handset_model.specs.Rules.{asked}

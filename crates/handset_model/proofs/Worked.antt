@@ -1,10 +1,10 @@
 -- Days of a handset, worked out: what its trace shows for lines of a script and the answers of a card.
 use Rattle.std.proofs.Common.{◌≡◌, ℕ, List, [], ◌∷◌, refl}
 use Rattle.std.specs.Prelude.{zero, suc, codes, reverse}
-use Rattle.comprehension_tlv.specs.Reading as Reading
-use Rattle.comprehension_tlv.specs.Writing.{tagged}
+use Rattle.toolkit_commands.specs.comprehension_tlv.Reading as Reading
+use Rattle.toolkit_commands.specs.comprehension_tlv.Writing.{tagged}
 use Rattle.toolkit_commands.specs.Reading.{proactive_of, list_of, command_among, details_found}
-use Rattle.uicc_types.specs.declared.runs.TraceItem.TheVariants as item
+use Rattle.script_form.specs.uicc_types.declared.runs.TraceItem.TheVariants as item
 use Rattle.script_form.specs.declared.handset.HandsetLine.{HandsetLine}
 use Rattle.script_form.specs.declared.handset.HandsetLine.TheVariants as line
 use Rattle.script_form.specs.declared.handset.Note.TheVariants as note

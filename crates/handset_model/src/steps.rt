@@ -1,7 +1,7 @@
 //! What a handset asks of who runs it.
 
 use script_form::Note;
-use uicc_types::ApduBytes;
+use script_form::uicc_types::ApduBytes;
 
 /// One thing to do for the handset.
 #[derive(Debug, Drop)]

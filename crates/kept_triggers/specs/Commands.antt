@@ -8,7 +8,7 @@ use Rattle.toolkit_commands.specs.declared.faults.ProactiveFault.{ProactiveFault
 use Rattle.toolkit_commands.specs.Table.{spelled, IsProper, details_of}
 use Rattle.toolkit_commands.specs.Reading.{proactive_of}
 use Rattle.toolkit_model.specs.Sessions.{Sent}
-use Rattle.uicc_types.specs.declared.identifiers.Shelf.{Shelf}
+use Rattle.toolkit_commands.specs.uicc_types.declared.identifiers.Shelf.{Shelf}
 
 -- the command that was read; more time, which asks for nothing, where none was
 abbrev pub read_command : Result (Details × Proactive) ProactiveFault → Proactive

@@ -4,7 +4,7 @@ use Rattle.std.proofs.lemmas.List.{drop-take, take-take, take_all, take-append-l
 use Rattle.std.proofs.lemmas.List.Elements.{All-append, All-replicate}
 use Rattle.std.proofs.Math.Seq.{drop-append-add}
 use Rattle.std.specs.Prelude.{◌<◌, ◌^◌, slice_range, IfSome, Option, Some, None}
-use Rattle.uicc_types.specs.Told.{AreBytes}
+use Rattle.card_layout.specs.uicc_types.Told.{AreBytes}
 use Rattle.card_layout.specs.Places.{memory_size}
 use Rattle.card_layout.specs.Decoding.{bytes_at, number_at}
 use Rattle.std.specs.Int.{w16, from_be_bytes}

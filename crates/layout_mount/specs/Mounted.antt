@@ -1,9 +1,9 @@
 -- What a mount reads of a store, and what its table is then.
 use Rattle.std.specs.Prelude.{◌≡◌, ℕ, true, List, length, Option, IfSome, Err}
 use Rattle.std.proofs.Common.{sym, subst, None, Some}
-use Rattle.uicc_types.specs.Counts.{Caused}
-use Rattle.uicc_types.specs.Told.{AreBytes}
-use Rattle.store_form.specs.declared.store.Store.{Ghosts as StoreWords}
+use Rattle.card_layout.specs.uicc_types.Counts.{Caused}
+use Rattle.card_layout.specs.uicc_types.Told.{AreBytes}
+use Rattle.card_layout.specs.store_form.declared.store.Store.{Ghosts as StoreWords}
 use Rattle.card_layout.specs.declared.entries.Loaded.{Loaded}
 use Rattle.card_layout.specs.Blank.{empty_table}
 use Rattle.card_layout.specs.Memory.{Memory, memory}

@@ -1,6 +1,6 @@
 //! The bytes of a memory in which a card's entries stand.
 ghost use Rattle.std.specs.Prelude.{◌≡◌, ◌<◌, ◌≤◌, ◌+◌, length, slice_index, true, false, Err, OnOk, IfOk, IsErrOf};
-ghost use Rattle.uicc_types.specs.Told.{AreBytes};
+ghost use Rattle.card_layout.specs.uicc_types.Told.{AreBytes};
 ghost use Rattle.card_layout.specs.Places.{memory_size, sequence_place};
 ghost use Rattle.card_layout.specs.Decoding.{number_at, node_bytes, pin_bytes, row_bytes, kept_bytes};
 ghost use Rattle.layout_mount.specs.Images.{IsImage};
@@ -12,9 +12,9 @@ use card_layout::sizes::{
     KEPT_WIDTH, LOWER_ROW_COUNT, NODE_COUNT, NODE_WIDTH, PIN_COUNT, PIN_WIDTH, ROW_COUNT,
     ROW_STRIDE, ROW_WIDTH,
 };
+use card_layout::store_form::{Store, StoreFault};
+use card_layout::uicc_types::Shelf;
 use std::marker::Model;
-use store_form::{Store, StoreFault};
-use uicc_types::Shelf;
 
 // How many bytes there are from the PIN slots to the files, and from the upper rows on.
 const TABLE_LENGTH: usize = DATA - PINS as usize;

@@ -20,7 +20,7 @@ use Rattle.layout_section.specs.Adding.{file_numbered, filled, with_record, Rewr
 use Rattle.layout_section.specs.Filing.{files_in, size_total, HasRecords, IsEfBehind, AreFilesOf}
 use Rattle.layout_section.proofs.Filed.{held, file_there, rewritten, others_held}
 use Rattle.card_layout.specs.RecordLaws.{length-records_of, record_there, record_written}
-use Rattle.general_laws.specs.Ranges.{length-range, one_behind}
+use Rattle.uicc_types.specs.Ranges.{length-range, one_behind}
 
 -- ---- what a file holds, by its kind
 

@@ -4,10 +4,10 @@ use Rattle.std.proofs.Common.{refl, sym, ◌∙◌, ap, subst, inl, inr, ⊎_eli
 use Rattle.std.proofs.lemmas.Bool.{cases_Bool, eqb-true, ne_eqb, not_from_false, false≢true}
 use Rattle.std.proofs.lemmas.List.{length-take, length-drop, length-append}
 use Rattle.std.proofs.lemmas.List.Elements.{All-contains}
-use Rattle.general_laws.specs.Numbered.{mapped_too}
-use Rattle.uicc_types.specs.Patches.{patched}
+use Rattle.card_layout.specs.uicc_types.Numbered.{mapped_too}
+use Rattle.card_layout.specs.uicc_types.Patches.{patched}
 use Rattle.std.proofs.lemmas.Option.{get_or_from_slice_get, slice_get_within}
-use Rattle.general_laws.specs.Members.{in_rest, of_filtered}
+use Rattle.card_layout.specs.uicc_types.Members.{in_rest, of_filtered}
 use Rattle.card_layout.specs.Codes.{codes_known}
 use Rattle.card_layout.specs.Standing.{state_in, Stands}
 use Rattle.card_layout.specs.declared.entries.Node.{Node}
@@ -23,19 +23,19 @@ use Rattle.card_layout.specs.States.{contents_of, file_of, ef_file, pin_state, r
 use Rattle.card_layout.specs.Soundness.{IsEf, AreDistinct, AreDifferent, IsSoundRow, IsSound}
 use Rattle.card_layout.specs.Ranges.{HasRowRanges}
 use Rattle.card_layout.specs.Fields.{merged_node, merged_row, kept_anew}
-use Rattle.store_form.specs.Pieces.{Piece}
+use Rattle.card_layout.specs.store_form.Pieces.{Piece}
 use Rattle.card_layout.specs.Sections.{sorted_codes}
 use Rattle.card_layout.specs.Events.{SetsBit, ClearsBit, SettingAddsCode, ClearingRemovesCode}
 use Rattle.card_layout.specs.Laws.{after, KeepsBytesBeside, ChangesBytesAround, ChangesOneNode, RowsAreReadBack}
-use Rattle.layout_soundness.specs.Laws.{StandingIsSound, SoundStands}
-use Rattle.layout_changes.specs.Cards.{HasNode, HasPin, HasRow, file_if, registration_if}
+use Rattle.layout_standing.specs.SoundnessLaws.{StandingIsSound, SoundStands}
+use Rattle.layout_standing.specs.Cards.{HasNode, HasPin, HasRow, file_if, registration_if}
 use Rattle.card_layout.specs.Changing.{with_file_at, with_row_on, with_file_changed, with_life, with_row_changed, with_codes, with_code_committed, without_code_committed, with_kept_committed}
 use Rattle.card_layout.specs.SortedCodes.{of_sorted}
-use Rattle.layout_changes.specs.Bare.{bare_node, bare_node_ranges, bare_node_flag, bare_node_life, bare_row, bare_row_ranges, bare_row_flag, bare_row_events}
-use Rattle.layout_changes.specs.Changes.{with_node, with_row}
-use Rattle.layout_changes.specs.Laws.{ChangesFile, ChangesRow, ChangesKeptBytes, ChangesBytesApart}
-use Rattle.layout_changes.specs.Numbered.{is_shown}
-use Rattle.layout_standing.specs.Laws.{NoOtherHasCallControl}
+use Rattle.layout_standing.specs.Bare.{bare_node, bare_node_ranges, bare_node_flag, bare_node_life, bare_row, bare_row_ranges, bare_row_flag, bare_row_events}
+use Rattle.layout_standing.specs.Changes.{with_node, with_row}
+use Rattle.layout_standing.specs.ChangeLaws.{ChangesFile, ChangesRow, ChangesKeptBytes, ChangesBytesApart}
+use Rattle.layout_standing.specs.Numbered.{is_shown}
+use Rattle.layout_standing.specs.StandingLaws.{NoOtherHasCallControl}
 use Rattle.layout_standing.proofs.Seen.{row_seen, row_flag, row_events}
 use Rattle.layout_standing.proofs.OneFile.{file_there, ef_of}
 use Rattle.layout_standing.proofs.Placed.{contains_filtered, placed_is_changed}

@@ -2,7 +2,7 @@
 use Rattle.std.specs.Prelude.{◌≡◌, ℕ, ◌+◌, ◌-◌, ◌≤◌, List, length, drop, slice_range, slice_index, Ok}
 use Rattle.std.proofs.Common.{sym, ◌∙◌, ap, subst, arith}
 use Rattle.std.proofs.lemmas.List.{length-take}
-use Rattle.uicc_types.specs.Patches.{length-patched}
+use Rattle.card_layout.specs.uicc_types.Patches.{length-patched}
 use Rattle.card_layout.specs.Standing.{state_in, Stands}
 use Rattle.card_layout.specs.declared.entries.Node.{Node}
 use Rattle.card_layout.specs.declared.entries.Loaded.{Loaded}
@@ -12,9 +12,9 @@ use Rattle.card_layout.specs.Decoding.{is_wide, node_bytes, table_of}
 use Rattle.card_layout.specs.Persistent.{Persistent}
 use Rattle.card_layout.specs.Soundness.{IsSound}
 use Rattle.card_layout.specs.Laws.{after}
-use Rattle.layout_soundness.specs.Forms.{HasRightHead, IsWellFormed}
-use Rattle.layout_soundness.specs.Laws.{StandingIsSound, SoundStands}
-use Rattle.layout_changes.specs.Cards.{IsCard, Holds, HasNode}
+use Rattle.layout_standing.specs.Forms.{HasRightHead, IsWellFormed}
+use Rattle.layout_standing.specs.SoundnessLaws.{StandingIsSound, SoundStands}
+use Rattle.layout_standing.specs.Cards.{IsCard, Holds, HasNode}
 use Rattle.layout_standing.specs.Standing.{StandsForNoOther}
 use Rattle.layout_standing.proofs.Seen.{node_seen, node_flag}
 

@@ -3,14 +3,14 @@ use Rattle.std.specs.Prelude.{◌≡◌, ◌⊎◌, ℕ, ◌+◌, ◌≤◌, ◌
 use Rattle.std.proofs.Common.{sym, ◌∙◌, ap, subst, inl, inr, ⊎_elim, lit≤, arith}
 use Rattle.std.proofs.lemmas.Bool.{cases_lt}
 use Rattle.std.proofs.lemmas.Bool.Decides.{nat_tests}
-use Rattle.uicc_types.specs.Patches.{patched, length-patched, patched_before, IsApart}
+use Rattle.card_layout.specs.uicc_types.Patches.{patched, length-patched, patched_before, IsApart}
 use Rattle.card_layout.specs.Places.{memory_size, pin_place, row_place, node_place, row_count, data_place, data_end}
 use Rattle.card_layout.specs.Decoding.{bytes_at, is_wide, node_bytes, pin_bytes, row_bytes}
 use Rattle.card_layout.specs.Checks.{is_version}
 use Rattle.card_layout.specs.Laws.{KeepsBytesBeside}
 use Rattle.card_layout.specs.RowPlaces.{row_below_kept}
 use Rattle.card_layout.specs.RowPlaces.{below_32}
-use Rattle.layout_soundness.specs.Forms.{IsPinForm, IsRowForm, IsNodeForm, IsWellFormed}
+use Rattle.layout_standing.specs.Forms.{IsPinForm, IsRowForm, IsNodeForm, IsWellFormed}
 
 -- ---- places
 

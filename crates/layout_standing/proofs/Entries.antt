@@ -3,7 +3,7 @@ use Rattle.std.specs.Prelude.{◌≡◌, ◌⊎◌, ℕ, ◌+◌, ◌≤◌, ◌
 use Rattle.std.proofs.Common.{refl, sym, ◌∙◌, ap, subst, inl, inr, ⊎_elim, lit≤, arith}
 use Rattle.std.proofs.lemmas.List.{length-drop}
 use Rattle.std.proofs.lemmas.Bool.Decides.{nat_tests}
-use Rattle.store_form.specs.Pieces.{Piece, applied}
+use Rattle.card_layout.specs.store_form.Pieces.{Piece, applied}
 use Rattle.card_layout.specs.Standing.{state_in, Stands}
 use Rattle.card_layout.specs.declared.entries.Node.{Node}
 use Rattle.card_layout.specs.declared.entries.PinSlot.{PinSlot}
@@ -18,13 +18,13 @@ use Rattle.card_layout.specs.Soundness.{IsSound}
 use Rattle.card_layout.specs.Ranges.{HasNodeRanges, HasPinRanges, HasRowRanges}
 use Rattle.card_layout.specs.Fields.{node_fields, row_fields, AreWholeFields, is_among, merged_node, merged_row, kept_anew, reread_node, reread_pin, reread_row, node_there}
 use Rattle.card_layout.specs.Laws.{after, KeepsBytesBeside, ChangesBytesAround, ChangesOneNode, RowsAreReadBack}
-use Rattle.layout_soundness.specs.Forms.{HasRightHead, IsWellFormed}
-use Rattle.layout_soundness.specs.Laws.{StandingIsSound, SoundStands}
-use Rattle.layout_changes.specs.Cards.{Holds, HasOwnKeys, HasNode, HasPin, HasRow, pin_if, LiesAmongFiles, LiesWhere, file_if, registration_if}
+use Rattle.layout_standing.specs.Forms.{HasRightHead, IsWellFormed}
+use Rattle.layout_standing.specs.SoundnessLaws.{StandingIsSound, SoundStands}
+use Rattle.layout_standing.specs.Cards.{Holds, HasOwnKeys, HasNode, HasPin, HasRow, pin_if, LiesAmongFiles, LiesWhere, file_if, registration_if}
 use Rattle.card_layout.specs.Changing.{with_file_at, with_row_on, with_pin_in, with_pin_for}
-use Rattle.layout_changes.specs.Bare.{bare_row, bare_row_ranges, bare_row_kept}
-use Rattle.layout_changes.specs.Changes.{with_node, with_slot, with_row}
-use Rattle.layout_changes.specs.Laws.{ChangesFile, AddsFile, RereadsFile, ChangesPin, AddsPin, RereadsPin, ChangesRow, AddsRow, InstallsRow, RereadsRow, ChangesKeptBytes, ChangesBytesApart, ChangesNextSequence, kept_pieces}
+use Rattle.layout_standing.specs.Bare.{bare_row, bare_row_ranges, bare_row_kept}
+use Rattle.layout_standing.specs.Changes.{with_node, with_slot, with_row}
+use Rattle.layout_standing.specs.ChangeLaws.{ChangesFile, AddsFile, RereadsFile, ChangesPin, AddsPin, RereadsPin, ChangesRow, AddsRow, InstallsRow, RereadsRow, ChangesKeptBytes, ChangesBytesApart, ChangesNextSequence, kept_pieces}
 use Rattle.layout_standing.specs.Standing.{StandsForNoOther}
 use Rattle.layout_standing.specs.Writing.{IsFileChange, IsPinChange, IsRowChange, IsWholeFile, IsWholePin, IsWholeRow}
 use Rattle.card_layout.specs.RowPlaces.{below_32}

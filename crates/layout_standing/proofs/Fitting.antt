@@ -10,7 +10,7 @@ use Rattle.card_layout.specs.Checks.{key_of_slot}
 use Rattle.card_layout.specs.States.{pin_state}
 use Rattle.card_layout.specs.Persistent.{Rule, File, Pin, Registration, Persistent}
 use Rattle.card_layout.specs.Soundness.{IsDf, IsEf, mf, IsInTree, IsSoundFile, AreDistinct, IsSoundPin, slot_of_key, AreEventCodes, IsSoundRow, AreDifferent, IsSound}
-use Rattle.layout_changes.specs.Cards.{pin_if}
+use Rattle.layout_standing.specs.Cards.{pin_if}
 use Rattle.card_layout.specs.Changing.{placed, with_file_at, with_row_on, with_pin_in}
 use Rattle.card_layout.specs.EntryLaws.{key_among, slot_back}
 use Rattle.layout_standing.specs.Fitting.{MayStandBeside, FitsAmong, IsFileAnew, ShareNoCallControl, FitsOnShelf, IsRowAnew}

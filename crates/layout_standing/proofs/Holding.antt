@@ -3,9 +3,9 @@ use Rattle.std.specs.Prelude.{◌≡◌, ◌⊎◌, ℕ, ◌+◌, ◌-◌, ◌*�
 use Rattle.std.proofs.Common.{get_or, refl, sym, ◌∙◌, ap, subst, inl, inr, ⊎_elim, lit≤, arith}
 use Rattle.std.proofs.lemmas.Bool.{cases_lt}
 use Rattle.std.proofs.lemmas.Grind.{same_number_lists}
-use Rattle.general_laws.specs.Ranges.{length-between}
-use Rattle.uicc_types.specs.Patches.{patched, length-patched, patched_before, patched_inside, patched_after, Torn}
-use Rattle.store_form.specs.Pieces.{Piece, applied}
+use Rattle.card_layout.specs.uicc_types.Ranges.{length-between}
+use Rattle.card_layout.specs.uicc_types.Patches.{patched, length-patched, patched_before, patched_inside, patched_after, Torn}
+use Rattle.card_layout.specs.store_form.Pieces.{Piece, applied}
 use Rattle.card_layout.specs.Standing.{state_in, Stands}
 use Rattle.card_layout.specs.declared.entries.Node.{Node}
 use Rattle.card_layout.specs.declared.entries.Loaded.{Loaded}
@@ -21,13 +21,13 @@ use Rattle.card_layout.specs.Changing.{bytes_put, record_put, record_pushed, wit
 use Rattle.card_layout.specs.Fields.{node_fields, AreWholeFields, merged_node, node_there}
 use Rattle.card_layout.specs.Laws.{after, KeepsBytesBeside, ChangesBytesAround, ChangesOneNode, KeepsTable}
 use Rattle.card_layout.specs.RowPlaces.{data_end_inside}
-use Rattle.layout_soundness.specs.Forms.{IsWellFormed}
-use Rattle.layout_soundness.specs.Laws.{StandingIsSound, SoundStands}
-use Rattle.layout_changes.specs.Cards.{IsCard, Holds, HasNode, IsFreeRange}
-use Rattle.layout_changes.specs.Bare.{bare_node, bare_node_ranges, bare_node_head}
-use Rattle.layout_changes.specs.Changes.{with_node}
-use Rattle.layout_changes.specs.Laws.{WritesBytes, WritesRecord, WritesNewestRecord, KeepsState, oldest}
-use Rattle.layout_soundness.specs.Forms.{HasRightHead}
+use Rattle.layout_standing.specs.Forms.{IsWellFormed}
+use Rattle.layout_standing.specs.SoundnessLaws.{StandingIsSound, SoundStands}
+use Rattle.layout_standing.specs.Cards.{IsCard, Holds, HasNode, IsFreeRange}
+use Rattle.layout_standing.specs.Bare.{bare_node, bare_node_ranges, bare_node_head}
+use Rattle.layout_standing.specs.Changes.{with_node}
+use Rattle.layout_standing.specs.ChangeLaws.{WritesBytes, WritesRecord, WritesNewestRecord, KeepsState, oldest}
+use Rattle.layout_standing.specs.Forms.{HasRightHead}
 use Rattle.layout_standing.proofs.Bytes.{get_or-range}
 use Rattle.layout_standing.proofs.Elsewhere.{now_long, formed_data}
 use Rattle.layout_standing.proofs.Seen.{node_seen}

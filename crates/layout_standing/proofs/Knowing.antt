@@ -19,8 +19,8 @@ use Rattle.card_layout.specs.StateLaws.{file_with_number, pin_with_key, row_on_s
 use Rattle.card_layout.specs.Soundness.{IsEf}
 use Rattle.card_layout.specs.Standing.{Stands}
 use Rattle.card_layout.specs.Used.{HasNode, HasPin, HasRow, LiesAmongFiles, file_if, pin_if, registration_if}
-use Rattle.layout_soundness.specs.Holding.{StandingFilesHold, StandingKeysAreOwn}
-use Rattle.layout_soundness.specs.Laws.{StandingIsSound, SoundStands}
+use Rattle.layout_standing.specs.Holding.{StandingFilesHold, StandingKeysAreOwn}
+use Rattle.layout_standing.specs.SoundnessLaws.{StandingIsSound, SoundStands}
 use Rattle.layout_standing.specs.Standing.{IsFileEntry, IsPinEntry, IsRowEntry}
 use Rattle.layout_standing.specs.Known.{FileOfNumber, PinOfKey, RowOfShelf, TextsOfTable, StandingIsOfTable, IsBesideNodes, RangesAreFree}
 use Rattle.layout_standing.proofs.Seen.{node_seen, pin_seen, row_seen}

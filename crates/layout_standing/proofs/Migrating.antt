@@ -7,9 +7,9 @@ use Rattle.std.proofs.lemmas.Bool.Decides.{nat_tests}
 use Rattle.std.proofs.lemmas.List.{length-take, length-drop, take-append-le}
 use Rattle.std.proofs.lemmas.List.Elements.{All-weaker}
 use Rattle.std.proofs.lemmas.List.Sums.{AllPass-from_list_all}
-use Rattle.general_laws.specs.Numbered.{same_numbered, same_mapped}
-use Rattle.general_laws.specs.Ranges.{length-range, get_or-range}
-use Rattle.uicc_types.specs.Patches.{patched, length-patched, patched_before, patched_inside, patched_after, Torn_patched, range-patched_there}
+use Rattle.card_layout.specs.uicc_types.Numbered.{same_numbered, same_mapped}
+use Rattle.card_layout.specs.uicc_types.Ranges.{length-range, get_or-range}
+use Rattle.card_layout.specs.uicc_types.Patches.{patched, length-patched, patched_before, patched_inside, patched_after, Torn_patched, range-patched_there}
 use Rattle.card_layout.specs.declared.entries.Node.{Node}
 use Rattle.card_layout.specs.declared.entries.Row.{Row}
 use Rattle.card_layout.specs.declared.entries.Loaded.{Loaded}
@@ -25,11 +25,11 @@ use Rattle.card_layout.specs.Soundness.{IsEf, IsSoundFile, IsSoundRow, IsSound}
 use Rattle.card_layout.specs.Standing.{state_in, Stands}
 use Rattle.card_layout.specs.Migration.{ends_low, migrated, entry_ends_low, entries_end_low, no_upper_rows, length-no_upper_rows, get_or-no_upper_rows}
 use Rattle.card_layout.specs.Laws.{after, KeepsBytesBeside, ChangesBytesAround, ChangesVersion}
-use Rattle.layout_soundness.specs.Forms.{IsPinForm, IsRowForm, IsNodeForm, IsWellFormed}
-use Rattle.layout_soundness.specs.Laws.{StandingIsSound, SoundStands}
-use Rattle.layout_changes.specs.Cards.{IsCard, HasNode}
-use Rattle.layout_changes.specs.Files.{same_file}
-use Rattle.layout_standing.specs.Laws.{FreeBytesDontCount}
+use Rattle.layout_standing.specs.Forms.{IsPinForm, IsRowForm, IsNodeForm, IsWellFormed}
+use Rattle.layout_standing.specs.SoundnessLaws.{StandingIsSound, SoundStands}
+use Rattle.layout_standing.specs.Cards.{IsCard, HasNode}
+use Rattle.layout_standing.specs.Files.{same_file}
+use Rattle.layout_standing.specs.StandingLaws.{FreeBytesDontCount}
 use Rattle.layout_standing.specs.Migrating.{LowEndsAreSeen, OthersStay, UpperRowsAreFree, WideVersionStands}
 use Rattle.card_layout.specs.RowPlaces.{row_below_kept, data_end_inside, below_32}
 use Rattle.layout_standing.proofs.Elsewhere.{same_mark}

@@ -8,9 +8,9 @@ use Rattle.std.proofs.lemmas.List.Elements.{All-map, All-append, All-take, All-d
 use Rattle.std.proofs.lemmas.List.FromFn.{length-range_with_len, get_or-range_with_len, length-map-range_with_len, length-enumerate_from, get_or-enumerate_from}
 use Rattle.std.proofs.lemmas.Option.{same_Some, slice_get-get_or}
 use Rattle.std.proofs.Math.Nat.{div-mul-le_self}
-use Rattle.general_laws.specs.Numbered.{mapped_too, same_mapped}
-use Rattle.general_laws.specs.Ranges.{one_behind, length-between}
-use Rattle.uicc_types.specs.Patches.{patched, length-patched}
+use Rattle.card_layout.specs.uicc_types.Numbered.{mapped_too, same_mapped}
+use Rattle.card_layout.specs.uicc_types.Ranges.{one_behind, length-between}
+use Rattle.card_layout.specs.uicc_types.Patches.{patched, length-patched}
 use Rattle.card_layout.specs.Standing.{state_in}
 use Rattle.card_layout.specs.declared.entries.Node.{Node}
 use Rattle.card_layout.specs.Kinds.{df_kind, transparent_kind, linear_kind, cyclic_kind}
@@ -21,8 +21,8 @@ use Rattle.card_layout.specs.Soundness.{AreContents, AreRecords, IsSoundFile, Is
 use Rattle.card_layout.specs.States.{file_bytes, record_count, records_of, from_head, contents_of, df_file, ef_file, file_of, used_nodes, files_of, pins_of, rows_of, state_of}
 use Rattle.card_layout.specs.Sections.{refilled, with_contents}
 use Rattle.card_layout.specs.Changing.{with_file_changed}
-use Rattle.layout_changes.specs.Cards.{IsCard, HasNode}
-use Rattle.layout_changes.specs.Numbered.{is_shown}
+use Rattle.layout_standing.specs.Cards.{IsCard, HasNode}
+use Rattle.layout_standing.specs.Numbered.{is_shown}
 use Rattle.card_layout.specs.EntryLaws.{number_of_file}
 use Rattle.card_layout.specs.RowPlaces.{data_end_inside}
 use Rattle.layout_standing.proofs.Refilled.{contents_sound}

@@ -7,8 +7,8 @@ use Rattle.std.proofs.lemmas.Bool.{cases_order, cases_Bool, and_parts, false≢t
 use Rattle.std.proofs.lemmas.Bool.Decides.{nat_tests}
 use Rattle.std.proofs.lemmas.List.{length-take, get_or-set_same}
 use Rattle.std.proofs.lemmas.List.FromFn.{length-map-range_with_len, get_or-map-range_with_len}
-use Rattle.general_laws.specs.Ranges.{length-between}
-use Rattle.uicc_types.specs.Patches.{patched, IsApart}
+use Rattle.card_layout.specs.uicc_types.Ranges.{length-between}
+use Rattle.card_layout.specs.uicc_types.Patches.{patched, IsApart}
 use Rattle.card_layout.specs.declared.entries.Node.{Node}
 use Rattle.card_layout.specs.declared.entries.PinSlot.{PinSlot}
 use Rattle.card_layout.specs.declared.entries.Row.{Row}
@@ -23,9 +23,9 @@ use Rattle.card_layout.specs.Fields.{node_fields, pin_fields, row_fields, is_unc
 use Rattle.card_layout.specs.Laws.{after, KeepsBytesBeside, ChangesBytesAround, ChangesOneNode, RowsAreReadBack}
 use Rattle.card_layout.specs.ReadingBack.{length-node_spelled, length-pin_spelled, length-row_spelled, kept_count}
 use Rattle.card_layout.specs.RowPlaces.{row_below_kept}
-use Rattle.layout_changes.specs.Shown.{shown_node_there}
+use Rattle.layout_standing.specs.Shown.{shown_node_there}
 use Rattle.card_layout.specs.RowPlaces.{below_32}
-use Rattle.layout_soundness.specs.Forms.{HasRightHead, IsPinForm, IsRowForm, IsNodeForm, IsWellFormed}
+use Rattle.layout_standing.specs.Forms.{HasRightHead, IsPinForm, IsRowForm, IsNodeForm, IsWellFormed}
 use Rattle.layout_standing.proofs.Bytes.{one, some, whole}
 use Rattle.layout_standing.proofs.Elsewhere.{row_where, formed_still}
 use Rattle.layout_standing.proofs.Seen.{node_flagged}

@@ -8,9 +8,9 @@ use Rattle.card_layout.specs.Kinds.{linear_kind, cyclic_kind}
 use Rattle.card_layout.specs.Decoding.{bytes_at}
 use Rattle.card_layout.specs.Persistent.{Bytes, Records, File, Persistent}
 use Rattle.card_layout.specs.States.{record_count, contents_of}
-use Rattle.layout_soundness.specs.Laws.{StandingIsSound, SoundStands}
-use Rattle.layout_changes.specs.Cards.{HasNode}
-use Rattle.layout_changes.specs.Laws.{ReadsBytes, ReadsRecord, place_in_ring}
+use Rattle.layout_standing.specs.SoundnessLaws.{StandingIsSound, SoundStands}
+use Rattle.layout_standing.specs.Cards.{HasNode}
+use Rattle.layout_standing.specs.ChangeLaws.{ReadsBytes, ReadsRecord, place_in_ring}
 use Rattle.card_layout.specs.Standing.{Stands}
 use Rattle.layout_standing.specs.Standing.{IsFileNumbered}
 use Rattle.layout_standing.proofs.OneFile.{contents_there, records_count}

@@ -13,7 +13,7 @@ use Rattle.card_layout.specs.States.{state_of}
 use Rattle.card_layout.specs.StateLaws.{file_with_number, pin_with_key, row_on_shelf, IsOfTable, text_count_of}
 use Rattle.card_layout.specs.Standing.{state_in, Stands}
 use Rattle.card_layout.specs.Used.{HasNode, HasPin, HasRow, file_if, pin_if, registration_if}
-use Rattle.layout_changes.specs.Cards.{IsCard, IsFreeRange}
+use Rattle.layout_standing.specs.Cards.{IsCard, IsFreeRange}
 use Rattle.layout_standing.specs.Standing.{IsFileEntry, IsPinEntry, IsRowEntry}
 
 -- its state is that of its entries, and sound
@@ -58,6 +58,12 @@ abbrev pub RowOfShelf : Type 0
 RowOfShelf =
     (store_mark : ℕ) (content : List ℕ) (table : Loaded) (state : Persistent) (shelf : ℕ)
     → Stands store_mark content table state → row_on_shelf state shelf ≡ option_and_then (registration_if shelf) (slice_get table.rows shelf)
+
+-- each file by its number, each PIN by its key and each row by its shelf
+pub record FoundByName : Type 0 where
+  pub numbers : FileOfNumber
+  pub keys : PinOfKey
+  pub shelves : RowOfShelf
 
 -- as many texts as in the table
 abbrev pub TextsOfTable : Type 0

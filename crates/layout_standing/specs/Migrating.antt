@@ -1,7 +1,7 @@
 -- What a card of version 1 of the layout stands for while it is made one of version 2, and afterwards.
 use Rattle.std.specs.Prelude.{◌≡◌, ◌⊎◌, ℕ, true, false, List}
 use Rattle.std.specs.List.{list_all}
-use Rattle.uicc_types.specs.Patches.{patched}
+use Rattle.card_layout.specs.uicc_types.Patches.{patched}
 use Rattle.card_layout.specs.declared.entries.Loaded.{Loaded}
 use Rattle.card_layout.specs.Places.{data_end}
 use Rattle.card_layout.specs.Spelling.{version_part}
@@ -9,7 +9,7 @@ use Rattle.card_layout.specs.Persistent.{Persistent}
 use Rattle.card_layout.specs.Standing.{Stands}
 use Rattle.card_layout.specs.Migration.{ends_low, migrated, entries_end_low, no_upper_rows}
 use Rattle.card_layout.specs.Laws.{after}
-use Rattle.layout_changes.specs.Cards.{IsFreeRange}
+use Rattle.layout_standing.specs.Cards.{IsFreeRange}
 
 -- whether all files end so low is seen from the table
 abbrev pub LowEndsAreSeen : Type 0

@@ -12,9 +12,9 @@ use Rattle.card_layout.specs.StateLaws.{file_with_number, pin_with_key, row_on_s
 use Rattle.card_layout.specs.States.{file_of, pin_state, registration_of}
 use Rattle.card_layout.specs.Soundness.{IsSound}
 use Rattle.card_layout.specs.Standing.{stands_for, Stands}
-use Rattle.layout_soundness.specs.Holding.{HoldsByKind}
-use Rattle.layout_soundness.specs.Forms.{HasRightHead}
-use Rattle.layout_changes.specs.Cards.{LiesAmongFiles}
+use Rattle.layout_standing.specs.Holding.{HoldsByKind}
+use Rattle.layout_standing.specs.Forms.{HasRightHead}
+use Rattle.layout_standing.specs.Cards.{LiesAmongFiles}
 
 -- stands for this state where it is sound
 abbrev pub StandsIfSound : ℕ → List ℕ → Loaded → Persistent → Type 0

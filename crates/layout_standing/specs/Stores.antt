@@ -1,12 +1,12 @@
 -- What a store stands for after one of its calls, from what its bytes stand for once they are written.
 use Rattle.std.specs.Prelude.{◌≡◌, ◌⊎◌, ℕ, List, length, Option, option_map}
-use Rattle.uicc_types.specs.Patches.{patched, Torn}
-use Rattle.uicc_types.specs.Told.{Becomes}
+use Rattle.card_layout.specs.uicc_types.Patches.{patched, Torn}
+use Rattle.card_layout.specs.uicc_types.Told.{Becomes}
 use Rattle.card_layout.specs.declared.entries.Loaded.{Loaded}
 use Rattle.card_layout.specs.Persistent.{Persistent}
 use Rattle.card_layout.specs.States.{state_of}
 use Rattle.card_layout.specs.Standing.{Stands, standing, Agrees}
-use Rattle.layout_changes.specs.Cards.{IsFreeRange}
+use Rattle.layout_standing.specs.Cards.{IsFreeRange}
 
 -- A store that tells its bytes stands for this state, one that doesn't for none that is known; and the table is that of the
 -- bytes that it holds.

@@ -8,8 +8,8 @@ use Rattle.card_layout.specs.Checks.{key_of_slot}
 use Rattle.card_layout.specs.Places.{row_count, kept_limit}
 use Rattle.card_layout.specs.Ranges.{HasNodeRanges, HasPinRanges, HasRowRanges}
 use Rattle.card_layout.specs.Fields.{node_fields, pin_fields, row_fields, AreWholeFields, merged_node, merged_pin, merged_row}
-use Rattle.layout_changes.specs.Cards.{HasNode, HasPin, HasRow, LiesAmongFiles, LiesWhere}
-use Rattle.layout_soundness.specs.Forms.{HasRightHead}
+use Rattle.layout_standing.specs.Cards.{HasNode, HasPin, HasRow, LiesAmongFiles, LiesWhere}
+use Rattle.layout_standing.specs.Forms.{HasRightHead}
 
 -- ---- some fields of an entry that is used: the new one differs from the old one in no others
 

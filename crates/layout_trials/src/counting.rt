@@ -1,10 +1,10 @@
 //! A device that notes its calls.
 ghost use Rattle.std.specs.Prelude.{◌≡◌};
 
-use eeprom_model::{Eeprom, EepromFault};
+use card_layout::uicc_types::Plan;
 use std::alloc::Global;
 use std::marker::Model;
-use uicc_types::Plan;
+use update_journal::eeprom_model::{Eeprom, EepromFault};
 
 /// What a device was asked for.
 #[derive(Drop)]

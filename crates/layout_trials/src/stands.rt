@@ -8,8 +8,6 @@ use crate::sweeps::sweep;
 use crate::words::{RowFault, Words};
 use crate::writing::SIZE;
 use crate::{devices, stores};
-use eeprom_file::{FileEeprom, open_image};
-use eeprom_model::{BenchEeprom, Eeprom, SwitchedEeprom};
 use page_store::{DEVICE_SIZE, PageStore};
 use std::alloc::Global;
 use std::cell::Cell;
@@ -17,6 +15,7 @@ use std::fs::File;
 use std::rt::Files;
 use std::{fs, io, mem};
 use update_journal::Journal;
+use update_journal::eeprom_model::{BenchEeprom, Eeprom, FileEeprom, SwitchedEeprom, open_image};
 
 /// A device of the bench, which notes its calls.
 type Bench = Counting<BenchEeprom>;

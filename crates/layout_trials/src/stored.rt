@@ -4,12 +4,12 @@ ghost use Rattle.std.specs.Prelude.{◌≡◌};
 use crate::words::{Piece, RowFault};
 use crate::writing::{SIZE, is_usable, writes_of};
 use card_layout::Loaded;
+use card_layout::store_form::{OWN_END, OWN_START, Store};
+use card_layout::uicc_types::Plan;
 use layout_mount::{MountFault, mount};
 use layout_section::{Section, format};
 use std::alloc::Global;
 use std::marker::Model;
-use store_form::{OWN_END, OWN_START, Store};
-use uicc_types::Plan;
 
 /// A store of 65,536 bytes, and whether it is known that no recovery is due.
 #[derive(Drop)]

@@ -6,12 +6,12 @@ use crate::stored::Stored;
 use crate::stores::{image_of, put_all};
 use crate::words::{Piece, RowFault, Words};
 use crate::writing::SIZE;
-use eeprom_model::BenchEeprom;
+use card_layout::store_form::Store;
+use card_layout::uicc_types::{CutAt, FailAt, Plan};
 use page_store::{DEVICE_SIZE, PageStore};
 use std::alloc::Global;
-use store_form::Store;
-use uicc_types::{CutAt, FailAt, Plan};
 use update_journal::Journal;
+use update_journal::eeprom_model::BenchEeprom;
 
 /// What a commit does to the bytes that are read.
 #[derive(Drop)]

@@ -1,11 +1,11 @@
 //! The words of a row, and what they say.
 ghost use Rattle.std.specs.Prelude.{◌≤◌, IfOk};
 
-use eeprom_model::{EepromFault, PAGE_LENGTH};
+use card_layout::store_form::StoreFault;
+use card_layout::uicc_types::{CutAt, FailAt, OutOfMemory, Plan};
 use std::alloc::{AllocError, Global};
 use std::str::SplitWhitespace;
-use store_form::StoreFault;
-use uicc_types::{CutAt, FailAt, OutOfMemory, Plan};
+use update_journal::eeprom_model::{EepromFault, PAGE_LENGTH};
 
 /// Why a row isn't carried out.
 #[derive(Drop)]

@@ -5,9 +5,9 @@ use Rattle.std.proofs.lemmas.Bool.{cases_lt, cases_eq, cases_order, lt-ltb, le-l
 use Rattle.std.proofs.lemmas.Bool.Decides.{nat_tests}
 use Rattle.std.proofs.lemmas.Grind.{same_number_lists}
 use Rattle.std.proofs.lemmas.List.{get_or_past}
-use Rattle.general_laws.specs.Ranges.{length-range, get_or-range}
-use Rattle.uicc_types.specs.Patches.{patched, length-patched, patched_before, patched_inside, patched_after, Torn}
-use Rattle.store_form.specs.Pieces.{IsUsable}
+use Rattle.update_journal.specs.uicc_types.Ranges.{length-range, get_or-range}
+use Rattle.update_journal.specs.uicc_types.Patches.{patched, length-patched, patched_before, patched_inside, patched_after, Torn}
+use Rattle.update_journal.specs.store_form.Pieces.{IsUsable}
 use Rattle.page_store.specs.Pages.{page_of, place_of, through, entries_of, map_of, is_well_formed, content_of}
 use Rattle.page_store.specs.Laws.{length-through, get_or-through, place_low}
 use Rattle.page_store.specs.Tables.{Kept, IsPool}

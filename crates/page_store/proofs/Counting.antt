@@ -3,7 +3,7 @@ use Rattle.std.proofs.Common.{◌≡◌, ℕ, zero, suc, ◌+◌, ◌-◌, ◌*�
 use Rattle.std.specs.List.{count_by, range_with_len}
 use Rattle.std.proofs.lemmas.Bool.{cases_Bool, and_parts, ltb-true}
 use Rattle.std.proofs.lemmas.List.Sums.{sum_by-cons, sum_by-take-le}
-use Rattle.store_form.specs.Pieces.{Piece, byte_total, IsWithinBounds}
+use Rattle.update_journal.specs.store_form.Pieces.{Piece, byte_total, IsWithinBounds}
 use Rattle.update_journal.proofs.Spelling.{byte_total-cons}
 use Rattle.page_store.specs.Commits.{touches, is_touched, done_count}
 

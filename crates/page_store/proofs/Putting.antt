@@ -8,10 +8,10 @@ use Rattle.std.proofs.lemmas.List.{length-take, length-drop, get_or-take, get_or
 use Rattle.std.proofs.lemmas.List.Elements.{All-take}
 use Rattle.std.proofs.lemmas.List.Folds.{list_any_at}
 use Rattle.std.proofs.lemmas.Option.{get_or_from_slice_get, slice_get_within}
-use Rattle.general_laws.specs.Ranges.{length-range, get_or-range}
-use Rattle.uicc_types.specs.Patches.{patched, length-patched, patched_before, patched_inside, patched_after}
-use Rattle.store_form.specs.Pieces.{Piece, applied, IsUsablePiece}
-use Rattle.store_form.specs.Spared.{AreUsable, length-applied}
+use Rattle.update_journal.specs.uicc_types.Ranges.{length-range, get_or-range}
+use Rattle.update_journal.specs.uicc_types.Patches.{patched, length-patched, patched_before, patched_inside, patched_after}
+use Rattle.update_journal.specs.store_form.Pieces.{Piece, applied, IsUsablePiece}
+use Rattle.update_journal.specs.store_form.Spared.{AreUsable, length-applied}
 use Rattle.update_journal.proofs.Told.{one_more}
 use Rattle.page_store.specs.Commits.{touches, is_touched, bytes_of_page}
 

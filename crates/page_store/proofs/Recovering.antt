@@ -5,9 +5,9 @@ use Rattle.std.proofs.lemmas.Grind.{same_number_lists}
 use Rattle.std.proofs.lemmas.Bool.{cases_lt}
 use Rattle.std.proofs.lemmas.List.{length-replicate, get_or-replicate, get_or_past}
 use Rattle.std.proofs.lemmas.List.Elements.{All-replicate, All-from_get_or}
-use Rattle.general_laws.specs.Ranges.{length-range, get_or-range}
-use Rattle.uicc_types.specs.Told.{AreBytes}
-use Rattle.store_form.specs.Pieces.{IsUsable}
+use Rattle.update_journal.specs.uicc_types.Ranges.{length-range, get_or-range}
+use Rattle.update_journal.specs.uicc_types.Told.{AreBytes}
+use Rattle.update_journal.specs.store_form.Pieces.{IsUsable}
 use Rattle.page_store.specs.Pages.{entries_of, map_of, is_well_formed, place_of, through, content_of, content}
 use Rattle.page_store.specs.Laws.{length-through, get_or-through}
 use Rattle.page_store.specs.Paged.{IsKnown, known_of}

@@ -4,8 +4,8 @@ use Rattle.std.specs.Prelude.{slice_range}
 use Rattle.std.specs.Int.{w16, to_be_bytes}
 use Rattle.std.proofs.lemmas.Grind.{flat_map-append}
 use Rattle.std.proofs.lemmas.List.{append-nil, length-drop, get_or-drop, take_more}
-use Rattle.general_laws.specs.Ranges.{length-range}
-use Rattle.store_form.specs.Pieces.{Piece, IsUsablePiece}
+use Rattle.update_journal.specs.uicc_types.Ranges.{length-range}
+use Rattle.update_journal.specs.store_form.Pieces.{Piece, IsUsablePiece}
 use Rattle.page_store.specs.Tables.{Kept, IsPool}
 use Rattle.page_store.specs.Commits.{first_page, end_page, inner_piece}
 use Rattle.page_store.proofs.Finishing.{bytes_of, length-bytes_of, low_or_high, entries_are, small_entries}

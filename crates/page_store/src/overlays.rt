@@ -1,12 +1,12 @@
 //! Pieces of a commit, as far as they lie in one page.
 ghost use Rattle.std.specs.Prelude.{◌≡◌, ℕ, ◌+◌, ◌*◌, ◌≤◌, ◌<◌, List, length, slice_range, All};
-ghost use Rattle.uicc_types.specs.Patches.{patched};
-ghost use Rattle.store_form.specs.Pieces.{applied, IsUsablePiece, IsWithinBounds};
+ghost use Rattle.update_journal.specs.uicc_types.Patches.{patched};
+ghost use Rattle.update_journal.specs.store_form.Pieces.{applied, IsUsablePiece, IsWithinBounds};
 ghost use Rattle.page_store.specs.Commits.{touches, is_touched, done_count, bytes_of_page};
 
 use crate::places::{CONTENT_SIZE, PAGES};
-use eeprom_model::PAGE_LENGTH;
-use store_form::Writes;
+use update_journal::eeprom_model::PAGE_LENGTH;
+use update_journal::store_form::Writes;
 
 // Whether some of these bytes lie in the page.
 fn lies_in(page: usize, place: u16, bytes: &[u8]) -> bool

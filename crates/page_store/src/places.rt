@@ -1,6 +1,6 @@
 //! Where everything lies on the device, by pages.
-use eeprom_model::PAGE_LENGTH;
-use store_form::OWN_END;
+use update_journal::eeprom_model::PAGE_LENGTH;
+use update_journal::store_form::OWN_END;
 
 /// The device has so many pages.
 pub const PAGE_COUNT: usize = 1_120;

@@ -1,8 +1,8 @@
 -- What is seen of the card where a run ended before the handset rested.
 use Rattle.std.proofs.Common.{◌≡◌, List, [], ◌∷◌, ◌++◌, Some, refl, sym, ap, ◌∙◌, subst, inl, inr, map, ◌⊎◌}
 use Rattle.std.proofs.lemmas.List.{append-nil}
-use Rattle.card_model.specs.Runs.{IsRun, StepEnds, StepGives}
-use Rattle.card_model.specs.States.{Machine}
+use Rattle.card_steps.specs.card_model.Runs.{IsRun, StepEnds, StepGives}
+use Rattle.card_steps.specs.card_model.States.{Machine}
 use Rattle.card_steps.specs.RunLaws.{run_ends, run_of, run_one, run_then}
 use Rattle.card_steps.specs.Stepping.{BreaksOff, Moment}
 use Rattle.card_steps.specs.declared.steps.StepEnd.TheVariants.{SinkFailed, ResetFailed}
@@ -12,11 +12,11 @@ use Rattle.handset_model.specs.Sending.{apdu_of}
 use Rattle.handset_model.specs.declared.commands.Command.{Command}
 use Rattle.handset_model.specs.declared.known.Duty.{Duty}
 use Rattle.handset_model.specs.declared.known.Duty.TheVariants.{Rest, Transmit, Await, Show, ResetCard}
-use Rattle.script_form.specs.declared.handset.Note.{Note}
-use Rattle.uicc_types.specs.declared.plans.Plan.{Plan}
-use Rattle.uicc_types.specs.declared.runs.Step.{Step}
-use Rattle.uicc_types.specs.declared.runs.Step.TheVariants as step
-use Rattle.uicc_types.specs.declared.runs.TraceItem.{TraceItem}
+use Rattle.handset_model.specs.script_form.declared.handset.Note.{Note}
+use Rattle.handset_model.specs.uicc_types.declared.plans.Plan.{Plan}
+use Rattle.handset_model.specs.uicc_types.declared.runs.Step.{Step}
+use Rattle.handset_model.specs.uicc_types.declared.runs.Step.TheVariants as step
+use Rattle.handset_model.specs.uicc_types.declared.runs.TraceItem.{TraceItem}
 use Rattle.phone_runs.proofs.Ended.{command_begun, reset_begun, shows_failed, shows_note, shows_step}
 use Rattle.phone_runs.proofs.Logging.{seen-append}
 use Rattle.phone_runs.specs.Laws.{BreakIsOfTheCard, EndsAreOfTheCard, ShowsRun, ShowsTrace, ShowsUnsent, trace_with}

@@ -2,9 +2,9 @@
 use Rattle.std.proofs.Common.{◌≡◌, ℕ, Bool, true, false, List, [], ◌∷◌, ◌++◌, Some, refl, sym, ap, ◌∙◌, append_assoc, subst, inl, inr, map, reverse}
 use Rattle.std.proofs.lemmas.List.{append-nil}
 use Rattle.std.specs.Prelude.{MatchBool}
-use Rattle.card_model.specs.Answers.{answer}
-use Rattle.card_model.specs.Runs.{Commands, MeetsNoPower}
-use Rattle.card_model.specs.States.{Machine}
+use Rattle.card_steps.specs.card_model.Answers.{answer}
+use Rattle.card_steps.specs.card_model.Runs.{Commands, MeetsNoPower}
+use Rattle.card_steps.specs.card_model.States.{Machine}
 use Rattle.card_steps.specs.RunLaws.{text_of-append}
 use Rattle.card_steps.specs.Runs.{item_text, text_of}
 use Rattle.card_steps.specs.Stepping.{BreaksOff, IsCutOff, Moment, exchanged}
@@ -19,14 +19,14 @@ use Rattle.handset_model.specs.Sending.{apdu_of}
 use Rattle.handset_model.specs.declared.commands.Command.{Command}
 use Rattle.handset_model.specs.declared.known.Duty.{Duty}
 use Rattle.handset_model.specs.declared.known.Duty.TheVariants.{Rest, Transmit, Await, Show, ResetCard}
-use Rattle.script_form.specs.declared.handset.Note.{Note}
+use Rattle.handset_model.specs.script_form.declared.handset.Note.{Note}
 use Rattle.std.proofs.lemmas.List.{reverse-append}
-use Rattle.uicc_types.specs.Told.{IsFront}
-use Rattle.uicc_types.specs.declared.answers.Answer.{Answer}
-use Rattle.uicc_types.specs.declared.plans.Plan.{Plan}
-use Rattle.uicc_types.specs.declared.runs.Step.TheVariants as step
-use Rattle.uicc_types.specs.declared.runs.TraceItem.{TraceItem}
-use Rattle.uicc_types.specs.declared.runs.TraceItem.TheVariants as item
+use Rattle.handset_model.specs.uicc_types.Told.{IsFront}
+use Rattle.handset_model.specs.uicc_types.declared.answers.Answer.{Answer}
+use Rattle.handset_model.specs.uicc_types.declared.plans.Plan.{Plan}
+use Rattle.handset_model.specs.uicc_types.declared.runs.Step.TheVariants as step
+use Rattle.handset_model.specs.uicc_types.declared.runs.TraceItem.{TraceItem}
+use Rattle.handset_model.specs.uicc_types.declared.runs.TraceItem.TheVariants as item
 use Rattle.phone_runs.proofs.Lawful.{is_of}
 use Rattle.phone_runs.proofs.Logging.{lines_reset, lines_sent, orderly_reset, orderly_sent, text-append, trace_noted, trace_reset, trace_sent, with_reply, with_reset}
 use Rattle.phone_runs.specs.Laws.{EndsAreBegun, ShowsBegun, ShowsTrace}

@@ -18,13 +18,13 @@ use Rattle.handset_model.specs.declared.known.Duty.TheVariants.{Rest, Transmit, 
 use Rattle.handset_model.specs.declared.known.Held.{Held}
 use Rattle.handset_model.specs.declared.known.Known.{Known}
 use Rattle.handset_model.specs.declared.steps.PhoneStep.TheVariants as step
-use Rattle.script_form.specs.declared.handset.HandsetLine.{HandsetLine}
-use Rattle.script_form.specs.declared.handset.HandsetLine.TheVariants.{UserOk, UserEnd, UserBack, UserNone, UserType, UserPick, UserPress, UserIdle, UserDial, NetPlace, NetPoll, Time, Reset}
-use Rattle.script_form.specs.declared.handset.Note.{Note}
+use Rattle.handset_model.specs.script_form.declared.handset.HandsetLine.{HandsetLine}
+use Rattle.handset_model.specs.script_form.declared.handset.HandsetLine.TheVariants.{UserOk, UserEnd, UserBack, UserNone, UserType, UserPick, UserPress, UserIdle, UserDial, NetPlace, NetPoll, Time, Reset}
+use Rattle.handset_model.specs.script_form.declared.handset.Note.{Note}
 use Rattle.terminal_side.specs.Kept.{Kept, clock_kept, kept, then_done, with_next}
-use Rattle.toolkit_commands.specs.declared.commands.Proactive.{Proactive}
-use Rattle.toolkit_commands.specs.declared.commands.Proactive.TheVariants.{DisplayText, SelectItem}
-use Rattle.uicc_types.specs.declared.answers.Answer.{Answer}
+use Rattle.handset_model.specs.toolkit_commands.declared.commands.Proactive.{Proactive}
+use Rattle.handset_model.specs.toolkit_commands.declared.commands.Proactive.TheVariants.{DisplayText, SelectItem}
+use Rattle.handset_model.specs.uicc_types.declared.answers.Answer.{Answer}
 use Rattle.phone_runs.specs.Serving.{IsPhoneServed, IsServedMore, replied, reset_by, work_at}
 
 -- ---- what is kept

@@ -2,10 +2,10 @@
 use Rattle.std.proofs.Common.{◌≡◌, ℕ, true, false, List, [], ◌∷◌, ◌++◌, Option, Some, Err, refl, sym, ap, ◌∙◌, append_assoc, subst, inl, inr, reverse}
 use Rattle.std.proofs.lemmas.List.{append-nil, reverse-append}
 use Rattle.std.proofs.lemmas.List.Concat.{flat_map-append}
-use Rattle.card_model.specs.Counts.{IsCounted}
-use Rattle.card_model.specs.Laws.{CountsJoin, PlansAreSetInOrder}
-use Rattle.card_model.specs.Runs.{plan_given, armed_after, joined, waiting_after}
-use Rattle.card_model.specs.States.{Machine}
+use Rattle.card_steps.specs.card_model.Counts.{IsCounted}
+use Rattle.card_steps.specs.card_model.Laws.{CountsJoin, PlansAreSetInOrder}
+use Rattle.card_steps.specs.card_model.Runs.{plan_given, armed_after, joined, waiting_after}
+use Rattle.card_steps.specs.card_model.States.{Machine}
 use Rattle.card_steps.specs.Ends.{End, moment_at}
 use Rattle.card_steps.specs.RunLaws.{calm_before, calm_behind, run_one, run_then}
 use Rattle.card_steps.specs.Runs.{GoesOn, ends_calm, text_of}
@@ -23,16 +23,16 @@ use Rattle.handset_model.specs.Sending.{apdu_of}
 use Rattle.handset_model.specs.declared.commands.Command.{Command}
 use Rattle.handset_model.specs.declared.known.Duty.{Duty}
 use Rattle.handset_model.specs.declared.known.Duty.TheVariants.{Rest, Transmit, Show, ResetCard}
-use Rattle.script_form.specs.declared.handset.HandsetLine.{HandsetLine}
-use Rattle.script_form.specs.declared.handset.Note.{Note}
+use Rattle.handset_model.specs.script_form.declared.handset.HandsetLine.{HandsetLine}
+use Rattle.handset_model.specs.script_form.declared.handset.Note.{Note}
 use Rattle.terminal_side.specs.Kept.{Kept, kept}
-use Rattle.uicc_types.specs.declared.answers.Answer.{Answer}
-use Rattle.uicc_types.specs.declared.plans.Plan.{Plan}
-use Rattle.uicc_types.specs.declared.plans.TheConstants.Plan.{NONE}
-use Rattle.uicc_types.specs.declared.runs.Step.{Step}
-use Rattle.uicc_types.specs.declared.runs.Step.TheVariants as step
-use Rattle.uicc_types.specs.declared.runs.TraceItem.{TraceItem}
-use Rattle.uicc_types.specs.declared.runs.TraceItem.TheVariants as item
+use Rattle.handset_model.specs.uicc_types.declared.answers.Answer.{Answer}
+use Rattle.handset_model.specs.uicc_types.declared.plans.Plan.{Plan}
+use Rattle.handset_model.specs.uicc_types.declared.plans.TheConstants.Plan.{NONE}
+use Rattle.handset_model.specs.uicc_types.declared.runs.Step.{Step}
+use Rattle.handset_model.specs.uicc_types.declared.runs.Step.TheVariants as step
+use Rattle.handset_model.specs.uicc_types.declared.runs.TraceItem.{TraceItem}
+use Rattle.handset_model.specs.uicc_types.declared.runs.TraceItem.TheVariants as item
 use Rattle.phone_runs.specs.Logs.{Event, Happens, Plans, AreInTurn, cut_steps, history, lines_back, shown, steps, steps_back, trace}
 use Rattle.phone_runs.specs.Playing.{Begins}
 use Rattle.phone_runs.specs.Runs.{Beginning, BreaksIn, BreaksInStep, BreaksSo, RunEnds, FailsSo, IsAt, IsPhoneRun, Reaches}

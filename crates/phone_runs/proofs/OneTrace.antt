@@ -4,10 +4,10 @@ use Rattle.std.specs.Prelude.{MatchBool, ⊤}
 use Rattle.std.proofs.lemmas.List.{reverse-reverse}
 use Rattle.std.proofs.lemmas.List.Elements.{All-head}
 use mathlib.Core.List.{reverse_aux}
-use Rattle.general_laws.specs.Members.{back_of, front_of}
-use Rattle.card_model.specs.Counts.{is_cut, is_failure}
-use Rattle.card_model.specs.Runs.{Commands, IsRun, MeetsNoPower, StepGives}
-use Rattle.card_model.specs.States.{Machine}
+use Rattle.handset_model.specs.uicc_types.Members.{back_of, front_of}
+use Rattle.card_steps.specs.card_model.Counts.{is_cut, is_failure}
+use Rattle.card_steps.specs.card_model.Runs.{Commands, IsRun, MeetsNoPower, StepGives}
+use Rattle.card_steps.specs.card_model.States.{Machine}
 use Rattle.card_steps.specs.RunLaws.{run_of, run_one}
 use Rattle.card_steps.specs.Runs.{GoesOn}
 use Rattle.handset_model.specs.History.{Said, Sent, Answered, Noted, Restarted, PowerCut, FoundOff}
@@ -17,15 +17,15 @@ use Rattle.handset_model.specs.Sending.{apdu_of}
 use Rattle.handset_model.specs.declared.commands.Command.{Command}
 use Rattle.handset_model.specs.declared.known.Duty.{Duty}
 use Rattle.handset_model.specs.declared.known.Duty.TheVariants.{Rest, Transmit, Await, Show, ResetCard}
-use Rattle.run_laws.specs.FaultLaws.{RunsAreOne}
-use Rattle.run_laws.specs.Faults.{ShowsNoCut, ShowsNoFailure}
-use Rattle.script_form.specs.declared.handset.HandsetLine.{HandsetLine}
-use Rattle.script_form.specs.declared.handset.Note.{Note}
-use Rattle.uicc_types.specs.declared.plans.Plan.{Plan}
-use Rattle.uicc_types.specs.declared.runs.Step.{Step}
-use Rattle.uicc_types.specs.declared.runs.Step.TheVariants as step
-use Rattle.uicc_types.specs.declared.runs.TraceItem.{TraceItem}
-use Rattle.uicc_types.specs.declared.runs.TraceItem.TheVariants as item
+use Rattle.card_laws.specs.FaultLaws.{RunsAreOne}
+use Rattle.card_laws.specs.Faults.{ShowsNoCut, ShowsNoFailure}
+use Rattle.handset_model.specs.script_form.declared.handset.HandsetLine.{HandsetLine}
+use Rattle.handset_model.specs.script_form.declared.handset.Note.{Note}
+use Rattle.handset_model.specs.uicc_types.declared.plans.Plan.{Plan}
+use Rattle.handset_model.specs.uicc_types.declared.runs.Step.{Step}
+use Rattle.handset_model.specs.uicc_types.declared.runs.Step.TheVariants as step
+use Rattle.handset_model.specs.uicc_types.declared.runs.TraceItem.{TraceItem}
+use Rattle.handset_model.specs.uicc_types.declared.runs.TraceItem.TheVariants as item
 use Rattle.phone_runs.specs.Laws.{IsPhoneUndisturbed, PhoneRunsAreOne}
 use Rattle.phone_runs.specs.Logs.{Event, Happens, Plans, AreInTurn, PhoneLine, Hears, Arms, cut_steps, history, lines_back, shown, steps, steps_back, trace}
 

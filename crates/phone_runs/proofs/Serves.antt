@@ -1,9 +1,9 @@
 -- What comes of one thing that a handset asks for.
 use Rattle.std.proofs.Common.{◌≡◌, ℕ, List, ◌∷◌, ◌++◌, Option, Some, None, Err, refl, sym, ap, ◌∙◌, subst}
 use Rattle.std.specs.Io.KnownBytes.{append_known}
-use Rattle.byte_streams.specs.Streams.{TakesFront}
-use Rattle.card_model.specs.Laws.{CountsJoin, PlansAreSetInOrder}
-use Rattle.card_model.specs.States.{Machine}
+use Rattle.handset_model.specs.byte_streams.Streams.{TakesFront}
+use Rattle.card_steps.specs.card_model.Laws.{CountsJoin, PlansAreSetInOrder}
+use Rattle.card_steps.specs.card_model.States.{Machine}
 use Rattle.card_steps.specs.Stepping.{GivesStep, Moment, TakesShowing, exchanged, restarted_by}
 use Rattle.card_steps.specs.declared.steps.Reply.{Reply}
 use Rattle.card_steps.specs.declared.steps.Restarted.{Restarted as AReset}
@@ -16,15 +16,15 @@ use Rattle.handset_model.specs.declared.commands.Command.{Command}
 use Rattle.handset_model.specs.declared.known.Duty.TheVariants.{Rest, Transmit, Show, ResetCard}
 use Rattle.handset_model.specs.declared.steps.PhoneStep.{PhoneStep}
 use Rattle.handset_model.specs.declared.steps.PhoneStep.TheVariants as step
-use Rattle.script_form.specs.declared.handset.Note.{Note}
+use Rattle.handset_model.specs.script_form.declared.handset.Note.{Note}
 use Rattle.terminal_side.specs.Kept.{Kept, kept, with_next}
 use Rattle.terminal_side.specs.Stages.{step_of}
 use Rattle.terminal_side.specs.declared.phone.Next.{Next}
 use Rattle.terminal_side.specs.declared.phone.Next.TheVariants as next
-use Rattle.uicc_types.specs.Told.{Becomes}
-use Rattle.uicc_types.specs.declared.answers.Answer.{Answer}
+use Rattle.handset_model.specs.uicc_types.Told.{Becomes}
+use Rattle.handset_model.specs.uicc_types.declared.answers.Answer.{Answer}
 use Rattle.card_steps.proofs.StepLemmas.{told_more}
-use Rattle.uicc_types.specs.declared.runs.Step.TheVariants as run
+use Rattle.handset_model.specs.uicc_types.declared.runs.Step.TheVariants as run
 use Rattle.phone_runs.proofs.Hearing.{LinesEnd, asked_kept, is_none_asked, is_note, is_reset, is_send, next_is, noted_next, reset_next, sent_next, served_more}
 use Rattle.phone_runs.proofs.Logging.{IsFrontTaken, ends_noted, ends_reset, ends_sent, keeps_same, reaches_noted, reaches_reset, reaches_sent}
 use Rattle.phone_runs.specs.Logs.{Event, PhoneLine, history, lines_back}

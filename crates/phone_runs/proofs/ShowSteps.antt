@@ -2,11 +2,11 @@
 use Rattle.std.proofs.Common.{◌≡◌, ℕ, true, List, [], ◌∷◌, ◌++◌, Option, Some, None, refl, sym, ap, ◌∙◌, append_assoc, subst}
 use Rattle.std.proofs.lemmas.List.{append-nil}
 use Rattle.std.specs.Io.KnownBytes.{append_known}
-use Rattle.byte_streams.specs.Lines.{LineList}
-use Rattle.byte_streams.specs.Streams.{TakesFront}
-use Rattle.card_model.specs.Counts.{IsCounted}
-use Rattle.card_model.specs.Laws.{CountsJoin, PlansAreSetInOrder}
-use Rattle.card_model.specs.Runs.{plan_given, armed_after, joined, waiting_after}
+use Rattle.handset_model.specs.byte_streams.Lines.{LineList}
+use Rattle.handset_model.specs.byte_streams.Streams.{TakesFront}
+use Rattle.card_steps.specs.card_model.Counts.{IsCounted}
+use Rattle.card_steps.specs.card_model.Laws.{CountsJoin, PlansAreSetInOrder}
+use Rattle.card_steps.specs.card_model.Runs.{plan_given, armed_after, joined, waiting_after}
 use Rattle.card_sections.specs.Behind.{StopsReading}
 use Rattle.card_sections.specs.Reading.{Finds, Follows}
 use Rattle.card_sections.specs.declared.behind.PlayEnd.{PlayEnd}
@@ -39,18 +39,18 @@ use Rattle.phone_runs.specs.Logs.{Event, Happens, Plans, PhoneLine, history, lin
 use Rattle.phone_runs.specs.Serving.{IsPhoneServed, replied, reset_by}
 use Rattle.phone_runs.specs.Showing.{BeginsShowing, CutsIn, CutsInStep, CutsOff, IsShowing, Outset, PhoneShows, PhoneShowsTo, ServesShowing, ShowsAll, ShowsEnd, ShowsFailure, ShowsMore, StartsShowing, StopsShowing}
 use Rattle.phone_runs.specs.Traces.{entries_text, note_line}
-use Rattle.script_form.specs.declared.handset.HandsetLine.{HandsetLine}
-use Rattle.script_form.specs.declared.handset.Note.{Note}
-use Rattle.script_form.specs.declared.lines.ScriptLine.{ScriptLine}
+use Rattle.handset_model.specs.script_form.declared.handset.HandsetLine.{HandsetLine}
+use Rattle.handset_model.specs.script_form.declared.handset.Note.{Note}
+use Rattle.handset_model.specs.script_form.declared.lines.ScriptLine.{ScriptLine}
 use Rattle.terminal_side.specs.Kept.{Kept, kept}
-use Rattle.uicc_types.specs.Told.{Becomes}
-use Rattle.uicc_types.specs.declared.answers.Answer.{Answer}
-use Rattle.uicc_types.specs.declared.plans.Plan.{Plan}
-use Rattle.uicc_types.specs.declared.plans.TheConstants.Plan.{NONE}
-use Rattle.uicc_types.specs.declared.runs.Step.{Step}
-use Rattle.uicc_types.specs.declared.runs.Step.TheVariants as step
-use Rattle.uicc_types.specs.declared.runs.TraceItem.{TraceItem}
-use Rattle.uicc_types.specs.declared.runs.TraceItem.TheVariants as item
+use Rattle.handset_model.specs.uicc_types.Told.{Becomes}
+use Rattle.handset_model.specs.uicc_types.declared.answers.Answer.{Answer}
+use Rattle.handset_model.specs.uicc_types.declared.plans.Plan.{Plan}
+use Rattle.handset_model.specs.uicc_types.declared.plans.TheConstants.Plan.{NONE}
+use Rattle.handset_model.specs.uicc_types.declared.runs.Step.{Step}
+use Rattle.handset_model.specs.uicc_types.declared.runs.Step.TheVariants as step
+use Rattle.handset_model.specs.uicc_types.declared.runs.TraceItem.{TraceItem}
+use Rattle.handset_model.specs.uicc_types.declared.runs.TraceItem.TheVariants as item
 
 -- ---- a step
 

@@ -1,9 +1,27 @@
+pub mod CountLaws
+pub mod CountedLines
+pub mod Counts
 pub mod Effects
-pub mod Lines
-pub mod Logs
-pub mod Traces
-pub mod Runs
-pub mod Playing
-pub mod Serving
+pub mod Exchanges
+pub mod FixedRows
+pub mod HandsetServing
 pub mod Laws
+pub mod Lines
+pub mod LoadLaws
+pub mod LoadLines
+pub mod LoadRuns
+pub mod Logs
+pub mod Playing
+pub mod Rows
+pub mod Runs
+pub mod Serving
 pub mod Showing
+pub mod Traces
+pub mod Walks
+pub use Rattle.handset_model.specs.byte_streams
+pub use Rattle.card_sections.specs as card_sections
+pub use Rattle.handset_model.specs as handset_model
+pub use Rattle.layout_section.specs as layout_section
+pub use Rattle.handset_model.specs.script_form
+pub use Rattle.terminal_side.specs as terminal_side
+pub use Rattle.handset_model.specs.uicc_types

@@ -1,10 +1,10 @@
 -- Where the run of a handset stands between two lines of a script, and how it ends.
 use Rattle.std.specs.List.{AllPass}
 use Rattle.std.specs.Prelude.{◌≡◌, ◌≤◌, ◌<◌, ◌*◌, ℕ, true, List, ◌++◌, reverse, Option, Some, Result, Ok, Err}
-use Rattle.byte_streams.specs.Lines.{LineList, lines}
-use Rattle.card_model.specs.Counts.{IsCounted}
-use Rattle.card_model.specs.Runs.{plan_given}
-use Rattle.card_model.specs.States.{Machine}
+use Rattle.handset_model.specs.byte_streams.Lines.{LineList, lines}
+use Rattle.card_steps.specs.card_model.Counts.{IsCounted}
+use Rattle.card_steps.specs.card_model.Runs.{plan_given}
+use Rattle.card_steps.specs.card_model.States.{Machine}
 use Rattle.card_sections.specs.Behind.{StopsReading}
 use Rattle.card_sections.specs.Reading.{Follows, line_count, room_of}
 use Rattle.card_sections.specs.Script.{AreRead}
@@ -24,7 +24,7 @@ use Rattle.phone_runs.specs.Runs.{Beginning, IsAt, IsPhoneRun, RunEnds}
 use Rattle.phone_runs.specs.Serving.{IsAtRest}
 use Rattle.phone_runs.specs.Traces.{entries_text}
 use Rattle.phone_runs.specs.declared.effects.TheConstants.{LONGEST_SPAN}
-use Rattle.script_form.specs.declared.lines.ScriptLine.{ScriptLine}
+use Rattle.handset_model.specs.script_form.declared.lines.ScriptLine.{ScriptLine}
 use Rattle.terminal_side.specs.Kept.{Kept}
 
 -- lines of a text say what stands up to `start`, and behind it what may be there where a handset is used

@@ -10,7 +10,7 @@ use Rattle.handset_model.specs.Legal.{IsOrderly}
 use Rattle.handset_model.specs.Rules.{asked}
 use Rattle.handset_model.specs.declared.known.Duty.TheVariants.{Await, Rest}
 use Rattle.terminal_side.specs.Kept.{Kept, kept}
-use Rattle.uicc_types.specs.declared.answers.Answer.{Answer}
+use Rattle.handset_model.specs.uicc_types.declared.answers.Answer.{Answer}
 
 -- it keeps what comes of some history in which all is as it was asked for, and waits for no answer
 pub record IsPhoneServed (phone : Kept) : Type 0 where

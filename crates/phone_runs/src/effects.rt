@@ -2,11 +2,11 @@
 ghost use Rattle.std.specs.Prelude.{◌≤◌, ◌<◌, ◌+◌, ◌^◌, ℕ};
 ghost use Rattle.phone_runs.specs.Effects.{FitsIn, IsEffect, span_of_effect};
 ghost use Rattle.phone_runs.specs.declared.effects.TheConstants.{LONGEST_SPAN};
-ghost use Rattle.script_form.specs.Bounds.{IsBounded};
+ghost use Rattle.handset_model.specs.script_form.Bounds.{IsBounded};
 
 use crate::playing::PhoneMove;
-use script_form::ScriptLine;
-use uicc_types::Plan;
+use handset_model::script_form::ScriptLine;
+use handset_model::uicc_types::Plan;
 
 /// The most seconds that a line of a script lets pass.
 pub const LONGEST_SPAN: u32 = 999_999_999;

@@ -1,6 +1,6 @@
 //! A line of a script behind `start`, read, and carried out by a handset that serves the card.
 ghost use Rattle.std.specs.Prelude.{◌≡◌, List, ℕ, Err, OnOk};
-ghost use Rattle.byte_streams.specs.Reading.{IsWithin};
+ghost use Rattle.handset_model.specs.byte_streams.Reading.{IsWithin};
 ghost use Rattle.card_sections.specs.Behind.{GivesRead, IsReading};
 ghost use Rattle.card_sections.specs.Reading.{reading};
 ghost use Rattle.card_steps.specs.Ends.{moment_at};
@@ -9,18 +9,18 @@ ghost use Rattle.phone_runs.specs.Lines.{EndsAmid, GivesServed, IsBetweenLines, 
 ghost use Rattle.phone_runs.specs.Effects.{may_be_heard};
 ghost use Rattle.phone_runs.specs.Runs.{Beginning};
 ghost use Rattle.phone_runs.specs.Showing.{LineShows, Outset, ServesShowing};
-ghost use Rattle.script_form.specs.declared.lines.ScriptLine.{ScriptLine as AnyLine};
-ghost use Rattle.uicc_types.specs.Counts.{CountsFailure, Rose};
+ghost use Rattle.handset_model.specs.script_form.declared.lines.ScriptLine.{ScriptLine as AnyLine};
+ghost use Rattle.handset_model.specs.uicc_types.Counts.{CountsFailure, Rose};
 
 use crate::effects::{PhoneEffect, effect_on_phone};
 use crate::playing::play_on_phone;
 use crate::serving::Places;
-use applet_trait::Applet;
-use byte_streams::{Sink, Source};
 use card_sections::{PlayEnd, ScriptReader, read_behind};
+use card_steps::applet_trait::Applet;
+use card_steps::store_form::Store;
 use card_steps::{CardEnd, Carrier, StepEnd};
-use script_form::ScriptLine;
-use store_form::Store;
+use handset_model::byte_streams::{Sink, Source};
+use handset_model::script_form::ScriptLine;
 use terminal_side::Phone;
 
 /// Reads the next line behind `start` into `line`, and carries it out, as soon as its end was read. What the handset sends goes to the

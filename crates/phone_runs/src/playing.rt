@@ -10,17 +10,17 @@ ghost use Rattle.phone_runs.specs.Runs.{Beginning, IsAt, Settles};
 ghost use Rattle.phone_runs.specs.Serving.{IsAtRest};
 ghost use Rattle.phone_runs.specs.Showing.{BeginsShowing, IsShowing, Outset, ShowsSettled};
 ghost use Rattle.terminal_side.specs.Kept.{unstarted};
-ghost use Rattle.uicc_types.specs.Counts.{Rose};
+ghost use Rattle.handset_model.specs.uicc_types.Counts.{Rose};
 
 use crate::serving::{Places, settle};
-use applet_trait::Applet;
-use byte_streams::Sink;
-use card_model::plans_are_set_in_order;
+use card_steps::applet_trait::Applet;
+use card_steps::card_model::plans_are_set_in_order;
+use card_steps::store_form::Store;
 use card_steps::{CardEnd, Carrier, StepEnd};
-use script_form::HandsetLine;
-use store_form::Store;
+use handset_model::byte_streams::Sink;
+use handset_model::script_form::HandsetLine;
+use handset_model::uicc_types::Plan;
 use terminal_side::Phone;
-use uicc_types::Plan;
 
 /// What a line is for the handset.
 #[derive(Clone, Copy, Debug)]

@@ -9,17 +9,17 @@ ghost use Rattle.phone_runs.specs.Runs.{Beginning, GoesFurther, IsAt, Settles};
 ghost use Rattle.phone_runs.specs.Serving.{IsAtRest, IsPhoneServed, IsServedMore, replied, reset_by};
 ghost use Rattle.phone_runs.specs.Showing.{IsShowing, Outset, ShowsFurther, ShowsSettled};
 ghost use Rattle.terminal_side.specs.Kept.{kept};
-ghost use Rattle.uicc_types.specs.Counts.{Rose, raised};
+ghost use Rattle.handset_model.specs.uicc_types.Counts.{Rose, raised};
 
-use applet_trait::Applet;
-use byte_streams::{Failed, Sink};
-use card_model::{plans_are_set_in_order, runs_are_counted};
+use card_steps::applet_trait::Applet;
+use card_steps::card_model::{plans_are_set_in_order, runs_are_counted};
+use card_steps::store_form::Store;
 use card_steps::{CardEnd, Carrier, Reply, Restarted, StepEnd, exchange, restart};
+use handset_model::byte_streams::{Failed, Sink};
 use handset_model::lines_end;
-use script_form::{Note, write_note};
-use store_form::Store;
+use handset_model::script_form::{Note, write_note};
+use handset_model::uicc_types::{Answer, ApduBytes};
 use terminal_side::{Next, Phone};
-use uicc_types::{Answer, ApduBytes};
 
 /// The places of what goes between a handset and its card, which are used again for each command.
 #[derive(Debug, Drop)]

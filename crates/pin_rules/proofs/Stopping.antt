@@ -6,14 +6,14 @@ use Rattle.std.specs.Str.{bytes_eq}
 use Rattle.std.proofs.lemmas.Bool.{true≢false}
 use Rattle.std.proofs.lemmas.List.{length-map}
 use Rattle.std.proofs.lemmas.List.Elements.{Contains-get_or}
-use Rattle.general_laws.specs.Optional.{if_some, if_some_at}
-use Rattle.uicc_types.specs.declared.answers.Answer.{Answer}
-use Rattle.uicc_types.specs.declared.answers.StatusWord.{StatusWord}
-use Rattle.apdu_form.specs.Model.{Apdu}
-use Rattle.access_rules.specs.declared.rules.Verified.{Verified}
-use Rattle.card_layout.specs.declared.entries.Loaded.{Loaded}
-use Rattle.card_layout.specs.Persistent.{Pin, Persistent}
-use Rattle.card_layout.specs.Memory.{Memory, held}
+use Rattle.file_model.specs.uicc_types.Optional.{if_some, if_some_at}
+use Rattle.file_model.specs.uicc_types.declared.answers.Answer.{Answer}
+use Rattle.file_model.specs.uicc_types.declared.answers.StatusWord.{StatusWord}
+use Rattle.file_model.specs.apdu_form.Model.{Apdu}
+use Rattle.file_model.specs.declared.rules.Verified.{Verified}
+use Rattle.file_model.specs.card_layout.declared.entries.Loaded.{Loaded}
+use Rattle.file_model.specs.card_layout.Persistent.{Pin, Persistent}
+use Rattle.file_model.specs.card_layout.Memory.{Memory, held}
 use Rattle.file_model.specs.Outcomes.{PinOutcome, last_of, settled_pin, has_no_data}
 use Rattle.file_model.specs.Pins.{pin_found, with_pin, value_presented, tries_left, presented, pin_presented, unblock_presented}
 use Rattle.file_model.specs.declared.commands.PinCommand.{PinCommand}

@@ -5,21 +5,21 @@ use Rattle.std.proofs.lemmas.Bool.{false≢true}
 use Rattle.std.proofs.lemmas.Option.{get_or_from_slice_get, slice_get_within, slice_get-get_or}
 use Rattle.std.proofs.lemmas.List.{get_or-set_same, length-set}
 use Rattle.std.proofs.lemmas.List.Elements.{All-contains}
-use Rattle.uicc_types.specs.Counts.{raised}
-use Rattle.uicc_types.specs.declared.answers.StatusWord.{StatusWord}
-use Rattle.uicc_types.specs.declared.answers.TheConstants.StatusWord.{DONE}
-use Rattle.uicc_types.specs.declared.identifiers.Pin8.{Pin8}
-use Rattle.access_rules.specs.declared.rules.Verified.{Verified}
-use Rattle.card_layout.specs.declared.entries.PinSlot.{PinSlot}
-use Rattle.card_layout.specs.declared.entries.Loaded.{Loaded}
-use Rattle.card_layout.specs.Blank.{absent_pin}
-use Rattle.card_layout.specs.Persistent.{Pin, Persistent}
-use Rattle.card_layout.specs.Memory.{Memory, held, IsMounted}
-use Rattle.card_layout.specs.Soundness.{IsSoundPin}
-use Rattle.card_layout.specs.Standing.{Agrees}
-use Rattle.card_layout.specs.States.{pins_of, pin_state}
-use Rattle.card_layout.specs.Used.{HasPin}
-use Rattle.layout_standing.specs.Known.{StandingIsCard, SlotsArePins}
+use Rattle.file_model.specs.uicc_types.Counts.{raised}
+use Rattle.file_model.specs.uicc_types.declared.answers.StatusWord.{StatusWord}
+use Rattle.file_model.specs.uicc_types.declared.answers.TheConstants.StatusWord.{DONE}
+use Rattle.file_model.specs.uicc_types.declared.identifiers.Pin8.{Pin8}
+use Rattle.file_model.specs.declared.rules.Verified.{Verified}
+use Rattle.file_model.specs.card_layout.declared.entries.PinSlot.{PinSlot}
+use Rattle.file_model.specs.card_layout.declared.entries.Loaded.{Loaded}
+use Rattle.file_model.specs.card_layout.Blank.{absent_pin}
+use Rattle.file_model.specs.card_layout.Persistent.{Pin, Persistent}
+use Rattle.file_model.specs.card_layout.Memory.{Memory, held, IsMounted}
+use Rattle.file_model.specs.card_layout.Soundness.{IsSoundPin}
+use Rattle.file_model.specs.card_layout.Standing.{Agrees}
+use Rattle.file_model.specs.card_layout.States.{pins_of, pin_state}
+use Rattle.file_model.specs.card_layout.Used.{HasPin}
+use Rattle.card_memory.specs.layout_standing.Known.{StandingIsCard, SlotsArePins}
 use Rattle.file_model.specs.Outcomes.{PinOutcome}
 use Rattle.file_model.specs.Pins.{with_pin, marked, tries_left, presented}
 use Rattle.card_memory.specs.declared.pins.PinChange.{PinChange}

@@ -1,16 +1,16 @@
 -- What a PIN command has done, on any card, and on one that tells its state.
 use Rattle.std.specs.Prelude.{◌≡◌, ◌≢◌, ◌⊎◌, ℕ, ◌+◌, ◌<◌, ◌≤◌, ◌==◌, if◌then◌else◌, false, List, [], ◌∷◌, length, slice_index_or, None, Some, option_map, IfSome, IsSomeAnd, Result, IfOk, OnOk, OnErr}
-use Rattle.uicc_types.specs.Counts.{raised_by}
-use Rattle.uicc_types.specs.declared.answers.Answer.{Answer}
-use Rattle.uicc_types.specs.declared.answers.StatusWord.{StatusWord}
-use Rattle.uicc_types.specs.declared.answers.TheConstants.StatusWord.{MEMORY_PROBLEM}
-use Rattle.store_form.specs.declared.store.StoreFault.{StoreFault}
-use Rattle.apdu_form.specs.Model.{Apdu}
-use Rattle.access_rules.specs.declared.rules.Verified.{Verified}
-use Rattle.card_layout.specs.Persistent.{Pin, Persistent}
-use Rattle.card_layout.specs.Memory.{Memory, held, Keeps}
-use Rattle.card_layout.specs.Standing.{Agrees}
-use Rattle.card_layout.specs.States.{pins_of}
+use Rattle.file_model.specs.uicc_types.Counts.{raised_by}
+use Rattle.file_model.specs.uicc_types.declared.answers.Answer.{Answer}
+use Rattle.file_model.specs.uicc_types.declared.answers.StatusWord.{StatusWord}
+use Rattle.file_model.specs.uicc_types.declared.answers.TheConstants.StatusWord.{MEMORY_PROBLEM}
+use Rattle.file_model.specs.store_form.declared.store.StoreFault.{StoreFault}
+use Rattle.file_model.specs.apdu_form.Model.{Apdu}
+use Rattle.file_model.specs.declared.rules.Verified.{Verified}
+use Rattle.file_model.specs.card_layout.Persistent.{Pin, Persistent}
+use Rattle.file_model.specs.card_layout.Memory.{Memory, held, Keeps}
+use Rattle.file_model.specs.card_layout.Standing.{Agrees}
+use Rattle.file_model.specs.card_layout.States.{pins_of}
 use Rattle.file_model.specs.declared.commands.PinCommand.{PinCommand}
 use Rattle.file_model.specs.declared.commands.PinCommand.TheVariants.{Verify, Change, Disable, Enable, Unblock}
 use Rattle.file_model.specs.Commands.{pin_settled}

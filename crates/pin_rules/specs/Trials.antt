@@ -1,13 +1,13 @@
 -- What a PIN command comes to once no test refuses it.
 use Rattle.std.specs.Prelude.{◌≡◌, ℕ, ◌≤◌, Bool, true, if◌then◌else◌, List, length, Result, Ok, Err}
-use Rattle.uicc_types.specs.declared.answers.StatusWord.{StatusWord}
-use Rattle.apdu_form.specs.Model.{Apdu}
-use Rattle.access_rules.specs.declared.rules.Verified.{Verified}
-use Rattle.card_layout.specs.declared.entries.Loaded.{Loaded}
-use Rattle.card_layout.specs.declared.sizes.TheConstants.{TRIES}
-use Rattle.card_layout.specs.Persistent.{Pin}
-use Rattle.card_layout.specs.States.{pins_of, pin_state}
-use Rattle.card_layout.specs.Used.{HasPin}
+use Rattle.file_model.specs.uicc_types.declared.answers.StatusWord.{StatusWord}
+use Rattle.file_model.specs.apdu_form.Model.{Apdu}
+use Rattle.file_model.specs.declared.rules.Verified.{Verified}
+use Rattle.file_model.specs.card_layout.declared.entries.Loaded.{Loaded}
+use Rattle.file_model.specs.card_layout.declared.sizes.TheConstants.{TRIES}
+use Rattle.file_model.specs.card_layout.Persistent.{Pin}
+use Rattle.file_model.specs.card_layout.States.{pins_of, pin_state}
+use Rattle.file_model.specs.card_layout.Used.{HasPin}
 use Rattle.card_memory.specs.declared.pins.PinChange.{PinChange}
 use Rattle.card_memory.specs.declared.pins.PinChange.TheVariants.{Tries, UnblockTries, Value, Enabled, Unblocked}
 use Rattle.card_memory.specs.Pins.{changed_pin}

@@ -1,8 +1,8 @@
 //! VERIFY PIN, CHANGE PIN, DISABLE PIN, ENABLE PIN and UNBLOCK PIN.
 ghost use Rattle.std.specs.Prelude.{◌≡◌, ◌≤◌, [], length, Err, IfErr, IfOk, IsOk, OnOk, OnErr};
-ghost use Rattle.uicc_types.specs.Counts.{raised_by};
-ghost use Rattle.card_layout.specs.Memory.{IsMounted, memory};
-ghost use Rattle.card_layout.specs.States.{pins_of};
+ghost use Rattle.file_model.specs.uicc_types.Counts.{raised_by};
+ghost use Rattle.file_model.specs.card_layout.Memory.{IsMounted, memory};
+ghost use Rattle.file_model.specs.card_layout.States.{pins_of};
 ghost use Rattle.file_model.specs.Commands.{pin_outcome, pin_settled};
 ghost use Rattle.card_memory.specs.Model.{PerformsPin};
 ghost use Rattle.pin_rules.specs.Outcomes.{IsCarriedOut, LeavesOneLess, IsPinRefused, IsPinCutShort, IsTried, ChangesPins, AnswersPins, pin_by_byte, settled_by_byte};
@@ -11,13 +11,12 @@ ghost use Rattle.pin_rules.specs.Trials.{IsTrial, OnlyTells, comes_to};
 use crate::marks::{marked, tries_left};
 use crate::presenting::{present_pin, present_unblock};
 use crate::trials::{Trial, trial_of};
-use access_rules::Verified;
-use apdu_form::Command;
-use card_layout::Loaded;
 use card_memory::tables_tell_states;
-use file_model::{PinCommand, pins_are_guarded};
-use store_form::{Store, StoreFault};
-use uicc_types::{Answer, StatusWord};
+use file_model::apdu_form::Command;
+use file_model::card_layout::Loaded;
+use file_model::store_form::{Store, StoreFault};
+use file_model::uicc_types::{Answer, StatusWord};
+use file_model::{PinCommand, Verified, pins_are_guarded};
 
 // Does what a command does where nothing refuses it, and answers the status that it ends with.
 fn carry_out<S: Store>(
@@ -75,7 +74,8 @@ pub fn named_pin_command<S: Store>(
         (S.Store.commits store.old)) }
     ensures performs { PerformsPin result (memory S.Store store.old loaded.old) (memory S.Store store.new loaded.new)
         out.new verified.new (λ state. pin_settled pin state.pins verified.old command.now) }
-    ensures guessed { OnOk result (LeavesOneLess pin command.now out.new.status (pins_of loaded.old) (pins_of loaded.new)) }
+    ensures guessed { OnOk result (LeavesOneLess pin command.now out.new.status
+        (pins_of loaded.old) (pins_of loaded.new)) }
     ensures refused { (status : StatusWord) → pin_outcome pin (pins_of loaded.old) verified.old command.now ≡ Err status
         → IsOk result × IsPinRefused status out.new verified.old verified.new × (loaded.new ≡ loaded.old) }
     ensures still { (pin_settled pin (pins_of loaded.old) verified.old command.now).passed ≡ []

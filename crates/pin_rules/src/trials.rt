@@ -1,21 +1,21 @@
 //! What refuses a PIN command, in the written order, and what it does where nothing refuses it.
 ghost use Rattle.std.specs.Prelude.{◌≡◌, ◌≤◌, ◌==◌, true, drop, length, IfOk, IfErr, Result};
-ghost use Rattle.uicc_types.specs.declared.answers.StatusWord.{StatusWord};
-ghost use Rattle.card_layout.specs.Persistent.{Pin};
-ghost use Rattle.card_layout.specs.States.{pins_of};
+ghost use Rattle.file_model.specs.uicc_types.declared.answers.StatusWord.{StatusWord};
+ghost use Rattle.file_model.specs.card_layout.Persistent.{Pin};
+ghost use Rattle.file_model.specs.card_layout.States.{pins_of};
 ghost use Rattle.file_model.specs.Commands.{pin_outcome};
 ghost use Rattle.file_model.specs.Outcomes.{PinOutcome};
 ghost use Rattle.file_model.specs.Pins.{is_users_key, is_pin_key, pin_addressed, pin_verified, pin_changed, pin_disabled, pin_enabled, pin_unblocked};
 ghost use Rattle.pin_rules.specs.Trials.{IsHeld, IsTrial, Means, tested_with};
 
 use crate::slots::{Held, find_pin};
-use apdu_form::Command;
-use card_layout::Loaded;
-use card_layout::sizes::TRIES;
 use card_memory::PinChange;
 use file_model::PinCommand;
-use uicc_types::keys::{ADM_1, PIN_1, PIN_2};
-use uicc_types::{Pin8, StatusWord};
+use file_model::apdu_form::Command;
+use file_model::card_layout::Loaded;
+use file_model::card_layout::sizes::TRIES;
+use file_model::uicc_types::keys::{ADM_1, PIN_1, PIN_2};
+use file_model::uicc_types::{Pin8, StatusWord};
 
 /// What a PIN command does where nothing refuses it.
 #[derive(Clone, Copy, Debug)]

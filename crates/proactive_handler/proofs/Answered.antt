@@ -2,17 +2,17 @@
 use Rattle.std.proofs.Common.{◌≡◌, refl, sym, ap, ◌∙◌, subst, ℕ, true, List, [], ◌∷◌, Option, Some, None}
 use Rattle.std.specs.Prelude.{IfSome, Result, Ok, Err}
 use Rattle.std.specs.Result.{IsErr}
-use Rattle.store_form.specs.declared.store.StoreFault.{StoreFault}
-use Rattle.card_layout.specs.Memory.{held}
-use Rattle.card_layout.specs.States.{rows_of}
-use Rattle.toolkit_commands.specs.declared.responses.Response.{Response as Reply}
-use Rattle.applet_trait.specs.declared.stimuli.Stimulus.TheVariants.{Response}
+use Rattle.card_memory.specs.store_form.declared.store.StoreFault.{StoreFault}
+use Rattle.card_memory.specs.card_layout.Memory.{held}
+use Rattle.card_memory.specs.card_layout.States.{rows_of}
+use Rattle.toolkit_model.specs.toolkit_commands.declared.responses.Response.{Response as Reply}
+use Rattle.toolkit_model.specs.applet_trait.declared.stimuli.Stimulus.TheVariants.{Response}
 use Rattle.toolkit_model.specs.Sessions.{Outstanding, SessionState}
 use Rattle.toolkit_model.specs.Passing.{ToolkitState, Responded, Passed, noting, before, passed_rows}
 use Rattle.toolkit_model.specs.Running.{run_of_row}
 use Rattle.toolkit_model.specs.Commands.{unanswered, resumed, with_nothing_out, answered, responded}
 use Rattle.toolkit_model.specs.Driving.{driven}
-use Rattle.toolkit_laws.proofs.Asks.{run_late}
+use Rattle.toolkit_model.proofs.Asks.{run_late}
 use Rattle.proactive_handler.specs.Runs.{StopsAt}
 use Rattle.proactive_handler.specs.Steps.{toolkit, Scene, IsDone, MovesTo}
 use Rattle.proactive_handler.specs.Joining.{first_stops, then_moves}

@@ -2,12 +2,12 @@
 use Rattle.std.proofs.Common.{◌≡◌, refl, sym, ap, ◌∙◌, subst, ℕ, zero, suc, Bool, ◌<◌, List, [], ◌∷◌, ◌++◌, length, Option, Some, arith}
 use Rattle.std.specs.Prelude.{◌≢◌, is_some, Result, Ok, Err}
 use Rattle.std.proofs.lemmas.List.Elements.{All-head}
-use Rattle.uicc_types.specs.Counts.{raised_by}
-use Rattle.store_form.specs.declared.store.StoreFault.{StoreFault}
-use Rattle.card_layout.specs.Persistent.{Registration}
-use Rattle.applet_trait.specs.declared.stimuli.Stimulus.{Stimulus}
-use Rattle.applet_trait.specs.Minds.{AppletState}
-use Rattle.applet_trait.specs.Turns.{act}
+use Rattle.card_memory.specs.uicc_types.Counts.{raised_by}
+use Rattle.card_memory.specs.store_form.declared.store.StoreFault.{StoreFault}
+use Rattle.card_memory.specs.card_layout.Persistent.{Registration}
+use Rattle.toolkit_model.specs.applet_trait.declared.stimuli.Stimulus.{Stimulus}
+use Rattle.toolkit_model.specs.applet_trait.Minds.{AppletState}
+use Rattle.toolkit_model.specs.applet_trait.Turns.{act}
 use Rattle.toolkit_model.specs.Passing.{ToolkitState, ShelfTurn, Happening, Woke, Fetched, Responded, Given, Turned, Committed, turns, passed_rows}
 use Rattle.toolkit_model.specs.Running.{Setting, Works, carried, admitted, committed, going_on, run_on, setting_of, works_of, mind_on, run_of_mind, run_of_row}
 use Rattle.proactive_handler.specs.Boxes.{IsSameBox}

@@ -2,19 +2,19 @@
 use Rattle.std.proofs.Common.{◌≡◌, refl, sym, ap, ◌∙◌, subst, ℕ, zero, suc, true, false, List, ◌∷◌, length, Some, None, Option}
 use Rattle.std.specs.Prelude.{◌≢◌, Result, Ok, Err}
 use Rattle.std.specs.Result.{IsErr}
-use Rattle.store_form.specs.declared.store.StoreFault.{StoreFault}
-use Rattle.store_form.specs.declared.store.StoreFault.TheVariants.{Failed}
-use Rattle.card_layout.specs.declared.entries.Loaded.{Loaded}
-use Rattle.card_layout.specs.Memory.{held}
-use Rattle.card_layout.specs.States.{rows_of}
+use Rattle.card_memory.specs.store_form.declared.store.StoreFault.{StoreFault}
+use Rattle.card_memory.specs.store_form.declared.store.StoreFault.TheVariants.{Failed}
+use Rattle.card_memory.specs.card_layout.declared.entries.Loaded.{Loaded}
+use Rattle.card_memory.specs.card_layout.Memory.{held}
+use Rattle.card_memory.specs.card_layout.States.{rows_of}
 use Rattle.card_memory.specs.Model.{HasRowOn}
-use Rattle.applet_trait.specs.declared.stimuli.Stimulus.TheVariants.{Event}
+use Rattle.toolkit_model.specs.applet_trait.declared.stimuli.Stimulus.TheVariants.{Event}
 use Rattle.toolkit_model.specs.Sessions.{Sent, LateTrigger, SessionState}
 use Rattle.toolkit_model.specs.Orderly.{asks}
 use Rattle.toolkit_model.specs.Passing.{ToolkitState, Passed, unmoved, before, passed_rows}
 use Rattle.toolkit_model.specs.Running.{run_of_row}
 use Rattle.toolkit_model.specs.Driving.{is_idle, with_session, running, first_idle, catching, caught_up, filled, settled, driven}
-use Rattle.toolkit_laws.proofs.Late.{late_asks}
+use Rattle.toolkit_model.proofs.Late.{late_asks}
 use Rattle.proactive_handler.specs.Runs.{StopsAt}
 use Rattle.proactive_handler.specs.Boxes.{IsSameBox, AreForOthers}
 use Rattle.proactive_handler.specs.Serving.{IsSessionServed}

@@ -1,21 +1,21 @@
 -- The acts that change nothing in the memory, and what the applet is told after any.
 use Rattle.std.proofs.Common.{◌≡◌, refl, sym, ap, ◌∙◌, subst, ℕ, Bool, true, false, cond, List, Option, Some, None, length}
 use Rattle.std.specs.Prelude.{nat_le, option_map, IfSome, IfOk, Result, Ok, Err}
-use Rattle.store_form.specs.declared.store.StoreFault.{StoreFault}
-use Rattle.card_layout.specs.Persistent.{Registration}
-use Rattle.card_layout.specs.Memory.{Memory, held}
-use Rattle.card_layout.specs.Standing.{Agrees}
-use Rattle.card_layout.specs.States.{rows_of}
+use Rattle.card_memory.specs.store_form.declared.store.StoreFault.{StoreFault}
+use Rattle.card_memory.specs.card_layout.Persistent.{Registration}
+use Rattle.card_memory.specs.card_layout.Memory.{Memory, held}
+use Rattle.card_memory.specs.card_layout.Standing.{Agrees}
+use Rattle.card_memory.specs.card_layout.States.{rows_of}
 use Rattle.card_memory.specs.Laws.{TablesTellStates}
-use Rattle.toolkit_commands.specs.declared.commands.Proactive.{Proactive}
-use Rattle.applet_trait.specs.declared.numbers.TheConstants.{MOST_KEPT}
-use Rattle.applet_trait.specs.declared.stimuli.Stimulus.{Stimulus}
-use Rattle.applet_trait.specs.declared.stimuli.Stimulus.TheVariants.{Went, Refused}
-use Rattle.applet_trait.specs.declared.stimuli.Act.{Act}
-use Rattle.applet_trait.specs.declared.stimuli.Act.TheVariants.{Done, Send, Keep, Register, Deregister, TakeTimer, FreeTimer, Answer}
-use Rattle.applet_trait.specs.Laws.{GivesTimer}
-use Rattle.applet_trait.specs.Minds.{AppletState}
-use Rattle.timer_table.specs.Timers.{Owners, smallest_free, given_to, freed}
+use Rattle.toolkit_model.specs.toolkit_commands.declared.commands.Proactive.{Proactive}
+use Rattle.toolkit_model.specs.applet_trait.declared.numbers.TheConstants.{MOST_KEPT}
+use Rattle.toolkit_model.specs.applet_trait.declared.stimuli.Stimulus.{Stimulus}
+use Rattle.toolkit_model.specs.applet_trait.declared.stimuli.Stimulus.TheVariants.{Went, Refused}
+use Rattle.toolkit_model.specs.applet_trait.declared.stimuli.Act.{Act}
+use Rattle.toolkit_model.specs.applet_trait.declared.stimuli.Act.TheVariants.{Done, Send, Keep, Register, Deregister, TakeTimer, FreeTimer, Answer}
+use Rattle.toolkit_model.specs.applet_trait.Laws.{GivesTimer}
+use Rattle.toolkit_model.specs.applet_trait.Minds.{AppletState}
+use Rattle.toolkit_model.specs.Timers.{Owners, smallest_free, given_to, freed}
 use Rattle.toolkit_model.specs.declared.faults.RowFault.{RowFault}
 use Rattle.toolkit_model.specs.Registry.{registers, deregisters, with_code, without_code, with_kept}
 use Rattle.toolkit_model.specs.Passing.{passed_rows}

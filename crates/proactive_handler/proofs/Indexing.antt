@@ -1,15 +1,15 @@
 -- An index that stands for the rows of a table, after each change of one of them.
 use Rattle.std.proofs.Common.{◌≡◌, refl, sym, ap, ◌∙◌, subst, ℕ, true, List, [], ◌∷◌}
 use Rattle.std.specs.Prelude.{◌≢◌, Ok}
-use Rattle.card_layout.specs.declared.entries.Row.{Row}
-use Rattle.card_layout.specs.declared.entries.Loaded.{Loaded}
-use Rattle.card_layout.specs.Persistent.{Registration}
+use Rattle.card_memory.specs.card_layout.declared.entries.Row.{Row}
+use Rattle.card_memory.specs.card_layout.declared.entries.Loaded.{Loaded}
+use Rattle.card_memory.specs.card_layout.Persistent.{Registration}
 use Rattle.toolkit_model.specs.Order.{targets}
 use Rattle.toolkit_model.specs.Orderly.{IsRegistered}
 use Rattle.toolkit_model.specs.Registry.{is_registered, registers, with_code, without_code, with_kept, without_row}
 use Rattle.toolkit_model.specs.Steps.{AreRows}
-use Rattle.trigger_index.specs.Changes.{AreListed, Keeps, RegistrationsAreFollowed, ChangesAreFollowed}
-use Rattle.trigger_index.specs.Indexes.{targets_in, StandsFor}
+use Rattle.applet_registry.specs.Changes.{AreListed, Keeps, RegistrationsAreFollowed, ChangesAreFollowed}
+use Rattle.applet_registry.specs.Indexes.{targets_in, StandsFor}
 
 module _ (rows rows' : List Registration) (shelf : ℕ) (listed : AreListed rows) where
   pub kept_follows : ChangesAreFollowed → (bytes : List ℕ) → rows' ≡ with_kept rows shelf bytes → (lists : List (List ℕ)) → StandsFor lists rows → StandsFor lists rows'

@@ -7,24 +7,24 @@ use Rattle.std.specs.Result.{IsErr}
 use Rattle.std.proofs.lemmas.Bool.Decides.{nat_tests}
 use Rattle.std.proofs.lemmas.Option.{cond_some}
 use Rattle.std.proofs.lemmas.List.Elements.{Contains-append_right, filter_map-append}
-use Rattle.uicc_types.specs.Counts.{raised_by}
-use Rattle.store_form.specs.declared.store.StoreFault.{StoreFault}
-use Rattle.card_layout.specs.Memory.{Memory, held}
-use Rattle.card_layout.specs.Persistent.{Registration, Persistent}
-use Rattle.card_layout.specs.States.{rows_of}
+use Rattle.card_memory.specs.uicc_types.Counts.{raised_by}
+use Rattle.card_memory.specs.store_form.declared.store.StoreFault.{StoreFault}
+use Rattle.card_memory.specs.card_layout.Memory.{Memory, held}
+use Rattle.card_memory.specs.card_layout.Persistent.{Registration, Persistent}
+use Rattle.card_memory.specs.card_layout.States.{rows_of}
 use Rattle.card_memory.specs.Model.{PassesOne}
-use Rattle.toolkit_commands.specs.declared.commands.Proactive.{Proactive}
-use Rattle.toolkit_commands.specs.Table.{IsProper, spelled}
-use Rattle.terminal_profile.specs.Model.{allowed}
-use Rattle.applet_trait.specs.declared.numbers.TheConstants.{MOST_KEPT}
-use Rattle.applet_trait.specs.declared.stimuli.Stimulus.{Stimulus}
-use Rattle.applet_trait.specs.declared.stimuli.Stimulus.TheVariants.{Refused, Went}
-use Rattle.applet_trait.specs.declared.stimuli.Act.{Act}
-use Rattle.applet_trait.specs.declared.stimuli.Act.TheVariants.{Done, Send, Keep, Register, Deregister, TakeTimer, FreeTimer, Answer}
-use Rattle.applet_trait.specs.Laws.{IsProperAct}
-use Rattle.applet_trait.specs.Minds.{AppletState}
-use Rattle.applet_trait.specs.Turns.{act}
-use Rattle.timer_table.specs.Timers.{Owners, smallest_free, freed}
+use Rattle.toolkit_model.specs.toolkit_commands.declared.commands.Proactive.{Proactive}
+use Rattle.toolkit_model.specs.toolkit_commands.Table.{IsProper, spelled}
+use Rattle.toolkit_model.specs.Profiles.{allowed}
+use Rattle.toolkit_model.specs.applet_trait.declared.numbers.TheConstants.{MOST_KEPT}
+use Rattle.toolkit_model.specs.applet_trait.declared.stimuli.Stimulus.{Stimulus}
+use Rattle.toolkit_model.specs.applet_trait.declared.stimuli.Stimulus.TheVariants.{Refused, Went}
+use Rattle.toolkit_model.specs.applet_trait.declared.stimuli.Act.{Act}
+use Rattle.toolkit_model.specs.applet_trait.declared.stimuli.Act.TheVariants.{Done, Send, Keep, Register, Deregister, TakeTimer, FreeTimer, Answer}
+use Rattle.toolkit_model.specs.applet_trait.Laws.{IsProperAct}
+use Rattle.toolkit_model.specs.applet_trait.Minds.{AppletState}
+use Rattle.toolkit_model.specs.applet_trait.Turns.{act}
+use Rattle.toolkit_model.specs.Timers.{Owners, smallest_free, freed}
 use Rattle.toolkit_model.specs.declared.faults.RowFault.{RowFault}
 use Rattle.toolkit_model.specs.Registry.{registers, deregisters, with_code, without_code, with_kept}
 use Rattle.toolkit_model.specs.Passing.{ShelfTurn, Happening, Committed, rows_in, passed_rows, turn_in, turns}

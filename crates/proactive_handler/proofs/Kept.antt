@@ -1,9 +1,9 @@
 -- What each act comes to, from its tests.
 use Rattle.std.proofs.Common.{◌≡◌, ap, ◌∙◌, ℕ, Bool, true, false, List, length}
 use Rattle.std.specs.Prelude.{nat_le, if◌then◌else◌, Result, Ok, Err}
-use Rattle.applet_trait.specs.declared.numbers.TheConstants.{MOST_KEPT}
-use Rattle.applet_trait.specs.declared.stimuli.Stimulus.TheVariants.{Went, Refused}
-use Rattle.applet_trait.specs.declared.stimuli.Act.TheVariants.{Keep, Register, Deregister}
+use Rattle.toolkit_model.specs.applet_trait.declared.numbers.TheConstants.{MOST_KEPT}
+use Rattle.toolkit_model.specs.applet_trait.declared.stimuli.Stimulus.TheVariants.{Went, Refused}
+use Rattle.toolkit_model.specs.applet_trait.declared.stimuli.Act.TheVariants.{Keep, Register, Deregister}
 use Rattle.toolkit_model.specs.declared.faults.RowFault.{RowFault}
 use Rattle.toolkit_model.specs.Registry.{registers, deregisters, with_code, without_code, with_kept}
 use Rattle.toolkit_model.specs.Running.{Setting, Works, carried, commits, answers, changing}

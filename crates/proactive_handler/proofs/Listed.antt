@@ -1,12 +1,12 @@
 -- The rows of a sound card are such that an index can be kept of them.
 use Rattle.std.proofs.Common.{◌≡◌, refl, ap, ◌∙◌, subst, ℕ, List}
-use Rattle.card_layout.specs.Decoding.{table_of}
-use Rattle.card_layout.specs.Persistent.{Persistent}
-use Rattle.card_layout.specs.Soundness.{IsSound}
-use Rattle.card_layout.specs.Standing.{state_in}
-use Rattle.card_layout.specs.States.{rows_of, state_of}
-use Rattle.layout_soundness.specs.Laws.{StandingIsSound}
-use Rattle.trigger_index.specs.Changes.{AreListed}
+use Rattle.card_memory.specs.card_layout.Decoding.{table_of}
+use Rattle.card_memory.specs.card_layout.Persistent.{Persistent}
+use Rattle.card_memory.specs.card_layout.Soundness.{IsSound}
+use Rattle.card_memory.specs.card_layout.Standing.{state_in}
+use Rattle.card_memory.specs.card_layout.States.{rows_of, state_of}
+use Rattle.card_memory.specs.layout_standing.SoundnessLaws.{StandingIsSound}
+use Rattle.applet_registry.specs.Changes.{AreListed}
 use Rattle.proactive_handler.specs.Rows.{RowsAreListed}
 
 sound_listed : (state : Persistent) → IsSound state → AreListed state.rows

@@ -3,19 +3,19 @@ use Rattle.std.proofs.Common.{◌≡◌, refl, sym, ap, ◌∙◌, subst, ℕ, B
 use Rattle.std.specs.Prelude.{◌≢◌, not, filter, All}
 use Rattle.std.proofs.lemmas.List.{length-append}
 use Rattle.std.proofs.lemmas.List.Elements.{All-head, All-tail}
-use Rattle.card_layout.specs.declared.entries.Loaded.{Loaded}
+use Rattle.card_memory.specs.card_layout.declared.entries.Loaded.{Loaded}
 use Rattle.card_memory.specs.Model.{HasRowOn}
-use Rattle.toolkit_commands.specs.declared.commands.Proactive.{Proactive}
-use Rattle.applet_trait.specs.declared.stimuli.Stimulus.{Stimulus}
-use Rattle.applet_trait.specs.Minds.{AppletState}
-use Rattle.timer_table.specs.Timers.{Owners}
+use Rattle.toolkit_model.specs.toolkit_commands.declared.commands.Proactive.{Proactive}
+use Rattle.toolkit_model.specs.applet_trait.declared.stimuli.Stimulus.{Stimulus}
+use Rattle.toolkit_model.specs.applet_trait.Minds.{AppletState}
+use Rattle.toolkit_model.specs.Timers.{Owners}
 use Rattle.toolkit_model.specs.Sessions.{Sent, LateTrigger, SessionState}
 use Rattle.toolkit_model.specs.Orderly.{asks}
 use Rattle.toolkit_model.specs.Passing.{ToolkitState}
 use Rattle.toolkit_model.specs.Running.{sending, mind_on, run_of_mind, run_of_row}
 use Rattle.toolkit_model.specs.Driving.{is_idle}
-use Rattle.toolkit_laws.proofs.Asks.{sending_idle}
-use Rattle.toolkit_laws.proofs.Late.{late_asks}
+use Rattle.toolkit_model.proofs.Asks.{sending_idle}
+use Rattle.toolkit_model.proofs.Late.{late_asks}
 use Rattle.proactive_handler.specs.Late.{sending_late}
 use Rattle.proactive_handler.specs.Serving.{IsSessionServed, HasPlaces}
 use Rattle.proactive_handler.proofs.Serving.{ran_served, rows_keep}

@@ -3,14 +3,14 @@ use Rattle.std.proofs.Common.{◌≡◌, refl, sym, ap, ◌∙◌, subst, ℕ, z
 use Rattle.std.specs.Prelude.{option_map}
 use Rattle.std.specs.List.{last_or}
 use Rattle.std.proofs.lemmas.List.Elements.{filter_map-append}
-use Rattle.card_layout.specs.Memory.{Memory, held}
-use Rattle.card_layout.specs.Persistent.{Registration}
-use Rattle.card_layout.specs.States.{rows_of}
-use Rattle.toolkit_commands.specs.declared.commands.Proactive.{Proactive}
-use Rattle.applet_trait.specs.declared.stimuli.Stimulus.{Stimulus}
-use Rattle.applet_trait.specs.Minds.{AppletState}
-use Rattle.applet_trait.specs.Turns.{act}
-use Rattle.timer_table.specs.Timers.{Owners}
+use Rattle.card_memory.specs.card_layout.Memory.{Memory, held}
+use Rattle.card_memory.specs.card_layout.Persistent.{Registration}
+use Rattle.card_memory.specs.card_layout.States.{rows_of}
+use Rattle.toolkit_model.specs.toolkit_commands.declared.commands.Proactive.{Proactive}
+use Rattle.toolkit_model.specs.applet_trait.declared.stimuli.Stimulus.{Stimulus}
+use Rattle.toolkit_model.specs.applet_trait.Minds.{AppletState}
+use Rattle.toolkit_model.specs.applet_trait.Turns.{act}
+use Rattle.toolkit_model.specs.Timers.{Owners}
 use Rattle.toolkit_model.specs.Sessions.{SessionState}
 use Rattle.toolkit_model.specs.Passing.{ToolkitState, Committed, Passed, rows_in, passed_rows}
 use Rattle.toolkit_model.specs.Commands.{last_answer}

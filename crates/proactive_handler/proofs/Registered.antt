@@ -2,11 +2,11 @@
 use Rattle.std.proofs.Common.{◌≡◌, sym, subst, ℕ, true, List, [], map, get_or, Option}
 use Rattle.std.specs.Prelude.{IsSomeAnd, Contains, All}
 use Rattle.std.proofs.lemmas.List.Elements.{All-map, All-weaker, Contains-get_or}
-use Rattle.card_layout.specs.declared.entries.Row.{Row}
-use Rattle.card_layout.specs.declared.entries.Loaded.{Loaded}
-use Rattle.card_layout.specs.Persistent.{Registration}
-use Rattle.card_layout.specs.StateLaws.{RowsComeFromEntries, StatesAreOfTables, IsOfRow}
-use Rattle.card_layout.specs.States.{rows_of}
+use Rattle.card_memory.specs.card_layout.declared.entries.Row.{Row}
+use Rattle.card_memory.specs.card_layout.declared.entries.Loaded.{Loaded}
+use Rattle.card_memory.specs.card_layout.Persistent.{Registration}
+use Rattle.card_memory.specs.card_layout.StateLaws.{RowsComeFromEntries, StatesAreOfTables, IsOfRow}
+use Rattle.card_memory.specs.card_layout.States.{rows_of}
 use Rattle.card_memory.specs.Model.{HasRowOn}
 use Rattle.toolkit_model.specs.Orderly.{IsRegistered, asks}
 use Rattle.proactive_handler.specs.Serving.{SessionsAreServed}

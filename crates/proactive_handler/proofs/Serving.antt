@@ -8,22 +8,22 @@ use Rattle.std.proofs.lemmas.List.Elements.{All-nil, All-cons, All-head, All-tai
 use Rattle.std.proofs.lemmas.List.Quantifiers.{all_pairs_push}
 use Rattle.std.proofs.lemmas.List.Kept.{AllPairs-filter}
 use Rattle.std.proofs.lemmas.Option.{slice_get_within}
-use Rattle.general_laws.specs.Choices.{chosen}
-use Rattle.general_laws.specs.Pairs.{pairs_cons, pairs_head, pairs_tail, pairs_map}
-use Rattle.card_layout.specs.declared.entries.Loaded.{Loaded}
-use Rattle.card_layout.specs.declared.entries.Row.{Row}
-use Rattle.card_layout.specs.Persistent.{Registration}
+use Rattle.card_memory.specs.uicc_types.Choices.{chosen}
+use Rattle.card_memory.specs.uicc_types.Pairs.{pairs_cons, pairs_head, pairs_tail, pairs_map}
+use Rattle.card_memory.specs.card_layout.declared.entries.Loaded.{Loaded}
+use Rattle.card_memory.specs.card_layout.declared.entries.Row.{Row}
+use Rattle.card_memory.specs.card_layout.Persistent.{Registration}
 use Rattle.card_memory.specs.Model.{HasRowOn}
-use Rattle.toolkit_commands.specs.declared.commands.Proactive.{Proactive}
-use Rattle.timer_table.specs.Timers.{Owners}
+use Rattle.toolkit_model.specs.toolkit_commands.declared.commands.Proactive.{Proactive}
+use Rattle.toolkit_model.specs.Timers.{Owners}
 use Rattle.toolkit_model.specs.Sessions.{Outstanding, Sent, LateTrigger, SessionState}
 use Rattle.toolkit_model.specs.Orderly.{owned, sent_by, asks}
 use Rattle.toolkit_model.specs.Commands.{if_fetched, unanswered}
 use Rattle.toolkit_model.specs.Running.{sending}
 use Rattle.toolkit_model.specs.Driving.{is_idle, behind, first_idle, front_out, next_out, filled, wanted}
-use Rattle.toolkit_laws.proofs.Ready.{idle_all, asks_same, asks_more}
-use Rattle.toolkit_laws.proofs.Late.{late_asks}
-use Rattle.toolkit_laws.proofs.Others.{asks_out, behind_all}
+use Rattle.toolkit_model.proofs.Ready.{idle_all, asks_same, asks_more}
+use Rattle.toolkit_model.proofs.Late.{late_asks}
+use Rattle.toolkit_model.proofs.Others.{asks_out, behind_all}
 use Rattle.proactive_handler.specs.Serving.{IsSessionServed}
 
 -- ---- numbers that are apart and below a bound are no more than it

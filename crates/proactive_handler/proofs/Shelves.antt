@@ -8,17 +8,17 @@ use Rattle.std.proofs.lemmas.Bool.Decides.{nat_tests}
 use Rattle.std.proofs.lemmas.List.{get_or-set_same, get_or-set_other, length-set}
 use Rattle.std.proofs.lemmas.List.Elements.{All-cons, Contains-append_right, Contains-append_cases}
 use Rattle.std.proofs.lemmas.Option.{get_or_from_slice_get, slice_get_within, slice_get-get_or}
-use Rattle.card_layout.specs.declared.entries.Row.{Row}
-use Rattle.card_layout.specs.declared.entries.Loaded.{Loaded}
-use Rattle.card_layout.specs.Blank.{unused_row}
-use Rattle.card_layout.specs.Kinds.{call_control_code}
-use Rattle.card_layout.specs.Persistent.{Registration}
-use Rattle.card_layout.specs.Sections.{is_code, is_call_control}
-use Rattle.card_layout.specs.StateLaws.{RowsAreEntries, StatesAreOfTables}
-use Rattle.card_layout.specs.States.{registration_of, rows_of}
-use Rattle.card_layout.specs.Used.{registration_if}
+use Rattle.card_memory.specs.card_layout.declared.entries.Row.{Row}
+use Rattle.card_memory.specs.card_layout.declared.entries.Loaded.{Loaded}
+use Rattle.card_memory.specs.card_layout.Blank.{unused_row}
+use Rattle.card_memory.specs.card_layout.Kinds.{call_control_code}
+use Rattle.card_memory.specs.card_layout.Persistent.{Registration}
+use Rattle.card_memory.specs.card_layout.Sections.{is_code, is_call_control}
+use Rattle.card_memory.specs.card_layout.StateLaws.{RowsAreEntries, StatesAreOfTables}
+use Rattle.card_memory.specs.card_layout.States.{registration_of, rows_of}
+use Rattle.card_memory.specs.card_layout.Used.{registration_if}
 use Rattle.card_memory.specs.Model.{HasRowOn, row_at, with_row_at, MayRegister}
-use Rattle.layout_standing.specs.Laws.{NoOtherHasCallControl}
+use Rattle.card_memory.specs.layout_standing.StandingLaws.{NoOtherHasCallControl}
 use Rattle.toolkit_model.specs.declared.faults.RowFault.TheVariants.{BadData, Taken}
 use Rattle.toolkit_model.specs.Orderly.{IsRegistered}
 use Rattle.toolkit_model.specs.Running.{kept_on}

@@ -2,20 +2,20 @@
 use Rattle.std.proofs.Common.{◌≡◌, refl, sym, ap, ◌∙◌, subst, ⊎_elim, inl, inr, ℕ, List, Option, Some, None}
 use Rattle.std.specs.Prelude.{◌⊎◌, option_map, Result, Ok, Err}
 use Rattle.std.specs.Result.{IsErr}
-use Rattle.uicc_types.specs.Counts.{raised}
-use Rattle.store_form.specs.declared.store.StoreFault.{StoreFault}
-use Rattle.card_layout.specs.declared.entries.Loaded.{Loaded}
-use Rattle.card_layout.specs.Memory.{Memory, held}
-use Rattle.card_layout.specs.Changing.{with_row_changed, with_code_committed, without_code_committed, with_kept_committed}
-use Rattle.card_layout.specs.Persistent.{Registration, Persistent}
-use Rattle.card_layout.specs.Standing.{Agrees}
-use Rattle.card_layout.specs.States.{rows_of}
+use Rattle.card_memory.specs.uicc_types.Counts.{raised}
+use Rattle.card_memory.specs.store_form.declared.store.StoreFault.{StoreFault}
+use Rattle.card_memory.specs.card_layout.declared.entries.Loaded.{Loaded}
+use Rattle.card_memory.specs.card_layout.Memory.{Memory, held}
+use Rattle.card_memory.specs.card_layout.Changing.{with_row_changed, with_code_committed, without_code_committed, with_kept_committed}
+use Rattle.card_memory.specs.card_layout.Persistent.{Registration, Persistent}
+use Rattle.card_memory.specs.card_layout.Standing.{Agrees}
+use Rattle.card_memory.specs.card_layout.States.{rows_of}
 use Rattle.card_memory.specs.Laws.{TablesTellStates}
-use Rattle.applet_trait.specs.declared.stimuli.Stimulus.{Stimulus}
-use Rattle.applet_trait.specs.declared.stimuli.Stimulus.TheVariants.{Went}
-use Rattle.applet_trait.specs.declared.stimuli.Act.{Act}
-use Rattle.applet_trait.specs.Minds.{AppletState}
-use Rattle.timer_table.specs.Timers.{Owners}
+use Rattle.toolkit_model.specs.applet_trait.declared.stimuli.Stimulus.{Stimulus}
+use Rattle.toolkit_model.specs.applet_trait.declared.stimuli.Stimulus.TheVariants.{Went}
+use Rattle.toolkit_model.specs.applet_trait.declared.stimuli.Act.{Act}
+use Rattle.toolkit_model.specs.applet_trait.Minds.{AppletState}
+use Rattle.toolkit_model.specs.Timers.{Owners}
 use Rattle.toolkit_model.specs.Registry.{with_code, without_code, with_kept}
 use Rattle.toolkit_model.specs.Passing.{passed_rows}
 use Rattle.toolkit_model.specs.Running.{Setting, Works, Carried, carried, commits, committed, answers, admitted}

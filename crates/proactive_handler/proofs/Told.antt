@@ -2,14 +2,14 @@
 use Rattle.std.proofs.Common.{◌≡◌, refl, sym, ap, ◌∙◌, subst, ℕ, Bool, true, false, List, [], ◌∷◌, ◌++◌, map, length, cond, Option, None, arith}
 use Rattle.std.specs.Prelude.{◌≢◌, All, AllPairs, Result, Ok, Err}
 use Rattle.std.proofs.lemmas.List.Elements.{All-head, All-map, All-tail, All-weaker}
-use Rattle.general_laws.specs.Pairs.{pairs_head, pairs_tail}
-use Rattle.uicc_types.specs.declared.identifiers.Shelf.{Shelf}
-use Rattle.card_layout.specs.declared.entries.Loaded.{Loaded}
+use Rattle.card_memory.specs.uicc_types.Pairs.{pairs_head, pairs_tail}
+use Rattle.card_memory.specs.uicc_types.declared.identifiers.Shelf.{Shelf}
+use Rattle.card_memory.specs.card_layout.declared.entries.Loaded.{Loaded}
 use Rattle.card_memory.specs.Model.{HasRowOn}
 use Rattle.std.specs.Option.{option_or}
 use Rattle.std.specs.Result.{IsErr}
-use Rattle.store_form.specs.declared.store.StoreFault.{StoreFault}
-use Rattle.applet_trait.specs.declared.stimuli.Stimulus.TheVariants.{Event}
+use Rattle.card_memory.specs.store_form.declared.store.StoreFault.{StoreFault}
+use Rattle.toolkit_model.specs.applet_trait.declared.stimuli.Stimulus.TheVariants.{Event}
 use Rattle.toolkit_model.specs.Sessions.{SessionState}
 use Rattle.toolkit_model.specs.Orderly.{asks}
 use Rattle.toolkit_model.specs.Passing.{ToolkitState, Happening, Given, Passed, unmoved, noting, in_turn, passed_rows}
@@ -19,8 +19,8 @@ use Rattle.toolkit_model.specs.Driving.{is_idle, with_session, told_if, given_if
 use Rattle.proactive_handler.specs.Boxes.{IsSameBox}
 use Rattle.proactive_handler.specs.Serving.{HasPlaces, triggered_one}
 use Rattle.proactive_handler.specs.Steps.{Scene, toolkit, IsDone, MovesTo}
-use Rattle.card_layout.specs.Memory.{held}
-use Rattle.card_layout.specs.States.{rows_of}
+use Rattle.card_memory.specs.card_layout.Memory.{held}
+use Rattle.card_memory.specs.card_layout.States.{rows_of}
 use Rattle.proactive_handler.specs.Runs.{StopsAt}
 use Rattle.proactive_handler.specs.Joining.{first_stops, second_stops, both_done}
 use Rattle.proactive_handler.specs.Reached.{Tells, StopsBehind, TurnsTo, noted_turns, first_reached, second_reached, both_leave, HasNoTurn}

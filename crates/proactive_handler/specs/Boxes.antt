@@ -1,15 +1,11 @@
 -- The boxes of applets on their shelves, as a contract sees them: by their minds.
 use Rattle.std.proofs.Common.{◌∙◌}
 use Rattle.std.specs.Prelude.{◌≡◌, ◌≢◌, ℕ, List, map, All, slice_index_or, Option, None, option_map}
-use Rattle.applet_trait.specs.Minds.{AppletState}
-use Rattle.card_layout.specs.declared.entries.Loaded.{Loaded}
+use Rattle.toolkit_model.specs.applet_trait.Minds.{AppletState}
+use Rattle.card_memory.specs.card_layout.declared.entries.Loaded.{Loaded}
 use Rattle.card_memory.specs.Model.{HasRowOn}
 use Rattle.toolkit_model.specs.Running.{mind_on}
 use Rattle.toolkit_model.specs.Sessions.{LateTrigger}
-
--- the mind in each box
-abbrev pub minds_of : {B : Type 0} → (B → AppletState) → List (Option B) → List (Option AppletState)
-minds_of mind boxes = map (option_map mind) boxes
 
 -- the kind of each applet that is there
 abbrev pub kinds_of : List (Option AppletState) → List (Option ℕ)

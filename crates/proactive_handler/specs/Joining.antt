@@ -4,11 +4,11 @@ use Rattle.std.specs.Prelude.{◌⊎◌, length, slice_index_or, option_map, Res
 use Rattle.std.specs.List.{last_or}
 use Rattle.std.proofs.lemmas.List.{get_or-append-add, get_or_append_left, length-append}
 use Rattle.std.proofs.lemmas.List.Elements.{filter_map-append}
-use Rattle.uicc_types.specs.Counts.{raised, raised_by}
-use Rattle.store_form.specs.declared.store.StoreFault.{StoreFault}
-use Rattle.card_layout.specs.Memory.{Memory, held}
-use Rattle.card_layout.specs.Persistent.{Registration, Persistent}
-use Rattle.card_layout.specs.States.{rows_of}
+use Rattle.card_memory.specs.uicc_types.Counts.{raised, raised_by}
+use Rattle.card_memory.specs.store_form.declared.store.StoreFault.{StoreFault}
+use Rattle.card_memory.specs.card_layout.Memory.{Memory, held}
+use Rattle.card_memory.specs.card_layout.Persistent.{Registration, Persistent}
+use Rattle.card_memory.specs.card_layout.States.{rows_of}
 use Rattle.toolkit_model.specs.Passing.{ToolkitState, Happening, Passed, noting, before, rows_in, passed_rows}
 use Rattle.proactive_handler.specs.Acts.{with_these_rows}
 use Rattle.proactive_handler.specs.Counting.{Counts, counts_then}

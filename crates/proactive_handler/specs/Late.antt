@@ -2,14 +2,14 @@
 use Rattle.std.proofs.Common.{◌≡◌, refl, sym, subst, ℕ, Bool, true, false, List, [], ◌∷◌, Option, Some, None}
 use Rattle.std.specs.Prelude.{◌≢◌, All}
 use Rattle.std.proofs.lemmas.List.Elements.{All-append, All-cons, All-head, All-nil, All-tail}
-use Rattle.applet_trait.specs.declared.stimuli.Stimulus.TheVariants.{Event}
-use Rattle.toolkit_commands.specs.declared.commands.Proactive.{Proactive}
+use Rattle.toolkit_model.specs.applet_trait.declared.stimuli.Stimulus.TheVariants.{Event}
+use Rattle.toolkit_model.specs.toolkit_commands.declared.commands.Proactive.{Proactive}
 use Rattle.toolkit_model.specs.Sessions.{LateTrigger, SessionState}
 use Rattle.toolkit_model.specs.Orderly.{asks}
 use Rattle.toolkit_model.specs.Passing.{ToolkitState, in_turn}
 use Rattle.toolkit_model.specs.Running.{sending, run_of_row}
 use Rattle.toolkit_model.specs.Driving.{is_idle, told_if, given_if, trigger_for, told_one, given_one}
-use Rattle.toolkit_laws.proofs.Asks.{run_late}
+use Rattle.toolkit_model.proofs.Asks.{run_late}
 use Rattle.proactive_handler.specs.Boxes.{AreForOthers}
 use Rattle.proactive_handler.specs.Serving.{triggered_one}
 

@@ -4,11 +4,11 @@ use Rattle.std.specs.Prelude.{◌≢◌, Bool, All, Option, Result, Ok, Err, IfO
 use Rattle.std.specs.Result.{IsErr}
 use Rattle.std.proofs.lemmas.List.{append_assoc}
 use Rattle.std.proofs.lemmas.List.Elements.{filter_map-append}
-use Rattle.general_laws.specs.Members.{front_of, back_of}
-use Rattle.uicc_types.specs.Counts.{raised_by}
-use Rattle.store_form.specs.declared.store.StoreFault.{StoreFault}
-use Rattle.card_layout.specs.Memory.{Memory}
-use Rattle.card_layout.specs.Persistent.{Registration}
+use Rattle.card_memory.specs.uicc_types.Members.{front_of, back_of}
+use Rattle.card_memory.specs.uicc_types.Counts.{raised_by}
+use Rattle.card_memory.specs.store_form.declared.store.StoreFault.{StoreFault}
+use Rattle.card_memory.specs.card_layout.Memory.{Memory}
+use Rattle.card_memory.specs.card_layout.Persistent.{Registration}
 use Rattle.toolkit_model.specs.Commands.{last_answer}
 use Rattle.toolkit_model.specs.Passing.{ToolkitState, ShelfTurn, Happening, Committed, Passed, noting, before, turn_in, turns, passed_rows}
 use Rattle.proactive_handler.specs.Boxes.{IsSameBox}

@@ -2,17 +2,17 @@
 use Rattle.std.proofs.Common.{◌∙◌, ap, subst}
 use Rattle.std.specs.Prelude.{◌≡◌, ℕ, List, length, Option, None, Result, Ok, Err, OnOk, OnErr, IsErrAnd}
 use Rattle.std.specs.Result.{IsErr}
-use Rattle.store_form.specs.declared.store.StoreFault.{StoreFault}
-use Rattle.card_layout.specs.declared.entries.Loaded.{Loaded}
-use Rattle.card_layout.specs.declared.sizes.TheConstants.{ROW_COUNT}
-use Rattle.card_layout.specs.Memory.{Memory, IsMounted, Keeps}
-use Rattle.card_layout.specs.Standing.{Agrees}
-use Rattle.card_layout.specs.States.{rows_of}
+use Rattle.card_memory.specs.store_form.declared.store.StoreFault.{StoreFault}
+use Rattle.card_memory.specs.card_layout.declared.entries.Loaded.{Loaded}
+use Rattle.card_memory.specs.card_layout.declared.sizes.TheConstants.{ROW_COUNT}
+use Rattle.card_memory.specs.card_layout.Memory.{Memory, IsMounted, Keeps}
+use Rattle.card_memory.specs.card_layout.Standing.{Agrees}
+use Rattle.card_memory.specs.card_layout.States.{rows_of}
 use Rattle.card_memory.specs.Model.{HasRowOn}
-use Rattle.applet_trait.specs.Minds.{AppletState}
-use Rattle.trigger_index.specs.Indexes.{StandsFor}
+use Rattle.toolkit_model.specs.applet_trait.Minds.{AppletState}
+use Rattle.applet_registry.specs.Indexes.{StandsFor}
 use Rattle.proactive_handler.specs.Boxes.{kinds_of, LeavesOthers, others_then}
-use Rattle.proactive_handler.specs.Keeping.{keeps_then, keeps_done, fault_keeps}
+use Rattle.card_memory.specs.Keeping.{keeps_then, keeps_done, fault_keeps}
 use Rattle.proactive_handler.specs.Serving.{IsSessionServed}
 use Rattle.proactive_handler.specs.Steps.{Scene}
 

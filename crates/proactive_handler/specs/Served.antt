@@ -2,8 +2,8 @@
 use Rattle.std.proofs.Common.{◌≡◌, refl, sym, ap, ◌∙◌, subst, List, [], ◌++◌, Option}
 use Rattle.std.specs.Prelude.{◌≢◌, All, AllPairs}
 use Rattle.std.proofs.lemmas.List.Elements.{All-nil}
-use Rattle.general_laws.specs.Pairs.{pairs_nil}
-use Rattle.card_layout.specs.declared.entries.Loaded.{Loaded}
+use Rattle.card_memory.specs.uicc_types.Pairs.{pairs_nil}
+use Rattle.card_memory.specs.card_layout.declared.entries.Loaded.{Loaded}
 use Rattle.card_memory.specs.Model.{HasRowOn}
 use Rattle.toolkit_model.specs.Sessions.{Outstanding, Sent, LateTrigger, SessionState, fresh_session}
 use Rattle.toolkit_model.specs.Orderly.{owned, asks}

@@ -1,21 +1,21 @@
 //! An act, whichever it is.
 ghost use Rattle.std.specs.Prelude.{◌≡◌, OnErr, IfOk};
-ghost use Rattle.applet_trait.specs.Laws.{IsWritableAct};
-ghost use Rattle.applet_trait.specs.Minds.{AppletState};
+ghost use Rattle.toolkit_model.specs.applet_trait.Laws.{IsWritableAct};
+ghost use Rattle.toolkit_model.specs.applet_trait.Minds.{AppletState};
 ghost use Rattle.proactive_handler.specs.Acts.{setting_of, after, Carries, TellsTimer, stage};
-ghost use Rattle.card_layout.specs.Memory.{memory};
+ghost use Rattle.card_memory.specs.card_layout.Memory.{memory};
 ghost use Rattle.proactive_handler.specs.Runs.{MayRun, KeepsRows};
 
 use crate::changes::{deregister, keep, register};
 use crate::endings::{Next, Reply};
 use crate::messages::{free_timer, send, take_timer};
 use crate::settings::Setting;
-use applet_trait::Act;
-use card_layout::Loaded;
+use applet_registry::Index;
+use card_memory::card_layout::Loaded;
+use card_memory::store_form::{Store, StoreFault};
 use card_memory::tables_tell_states;
-use store_form::{Store, StoreFault};
-use timer_table::Timers;
-use trigger_index::Index;
+use toolkit_model::Timers;
+use toolkit_model::applet_trait::Act;
 
 /// Carries out an act of the applet whose run is here, and says what comes after it. A fault stops its one commit, if it has one.
 pub(crate) fn carry_out<S: Store>(

@@ -1,26 +1,27 @@
 //! The acts that change what the memory has of a row: each is one commit, if anything changes.
 ghost use Rattle.std.specs.Prelude.{ℕ, ◌≡◌, true, List, OnOk, OnErr, Ok};
-ghost use Rattle.card_layout.specs.States.{rows_of};
-ghost use Rattle.applet_trait.specs.declared.stimuli.Act.TheVariants.{Keep, Register, Deregister};
-ghost use Rattle.applet_trait.specs.Minds.{AppletState};
-ghost use Rattle.timer_table.specs.Timers.{Owners};
+ghost use Rattle.card_memory.specs.card_layout.States.{rows_of};
+ghost use Rattle.toolkit_model.specs.applet_trait.declared.stimuli.Act.TheVariants.{Keep, Register, Deregister};
+ghost use Rattle.toolkit_model.specs.applet_trait.Minds.{AppletState};
+ghost use Rattle.toolkit_model.specs.Timers.{Owners};
 ghost use Rattle.card_memory.specs.Model.{HasRowOn};
 ghost use Rattle.toolkit_model.specs.Registry.{registers, deregisters};
 ghost use Rattle.toolkit_model.specs.Running.{Setting};
-ghost use Rattle.trigger_index.specs.Indexes.{StandsFor};
+ghost use Rattle.applet_registry.specs.Indexes.{StandsFor};
 ghost use Rattle.proactive_handler.specs.Acts.{Carries, stage};
-ghost use Rattle.card_layout.specs.Memory.{IsMounted, Keeps, memory};
+ghost use Rattle.card_memory.specs.card_layout.Memory.{IsMounted, Keeps, memory};
 ghost use Rattle.proactive_handler.specs.Runs.{MayRun};
 
 use crate::endings::{Next, Reply};
 use crate::laws::rows_are_listed;
-use applet_registry::commits_are_those_of_sessions;
-use applet_trait::numbers::MOST_KEPT;
-use card_layout::{Loaded, states_are_of_entries};
+use applet_registry::{
+    Index, changes_are_followed, commits_are_those_of_sessions, registrations_are_followed,
+};
+use card_memory::card_layout::{Loaded, states_are_of_entries};
+use card_memory::store_form::{Store, StoreFault};
 use card_memory::tables_tell_states;
-use store_form::{Store, StoreFault};
-use trigger_index::{Index, changes_are_followed, registrations_are_followed};
-use uicc_types::Shelf;
+use card_memory::uicc_types::Shelf;
+use toolkit_model::applet_trait::numbers::MOST_KEPT;
 
 /// Keeps these bytes for the row of a shelf, which is one commit, also where they are those that it kept. More than 32 are
 /// refused.

@@ -1,21 +1,22 @@
 //! What ends a command that moved the toolkit: what came late is caught up with, and a command becomes outstanding.
 ghost use Rattle.std.specs.Prelude.{ℕ};
-ghost use Rattle.proactive_handler.specs.Boxes.{minds_of, IsSameBox, AreForOthers};
+ghost use Rattle.proactive_handler.specs.Boxes.{IsSameBox, AreForOthers};
+ghost use Rattle.toolkit_model.specs.applet_trait.Minds.{minds_of};
 ghost use Rattle.toolkit_model.specs.Driving.{caught_up, driven};
 ghost use Rattle.proactive_handler.specs.Steps.{scene, Moves};
-ghost use Rattle.card_layout.specs.Memory.{memory};
+ghost use Rattle.card_memory.specs.card_layout.Memory.{memory};
 ghost use Rattle.proactive_handler.specs.Reached.{TurnsOnly};
 ghost use Rattle.proactive_handler.specs.Scenes.{IsInService, KeepsScene};
 
 use crate::laws::rows_are_listed;
 use crate::running::run_alone;
-use applet_trait::{Applet, Stimulus};
-use card_layout::Loaded;
+use applet_registry::Index;
+use card_memory::card_layout::Loaded;
+use card_memory::store_form::{Store, StoreFault};
 use card_memory::tables_tell_states;
 use kept_triggers::{Late, Trigger};
-use store_form::{Store, StoreFault};
+use toolkit_model::applet_trait::{Applet, Stimulus};
 use toolkit_session::Session;
-use trigger_index::Index;
 
 // So many late triggers at most, the first whose applet is idle each time.
 fn catch_each<S: Store, B: Applet>(

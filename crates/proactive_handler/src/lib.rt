@@ -1,6 +1,8 @@
 //! What runs the applets of a card: an event triggers them, an answer of the handset resumes one, and driving ends what came late
 //! and puts the next command out. One runs act after act over the card's memory, until it is done, sends a command to the handset,
 //! or did 32 of them.
+//!
+//! It passes on the crates whose words it speaks, so that who stands on it need not list them.
 #![tactic(auto)]
 
 mod acting;
@@ -16,7 +18,12 @@ mod running;
 mod settings;
 mod triggering;
 
+pub use applet_registry;
+pub use card_memory;
+pub use card_memory::layout_standing;
 pub use driving::drive;
+pub use kept_triggers;
 pub use laws::{rows_are_listed, sessions_are_served};
 pub use responding::respond;
+pub use toolkit_session;
 pub use triggering::trigger;

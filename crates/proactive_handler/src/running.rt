@@ -1,8 +1,8 @@
 //! The run of one applet, from its box, with what it leaves of the session.
 ghost use Rattle.std.specs.Prelude.{ℕ, ◌≡◌, ◌≢◌, ◌<◌, List, length, true, false, IfOk, IfSome, Option, Some, None};
-ghost use Rattle.card_layout.specs.declared.sizes.TheConstants.{ROW_COUNT};
-ghost use Rattle.applet_trait.specs.Laws.{GivesTimer};
-ghost use Rattle.applet_trait.specs.Minds.{AppletState};
+ghost use Rattle.card_memory.specs.card_layout.declared.sizes.TheConstants.{ROW_COUNT};
+ghost use Rattle.toolkit_model.specs.applet_trait.Laws.{GivesTimer};
+ghost use Rattle.toolkit_model.specs.applet_trait.Minds.{AppletState, minds_of};
 ghost use Rattle.card_memory.specs.Model.{HasRowOn};
 ghost use Rattle.kept_triggers.specs.declared.waiting.TheConstants.Waiting.{MOST};
 ghost use Rattle.toolkit_model.specs.Commands.{last_answer};
@@ -10,10 +10,10 @@ ghost use Rattle.toolkit_model.specs.Driving.{is_idle};
 ghost use Rattle.toolkit_model.specs.Orderly.{asks, CanBeSent};
 ghost use Rattle.toolkit_model.specs.Running.{begins_call, sending, mind_on, with_mind, run_of_row};
 ghost use Rattle.proactive_handler.specs.Acts.{command_of};
-ghost use Rattle.proactive_handler.specs.Boxes.{minds_of, IsSameBox};
+ghost use Rattle.proactive_handler.specs.Boxes.{IsSameBox};
 ghost use Rattle.proactive_handler.specs.Serving.{IsSessionServed};
 ghost use Rattle.proactive_handler.specs.Steps.{scene, toolkit, Moves};
-ghost use Rattle.card_layout.specs.Memory.{memory};
+ghost use Rattle.card_memory.specs.card_layout.Memory.{memory};
 ghost use Rattle.proactive_handler.specs.Reached.{Tells};
 ghost use Rattle.proactive_handler.specs.Scenes.{IsInService, KeepsScene};
 ghost use Rattle.proactive_handler.specs.Runs.{ended_by, MayRun, KeepsRows};
@@ -21,14 +21,14 @@ ghost use Rattle.proactive_handler.specs.Runs.{ended_by, MayRun, KeepsRows};
 use crate::acting::run_row;
 use crate::endings::Ending;
 use crate::settings::Setting;
-use applet_trait::{Act, Applet, Stimulus};
-use card_layout::Loaded;
+use applet_registry::Index;
+use card_memory::card_layout::Loaded;
+use card_memory::store_form::{Store, StoreFault};
 use card_memory::tables_tell_states;
-use store_form::{Store, StoreFault};
+use card_memory::uicc_types::Shelf;
+use card_memory::uicc_types::events::CALL_CONTROL;
+use toolkit_model::applet_trait::{Act, Applet, Stimulus};
 use toolkit_session::Session;
-use trigger_index::Index;
-use uicc_types::Shelf;
-use uicc_types::events::CALL_CONTROL;
 
 // Whether call control begins the run.
 fn begins_call(stimulus: &Stimulus) -> bool

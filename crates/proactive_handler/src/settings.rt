@@ -1,7 +1,7 @@
 //! Where a run goes on.
 
-use terminal_profile::Profile;
-use uicc_types::Shelf;
+use card_memory::uicc_types::Shelf;
+use toolkit_model::Profile;
 
 /// The shelf of the applet that runs, the profile that the handset sent, if it sent one, and whether call control began the run.
 #[derive(Clone, Copy, Debug)]

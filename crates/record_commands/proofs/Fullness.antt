@@ -3,10 +3,10 @@ use Rattle.std.proofs.Common.{get_or, ◌≡◌, ℕ, ◌≤◌, true, false, le
 use Rattle.std.specs.Prelude.{◌==◌, IsTrue}
 use Rattle.std.proofs.lemmas.List.Elements.{All-map}
 use Rattle.std.proofs.lemmas.Bool.{or_right}
-use Rattle.card_layout.specs.Kinds.{df_kind, transparent_kind, has_records}
-use Rattle.card_layout.specs.Persistent.{Contents, Files, Bytes, Records, File, Persistent}
-use Rattle.card_layout.specs.Soundness.{AreContents, IsSoundFile, IsSound}
-use Rattle.layout_soundness.proofs.FileFields.{not_none}
+use Rattle.file_model.specs.card_layout.Kinds.{df_kind, transparent_kind, has_records}
+use Rattle.file_model.specs.card_layout.Persistent.{Contents, Files, Bytes, Records, File, Persistent}
+use Rattle.file_model.specs.card_layout.Soundness.{AreContents, IsSoundFile, IsSound}
+use Rattle.layout_standing.proofs.FileFields.{not_none}
 use Rattle.file_model.specs.declared.descriptors.Descriptor.{Descriptor}
 use Rattle.file_model.specs.Files.{record_count, descriptor_in, descriptors_in}
 use Rattle.record_commands.specs.Tables.{HaveRecords}

@@ -3,8 +3,8 @@ use Rattle.std.proofs.Common.{◌≡◌, ℕ, zero, suc, ◌+◌, ◌-◌, ◌�
 use Rattle.std.specs.Prelude.{◌==◌, filter, slice_index_or}
 use Rattle.std.specs.List.{range_with_len}
 use Rattle.std.proofs.lemmas.List.{reverse-append, append-nil}
-use Rattle.apdu_form.specs.Model.{Apdu}
-use Rattle.card_layout.specs.Persistent.{Persistent}
+use Rattle.file_model.specs.apdu_form.Model.{Apdu}
+use Rattle.file_model.specs.card_layout.Persistent.{Persistent}
 use Rattle.file_model.specs.declared.descriptors.Descriptor.{Descriptor}
 use Rattle.file_model.specs.Holdings.{records_in}
 use Rattle.file_model.specs.Records.{mode_bits, forward_mode, has_within, numbers_matched}

@@ -3,13 +3,13 @@ ghost use Rattle.std.specs.Prelude.{◌≡◌, ◌-◌, [], IfOk, IfSome, OnOk, 
 ghost use Rattle.file_model.specs.Files.{descriptors_of};
 ghost use Rattle.file_model.specs.Holdings.{records_in};
 ghost use Rattle.record_commands.specs.Targets.{IsRecordOf};
-ghost use Rattle.card_layout.specs.Memory.{IsMounted, Reads, held_by, memory};
+ghost use Rattle.file_model.specs.card_layout.Memory.{IsMounted, Reads, held_by, memory};
 
-use card_layout::Loaded;
 use card_memory::read_record;
+use file_model::card_layout::Loaded;
+use file_model::store_form::{Store, StoreFault};
+use file_model::uicc_types::AnswerData;
 use file_tree::Descriptor;
-use store_form::{Store, StoreFault};
-use uicc_types::AnswerData;
 
 /// Reads the record with this number into the whole of `out`. After a fault `out` holds any bytes.
 pub fn read_into<S: Store>(

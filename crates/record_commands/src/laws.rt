@@ -3,9 +3,9 @@ ghost use Rattle.file_model.specs.Files.{descriptors_of};
 ghost use Rattle.file_tree.specs.Tables.{IsCardTable};
 ghost use Rattle.record_commands.specs.Tables.{HaveRecords};
 
-use card_layout::Loaded;
+use file_model::card_layout::Loaded;
 use file_model::files_are_found;
-use layout_soundness::standing_is_sound;
+use layout_standing::standing_is_sound;
 
 /// A file with records has at least one.
 pub fn records_are_there(loaded: &Loaded)

@@ -1,6 +1,6 @@
 //! DEACTIVATE FILE and ACTIVATE FILE.
 ghost use Rattle.std.specs.Prelude.{◌≡◌, ◌≢◌, ◌⊎◌, [], IfOk, IfErr, IsOk};
-ghost use Rattle.card_layout.specs.Kinds.{activated, deactivated};
+ghost use Rattle.file_model.specs.card_layout.Kinds.{activated, deactivated};
 ghost use Rattle.file_model.specs.Files.{descriptors_of};
 ghost use Rattle.file_model.specs.Selections.{IsSelection};
 ghost use Rattle.file_model.specs.Outcomes.{settled_file};
@@ -11,18 +11,17 @@ ghost use Rattle.file_commands.specs.Commands.{IsInPlace};
 ghost use Rattle.file_commands.specs.Ends.{EndsTry, EndsWell, GivesTried, Passes};
 ghost use Rattle.file_commands.specs.Targets.{IsRefused};
 ghost use Rattle.record_commands.specs.Tables.{KeepsOtherFiles};
-ghost use Rattle.card_layout.specs.Memory.{memory};
+ghost use Rattle.file_model.specs.card_layout.Memory.{memory};
 
-use access_rules::{Op, Verified};
-use apdu_form::Command;
-use card_layout::Loaded;
-use card_layout::kinds::{ACTIVATED, DEACTIVATED};
 use card_memory::{tables_tell_states, write_life};
 use file_commands::{addressed, is_allowed, is_card_table, settle};
-use file_model::has_no_data;
+use file_model::apdu_form::Command;
+use file_model::card_layout::Loaded;
+use file_model::card_layout::kinds::{ACTIVATED, DEACTIVATED};
+use file_model::store_form::{Store, StoreFault};
+use file_model::uicc_types::{Answer, StatusWord};
+use file_model::{Op, Verified, has_no_data};
 use file_tree::{Descriptor, Selection};
-use store_form::{Store, StoreFault};
-use uicc_types::{Answer, StatusWord};
 
 /// A change of the life cycle, with the operation that has to be allowed for it.
 #[derive(Clone, Copy)]

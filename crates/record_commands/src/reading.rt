@@ -10,20 +10,19 @@ ghost use Rattle.file_commands.specs.Commands.{IsInPlace};
 ghost use Rattle.file_commands.specs.Ends.{EndsTry, EndsWell, GivesTried};
 ghost use Rattle.file_commands.specs.Targets.{IsRefused};
 ghost use Rattle.record_commands.specs.Targets.{IsTarget};
-ghost use Rattle.card_layout.specs.Memory.{IsMounted, Reads, memory};
+ghost use Rattle.file_model.specs.card_layout.Memory.{IsMounted, Reads, memory};
 
 use crate::holding::record_of;
 use crate::numbering::number_to_read;
 use crate::targets::{Demand, Structure, has_parameters, record_file, selection_after, short_in};
-use access_rules::{Op, Verified};
-use apdu_form::Command;
-use card_layout::Loaded;
 use card_memory::tables_tell_states;
 use file_commands::{is_allowed, is_card_table, settle};
-use file_model::has_le_alone;
+use file_model::apdu_form::Command;
+use file_model::card_layout::Loaded;
+use file_model::store_form::{Store, StoreFault};
+use file_model::uicc_types::{Answer, StatusWord};
+use file_model::{Op, Verified, has_le_alone};
 use file_tree::{Descriptor, Selection};
-use store_form::{Store, StoreFault};
-use uicc_types::{Answer, StatusWord};
 
 // The EF that the command works on.
 fn file_to_read(

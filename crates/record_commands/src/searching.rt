@@ -1,6 +1,6 @@
 //! SEARCH RECORD.
 ghost use Rattle.std.specs.Prelude.{◌≡◌, ◌≢◌, ◌≤◌, ◌<◌, ◌+◌, [], ◌∷◌, ◌++◌, ◌==◌, All, if◌then◌else◌, IsTrue, IfOk, IfErr, IfSome, IsOk, OnOk, Some, Err, filter, length, take};
-ghost use Rattle.card_layout.specs.Kinds.{has_records};
+ghost use Rattle.file_model.specs.card_layout.Kinds.{has_records};
 ghost use Rattle.file_model.specs.Files.{descriptors_of};
 ghost use Rattle.file_model.specs.Selections.{IsSelection};
 ghost use Rattle.file_model.specs.Records.{file_to_search, has_within, has_search_parameters, match_pointer, number_to_search, numbers_matched, search_in, searched, short_in_p2};
@@ -12,21 +12,20 @@ ghost use Rattle.file_commands.specs.Ends.{EndsTry, EndsWell, GivesTried};
 ghost use Rattle.file_commands.specs.Targets.{IsRefused};
 ghost use Rattle.record_commands.specs.Targets.{IsPointer, IsRecordOf, IsTarget};
 ghost use Rattle.record_commands.specs.Searching.{is_match, left_from, number_left, numbers_left, IsRecord};
-ghost use Rattle.card_layout.specs.Memory.{IsMounted, Reads, held_by, memory};
+ghost use Rattle.file_model.specs.card_layout.Memory.{IsMounted, Reads, held_by, memory};
 
 use crate::holding::read_into;
 use crate::numbering::absolute_record;
 use crate::targets::{Demand, Structure, mode_in, pointer_before, record_file, short_in};
-use access_rules::{Op, Verified};
-use apdu_form::Command;
-use card_layout::Loaded;
 use card_memory::tables_tell_states;
 use file_commands::{is_allowed, is_card_table, settle, worked_on};
-use file_model::has_data;
+use file_model::apdu_form::Command;
+use file_model::card_layout::Loaded;
+use file_model::store_form::{Store, StoreFault};
+use file_model::uicc_types::{Answer, AnswerData, Full, StatusWord};
+use file_model::{Op, Verified, has_data};
 use file_tree::{Descriptor, Selection};
 use memchr::memchr;
-use store_form::{Store, StoreFault};
-use uicc_types::{Answer, AnswerData, Full, StatusWord};
 
 const FORWARD: u8 = 4;
 

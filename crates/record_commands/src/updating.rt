@@ -12,22 +12,21 @@ ghost use Rattle.file_commands.specs.Targets.{IsRefused};
 ghost use Rattle.record_commands.specs.Tables.{KeepsDescriptors};
 ghost use Rattle.record_commands.specs.Targets.{IsRecordOf, IsTarget};
 ghost use Rattle.record_commands.specs.Updating.{record_written};
-ghost use Rattle.card_layout.specs.Memory.{Committed, IsMounted, memory};
+ghost use Rattle.file_model.specs.card_layout.Memory.{Committed, IsMounted, memory};
 
 use crate::numbering::number_to_update;
 use crate::targets::{
     Demand, PREVIOUS, Structure, has_parameters, is_cyclic, mode_in, record_file, selection_after,
     short_in,
 };
-use access_rules::{Op, Verified};
-use apdu_form::Command;
-use card_layout::Loaded;
 use card_memory::{tables_tell_states, write_newest_record, write_record};
 use file_commands::{is_allowed, is_card_table, settle};
-use file_model::has_data;
+use file_model::apdu_form::Command;
+use file_model::card_layout::Loaded;
+use file_model::store_form::{Store, StoreFault};
+use file_model::uicc_types::{Answer, StatusWord};
+use file_model::{Op, Verified, has_data};
 use file_tree::{Descriptor, Selection};
-use store_form::{Store, StoreFault};
-use uicc_types::{Answer, StatusWord};
 
 // The EF that the command works on.
 fn file_to_update(

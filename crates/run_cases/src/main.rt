@@ -1,11 +1,20 @@
 //! `run_cases`: carries out files of cases, which are scripts with what each of their lines must show, and writes which differ.
 #![tactic(auto)]
 
+mod cases;
+mod devices;
+mod expectations;
+mod faults;
+mod judging;
+mod plans;
+mod reader;
 mod repeating;
 mod running;
+mod scripts;
+mod values;
 
+use crate::reader::read_cases;
 use crate::repeating::verdict_of;
-use case_form::read_cases;
 use std::process::ExitCode;
 use std::rt::{Env, Files};
 use std::{env, fs, io};

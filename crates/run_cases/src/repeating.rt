@@ -1,7 +1,9 @@
 //! Carries out a case in its stores and with its plans, and says where it differs first.
 
+use crate::cases::Case;
+use crate::judging::{Difference, Left, Turn, first_difference};
+use crate::plans::PlanShape;
 use crate::running::carried_out;
-use case_form::{Case, Difference, Left, PlanShape, Turn, first_difference};
 use std::alloc::{AllocError, Global};
 
 /// The most calls that a plan is tried at.

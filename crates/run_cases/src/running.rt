@@ -2,13 +2,15 @@
 ghost use Rattle.std.specs.Prelude.{IsTrue, map, string_bytes};
 ghost use Rattle.uicc_run.specs.Stores.{IsSizeFor};
 
+use crate::cases::{Boxes, Calls, Case, ScriptRun};
+use crate::devices::{blank, has_all, prepared, revive};
+use crate::judging::Left;
 use boxed_applets::{ProgramApplet, applet_of, make_applets};
-use byte_streams::{ListSink, SliceSource};
-use card_layout::places::MEMORY_SIZE;
-use card_layout::sizes::ROW_COUNT;
-use case_form::{Boxes, Calls, Case, Left, ScriptRun, blank, has_all, prepared, revive};
-use eeprom_model::{BenchEeprom, Eeprom};
 use std::alloc::{AllocError, Global};
+use uicc_run::byte_streams::{ListSink, SliceSource};
+use uicc_run::card_layout::places::MEMORY_SIZE;
+use uicc_run::card_layout::sizes::ROW_COUNT;
+use uicc_run::eeprom_model::{BenchEeprom, Eeprom};
 use uicc_run::{device_size, devices, run};
 
 /// The longest trace that a run may have.

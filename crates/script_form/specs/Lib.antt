@@ -5,10 +5,5 @@ pub mod Reads
 pub mod Traces
 pub mod Values
 pub mod Words
-pub use Rattle.byte_streams.specs.Laws
-pub use Rattle.byte_streams.specs.Lines
-pub use Rattle.byte_streams.specs.Planned
-pub use Rattle.byte_streams.specs.ReaderSteps
-pub use Rattle.byte_streams.specs.Reading
-pub use Rattle.byte_streams.specs.Standard
-pub use Rattle.byte_streams.specs.Streams
+pub use Rattle.byte_streams.specs as byte_streams
+pub use Rattle.uicc_types.specs as uicc_types

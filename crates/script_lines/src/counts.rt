@@ -2,9 +2,9 @@
 
 use crate::shown::put_number;
 use crate::written::text_of;
-use byte_streams::Sink;
+use phone_runs::byte_streams::Sink;
+use phone_runs::{CountingSink, Counts};
 use std::alloc::Global;
-use trace_counts::{CountingSink, Counts};
 use unit_tables::Failure;
 
 /// The counts of a trace. However it is parted, they are the same: with parts of 1 to 39 bytes.

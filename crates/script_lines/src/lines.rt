@@ -2,9 +2,11 @@
 
 use crate::shown::{put_bytes, put_comma, put_number, put_text};
 use crate::written::text_of;
-use script_form::{HandsetLine, LineFault, Path, ScriptLine, read_line, read_line_into};
+use phone_runs::script_form::{
+    HandsetLine, LineFault, Path, ScriptLine, read_line, read_line_into,
+};
+use phone_runs::uicc_types::FileId;
 use std::alloc::{AllocError, Global};
-use uicc_types::FileId;
 use unit_tables::Failure;
 
 /// What a line says that is the seventh of its script.

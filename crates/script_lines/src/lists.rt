@@ -1,8 +1,8 @@
 //! Lists of bytes of a bounded length, and new answers.
 
 use crate::shown::{put_bytes, put_comma};
+use phone_runs::uicc_types::{Answer, ByteList, Full};
 use std::alloc::Global;
-use uicc_types::{Answer, ByteList, Full};
 use unit_tables::{Failure, bytes};
 
 /// What a list of at most three bytes answers to these acts, and what it holds at the end.

@@ -3,7 +3,7 @@
 use crate::lines::{put_happening, put_line};
 use crate::shown::put_comma;
 use crate::written::place;
-use load_runs::{LoadLines, fixed_row, line_of};
+use phone_runs::{LoadLines, fixed_row, line_of};
 use unit_tables::Failure;
 
 /// The line that a word of eight digits stands for.

@@ -3,9 +3,9 @@
 use crate::shown::put_number;
 use crate::written::{fails, text_of};
 use boxed_applets::Clock;
-use byte_streams::SliceSource;
-use card_sections::{ScriptFault, ScriptReader, kind_on, read_section};
-use layout_section::Section;
+use phone_runs::byte_streams::SliceSource;
+use phone_runs::card_sections::{ScriptFault, ScriptReader, kind_on, read_section};
+use phone_runs::layout_section::Section;
 use std::alloc::Global;
 use unit_tables::{Failure, small_number};
 

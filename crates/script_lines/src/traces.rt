@@ -2,10 +2,10 @@
 
 use crate::shown::put_text;
 use crate::written::{count, place};
-use byte_streams::{Failed, ListSink};
-use script_form::{Note, TraceLine, write_note, write_trace};
+use phone_runs::byte_streams::{Failed, ListSink};
+use phone_runs::script_form::{Note, TraceLine, write_note, write_trace};
+use phone_runs::uicc_types::{Answer, StatusWord};
 use std::alloc::Global;
-use uicc_types::{Answer, StatusWord};
 use unit_tables::{Failure, byte_list, double_byte, small_number};
 
 /// The text of a line.

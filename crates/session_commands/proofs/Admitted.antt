@@ -4,27 +4,27 @@ use Rattle.std.specs.Prelude.{◌≢◌, ◌⊎◌, ◌==◌, ◌&&◌, ◌||◌
 use Rattle.std.specs.List.{list_any}
 use Rattle.std.proofs.lemmas.Bool.Decides.{nat_tests}
 use Rattle.std.proofs.lemmas.Bool.{or_parts}
-use Rattle.general_laws.specs.Choices.{second_false}
-use Rattle.uicc_types.specs.declared.answers.TheConstants.StatusWord.{WRONG_LENGTH, WRONG_PARAMETERS, SECURITY_NOT_SATISFIED}
-use Rattle.apdu_form.specs.Model.{Apdu}
-use Rattle.access_rules.specs.declared.rules.Verified.{Verified}
-use Rattle.applet_registry.specs.Rows.{IsAdmitted}
-use Rattle.card_layout.specs.declared.entries.Row.{Row}
-use Rattle.card_layout.specs.declared.entries.Loaded.{Loaded}
-use Rattle.card_layout.specs.Decoding.{table_of}
-use Rattle.card_layout.specs.Kinds.{call_control_code}
-use Rattle.card_layout.specs.Persistent.{Registration, Persistent}
-use Rattle.card_layout.specs.Sections.{Installation, installation_of, new_row, needs_wide, has_text, is_call_control}
-use Rattle.card_layout.specs.Soundness.{IsSoundRow}
-use Rattle.card_layout.specs.Standing.{Agrees, state_in}
-use Rattle.card_layout.specs.StateLaws.{StatesAreOfTables}
-use Rattle.card_layout.specs.States.{registration_of, rows_of, state_of}
-use Rattle.card_memory.specs.Model.{MayInstall}
+use Rattle.file_model.specs.uicc_types.Choices.{second_false}
+use Rattle.file_model.specs.uicc_types.declared.answers.TheConstants.StatusWord.{WRONG_LENGTH, WRONG_PARAMETERS, SECURITY_NOT_SATISFIED}
+use Rattle.file_model.specs.apdu_form.Model.{Apdu}
+use Rattle.file_model.specs.declared.rules.Verified.{Verified}
+use Rattle.proactive_handler.specs.applet_registry.Rows.{IsAdmitted}
+use Rattle.file_model.specs.card_layout.declared.entries.Row.{Row}
+use Rattle.file_model.specs.card_layout.declared.entries.Loaded.{Loaded}
+use Rattle.file_model.specs.card_layout.Decoding.{table_of}
+use Rattle.file_model.specs.card_layout.Kinds.{call_control_code}
+use Rattle.file_model.specs.card_layout.Persistent.{Registration, Persistent}
+use Rattle.file_model.specs.card_layout.Sections.{Installation, installation_of, new_row, needs_wide, has_text, is_call_control}
+use Rattle.file_model.specs.card_layout.Soundness.{IsSoundRow}
+use Rattle.file_model.specs.card_layout.Standing.{Agrees, state_in}
+use Rattle.file_model.specs.card_layout.StateLaws.{StatesAreOfTables}
+use Rattle.file_model.specs.card_layout.States.{registration_of, rows_of, state_of}
+use Rattle.proactive_handler.specs.card_memory.Model.{MayInstall}
 use Rattle.file_model.specs.Chains.{refused_if}
 use Rattle.file_model.specs.Outcomes.{has_data}
-use Rattle.layout_soundness.specs.Laws.{StandingIsSound}
-use Rattle.layout_standing.specs.Fitting.{ShareNoCallControl}
-use Rattle.toolkit_laws.specs.Sound.{InstalledRowsAreSound}
+use Rattle.proactive_handler.specs.layout_standing.SoundnessLaws.{StandingIsSound}
+use Rattle.proactive_handler.specs.layout_standing.Fitting.{ShareNoCallControl}
+use Rattle.toolkit_model.specs.Sound.{InstalledRowsAreSound}
 use Rattle.toolkit_model.specs.declared.faults.RowFault.{RowFault}
 use Rattle.toolkit_model.specs.declared.faults.RowFault.TheVariants.{BadData, NoBox, Narrow, Taken, MenuFull, Spent}
 use Rattle.toolkit_model.specs.Registry.{given, faulty_if, is_on, is_taken, is_menu_full, last_sequence, installed_row}

@@ -3,14 +3,14 @@ use Rattle.std.proofs.Common.{◌≡◌, sym, ap, ◌∙◌, subst, ℕ, List, O
 use Rattle.std.specs.Prelude.{◌≢◌, Result, Ok, Err, IsErrAnd}
 use Rattle.std.specs.Result.{IsErr}
 use Rattle.std.proofs.lemmas.List.{get_or-set_other}
-use Rattle.store_form.specs.declared.store.StoreFault.{StoreFault}
-use Rattle.card_layout.specs.declared.entries.Loaded.{Loaded}
-use Rattle.card_layout.specs.Memory.{IsMounted, Keeps}
-use Rattle.card_memory.specs.Model.{HasRowOn}
-use Rattle.applet_trait.specs.Minds.{AppletState}
+use Rattle.file_model.specs.store_form.declared.store.StoreFault.{StoreFault}
+use Rattle.file_model.specs.card_layout.declared.entries.Loaded.{Loaded}
+use Rattle.file_model.specs.card_layout.Memory.{IsMounted, Keeps}
+use Rattle.proactive_handler.specs.card_memory.Model.{HasRowOn}
+use Rattle.toolkit_model.specs.applet_trait.Minds.{AppletState}
 use Rattle.toolkit_model.specs.Running.{mind_on, with_mind}
 use Rattle.proactive_handler.specs.Boxes.{kinds_of}
-use Rattle.proactive_handler.specs.Keeping.{keeps_then, fault_keeps}
+use Rattle.proactive_handler.specs.card_memory.Keeping.{keeps_then, fault_keeps}
 use Rattle.proactive_handler.specs.Scenes.{KeepsScene}
 use Rattle.proactive_handler.specs.Steps.{Scene}
 use Rattle.proactive_handler.proofs.Indexing.{rows_alone_differ}

@@ -3,9 +3,8 @@ use Rattle.std.proofs.Common.{◌≡◌, sym, ap, ◌∙◌, ℕ, ◌<◌, set, 
 use Rattle.std.specs.Prelude.{length}
 use Rattle.std.specs.Option.{option_map}
 use Rattle.std.proofs.lemmas.List.{map-set, get_or-map}
-use Rattle.applet_trait.specs.Minds.{AppletState}
+use Rattle.toolkit_model.specs.applet_trait.Minds.{AppletState, minds_of}
 use Rattle.toolkit_model.specs.Running.{mind_on, with_mind}
-use Rattle.proactive_handler.specs.Boxes.{minds_of}
 
 pub woken_there : {B : Type 0} (mind : B → AppletState) (boxes : List (Option B)) (place shelf : ℕ) → place ≡ shelf → (box : Option B) → place < length boxes → (new : Option B) (change : AppletState → AppletState)
     → option_map mind new ≡ option_map change (option_map mind (get_or boxes place box)) → minds_of mind (set boxes place new) ≡ with_mind (minds_of mind boxes) shelf (option_map change (mind_on (minds_of mind boxes) shelf))

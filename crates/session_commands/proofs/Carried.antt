@@ -2,16 +2,16 @@
 use Rattle.std.proofs.Common.{◌≡◌, sym, subst, ℕ, List, [], ◌∷◌}
 use Rattle.std.specs.Prelude.{Result, Ok, Err}
 use Rattle.std.specs.Result.{IsErr}
-use Rattle.uicc_types.specs.declared.answers.Answer.{Answer}
-use Rattle.uicc_types.specs.declared.answers.StatusWord.{StatusWord}
-use Rattle.uicc_types.specs.declared.answers.TheConstants.StatusWord.{DONE}
-use Rattle.store_form.specs.declared.store.StoreFault.{StoreFault}
-use Rattle.card_layout.specs.Memory.{IsMounted}
-use Rattle.card_layout.specs.States.{rows_of}
-use Rattle.card_memory.specs.Laws.{TablesTellStates}
+use Rattle.file_model.specs.uicc_types.declared.answers.Answer.{Answer}
+use Rattle.file_model.specs.uicc_types.declared.answers.StatusWord.{StatusWord}
+use Rattle.file_model.specs.uicc_types.declared.answers.TheConstants.StatusWord.{DONE}
+use Rattle.file_model.specs.store_form.declared.store.StoreFault.{StoreFault}
+use Rattle.file_model.specs.card_layout.Memory.{IsMounted}
+use Rattle.file_model.specs.card_layout.States.{rows_of}
+use Rattle.proactive_handler.specs.card_memory.Laws.{TablesTellStates}
 use Rattle.toolkit_model.specs.Passing.{ToolkitState, Passed, passed_rows}
 use Rattle.toolkit_model.specs.Steps.{Command, IsAccepted, AreAccepted, moved, moved_by}
-use Rattle.toolkit_laws.specs.Orderly.{IsInOrder}
+use Rattle.toolkit_model.specs.OrderlySessions.{IsInOrder}
 use Rattle.proactive_handler.specs.Runs.{StopsAt}
 use Rattle.proactive_handler.specs.Steps.{Scene, toolkit, IsDone, MovesTo}
 use Rattle.card_model.specs.States.{CardState}

@@ -5,26 +5,26 @@ use Rattle.std.specs.Result.{IsErr}
 use Rattle.std.proofs.lemmas.Bool.Decides.{nat_tests}
 use Rattle.std.proofs.lemmas.List.{map-set, get_or-set_other}
 use Rattle.std.proofs.lemmas.Bool.{eqb-true}
-use Rattle.general_laws.specs.Finding.{find_Some}
-use Rattle.uicc_types.specs.declared.answers.StatusWord.{StatusWord}
-use Rattle.uicc_types.specs.declared.answers.TheConstants.StatusWord.{WRONG_LENGTH, WRONG_PARAMETERS, SECURITY_NOT_SATISFIED}
-use Rattle.apdu_form.specs.Model.{Apdu}
-use Rattle.access_rules.specs.declared.rules.Verified.{Verified}
-use Rattle.store_form.specs.declared.store.StoreFault.{StoreFault}
-use Rattle.uicc_types.specs.Counts.{raised}
-use Rattle.card_layout.specs.Memory.{held}
-use Rattle.applet_registry.specs.Commits.{DeletesRow}
+use Rattle.file_model.specs.uicc_types.Finding.{find_Some}
+use Rattle.file_model.specs.uicc_types.declared.answers.StatusWord.{StatusWord}
+use Rattle.file_model.specs.uicc_types.declared.answers.TheConstants.StatusWord.{WRONG_LENGTH, WRONG_PARAMETERS, SECURITY_NOT_SATISFIED}
+use Rattle.file_model.specs.apdu_form.Model.{Apdu}
+use Rattle.file_model.specs.declared.rules.Verified.{Verified}
+use Rattle.file_model.specs.store_form.declared.store.StoreFault.{StoreFault}
+use Rattle.file_model.specs.uicc_types.Counts.{raised}
+use Rattle.file_model.specs.card_layout.Memory.{held}
+use Rattle.proactive_handler.specs.applet_registry.Commits.{DeletesRow}
 use Rattle.proactive_handler.specs.Acts.{with_these_rows}
 use Rattle.proactive_handler.specs.Runs.{StopsAt}
-use Rattle.applet_trait.specs.Minds.{AppletState}
-use Rattle.card_layout.specs.declared.entries.Loaded.{Loaded}
-use Rattle.card_layout.specs.Persistent.{Registration, Persistent}
-use Rattle.card_layout.specs.StateLaws.{RowsComeFromEntries, StatesAreOfTables}
-use Rattle.card_layout.specs.States.{rows_of}
-use Rattle.card_memory.specs.Model.{HasRowOn, without_row_on, rows_alone}
+use Rattle.toolkit_model.specs.applet_trait.Minds.{AppletState}
+use Rattle.file_model.specs.card_layout.declared.entries.Loaded.{Loaded}
+use Rattle.file_model.specs.card_layout.Persistent.{Registration, Persistent}
+use Rattle.file_model.specs.card_layout.StateLaws.{RowsComeFromEntries, StatesAreOfTables}
+use Rattle.file_model.specs.card_layout.States.{rows_of}
+use Rattle.proactive_handler.specs.card_memory.Model.{HasRowOn, without_row_on, rows_alone}
 use Rattle.file_model.specs.Chains.{refused_if}
 use Rattle.file_model.specs.Outcomes.{has_no_data}
-use Rattle.timer_table.specs.Timers.{without}
+use Rattle.toolkit_model.specs.Timers.{without}
 use Rattle.toolkit_model.specs.Passing.{ToolkitState, passed_rows}
 use Rattle.toolkit_model.specs.declared.faults.RowFault.TheVariants.{NoRow, NotIdle}
 use Rattle.toolkit_model.specs.Registry.{given, faulty_if, is_on, row_on, without_row, deleted_row}

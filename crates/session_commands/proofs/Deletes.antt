@@ -1,15 +1,15 @@
 -- DELETE, as it is to each card that it may come to.
 use Rattle.std.proofs.Common.{◌≡◌, sym, ap, ◌∙◌, subst, ℕ, ◌<◌, Bool, true, List, []}
 use Rattle.std.specs.Prelude.{Ok, Err}
-use Rattle.general_laws.specs.Numbered.{mapped_too}
-use Rattle.uicc_types.specs.declared.answers.StatusWord.{StatusWord}
-use Rattle.apdu_form.specs.Model.{Apdu}
-use Rattle.access_rules.specs.declared.rules.Verified.{Verified}
-use Rattle.card_layout.specs.declared.entries.Loaded.{Loaded}
-use Rattle.card_layout.specs.Persistent.{Registration}
-use Rattle.card_layout.specs.StateLaws.{RowsComeFromEntries, StatesAreOfTables}
-use Rattle.card_layout.specs.States.{rows_of}
-use Rattle.card_memory.specs.Model.{HasRowOn}
+use Rattle.file_model.specs.uicc_types.Numbered.{mapped_too}
+use Rattle.file_model.specs.uicc_types.declared.answers.StatusWord.{StatusWord}
+use Rattle.file_model.specs.apdu_form.Model.{Apdu}
+use Rattle.file_model.specs.declared.rules.Verified.{Verified}
+use Rattle.file_model.specs.card_layout.declared.entries.Loaded.{Loaded}
+use Rattle.file_model.specs.card_layout.Persistent.{Registration}
+use Rattle.file_model.specs.card_layout.StateLaws.{RowsComeFromEntries, StatesAreOfTables}
+use Rattle.file_model.specs.card_layout.States.{rows_of}
+use Rattle.proactive_handler.specs.card_memory.Model.{HasRowOn}
 use Rattle.toolkit_model.specs.Sessions.{Sent, SessionState}
 use Rattle.toolkit_model.specs.Orderly.{asks, IsRegistered}
 use Rattle.toolkit_model.specs.Driving.{is_idle}

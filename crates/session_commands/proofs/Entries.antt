@@ -1,16 +1,15 @@
 -- The entries of a table in which one row is another, and what stays of its session.
 use Rattle.std.proofs.Common.{◌≡◌, refl, sym, ap, subst, ℕ, zero, suc, true, List, [], ◌∷◌, Option, None, arith}
-use Rattle.std.specs.Prelude.{◌≢◌, map, slice_get, slice_set, All, Contains, OnErr, IsSomeAnd, Result, Ok, Err}
+use Rattle.std.specs.Prelude.{◌≢◌, map, slice_get, slice_set, All, Contains, IsSomeAnd}
 use Rattle.std.proofs.lemmas.List.Elements.{All-head, All-tail, All-weaker}
-use Rattle.store_form.specs.declared.store.StoreFault.{StoreFault}
-use Rattle.card_layout.specs.declared.entries.Row.{Row}
-use Rattle.card_layout.specs.declared.entries.Loaded.{Loaded}
-use Rattle.card_layout.specs.Standing.{Agrees}
-use Rattle.card_memory.specs.Model.{HasRowOn}
+use Rattle.file_model.specs.card_layout.declared.entries.Row.{Row}
+use Rattle.file_model.specs.card_layout.declared.entries.Loaded.{Loaded}
+use Rattle.file_model.specs.card_layout.Standing.{Agrees}
+use Rattle.proactive_handler.specs.card_memory.Model.{HasRowOn}
 use Rattle.toolkit_model.specs.Sessions.{Sent, LateTrigger, SessionState}
 use Rattle.toolkit_model.specs.Orderly.{asks, IsSuspended}
 use Rattle.toolkit_model.specs.Driving.{is_idle}
-use Rattle.toolkit_laws.proofs.Ready.{idle_all}
+use Rattle.toolkit_model.proofs.Ready.{idle_all}
 use Rattle.proactive_handler.specs.Serving.{IsSessionServed}
 use Rattle.proactive_handler.specs.Served.{served_still}
 
@@ -46,10 +45,6 @@ has_beside old new shelf row other is apart there = subst (λ (rows : List Row).
 pub silent : (mark mark' : ℕ) (told : Option (List ℕ)) (old new : Loaded) → mark' ≡ mark → new ≡ old → Agrees mark told old → Agrees mark' None new
 silent mark mark' told old new marks same agrees =
     subst (λ (m : ℕ). Agrees m None new) (sym marks) (subst (Agrees mark None) (sym same) (record { content = agrees.content; state = agrees.state; told_is = tt; stands = agrees.stands }))
-
-pub silent_err : {X : Type 0} (r : Result X StoreFault) (mark mark' : ℕ) (told : Option (List ℕ)) (old new : Loaded) → mark' ≡ mark → new ≡ old → Agrees mark told old → OnErr r (Agrees mark' None new)
-silent_err (Ok result) mark mark' told old new marks same agrees = cc
-silent_err (Err fault) mark mark' told old new marks same agrees = silent mark mark' told old new marks same agrees
 
 -- ---- sessions over them
 

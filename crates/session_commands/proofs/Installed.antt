@@ -2,35 +2,34 @@
 use Rattle.std.proofs.Common.{◌≡◌, refl, sym, ap, ◌∙◌, subst, ⊎_elim, inl, inr, ℕ, zero, suc, ◌+◌, ◌<◌, List, [], ◌∷◌, ◌++◌, map, Option, Some, None, arith}
 use Rattle.std.proofs.lemmas.List.Elements.{Contains-append_left, Contains-append_right}
 use Rattle.std.specs.Prelude.{◌⊎◌, length, slice_index_or, option_map, Result, Ok, Err, Contains, filter, nat_lt}
-use Rattle.std.specs.Result.{IsErr}
 use Rattle.std.specs.List.{last_or}
 use Rattle.std.proofs.lemmas.List.{length-map}
-use Rattle.uicc_types.specs.Counts.{raised, raised_by}
-use Rattle.store_form.specs.declared.store.StoreFault.{StoreFault}
-use Rattle.applet_registry.specs.Commits.{InstallsRow}
-use Rattle.applet_trait.specs.Minds.{AppletState, fresh}
+use Rattle.file_model.specs.uicc_types.Counts.{raised, raised_by}
+use Rattle.file_model.specs.store_form.declared.store.StoreFault.{StoreFault}
+use Rattle.proactive_handler.specs.applet_registry.Commits.{InstallsRow}
+use Rattle.toolkit_model.specs.applet_trait.Minds.{AppletState, fresh}
 use Rattle.file_model.specs.Files.{descriptors_of, descriptors_in}
 use Rattle.file_model.specs.Outcomes.{last_of}
-use Rattle.card_layout.specs.declared.entries.Row.{Row}
-use Rattle.card_layout.specs.declared.entries.Loaded.{Loaded}
-use Rattle.card_layout.specs.Memory.{Memory, held}
-use Rattle.card_layout.specs.Persistent.{Registration, Persistent}
-use Rattle.card_layout.specs.Sections.{with_row}
-use Rattle.card_layout.specs.States.{registration_of, rows_of, pins_of}
-use Rattle.card_memory.specs.Laws.{IsTold}
-use Rattle.card_memory.specs.Model.{with_row_at, with_row_installed, rows_alone}
+use Rattle.file_model.specs.card_layout.declared.entries.Row.{Row}
+use Rattle.file_model.specs.card_layout.declared.entries.Loaded.{Loaded}
+use Rattle.file_model.specs.card_layout.Memory.{Memory, held}
+use Rattle.file_model.specs.card_layout.Persistent.{Registration, Persistent}
+use Rattle.file_model.specs.card_layout.Sections.{with_row}
+use Rattle.file_model.specs.card_layout.States.{registration_of, rows_of, pins_of}
+use Rattle.proactive_handler.specs.card_memory.Laws.{IsTold}
+use Rattle.proactive_handler.specs.card_memory.Model.{with_row_at, with_row_installed, rows_alone}
 use Rattle.toolkit_model.specs.Passing.{ToolkitState, Passed, passed_rows}
 use Rattle.toolkit_model.specs.Running.{mind_on, with_mind}
 use Rattle.toolkit_model.specs.Driving.{driven}
 use Rattle.toolkit_model.specs.Commands.{registering, installed}
-use Rattle.toolkit_laws.specs.Installing.{kind_on}
+use Rattle.toolkit_model.specs.Installing.{kind_on}
 use Rattle.proactive_handler.specs.Boxes.{kinds_of}
 use Rattle.proactive_handler.specs.Moved.{kinds_stay}
 use Rattle.proactive_handler.specs.Counting.{Counts, counts_one, counts_then}
 use Rattle.proactive_handler.specs.Steps.{Scene, toolkit, MovesTo}
 use Rattle.card_model.specs.Toolkit.{ToolkitOutcome, with_rows}
 use Rattle.session_commands.specs.Carrying.{state_at, last_state, HasCome, IsToolkitCutShort, Comes}
-use Rattle.session_commands.specs.Registering.{IsRegistered, IsNotRegistered, Registers}
+use Rattle.session_commands.specs.Registering.{IsRegistered, IsNotRegistered}
 use Rattle.session_commands.proofs.Coming.{Tells, moves_come}
 
 -- ---- the commit
@@ -78,11 +77,6 @@ module _ (law : InstallsRow) (old new : Scene) (shelf : ℕ) (row : Row) (table 
     tells = told_with;
     commits = once;
   }
-
-pub not_registered : {X : Type 0} (row : Registration) (old new : Scene) (r : Result X StoreFault) → IsErr r → new.memory.table ≡ old.memory.table
-    → (held new.memory ≡ held old.memory) ⊎ (held new.memory ≡ option_map (with_row_installed row) (held old.memory)) → new.memory.commits ≡ old.memory.commits → Registers row old new r
-not_registered row old new (Ok result) err table stands none = cc err
-not_registered row old new (Err fault) err table stands none = record { stays = table; stands = stands; commits = none }
 
 -- ---- what a card comes to
 

@@ -2,31 +2,31 @@
 use Rattle.std.proofs.Common.{◌≡◌, sym, ap, ◌∙◌, subst, ℕ, ◌+◌, ◌<◌, ◌≤◌, true, false, List, [], Option, Some}
 use Rattle.std.specs.Prelude.{All, IfSome, Result, Ok, Err}
 use Rattle.std.specs.Result.{IsErr}
-use Rattle.uicc_types.specs.declared.answers.StatusWord.{StatusWord}
-use Rattle.apdu_form.specs.Model.{Apdu}
-use Rattle.access_rules.specs.declared.rules.Verified.{Verified}
-use Rattle.store_form.specs.declared.store.StoreFault.{StoreFault}
-use Rattle.applet_registry.specs.Rows.{IsAdmitted}
-use Rattle.applet_trait.specs.Minds.{AppletState}
-use Rattle.card_layout.specs.declared.entries.Row.{Row}
-use Rattle.card_layout.specs.declared.entries.Loaded.{Loaded}
-use Rattle.card_layout.specs.Memory.{Memory, Keeps}
-use Rattle.card_layout.specs.Persistent.{Registration}
-use Rattle.card_layout.specs.Sections.{with_row}
-use Rattle.card_layout.specs.StateLaws.{StatesAreOfTables}
-use Rattle.card_layout.specs.States.{registration_of, rows_of, state_of}
-use Rattle.card_memory.specs.Model.{MayInstall}
-use Rattle.toolkit_laws.specs.Installing.{kind_on, InstallationsAreAccepted}
-use Rattle.toolkit_laws.specs.Sound.{InstalledRowsAreSound}
+use Rattle.file_model.specs.uicc_types.declared.answers.StatusWord.{StatusWord}
+use Rattle.file_model.specs.apdu_form.Model.{Apdu}
+use Rattle.file_model.specs.declared.rules.Verified.{Verified}
+use Rattle.file_model.specs.store_form.declared.store.StoreFault.{StoreFault}
+use Rattle.proactive_handler.specs.applet_registry.Rows.{IsAdmitted}
+use Rattle.toolkit_model.specs.applet_trait.Minds.{AppletState}
+use Rattle.file_model.specs.card_layout.declared.entries.Row.{Row}
+use Rattle.file_model.specs.card_layout.declared.entries.Loaded.{Loaded}
+use Rattle.file_model.specs.card_layout.Memory.{Memory, Keeps}
+use Rattle.file_model.specs.card_layout.Persistent.{Registration}
+use Rattle.file_model.specs.card_layout.Sections.{with_row}
+use Rattle.file_model.specs.card_layout.StateLaws.{StatesAreOfTables}
+use Rattle.file_model.specs.card_layout.States.{registration_of, rows_of, state_of}
+use Rattle.proactive_handler.specs.card_memory.Model.{MayInstall}
+use Rattle.toolkit_model.specs.Installing.{kind_on, InstallationsAreAccepted}
+use Rattle.toolkit_model.specs.Sound.{InstalledRowsAreSound}
 use Rattle.toolkit_model.specs.Passing.{ToolkitState}
 use Rattle.toolkit_model.specs.Registry.{is_taken, without_row, installed_row}
 use Rattle.toolkit_model.specs.Steps.{AreRows, Install, IsAccepted}
 use Rattle.toolkit_model.specs.Commands.{installed}
-use Rattle.trigger_index.specs.Changes.{InstallationsAreFollowed}
-use Rattle.trigger_index.specs.Indexes.{StandsFor}
+use Rattle.proactive_handler.specs.applet_registry.Changes.{InstallationsAreFollowed}
+use Rattle.proactive_handler.specs.applet_registry.Indexes.{StandsFor}
 use Rattle.card_model.specs.States.{CardState}
 use Rattle.card_model.specs.Toolkit.{ToolkitOutcome, applet_installed, kind_in}
-use Rattle.proactive_handler.specs.Keeping.{keeps_done}
+use Rattle.proactive_handler.specs.card_memory.Keeping.{keeps_done}
 use Rattle.proactive_handler.specs.Scenes.{KeepsScene, scene_then}
 use Rattle.proactive_handler.specs.Steps.{Scene, toolkit}
 use Rattle.session_commands.specs.Carrying.{HasToolkit, IsToolkitCutShort, Comes}

@@ -4,16 +4,16 @@ use Rattle.std.specs.Prelude.{◌≢◌, ◌==◌, not, nat_le, length, filter, 
 use Rattle.std.proofs.lemmas.Bool.Decides.{nat_tests}
 use Rattle.std.proofs.lemmas.List.{map-set}
 use Rattle.std.proofs.lemmas.List.Elements.{All-nil, All-cons, All-head, All-tail}
-use Rattle.applet_trait.specs.declared.numbers.TheConstants.{MOST_KEPT}
-use Rattle.applet_trait.specs.declared.stimuli.Stimulus.{Stimulus}
-use Rattle.applet_trait.specs.declared.stimuli.Act.{Act}
-use Rattle.applet_trait.specs.declared.stimuli.Act.TheVariants.{Done, Send, Keep, Register, Deregister, TakeTimer, FreeTimer, Answer}
-use Rattle.applet_trait.specs.Minds.{AppletState}
-use Rattle.applet_trait.specs.Turns.{act}
-use Rattle.card_layout.specs.Persistent.{Registration}
-use Rattle.card_layout.specs.Sections.{sorted_codes}
-use Rattle.timer_table.specs.Timers.{smallest_free}
-use Rattle.toolkit_commands.specs.declared.commands.Proactive.{Proactive}
+use Rattle.toolkit_model.specs.applet_trait.declared.numbers.TheConstants.{MOST_KEPT}
+use Rattle.toolkit_model.specs.applet_trait.declared.stimuli.Stimulus.{Stimulus}
+use Rattle.toolkit_model.specs.applet_trait.declared.stimuli.Act.{Act}
+use Rattle.toolkit_model.specs.applet_trait.declared.stimuli.Act.TheVariants.{Done, Send, Keep, Register, Deregister, TakeTimer, FreeTimer, Answer}
+use Rattle.toolkit_model.specs.applet_trait.Minds.{AppletState}
+use Rattle.toolkit_model.specs.applet_trait.Turns.{act}
+use Rattle.file_model.specs.card_layout.Persistent.{Registration}
+use Rattle.file_model.specs.card_layout.Sections.{sorted_codes}
+use Rattle.toolkit_model.specs.Timers.{smallest_free}
+use Rattle.toolkit_model.specs.toolkit_commands.declared.commands.Proactive.{Proactive}
 use Rattle.toolkit_model.specs.declared.faults.RowFault.{RowFault}
 use Rattle.toolkit_model.specs.Sessions.{LateTrigger}
 use Rattle.toolkit_model.specs.Orderly.{asks}

@@ -1,7 +1,7 @@
 -- An envelope, as it is to each card that it may come to.
 use Rattle.std.proofs.Common.{◌≡◌, sym, ap, ◌∙◌, ℕ, Bool, List, Option}
 use Rattle.std.specs.Prelude.{length}
-use Rattle.toolkit_commands.specs.declared.envelopes.Envelope.{Envelope}
+use Rattle.toolkit_model.specs.toolkit_commands.declared.envelopes.Envelope.{Envelope}
 use Rattle.toolkit_model.specs.Orderly.{asks}
 use Rattle.toolkit_model.specs.Passing.{ToolkitState}
 use Rattle.toolkit_model.specs.Commands.{triggered_by, is_busy, triggered, last_answer, call_data}

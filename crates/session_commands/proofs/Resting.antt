@@ -1,12 +1,12 @@
 -- A card between two commands: its applets can run, and what a refusal keeps of it.
 use Rattle.std.proofs.Common.{◌≡◌, refl, sym, ap, ◌∙◌, List, Option, arith}
 use Rattle.std.specs.Prelude.{◌≢◌, Ok}
-use Rattle.uicc_types.specs.Calls.{calm_same}
-use Rattle.uicc_types.specs.declared.answers.Answer.{Answer}
-use Rattle.uicc_types.specs.declared.answers.StatusWord.{StatusWord}
-use Rattle.uicc_types.specs.declared.answers.TheConstants.StatusWord.{DONE, MEMORY_PROBLEM}
-use Rattle.card_layout.specs.Memory.{Memory, IsMounted, Keeps}
-use Rattle.toolkit_laws.specs.Orderly.{IsInOrder}
+use Rattle.file_model.specs.uicc_types.Calls.{calm_same}
+use Rattle.file_model.specs.uicc_types.declared.answers.Answer.{Answer}
+use Rattle.file_model.specs.uicc_types.declared.answers.StatusWord.{StatusWord}
+use Rattle.file_model.specs.uicc_types.declared.answers.TheConstants.StatusWord.{DONE, MEMORY_PROBLEM}
+use Rattle.file_model.specs.card_layout.Memory.{Memory, IsMounted, Keeps}
+use Rattle.toolkit_model.specs.OrderlySessions.{IsInOrder}
 use Rattle.proactive_handler.specs.Scenes.{IsInService, KeepsScene}
 use Rattle.proactive_handler.specs.Serving.{SessionsAreServed}
 use Rattle.proactive_handler.specs.Steps.{Scene, toolkit}

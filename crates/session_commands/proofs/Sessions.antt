@@ -1,12 +1,12 @@
 -- FETCH and TERMINAL RESPONSE, of a session.
 use Rattle.std.proofs.Common.{◌≡◌, refl, sym, ap, ◌∙◌, subst, ℕ, true, List, Option, Some, None}
 use Rattle.std.specs.Prelude.{length, is_some, IfSome, option_map, Ok, Err}
-use Rattle.uicc_types.specs.declared.answers.StatusWord.{StatusWord}
-use Rattle.apdu_form.specs.Model.{Apdu}
-use Rattle.card_layout.specs.Memory.{held}
-use Rattle.card_layout.specs.Persistent.{Persistent}
-use Rattle.toolkit_commands.specs.declared.commands.Details.{Details}
-use Rattle.toolkit_commands.specs.declared.responses.Response.{Response}
+use Rattle.file_model.specs.uicc_types.declared.answers.StatusWord.{StatusWord}
+use Rattle.file_model.specs.apdu_form.Model.{Apdu}
+use Rattle.file_model.specs.card_layout.Memory.{held}
+use Rattle.file_model.specs.card_layout.Persistent.{Persistent}
+use Rattle.toolkit_model.specs.toolkit_commands.declared.commands.Details.{Details}
+use Rattle.toolkit_model.specs.toolkit_commands.declared.responses.Response.{Response}
 use Rattle.toolkit_model.specs.Sessions.{Outstanding, SessionState}
 use Rattle.toolkit_model.specs.Passing.{ToolkitState}
 use Rattle.proactive_handler.specs.Counting.{counts_none}

@@ -1,17 +1,17 @@
 -- The tests of each command come to its refusals, in their order; what passes them is carried out.
 use Rattle.std.proofs.Common.{◌≡◌, refl, sym, ap, ◌∙◌, ℕ, ◌+◌, Bool, true, false, not, List, [], Option, Some, None}
 use Rattle.std.specs.Prelude.{◌==◌, ◌&&◌, ◌||◌, nat_le, length, is_some, option_map, unwrap_or, Result, Ok, Err}
-use Rattle.uicc_types.specs.declared.answers.StatusWord.{StatusWord}
-use Rattle.uicc_types.specs.declared.answers.TheConstants.StatusWord.{WRONG_LENGTH, WRONG_PARAMETERS, WRONG_DATA, CONDITIONS_NOT_SATISFIED, SECURITY_NOT_SATISFIED, TOOLKIT_BUSY}
-use Rattle.apdu_form.specs.Model.{Apdu}
-use Rattle.access_rules.specs.declared.rules.Verified.{Verified}
-use Rattle.card_layout.specs.Persistent.{Registration}
-use Rattle.toolkit_commands.specs.declared.commands.Details.{Details}
-use Rattle.toolkit_commands.specs.declared.envelopes.Envelope.{Envelope}
-use Rattle.toolkit_commands.specs.declared.responses.Response.{Response}
-use Rattle.toolkit_commands.specs.Envelopes.{envelope_of}
-use Rattle.toolkit_commands.specs.Responses.{response_of}
-use Rattle.toolkit_commands.specs.Table.{details_of}
+use Rattle.file_model.specs.uicc_types.declared.answers.StatusWord.{StatusWord}
+use Rattle.file_model.specs.uicc_types.declared.answers.TheConstants.StatusWord.{WRONG_LENGTH, WRONG_PARAMETERS, WRONG_DATA, CONDITIONS_NOT_SATISFIED, SECURITY_NOT_SATISFIED, TOOLKIT_BUSY}
+use Rattle.file_model.specs.apdu_form.Model.{Apdu}
+use Rattle.file_model.specs.declared.rules.Verified.{Verified}
+use Rattle.file_model.specs.card_layout.Persistent.{Registration}
+use Rattle.toolkit_model.specs.toolkit_commands.declared.commands.Details.{Details}
+use Rattle.toolkit_model.specs.toolkit_commands.declared.envelopes.Envelope.{Envelope}
+use Rattle.toolkit_model.specs.toolkit_commands.declared.responses.Response.{Response}
+use Rattle.toolkit_model.specs.toolkit_commands.Envelopes.{envelope_of}
+use Rattle.toolkit_model.specs.toolkit_commands.Responses.{response_of}
+use Rattle.toolkit_model.specs.toolkit_commands.Table.{details_of}
 use Rattle.file_model.specs.Chains.{refused_if, given, and_given}
 use Rattle.file_model.specs.Outcomes.{has_data, has_no_data, has_le_alone}
 use Rattle.file_model.specs.Records.{other_length}

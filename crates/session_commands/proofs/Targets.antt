@@ -4,25 +4,25 @@ use Rattle.std.specs.Prelude.{◌≢◌, ◌≤◌, ◌==◌, ◌&&◌, ◌||◌
 use Rattle.std.specs.Option.{option_map_or}
 use Rattle.std.proofs.lemmas.Bool.Decides.{nat_tests}
 use Rattle.std.proofs.lemmas.List.Elements.{All-nil, All-cons, All-map, Contains-get_or, filter_agree}
-use Rattle.general_laws.specs.Pairs.{pairs_head, pairs_tail, pairs_map}
-use Rattle.uicc_types.specs.declared.identifiers.Shelf.{Shelf}
-use Rattle.card_layout.specs.declared.entries.Row.{Row}
-use Rattle.card_layout.specs.declared.entries.Loaded.{Loaded}
-use Rattle.card_layout.specs.Checks.{has_row_text}
-use Rattle.card_layout.specs.Persistent.{Registration}
-use Rattle.card_layout.specs.Sections.{has_text}
-use Rattle.card_layout.specs.StateLaws.{RowsAreEntries, RowsComeFromEntries, StatesAreOfTables}
-use Rattle.card_layout.specs.States.{registration_of, rows_of}
-use Rattle.card_layout.specs.Used.{registration_if}
-use Rattle.card_memory.specs.Model.{HasRowOn}
-use Rattle.toolkit_commands.specs.declared.envelopes.Envelope.{Envelope}
-use Rattle.timer_table.specs.Timers.{Owners, owner_of}
+use Rattle.file_model.specs.uicc_types.Pairs.{pairs_head, pairs_tail, pairs_map}
+use Rattle.file_model.specs.uicc_types.declared.identifiers.Shelf.{Shelf}
+use Rattle.file_model.specs.card_layout.declared.entries.Row.{Row}
+use Rattle.file_model.specs.card_layout.declared.entries.Loaded.{Loaded}
+use Rattle.file_model.specs.card_layout.Checks.{has_row_text}
+use Rattle.file_model.specs.card_layout.Persistent.{Registration}
+use Rattle.file_model.specs.card_layout.Sections.{has_text}
+use Rattle.file_model.specs.card_layout.StateLaws.{RowsAreEntries, RowsComeFromEntries, StatesAreOfTables}
+use Rattle.file_model.specs.card_layout.States.{registration_of, rows_of}
+use Rattle.file_model.specs.card_layout.Used.{registration_if}
+use Rattle.proactive_handler.specs.card_memory.Model.{HasRowOn}
+use Rattle.toolkit_model.specs.toolkit_commands.declared.envelopes.Envelope.{Envelope}
+use Rattle.toolkit_model.specs.Timers.{Owners, owner_of}
 use Rattle.toolkit_model.specs.Sessions.{Sent}
 use Rattle.toolkit_model.specs.Orderly.{IsRegistered}
 use Rattle.toolkit_model.specs.Registry.{item_of}
 use Rattle.toolkit_model.specs.Driving.{is_idle}
 use Rattle.toolkit_model.specs.Commands.{selected, late_places, is_call}
-use Rattle.event_dispatch.specs.Targets.{AreTargets}
+use Rattle.proactive_handler.specs.applet_registry.Targets.{AreTargets}
 use Rattle.proactive_handler.proofs.Registered.{row_has}
 use Rattle.session_commands.specs.Trying.{is_busy_with, has_item_on}
 

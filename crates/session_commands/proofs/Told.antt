@@ -3,15 +3,15 @@ use Rattle.std.proofs.Common.{◌≡◌, refl, sym, ap, ◌∙◌, subst, ℕ, �
 use Rattle.std.specs.Prelude.{◌≤◌, ◌&&◌, ◌||◌, nat_lt, length, filter, Result, Ok, Err}
 use Rattle.std.specs.Result.{IsErr}
 use Rattle.std.proofs.lemmas.Bool.Decides.{nat_tests}
-use Rattle.store_form.specs.declared.store.StoreFault.{StoreFault}
-use Rattle.store_form.specs.declared.store.StoreFault.TheVariants.{Failed}
-use Rattle.uicc_types.specs.declared.events.TheConstants.{PROFILE_DOWNLOAD, STATUS_COMMAND}
-use Rattle.card_layout.specs.declared.entries.Loaded.{Loaded}
-use Rattle.card_layout.specs.Persistent.{Registration}
-use Rattle.card_layout.specs.States.{rows_of}
-use Rattle.terminal_profile.specs.Model.{consulted}
-use Rattle.toolkit_commands.specs.declared.envelopes.Envelope.{Envelope}
-use Rattle.toolkit_commands.specs.declared.envelopes.Envelope.TheVariants as Envelopes
+use Rattle.file_model.specs.store_form.declared.store.StoreFault.{StoreFault}
+use Rattle.file_model.specs.store_form.declared.store.StoreFault.TheVariants.{Failed}
+use Rattle.file_model.specs.uicc_types.declared.events.TheConstants.{PROFILE_DOWNLOAD, STATUS_COMMAND}
+use Rattle.file_model.specs.card_layout.declared.entries.Loaded.{Loaded}
+use Rattle.file_model.specs.card_layout.Persistent.{Registration}
+use Rattle.file_model.specs.card_layout.States.{rows_of}
+use Rattle.toolkit_model.specs.Profiles.{consulted}
+use Rattle.toolkit_model.specs.toolkit_commands.declared.envelopes.Envelope.{Envelope}
+use Rattle.toolkit_model.specs.toolkit_commands.declared.envelopes.Envelope.TheVariants as Envelopes
 use Rattle.toolkit_model.specs.Sessions.{Outstanding, Sent, SessionState}
 use Rattle.toolkit_model.specs.Order.{targets}
 use Rattle.toolkit_model.specs.Orderly.{owned, asks}

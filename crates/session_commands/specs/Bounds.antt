@@ -1,13 +1,13 @@
 -- How a command of the toolkit finds a card, and how it ends.
 use Rattle.std.specs.Prelude.{◌≡◌, ◌≢◌, List, [], length, Option, Result, OnOk, OnErr}
-use Rattle.uicc_types.specs.declared.answers.Answer.{Answer}
-use Rattle.uicc_types.specs.declared.answers.TheConstants.StatusWord.{MEMORY_PROBLEM}
-use Rattle.store_form.specs.declared.store.StoreFault.{StoreFault}
-use Rattle.card_layout.specs.declared.sizes.TheConstants.{ROW_COUNT}
-use Rattle.card_layout.specs.Memory.{IsMounted}
-use Rattle.card_layout.specs.States.{rows_of}
-use Rattle.trigger_index.specs.Indexes.{StandsFor}
-use Rattle.toolkit_laws.specs.Orderly.{IsInOrder}
+use Rattle.file_model.specs.uicc_types.declared.answers.Answer.{Answer}
+use Rattle.file_model.specs.uicc_types.declared.answers.TheConstants.StatusWord.{MEMORY_PROBLEM}
+use Rattle.file_model.specs.store_form.declared.store.StoreFault.{StoreFault}
+use Rattle.file_model.specs.card_layout.declared.sizes.TheConstants.{ROW_COUNT}
+use Rattle.file_model.specs.card_layout.Memory.{IsMounted}
+use Rattle.file_model.specs.card_layout.States.{rows_of}
+use Rattle.proactive_handler.specs.applet_registry.Indexes.{StandsFor}
+use Rattle.toolkit_model.specs.OrderlySessions.{IsInOrder}
 use Rattle.proactive_handler.specs.Steps.{Scene, toolkit}
 
 -- A card between two commands, with these boxes: the memory is mounted, the index is that of its rows, there is a place

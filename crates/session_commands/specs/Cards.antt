@@ -4,14 +4,14 @@ use Rattle.std.specs.Prelude.{length, map, option_map, Contains, IsSomeAnd, Resu
 use Rattle.std.specs.Result.{IsErr}
 use Rattle.std.proofs.lemmas.List.{length-map}
 use Rattle.std.proofs.lemmas.List.Elements.{Contains-get_or}
-use Rattle.uicc_types.specs.declared.answers.Answer.{Answer}
-use Rattle.uicc_types.specs.declared.answers.StatusWord.{StatusWord}
-use Rattle.uicc_types.specs.Counts.{raised_by}
-use Rattle.store_form.specs.declared.store.StoreFault.{StoreFault}
-use Rattle.card_layout.specs.Memory.{Memory, held}
-use Rattle.card_layout.specs.Persistent.{Persistent}
-use Rattle.card_memory.specs.Model.{CommitsAtMost}
-use Rattle.general_laws.specs.Numbered.{nil_mapped}
+use Rattle.file_model.specs.uicc_types.declared.answers.Answer.{Answer}
+use Rattle.file_model.specs.uicc_types.declared.answers.StatusWord.{StatusWord}
+use Rattle.file_model.specs.uicc_types.Counts.{raised_by}
+use Rattle.file_model.specs.store_form.declared.store.StoreFault.{StoreFault}
+use Rattle.file_model.specs.card_layout.Memory.{Memory, held}
+use Rattle.file_model.specs.card_layout.Persistent.{Persistent}
+use Rattle.proactive_handler.specs.card_memory.Model.{CommitsAtMost}
+use Rattle.file_model.specs.uicc_types.Numbered.{nil_mapped}
 use Rattle.file_model.specs.Chains.{and_given}
 use Rattle.proactive_handler.specs.Counting.{Counts, counts_none}
 use Rattle.proactive_handler.specs.Steps.{Scene}

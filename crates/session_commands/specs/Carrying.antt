@@ -1,16 +1,16 @@
 -- A command of the toolkit, carried out over a card, and where a fault stops it (ETSI TS 102 221, 11.2).
 use Rattle.std.specs.Prelude.{◌≡◌, ◌⊎◌, ℕ, ◌+◌, ◌<◌, [], ◌∷◌, length, slice_index_or, Some, option_map, Result, Ok, Err}
 use Rattle.std.specs.List.{last_or}
-use Rattle.uicc_types.specs.Counts.{raised_by}
-use Rattle.uicc_types.specs.declared.answers.Answer.{Answer}
-use Rattle.uicc_types.specs.declared.answers.StatusWord.{StatusWord}
-use Rattle.uicc_types.specs.declared.answers.TheConstants.StatusWord.{DONE}
-use Rattle.store_form.specs.declared.store.StoreFault.{StoreFault}
+use Rattle.file_model.specs.uicc_types.Counts.{raised_by}
+use Rattle.file_model.specs.uicc_types.declared.answers.Answer.{Answer}
+use Rattle.file_model.specs.uicc_types.declared.answers.StatusWord.{StatusWord}
+use Rattle.file_model.specs.uicc_types.declared.answers.TheConstants.StatusWord.{DONE}
+use Rattle.file_model.specs.store_form.declared.store.StoreFault.{StoreFault}
 use Rattle.file_model.specs.Outcomes.{last_of}
-use Rattle.card_layout.specs.Memory.{held}
-use Rattle.card_layout.specs.Persistent.{Persistent}
-use Rattle.card_layout.specs.States.{rows_of}
-use Rattle.card_memory.specs.Laws.{IsTold}
+use Rattle.file_model.specs.card_layout.Memory.{held}
+use Rattle.file_model.specs.card_layout.Persistent.{Persistent}
+use Rattle.file_model.specs.card_layout.States.{rows_of}
+use Rattle.proactive_handler.specs.card_memory.Laws.{IsTold}
 use Rattle.toolkit_model.specs.Passing.{passed_rows}
 use Rattle.proactive_handler.specs.Counting.{Counts}
 use Rattle.proactive_handler.specs.Steps.{Scene, toolkit}

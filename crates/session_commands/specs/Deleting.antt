@@ -1,19 +1,19 @@
 -- The applet of a shelf is deleted.
 use Rattle.std.specs.Prelude.{◌≡◌, ◌≢◌, ◌<◌, ℕ, true, List, All, slice_set, Option, None, option_map, Result, OnOk, OnErr, IfOk}
-use Rattle.store_form.specs.declared.store.StoreFault.{StoreFault}
-use Rattle.card_layout.specs.declared.entries.Loaded.{Loaded}
-use Rattle.card_layout.specs.declared.sizes.TheConstants.{ROW_COUNT}
-use Rattle.card_layout.specs.Memory.{Keeps}
-use Rattle.card_layout.specs.Persistent.{Registration}
-use Rattle.card_layout.specs.Standing.{Agrees}
-use Rattle.card_layout.specs.States.{rows_of}
-use Rattle.card_memory.specs.Model.{HasRowOn}
-use Rattle.applet_trait.specs.Minds.{AppletState}
+use Rattle.file_model.specs.store_form.declared.store.StoreFault.{StoreFault}
+use Rattle.file_model.specs.card_layout.declared.entries.Loaded.{Loaded}
+use Rattle.file_model.specs.card_layout.declared.sizes.TheConstants.{ROW_COUNT}
+use Rattle.file_model.specs.card_layout.Memory.{Keeps}
+use Rattle.file_model.specs.card_layout.Persistent.{Registration}
+use Rattle.file_model.specs.card_layout.Standing.{Agrees}
+use Rattle.file_model.specs.card_layout.States.{rows_of}
+use Rattle.proactive_handler.specs.card_memory.Model.{HasRowOn}
+use Rattle.toolkit_model.specs.applet_trait.Minds.{AppletState, minds_of}
 use Rattle.toolkit_model.specs.Driving.{is_idle}
 use Rattle.toolkit_model.specs.Orderly.{asks}
 use Rattle.toolkit_model.specs.Running.{mind_on, with_mind}
-use Rattle.trigger_index.specs.Indexes.{StandsFor}
-use Rattle.proactive_handler.specs.Boxes.{minds_of, kinds_of, IsSameBox}
+use Rattle.proactive_handler.specs.applet_registry.Indexes.{StandsFor}
+use Rattle.proactive_handler.specs.Boxes.{kinds_of, IsSameBox}
 use Rattle.proactive_handler.specs.Serving.{IsSessionServed}
 use Rattle.proactive_handler.specs.Steps.{Scene}
 

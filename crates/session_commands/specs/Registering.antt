@@ -1,15 +1,15 @@
 -- An applet is registered in a card's memory: its row and the next sequence number, in one commit.
 use Rattle.std.specs.Prelude.{◌≡◌, ◌⊎◌, ◌+◌, ◌<◌, ℕ, false, Some, option_map, Result, Ok, Err}
-use Rattle.uicc_types.specs.Counts.{raised}
-use Rattle.store_form.specs.declared.store.StoreFault.{StoreFault}
-use Rattle.card_layout.specs.declared.entries.Row.{Row}
-use Rattle.card_layout.specs.declared.sizes.TheConstants.{ROW_COUNT}
-use Rattle.card_layout.specs.Memory.{held}
-use Rattle.card_layout.specs.Persistent.{Registration, Persistent}
-use Rattle.card_layout.specs.States.{registration_of, rows_of}
-use Rattle.card_memory.specs.Model.{MayInstall, with_row_installed}
-use Rattle.card_memory.specs.Laws.{IsTold}
-use Rattle.toolkit_laws.specs.Installing.{kind_on}
+use Rattle.file_model.specs.uicc_types.Counts.{raised}
+use Rattle.file_model.specs.store_form.declared.store.StoreFault.{StoreFault}
+use Rattle.file_model.specs.card_layout.declared.entries.Row.{Row}
+use Rattle.file_model.specs.card_layout.declared.sizes.TheConstants.{ROW_COUNT}
+use Rattle.file_model.specs.card_layout.Memory.{held}
+use Rattle.file_model.specs.card_layout.Persistent.{Registration, Persistent}
+use Rattle.file_model.specs.card_layout.States.{registration_of, rows_of}
+use Rattle.proactive_handler.specs.card_memory.Model.{MayInstall, with_row_installed}
+use Rattle.proactive_handler.specs.card_memory.Laws.{IsTold}
+use Rattle.toolkit_model.specs.Installing.{kind_on}
 use Rattle.toolkit_model.specs.Commands.{registering}
 use Rattle.toolkit_model.specs.Registry.{is_taken}
 use Rattle.proactive_handler.specs.Steps.{Scene, toolkit}

@@ -1,7 +1,7 @@
 -- What an envelope triggers, as it is found.
 use Rattle.std.specs.Prelude.{◌≡◌, ◌≢◌, ◌≤◌, length, All, AllPairs}
-use Rattle.card_layout.specs.declared.entries.Loaded.{Loaded}
-use Rattle.card_memory.specs.Model.{HasRowOn}
+use Rattle.file_model.specs.card_layout.declared.entries.Loaded.{Loaded}
+use Rattle.proactive_handler.specs.card_memory.Model.{HasRowOn}
 use Rattle.toolkit_model.specs.Commands.{Trigger as Event}
 use Rattle.session_commands.specs.declared.triggers.Trigger.{Trigger}
 

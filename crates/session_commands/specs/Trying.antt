@@ -1,21 +1,21 @@
 -- What is tested of a command before anything moves, over what a table and a session tell.
 use Rattle.std.specs.Prelude.{ℕ, ◌-◌, ◌==◌, not, ◌&&◌, ◌||◌, nat_le, nat_lt, Bool, false, if◌then◌else◌, List, [], length, filter, slice_get, Option, unwrap_or, Result, Ok, Err}
 use Rattle.std.specs.Option.{option_map_or}
-use Rattle.uicc_types.specs.declared.answers.StatusWord.{StatusWord}
-use Rattle.uicc_types.specs.declared.answers.TheConstants.StatusWord.{WRONG_LENGTH, WRONG_PARAMETERS, WRONG_DATA, CONDITIONS_NOT_SATISFIED, SECURITY_NOT_SATISFIED}
-use Rattle.apdu_form.specs.Model.{Apdu}
-use Rattle.access_rules.specs.declared.rules.Verified.{Verified}
-use Rattle.card_layout.specs.declared.entries.Row.{Row}
-use Rattle.card_layout.specs.declared.entries.Loaded.{Loaded}
-use Rattle.card_layout.specs.Checks.{has_row_text}
-use Rattle.card_layout.specs.Persistent.{Registration, Persistent}
-use Rattle.card_layout.specs.States.{registration_of}
-use Rattle.toolkit_commands.specs.declared.commands.Details.{Details}
-use Rattle.toolkit_commands.specs.declared.envelopes.Envelope.{Envelope}
-use Rattle.toolkit_commands.specs.declared.envelopes.Envelope.TheVariants.{Event}
-use Rattle.toolkit_commands.specs.declared.responses.Response.{Response}
-use Rattle.toolkit_commands.specs.Envelopes.{envelope_of}
-use Rattle.toolkit_commands.specs.Responses.{response_of}
+use Rattle.file_model.specs.uicc_types.declared.answers.StatusWord.{StatusWord}
+use Rattle.file_model.specs.uicc_types.declared.answers.TheConstants.StatusWord.{WRONG_LENGTH, WRONG_PARAMETERS, WRONG_DATA, CONDITIONS_NOT_SATISFIED, SECURITY_NOT_SATISFIED}
+use Rattle.file_model.specs.apdu_form.Model.{Apdu}
+use Rattle.file_model.specs.declared.rules.Verified.{Verified}
+use Rattle.file_model.specs.card_layout.declared.entries.Row.{Row}
+use Rattle.file_model.specs.card_layout.declared.entries.Loaded.{Loaded}
+use Rattle.file_model.specs.card_layout.Checks.{has_row_text}
+use Rattle.file_model.specs.card_layout.Persistent.{Registration, Persistent}
+use Rattle.file_model.specs.card_layout.States.{registration_of}
+use Rattle.toolkit_model.specs.toolkit_commands.declared.commands.Details.{Details}
+use Rattle.toolkit_model.specs.toolkit_commands.declared.envelopes.Envelope.{Envelope}
+use Rattle.toolkit_model.specs.toolkit_commands.declared.envelopes.Envelope.TheVariants.{Event}
+use Rattle.toolkit_model.specs.toolkit_commands.declared.responses.Response.{Response}
+use Rattle.toolkit_model.specs.toolkit_commands.Envelopes.{envelope_of}
+use Rattle.toolkit_model.specs.toolkit_commands.Responses.{response_of}
 use Rattle.file_model.specs.Chains.{given, and_given, needs}
 use Rattle.file_model.specs.Outcomes.{has_data, has_no_data, has_le_alone}
 use Rattle.file_model.specs.Records.{other_length}

@@ -1,33 +1,33 @@
 //! DELETE, which this card has of its own.
 ghost use Rattle.std.specs.Prelude.{◌≡◌, ◌≢◌, ◌⊎◌, ◌==◌, ◌&&◌, ℕ, OnOk, IfErr};
-ghost use Rattle.card_layout.specs.States.{rows_of};
+ghost use Rattle.file_model.specs.card_layout.States.{rows_of};
 ghost use Rattle.toolkit_model.specs.Commands.{unregistering, deleted};
 ghost use Rattle.toolkit_model.specs.Driving.{is_idle};
 ghost use Rattle.toolkit_model.specs.Orderly.{asks};
-ghost use Rattle.proactive_handler.specs.Boxes.{minds_of, kinds_of, IsSameBox, AreForOthers};
+ghost use Rattle.proactive_handler.specs.Boxes.{kinds_of, IsSameBox, AreForOthers};
+ghost use Rattle.toolkit_model.specs.applet_trait.Minds.{minds_of};
 ghost use Rattle.proactive_handler.specs.Steps.{scene, Moves};
 ghost use Rattle.card_model.specs.Toolkit.{has_shelf, applet_deleted};
 ghost use Rattle.session_commands.specs.Trying.{delete_tried, allowed};
-ghost use Rattle.card_layout.specs.Memory.{memory};
+ghost use Rattle.file_model.specs.card_layout.Memory.{memory};
 ghost use Rattle.session_commands.specs.Bounds.{IsBetweenCommands, EndsToolkitWell};
 ghost use Rattle.session_commands.specs.Deleting.{KeepsBesides, MayGo, TakesBox, HasLost};
 ghost use Rattle.session_commands.specs.Carrying.{CarriesOut};
 
 use crate::forms::status_of;
 use crate::shelves::{put_back, take_out};
-use access_rules::Verified;
-use apdu_form::Command;
-use applet_registry::commits_are_those_of_sessions;
-use applet_trait::Applet;
-use card_layout::sizes::ROW_COUNT;
-use card_layout::{Loaded, states_are_of_entries};
-use card_memory::{remove_row, tables_tell_states};
+use file_model::Verified;
+use file_model::apdu_form::Command;
+use file_model::card_layout::sizes::ROW_COUNT;
+use file_model::card_layout::{Loaded, states_are_of_entries};
+use file_model::store_form::{Store, StoreFault};
+use file_model::uicc_types::{Answer, Shelf, StatusWord};
+use proactive_handler::applet_registry::{Index, commits_are_those_of_sessions};
+use proactive_handler::card_memory::{remove_row, tables_tell_states};
+use proactive_handler::toolkit_session::Session;
 use proactive_handler::{drive, rows_are_listed, sessions_are_served};
-use store_form::{Store, StoreFault};
-use toolkit_laws::sessions_stay_in_order;
-use toolkit_session::Session;
-use trigger_index::Index;
-use uicc_types::{Answer, Shelf, StatusWord};
+use toolkit_model::applet_trait::Applet;
+use toolkit_model::sessions_stay_in_order;
 
 // P1 is 00, and P2 a shelf.
 fn names_shelf(command: &Command<'_>) -> bool
@@ -58,7 +58,7 @@ fn try_delete(
         return Err(StatusWord::SECURITY_NOT_SATISFIED);
     }
     let shelf = Shelf(command.p2);
-    match applet_registry::delete(loaded, shelf, session.idle(shelf)) {
+    match proactive_handler::applet_registry::delete(loaded, shelf, session.idle(shelf)) {
         Ok(()) => Ok(()),
         Err(fault) => Err(status_of(fault)),
     }

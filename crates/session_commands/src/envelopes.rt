@@ -1,14 +1,15 @@
 //! ENVELOPE.
 ghost use Rattle.std.specs.Prelude.{◌≡◌, ◌≢◌, ◌≤◌, [], ◌∷◌, ℕ, length, false, All, Ok, IfOk};
-ghost use Rattle.toolkit_commands.specs.declared.envelopes.Envelope.{Envelope};
-ghost use Rattle.toolkit_commands.specs.Reports.{reported};
-ghost use Rattle.card_layout.specs.States.{rows_of};
+ghost use Rattle.toolkit_model.specs.toolkit_commands.declared.envelopes.Envelope.{Envelope};
+ghost use Rattle.toolkit_model.specs.toolkit_commands.Reports.{reported};
+ghost use Rattle.file_model.specs.card_layout.States.{rows_of};
 ghost use Rattle.toolkit_model.specs.Commands.{enveloped, triggered, trigger_of, is_busy, last_answer};
-ghost use Rattle.proactive_handler.specs.Boxes.{minds_of, IsSameBox, AreForOthers};
+ghost use Rattle.proactive_handler.specs.Boxes.{IsSameBox, AreForOthers};
+ghost use Rattle.toolkit_model.specs.applet_trait.Minds.{minds_of};
 ghost use Rattle.proactive_handler.specs.Steps.{toolkit, scene, Moves};
 ghost use Rattle.card_model.specs.Toolkit.{envelope_taken};
 ghost use Rattle.session_commands.specs.Trying.{envelope_tried, reported_in, data_for};
-ghost use Rattle.card_layout.specs.Memory.{memory};
+ghost use Rattle.file_model.specs.card_layout.Memory.{memory};
 ghost use Rattle.proactive_handler.specs.Scenes.{KeepsScene};
 ghost use Rattle.session_commands.specs.Bounds.{IsBetweenCommands, EndsToolkitWell};
 ghost use Rattle.session_commands.specs.Carrying.{CarriesOut};
@@ -17,17 +18,17 @@ ghost use Rattle.session_commands.specs.Triggers.{IsTriggerOf};
 use crate::forms::try_envelope;
 use crate::telling::tell;
 use crate::triggers::{Trigger, is_busy, is_call, trigger_of};
-use apdu_form::Command;
-use applet_trait::Applet;
-use card_layout::Loaded;
-use card_memory::tables_tell_states;
+use file_model::apdu_form::Command;
+use file_model::card_layout::Loaded;
+use file_model::store_form::{Store, StoreFault};
+use file_model::uicc_types::{Answer, AnswerData, Full, StatusWord};
+use proactive_handler::applet_registry::Index;
+use proactive_handler::card_memory::tables_tell_states;
 use proactive_handler::sessions_are_served;
-use store_form::{Store, StoreFault};
-use toolkit_commands::EnvelopeRef;
-use toolkit_laws::sessions_stay_in_order;
-use toolkit_session::Session;
-use trigger_index::Index;
-use uicc_types::{Answer, AnswerData, Full, StatusWord};
+use proactive_handler::toolkit_session::Session;
+use toolkit_model::applet_trait::Applet;
+use toolkit_model::sessions_stay_in_order;
+use toolkit_model::toolkit_commands::EnvelopeRef;
 
 // User activity and the idle screen are reported once.
 fn note_reported(session: &mut Session, envelope: &EnvelopeRef<'_>)

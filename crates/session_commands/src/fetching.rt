@@ -1,21 +1,21 @@
 //! FETCH.
 ghost use Rattle.std.specs.Prelude.{◌≡◌, ◌≢◌, IsOk, OnOk};
-ghost use Rattle.toolkit_laws.specs.Orderly.{IsInOrder};
-ghost use Rattle.proactive_handler.specs.Boxes.{minds_of};
+ghost use Rattle.toolkit_model.specs.OrderlySessions.{IsInOrder};
+ghost use Rattle.toolkit_model.specs.applet_trait.Minds.{minds_of};
 ghost use Rattle.proactive_handler.specs.Steps.{toolkit, scene};
 ghost use Rattle.card_model.specs.Toolkit.{command_fetched};
-ghost use Rattle.card_layout.specs.Memory.{memory};
+ghost use Rattle.file_model.specs.card_layout.Memory.{memory};
 ghost use Rattle.session_commands.specs.Carrying.{CarriesOut};
 
 use crate::forms::try_fetch;
-use apdu_form::Command;
-use applet_trait::Applet;
-use card_layout::Loaded;
-use store_form::{Store, StoreFault};
-use toolkit_laws::sessions_stay_in_order;
-use toolkit_session::Session;
-use trigger_index::Index;
-use uicc_types::{Answer, StatusWord};
+use file_model::apdu_form::Command;
+use file_model::card_layout::Loaded;
+use file_model::store_form::{Store, StoreFault};
+use file_model::uicc_types::{Answer, StatusWord};
+use proactive_handler::applet_registry::Index;
+use proactive_handler::toolkit_session::Session;
+use toolkit_model::applet_trait::Applet;
+use toolkit_model::sessions_stay_in_order;
 
 /// FETCH (ETSI TS 102 221, 11.2.3): answers the bytes of the outstanding command, all of them, and marks it fetched. Nothing but the
 /// session is touched.

@@ -1,17 +1,17 @@
 //! What the parameters, the lengths and the data of a command are tested for, in the written order.
 ghost use Rattle.std.specs.Prelude.{◌≡◌, ◌≢◌, ◌≤◌, ◌==◌, ◌||◌, length, unwrap_or, IfOk, IfErr};
-ghost use Rattle.toolkit_commands.specs.Replies.{replied};
-ghost use Rattle.toolkit_commands.specs.Reports.{reported, bytes_in};
+ghost use Rattle.toolkit_model.specs.toolkit_commands.Replies.{replied};
+ghost use Rattle.toolkit_model.specs.toolkit_commands.Reports.{reported, bytes_in};
 ghost use Rattle.card_model.specs.Toolkit.{has_zero_parameters, row_status};
 ghost use Rattle.session_commands.specs.Trying.{seen, data_tried, fetch_tried, response_given, response_tried, envelope_given, envelope_tried};
 
-use apdu_form::Command;
-use applet_registry::RowFault;
+use file_model::apdu_form::Command;
+use file_model::uicc_types::StatusWord;
 use file_model::{has_data, has_le_alone};
-use toolkit_commands::{
+use proactive_handler::applet_registry::RowFault;
+use toolkit_model::toolkit_commands::{
     Details, EnvelopeRef, ResponseRef, read_envelope_in_place, read_response_in_place,
 };
-use uicc_types::StatusWord;
 
 fn has_zero_parameters(command: &Command<'_>) -> bool
     ensures { result ≡ has_zero_parameters command.now }

@@ -1,37 +1,39 @@
 //! INSTALL, which this card has of its own.
 ghost use Rattle.std.specs.Prelude.{[], ◌≡◌, ◌≢◌, ◌≤◌, ◌<◌, ◌+◌, ◌&&◌, ℕ, nat_le, List, length, true, IfOk, IfErr, IfSome};
-ghost use Rattle.applet_registry.specs.Rows.{IsAdmitted};
-ghost use Rattle.card_layout.specs.declared.events.TheConstants.{EVENTS_END};
-ghost use Rattle.card_layout.specs.declared.sizes.TheConstants.{ROW_COUNT};
-ghost use Rattle.card_layout.specs.States.{registration_of, state_of};
-ghost use Rattle.toolkit_laws.specs.Installing.{kind_on};
+ghost use Rattle.proactive_handler.specs.applet_registry.Rows.{IsAdmitted};
+ghost use Rattle.file_model.specs.card_layout.declared.events.TheConstants.{EVENTS_END};
+ghost use Rattle.file_model.specs.card_layout.declared.sizes.TheConstants.{ROW_COUNT};
+ghost use Rattle.file_model.specs.card_layout.States.{registration_of, state_of};
+ghost use Rattle.toolkit_model.specs.Installing.{kind_on};
 ghost use Rattle.toolkit_model.specs.Commands.{installed};
-ghost use Rattle.proactive_handler.specs.Boxes.{minds_of, IsSameBox, AreForOthers};
+ghost use Rattle.proactive_handler.specs.Boxes.{IsSameBox, AreForOthers};
+ghost use Rattle.toolkit_model.specs.applet_trait.Minds.{minds_of};
 ghost use Rattle.proactive_handler.specs.Steps.{toolkit, scene};
 ghost use Rattle.card_model.specs.Toolkit.{has_shelf, applet_installed};
 ghost use Rattle.session_commands.specs.Carrying.{Comes, CarriesOut};
 ghost use Rattle.session_commands.specs.Registering.{Registers, IsInstallable, with_next};
 ghost use Rattle.session_commands.specs.Trying.{install_tried, registration_for};
-ghost use Rattle.card_layout.specs.Memory.{memory};
+ghost use Rattle.file_model.specs.card_layout.Memory.{memory};
 ghost use Rattle.proactive_handler.specs.Scenes.{IsInService, KeepsScene};
 ghost use Rattle.session_commands.specs.Bounds.{IsBetweenCommands, EndsToolkitWell};
 
 use crate::forms::status_of;
 use crate::shelves::{kind_on, wake};
-use access_rules::Verified;
-use apdu_form::Command;
-use applet_registry::commits_are_those_of_sessions;
-use applet_trait::Applet;
-use card_layout::sizes::ROW_COUNT;
-use card_layout::{Loaded, Row, states_are_of_entries};
-use card_memory::{install_row, tables_tell_states};
-use layout_soundness::standing_is_sound;
+use file_model::Verified;
+use file_model::apdu_form::Command;
+use file_model::card_layout::sizes::ROW_COUNT;
+use file_model::card_layout::{Loaded, Row, states_are_of_entries};
+use file_model::store_form::{Store, StoreFault};
+use file_model::uicc_types::{Answer, Shelf, StatusWord};
+use proactive_handler::applet_registry::{
+    Index, commits_are_those_of_sessions, installations_are_followed,
+};
+use proactive_handler::card_memory::{install_row, tables_tell_states};
+use proactive_handler::layout_standing::standing_is_sound;
+use proactive_handler::toolkit_session::Session;
 use proactive_handler::{drive, rows_are_listed, sessions_are_served};
-use store_form::{Store, StoreFault};
-use toolkit_laws::{installations_are_accepted, installed_rows_are_sound, sessions_stay_in_order};
-use toolkit_session::Session;
-use trigger_index::{Index, installations_are_followed};
-use uicc_types::{Answer, Shelf, StatusWord};
+use toolkit_model::applet_trait::Applet;
+use toolkit_model::{installations_are_accepted, installed_rows_are_sound, sessions_stay_in_order};
 
 // P1 is a priority, and P2 a shelf.
 fn names_place(command: &Command<'_>) -> bool
@@ -69,7 +71,7 @@ fn try_install<B: Applet>(
         return Err(StatusWord::SECURITY_NOT_SATISFIED);
     }
     let shelf = Shelf(command.p2);
-    match applet_registry::install(
+    match proactive_handler::applet_registry::install(
         loaded,
         kind_on(cast, shelf),
         shelf,

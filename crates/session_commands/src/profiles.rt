@@ -1,14 +1,15 @@
 //! TERMINAL PROFILE, and STATUS as an event.
 ghost use Rattle.std.specs.Prelude.{[], ◌≢◌, ◌≤◌, ℕ, length, All, OnOk};
-ghost use Rattle.card_layout.specs.States.{rows_of};
+ghost use Rattle.file_model.specs.card_layout.States.{rows_of};
 ghost use Rattle.toolkit_model.specs.Commands.{profiled, polled};
 ghost use Rattle.toolkit_model.specs.Order.{targets};
-ghost use Rattle.uicc_types.specs.declared.events.TheConstants.{PROFILE_DOWNLOAD, STATUS_COMMAND};
-ghost use Rattle.toolkit_laws.specs.Orderly.{IsInOrder};
-ghost use Rattle.proactive_handler.specs.Boxes.{minds_of, IsSameBox, AreForOthers};
+ghost use Rattle.file_model.specs.uicc_types.declared.events.TheConstants.{PROFILE_DOWNLOAD, STATUS_COMMAND};
+ghost use Rattle.toolkit_model.specs.OrderlySessions.{IsInOrder};
+ghost use Rattle.proactive_handler.specs.Boxes.{IsSameBox, AreForOthers};
+ghost use Rattle.toolkit_model.specs.applet_trait.Minds.{minds_of};
 ghost use Rattle.proactive_handler.specs.Steps.{toolkit, scene, Moves};
 ghost use Rattle.card_model.specs.Toolkit.{profile_taken, coming_to, toolkit_of};
-ghost use Rattle.card_layout.specs.Memory.{memory};
+ghost use Rattle.file_model.specs.card_layout.Memory.{memory};
 ghost use Rattle.proactive_handler.specs.Scenes.{KeepsScene};
 ghost use Rattle.session_commands.specs.Bounds.{IsBetweenCommands, EndsToolkitWell};
 ghost use Rattle.session_commands.specs.Carrying.{CarriesOut, ToolkitComesTo};
@@ -16,17 +17,17 @@ ghost use Rattle.session_commands.specs.Carrying.{CarriesOut, ToolkitComesTo};
 use crate::forms::try_data;
 use crate::telling::tell;
 use crate::triggers::targets_of;
-use apdu_form::Command;
-use applet_trait::Applet;
-use card_layout::Loaded;
-use card_memory::tables_tell_states;
+use file_model::apdu_form::Command;
+use file_model::card_layout::Loaded;
+use file_model::store_form::{Store, StoreFault};
+use file_model::uicc_types::events::{PROFILE_DOWNLOAD, STATUS_COMMAND};
+use file_model::uicc_types::{Answer, StatusWord};
+use proactive_handler::applet_registry::Index;
+use proactive_handler::card_memory::tables_tell_states;
 use proactive_handler::sessions_are_served;
-use store_form::{Store, StoreFault};
-use toolkit_laws::sessions_stay_in_order;
-use toolkit_session::Session;
-use trigger_index::Index;
-use uicc_types::events::{PROFILE_DOWNLOAD, STATUS_COMMAND};
-use uicc_types::{Answer, StatusWord};
+use proactive_handler::toolkit_session::Session;
+use toolkit_model::applet_trait::Applet;
+use toolkit_model::sessions_stay_in_order;
 
 // The handset has this profile, of which the applets are told that are registered for it.
 fn profile<S: Store, B: Applet>(

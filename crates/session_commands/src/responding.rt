@@ -1,25 +1,26 @@
 //! TERMINAL RESPONSE.
 ghost use Rattle.std.specs.Prelude.{◌≢◌, ◌≤◌, ℕ, length, IfSome, Some};
 ghost use Rattle.toolkit_model.specs.Commands.{unanswered};
-ghost use Rattle.proactive_handler.specs.Boxes.{minds_of, IsSameBox, AreForOthers};
+ghost use Rattle.proactive_handler.specs.Boxes.{IsSameBox, AreForOthers};
+ghost use Rattle.toolkit_model.specs.applet_trait.Minds.{minds_of};
 ghost use Rattle.card_model.specs.Toolkit.{response_taken};
-ghost use Rattle.card_layout.specs.Memory.{memory};
+ghost use Rattle.file_model.specs.card_layout.Memory.{memory};
 ghost use Rattle.proactive_handler.specs.Steps.{scene};
 ghost use Rattle.proactive_handler.specs.Scenes.{KeepsScene};
 ghost use Rattle.session_commands.specs.Bounds.{IsBetweenCommands, EndsToolkitWell};
 ghost use Rattle.session_commands.specs.Carrying.{CarriesOut};
 
 use crate::forms::try_response;
-use apdu_form::Command;
-use applet_trait::Applet;
-use card_layout::Loaded;
-use card_memory::tables_tell_states;
+use file_model::apdu_form::Command;
+use file_model::card_layout::Loaded;
+use file_model::store_form::{Store, StoreFault};
+use file_model::uicc_types::{Answer, StatusWord};
+use proactive_handler::applet_registry::Index;
+use proactive_handler::card_memory::tables_tell_states;
+use proactive_handler::toolkit_session::Session;
 use proactive_handler::{respond, sessions_are_served};
-use store_form::{Store, StoreFault};
-use toolkit_laws::sessions_stay_in_order;
-use toolkit_session::Session;
-use trigger_index::Index;
-use uicc_types::{Answer, StatusWord};
+use toolkit_model::applet_trait::Applet;
+use toolkit_model::sessions_stay_in_order;
 
 /// TERMINAL RESPONSE (ETSI TS 102 221, 11.2.4): the handset answers the command that it fetched. The applet that sent that goes on
 /// with the response; then the command ends as each that moves the toolkit.

@@ -1,12 +1,12 @@
 //! The box on a shelf.
 ghost use Rattle.std.specs.Prelude.{◌≡◌, ◌≢◌, ◌<◌, ◌≤◌, ℕ, length, IfSome, None, option_map};
-ghost use Rattle.applet_trait.specs.Minds.{fresh};
-ghost use Rattle.toolkit_laws.specs.Installing.{kind_on};
+ghost use Rattle.toolkit_model.specs.applet_trait.Minds.{fresh, minds_of};
+ghost use Rattle.toolkit_model.specs.Installing.{kind_on};
 ghost use Rattle.toolkit_model.specs.Running.{mind_on, with_mind};
-ghost use Rattle.proactive_handler.specs.Boxes.{minds_of, IsSameBox};
+ghost use Rattle.proactive_handler.specs.Boxes.{IsSameBox};
 
-use applet_trait::Applet;
-use uicc_types::{Kept, Shelf};
+use file_model::uicc_types::{Kept, Shelf};
+use toolkit_model::applet_trait::Applet;
 
 /// The kind of the applet in the box on a shelf, if there is one.
 pub(crate) fn kind_on<B: Applet>(cast: &[Option<B>], shelf: Shelf) -> Option<u8>

@@ -1,22 +1,22 @@
 //! An event for some applets, and the end of its command.
 ghost use Rattle.std.specs.Prelude.{◌≡◌, ◌≢◌, ◌≤◌, ℕ, length, true, All, AllPairs, IfOk};
-ghost use Rattle.card_memory.specs.Model.{HasRowOn};
+ghost use Rattle.proactive_handler.specs.card_memory.Model.{HasRowOn};
 ghost use Rattle.toolkit_model.specs.Commands.{last_answer};
 ghost use Rattle.toolkit_model.specs.Driving.{driven};
 ghost use Rattle.toolkit_model.specs.Passing.{in_turn, before};
-ghost use Rattle.proactive_handler.specs.Boxes.{minds_of, IsSameBox, AreForOthers};
+ghost use Rattle.proactive_handler.specs.Boxes.{IsSameBox, AreForOthers};
+ghost use Rattle.toolkit_model.specs.applet_trait.Minds.{minds_of};
 ghost use Rattle.proactive_handler.specs.Serving.{HasPlaces, triggered_one};
 ghost use Rattle.proactive_handler.specs.Steps.{toolkit, scene, Moves};
-ghost use Rattle.card_layout.specs.Memory.{memory};
+ghost use Rattle.file_model.specs.card_layout.Memory.{memory};
 ghost use Rattle.proactive_handler.specs.Scenes.{IsInService, KeepsScene};
 
-use applet_trait::Applet;
-use card_layout::Loaded;
-use event_dispatch::Shelves;
+use file_model::card_layout::Loaded;
+use file_model::store_form::{Store, StoreFault};
+use proactive_handler::applet_registry::{Index, Shelves};
+use proactive_handler::toolkit_session::Session;
 use proactive_handler::{drive, trigger};
-use store_form::{Store, StoreFault};
-use toolkit_session::Session;
-use trigger_index::Index;
+use toolkit_model::applet_trait::Applet;
 
 /// An event for the applets on these shelves, as by `trigger`, and then the end of the command, as by `drive`.
 pub(crate) fn tell<S: Store, B: Applet>(

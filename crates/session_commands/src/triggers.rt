@@ -1,9 +1,9 @@
 //! Which applets an event triggers, and an envelope.
 ghost use Rattle.std.specs.Prelude.{◌≡◌, ◌≢◌, ◌≤◌, All, AllPairs, length, filter, not};
-ghost use Rattle.card_layout.specs.States.{rows_of};
-ghost use Rattle.card_memory.specs.Model.{HasRowOn};
-ghost use Rattle.toolkit_commands.specs.Reports.{reported, bytes_in};
-ghost use Rattle.trigger_index.specs.Indexes.{StandsFor};
+ghost use Rattle.file_model.specs.card_layout.States.{rows_of};
+ghost use Rattle.proactive_handler.specs.card_memory.Model.{HasRowOn};
+ghost use Rattle.toolkit_model.specs.toolkit_commands.Reports.{reported, bytes_in};
+ghost use Rattle.proactive_handler.specs.applet_registry.Indexes.{StandsFor};
 ghost use Rattle.toolkit_model.specs.Commands.{selected, holders, trigger_of, is_call};
 ghost use Rattle.toolkit_model.specs.Driving.{is_idle};
 ghost use Rattle.toolkit_model.specs.Order.{targets};
@@ -12,14 +12,13 @@ ghost use Rattle.toolkit_model.specs.Steps.{AreRows};
 ghost use Rattle.session_commands.specs.Trying.{is_busy_with, has_item_on};
 ghost use Rattle.session_commands.specs.Triggers.{IsTriggerOf};
 
-use card_layout::{Loaded, states_are_of_entries};
-use event_dispatch::Shelves;
+use file_model::card_layout::{Loaded, states_are_of_entries};
+use file_model::uicc_types::Shelf;
+use file_model::uicc_types::events::{CALL_CONTROL, MENU_SELECTION, TIMER_EXPIRATION};
+use proactive_handler::applet_registry::{Index, Shelves};
+use proactive_handler::toolkit_session::Session;
 use std::slice::from_ref;
-use toolkit_commands::EnvelopeRef;
-use toolkit_session::Session;
-use trigger_index::Index;
-use uicc_types::Shelf;
-use uicc_types::events::{CALL_CONTROL, MENU_SELECTION, TIMER_EXPIRATION};
+use toolkit_model::toolkit_commands::EnvelopeRef;
 
 /// The shelves of the applets that an event triggers, its code, and what is told of it, where it stands.
 #[derive(Drop)]

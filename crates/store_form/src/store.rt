@@ -1,10 +1,10 @@
 //! What is asked of a store.
-ghost use Rattle.std.specs.Prelude.{◌≡◌, ◌⊎◌, ◌+◌, ◌≤◌, ◌<◌, ℕ, Bool, List, Option, true, false, length, option_map, slice_index, slice_range, All, IfSome, OnOk, OnErr, is_some};
+ghost use Rattle.std.specs.Prelude.{◌≡◌, ◌+◌, ◌≤◌, ◌<◌, ℕ, Bool, List, Option, true, false, length, slice_index, slice_range, All, IfSome, OnOk};
 ghost use Rattle.uicc_types.specs.Counts.{Meter, armed};
-ghost use Rattle.uicc_types.specs.Patches.{patched, Torn};
-ghost use Rattle.uicc_types.specs.Told.{AreBytes, Becomes};
-ghost use Rattle.store_form.specs.Faults.{HasCause, with_commit};
-ghost use Rattle.store_form.specs.Pieces.{applied, IsUsable, IsUsablePiece};
+ghost use Rattle.uicc_types.specs.Told.{AreBytes};
+ghost use Rattle.store_form.specs.Faults.{HasCause};
+ghost use Rattle.store_form.specs.Pieces.{IsUsable, IsUsablePiece};
+ghost use Rattle.store_form.specs.StoreCalls.{CommitsPieces, HoldsTheSame, PreparesBytes, StaysItself};
 
 use crate::Writes;
 use uicc_types::Plan;
@@ -61,12 +61,8 @@ pub trait Store {
         requires usable { IsUsable (byte_count self.old) at (length out.old) }
         ensures ok { OnOk result (IfSome (stable self.old)
             (λ held. out.new ≡ slice_range held at (at + length out.old))) }
-        ensures stable { stable self.new ≡ stable self.old }
-        ensures told { is_some (stable self.new) ≡ is_some (stable self.old) }
+        ensures keeps { HoldsTheSame byte_count store_mark stable commits self.old self.new }
         ensures ready { OnOk result (recovered self.new ≡ true) }
-        ensures commits { commits self.new ≡ commits self.old }
-        ensures size { byte_count self.new ≡ byte_count self.old }
-        ensures mark { store_mark self.new ≡ store_mark self.old }
         ensures cause { HasCause (meter self.old) (meter self.new) result }
         ensures off { (meter self.old).powered ≡ false →
             (result ≡ Err StoreFault.PowerLost) × (meter self.new ≡ meter self.old)
@@ -77,16 +73,9 @@ pub trait Store {
         requires recovered { recovered self.old ≡ true }
         requires some { 0 < length writes.now }
         requires usable { All (IsUsablePiece (byte_count self.old)) writes.now }
-        ensures ok { OnOk result
-            (stable self.new ≡ option_map (applied writes.now) (stable self.old)) }
-        ensures whole { OnErr result
-            ((stable self.new ≡ stable self.old)
-            ⊎ (stable self.new ≡ option_map (applied writes.now) (stable self.old))) }
-        ensures told { is_some (stable self.new) ≡ is_some (stable self.old) }
+        ensures writes { CommitsPieces stable commits writes.now self.old self.new result }
+        ensures keeps { StaysItself byte_count store_mark stable self.old self.new }
         ensures ready { OnOk result (recovered self.new ≡ true) }
-        ensures commits { commits self.new ≡ with_commit result (commits self.old) }
-        ensures size { byte_count self.new ≡ byte_count self.old }
-        ensures mark { store_mark self.new ≡ store_mark self.old }
         ensures cause { HasCause (meter self.old) (meter self.new) result }
         ensures off { (meter self.old).powered ≡ false →
             (result ≡ Err StoreFault.PowerLost) × (meter self.new ≡ meter self.old)
@@ -96,14 +85,9 @@ pub trait Store {
     fn prepare(&mut self, at: usize, bytes: &[u8]) -> Result<(), StoreFault>
         requires recovered { recovered self.old ≡ true }
         requires usable { IsUsable (byte_count self.old) at (length bytes.now) }
-        ensures ok { OnOk result (stable self.new ≡ option_map (patched at bytes.now) (stable self.old)) }
-        ensures torn { OnErr result
-            (Becomes (Torn at (length bytes.now)) (stable self.old) (stable self.new)) }
-        ensures told { is_some (stable self.new) ≡ is_some (stable self.old) }
+        ensures writes { PreparesBytes stable commits at bytes.now self.old self.new result }
+        ensures keeps { StaysItself byte_count store_mark stable self.old self.new }
         ensures ready { OnOk result (recovered self.new ≡ true) }
-        ensures commits { commits self.new ≡ commits self.old }
-        ensures size { byte_count self.new ≡ byte_count self.old }
-        ensures mark { store_mark self.new ≡ store_mark self.old }
         ensures cause { HasCause (meter self.old) (meter self.new) result }
         ensures off { (meter self.old).powered ≡ false →
             (result ≡ Err StoreFault.PowerLost) × (meter self.new ≡ meter self.old)
@@ -111,12 +95,8 @@ pub trait Store {
 
     /// Ends a commit that a fault interrupted, if there is one, and makes the store ready.
     fn recover(&mut self) -> Result<(), StoreFault>
-        ensures stable { stable self.new ≡ stable self.old }
-        ensures told { is_some (stable self.new) ≡ is_some (stable self.old) }
+        ensures keeps { HoldsTheSame byte_count store_mark stable commits self.old self.new }
         ensures ready { OnOk result (recovered self.new ≡ true) }
-        ensures commits { commits self.new ≡ commits self.old }
-        ensures size { byte_count self.new ≡ byte_count self.old }
-        ensures mark { store_mark self.new ≡ store_mark self.old }
         ensures cause { HasCause (meter self.old) (meter self.new) result }
         ensures off { (meter self.old).powered ≡ false →
             (result ≡ Err StoreFault.PowerLost) × (meter self.new ≡ meter self.old)
@@ -125,22 +105,14 @@ pub trait Store {
     /// Gives its device power.
     fn power_up(&mut self)
         ensures power { meter self.new ≡ record (meter self.old) { powered = true } }
-        ensures stable { stable self.new ≡ stable self.old }
-        ensures told { is_some (stable self.new) ≡ is_some (stable self.old) }
-        ensures ready { recovered self.new ≡ recovered self.old }
-        ensures commits { commits self.new ≡ commits self.old }
-        ensures size { byte_count self.new ≡ byte_count self.old }
-        ensures mark { store_mark self.new ≡ store_mark self.old };
+        ensures keeps { HoldsTheSame byte_count store_mark stable commits self.old self.new }
+        ensures ready { recovered self.new ≡ recovered self.old };
 
     /// Sets the plan of faults of its device.
     fn arm(&mut self, plan: Plan)
         ensures plan { meter self.new ≡ armed (meter self.old) plan }
-        ensures stable { stable self.new ≡ stable self.old }
-        ensures told { is_some (stable self.new) ≡ is_some (stable self.old) }
-        ensures ready { recovered self.new ≡ recovered self.old }
-        ensures commits { commits self.new ≡ commits self.old }
-        ensures size { byte_count self.new ≡ byte_count self.old }
-        ensures mark { store_mark self.new ≡ store_mark self.old };
+        ensures keeps { HoldsTheSame byte_count store_mark stable commits self.old self.new }
+        ensures ready { recovered self.new ≡ recovered self.old };
 
     /// What it tells are all its bytes.
     ghost told_length: { (store : Self) →

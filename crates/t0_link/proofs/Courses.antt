@@ -1,8 +1,8 @@
 -- The course of a command.
-use Rattle.std.proofs.Common.{◌≡◌, ℕ, List, Some, None, Ok, Err, sym, ◌∙◌, ap, subst}
-use Rattle.std.specs.Prelude.{◌↔◌, Bool, false, Option, IfSome, IsTrue, Result, OnOk, ⊤}
+use Rattle.std.proofs.Common.{◌≡◌, ℕ, List, Some, None, Ok, Err, ◌∙◌, ap}
+use Rattle.std.specs.Prelude.{◌↔◌, Bool, false, Option, IsTrue, Result, OnOk, ⊤}
 use Rattle.uicc_types.specs.declared.answers.Answer.{Answer}
-use Rattle.apdu_form.specs.Model.{Apdu, command_in}
+use Rattle.apdu_form.specs.Model.{Apdu}
 use Rattle.t0_link.specs.declared.endpoint.Endpoint.{Ghosts as EndpointWords}
 use Rattle.t0_link.specs.declared.endpoint.LinkFault.{LinkFault}
 use Rattle.t0_link.specs.declared.endpoint.LinkFault.TheVariants.{NoPower}
@@ -11,7 +11,7 @@ use Rattle.t0_link.specs.declared.tpdus.Transfer.TheVariants.{GetResponse, Outgo
 use Rattle.t0_link.specs.Tpdus.{transfer_of}
 use Rattle.t0_link.proofs.Passed.{by_transfer, tpdu_fits}
 use Rattle.t0_link.specs.Linking.{Linked, Course, Answers, Passes, given, course_of, link_answer}
-use Rattle.t0_link.specs.Carrying.{is_carried, is_carried_by, carried, is_some_carried, tpdu_of, received, then_received, command_answer}
+use Rattle.t0_link.specs.Carrying.{is_carried, is_carried_by, carried, tpdu_of, received, then_received, command_answer}
 use Rattle.t0_link.specs.Exchanging.{HasPassed, Exchanges, IsPassed}
 use Rattle.t0_link.specs.Transmitting.{Transmits}
 
@@ -38,16 +38,6 @@ given_back words old new apdu result answer kept none transmitted = record {
   on_ok (Err fault) holds = tt
 
 -- ---- a command
-
--- what holds of the command that was read holds of the one that the bytes are
-pub by_command : (P : Apdu → Type 0) (bytes : List ℕ) (command : Apdu) → Some command ≡ command_in bytes → P command → IfSome (command_in bytes) P
-by_command P bytes command is known = subst (λ (read : Option Apdu). IfSome read P) is known
-
-pub carried_read : (bytes : List ℕ) (command : Apdu) → Some command ≡ command_in bytes → IsTrue (carried bytes) → IsTrue (is_carried command)
-carried_read bytes command is known = subst (λ (read : Option Apdu). IsTrue (is_some_carried read)) (sym is) known
-
-pub not_carried : (bytes : List ℕ) → None ≡ command_in bytes → IsTrue (carried bytes) → ⊥
-not_carried bytes is known = cc (ap is_some_carried is)
 
 -- ---- its TPDU is passed
 

@@ -1,6 +1,6 @@
 pub mod Carrying
 pub mod Exchanging
-pub mod Passing
 pub mod Linking
+pub mod Passing
 pub mod Tpdus
 pub mod Transmitting

@@ -2,9 +2,9 @@
 use Rattle.std.proofs.Common.{◌≡◌, ℕ, ◌+◌, List, [], ◌∷◌, Option, Some, None, Bool, true, false, refl, ap, arith}
 use Rattle.std.specs.Prelude.{map, ◌==◌, if◌then◌else◌, suc, zero}
 use Rattle.std.proofs.lemmas.Grind.{common_steps}
-use Rattle.uicc_types.specs.declared.answers.Answer.{Answer}
-use Rattle.script_form.specs.declared.handset.HandsetLine.{HandsetLine}
-use Rattle.script_form.specs.declared.handset.Note.{Note}
+use Rattle.toolkit_commands.specs.uicc_types.declared.answers.Answer.{Answer}
+use Rattle.handset_model.specs.script_form.declared.handset.HandsetLine.{HandsetLine}
+use Rattle.handset_model.specs.script_form.declared.handset.Note.{Note}
 use Rattle.toolkit_commands.specs.declared.commands.Proactive.{Proactive}
 use Rattle.toolkit_commands.specs.declared.commands.Proactive.TheVariants.{Refresh, MoreTime, PollInterval, SetUpEventList, PlayTone, DisplayText, GetInkey, GetInput, SelectItem, SetUpMenu, LocalInformation, TimerManagement, IdleText}
 use Rattle.toolkit_commands.specs.declared.qualifiers.TheConstants.{START, DEACTIVATE}

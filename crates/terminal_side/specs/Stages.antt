@@ -7,8 +7,8 @@ use Rattle.handset_model.specs.declared.known.Duty.TheVariants.{Rest, Await, Sho
 use Rattle.handset_model.specs.declared.known.Held.{Held}
 use Rattle.handset_model.specs.declared.steps.PhoneStep.{PhoneStep}
 use Rattle.handset_model.specs.declared.steps.PhoneStep.TheVariants as step
-use Rattle.script_form.specs.declared.handset.Note.{Note}
-use Rattle.script_form.specs.declared.handset.Note.TheVariants.{Ask, Idle, Text}
+use Rattle.handset_model.specs.script_form.declared.handset.Note.{Note}
+use Rattle.handset_model.specs.script_form.declared.handset.Note.TheVariants.{Ask, Idle, Text}
 use Rattle.terminal_side.specs.declared.phone.Next.{Next}
 use Rattle.terminal_side.specs.declared.phone.Next.TheVariants as next
 use Rattle.terminal_side.specs.declared.stages.Stage.{Stage}

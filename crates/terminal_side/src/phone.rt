@@ -8,7 +8,7 @@ ghost use Rattle.handset_model.specs.Sending.{apdu_of};
 ghost use Rattle.handset_model.specs.declared.commands.Command.TheVariants.{AskStatus, Fetch, Respond};
 ghost use Rattle.handset_model.specs.declared.commands.Reply.TheVariants.{Result};
 ghost use Rattle.handset_model.specs.declared.known.Duty.TheVariants.{Transmit};
-ghost use Rattle.script_form.specs.declared.handset.Note.TheVariants.{Text};
+ghost use Rattle.handset_model.specs.script_form.declared.handset.Note.TheVariants.{Text};
 ghost use Rattle.toolkit_commands.specs.Reading.{details_found, proactive_of};
 
 use crate::knowing::{NONE_LISTED, count, forget, hear, hold, send, take_status};
@@ -16,12 +16,12 @@ use crate::reactions::said_at;
 use crate::sessions::{after_call, carried_out, followed, noted, refused};
 use crate::spelling::{spell_command, spell_fetch, spell_result, spell_status};
 use crate::stages::Stage;
+use handset_model::script_form::{HandsetLine, Note};
 use handset_model::{Command, Duty, Held, Known, LastSent};
-use script_form::{HandsetLine, Note};
 use std::marker::Model;
 use std::mem;
+use toolkit_commands::uicc_types::{Answer, ApduBytes, Full, Octets, StatusWord};
 use toolkit_commands::{Details, Items, Proactive, read_command};
-use uicc_types::{Answer, ApduBytes, Full, Octets, StatusWord};
 
 /// The details of a command that wasn't read yet.
 const NO_DETAILS: Details = Details {

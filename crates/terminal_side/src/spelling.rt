@@ -17,9 +17,11 @@ use toolkit_commands::tags::{
     ITEM_IDENTIFIER, LOCATION_INFORMATION, MENU_SELECTION, RESULT, TEXT_STRING, TIMER_EXPIRATION,
     TIMER_IDENTIFIER, TIMER_VALUE,
 };
+use toolkit_commands::uicc_types::events::{
+    IDLE_SCREEN, LOCATION_STATUS as LOCATION_EVENT, USER_ACTIVITY,
+};
+use toolkit_commands::uicc_types::{ApduBytes, Full, Octets};
 use toolkit_commands::{Details, TimeValue};
-use uicc_types::events::{IDLE_SCREEN, LOCATION_STATUS as LOCATION_EVENT, USER_ACTIVITY};
-use uicc_types::{ApduBytes, Full, Octets};
 
 /// Adds an object of less than 128 bytes, with the comprehension flag.
 #[tactic(auto, using(toolkit_commands::proofs::Sizes::short_tagged))]

@@ -10,10 +10,6 @@ pub length-tagged : (tag : ℕ) (value : List ℕ) → length value < length (ta
 unfolding tagged
 length-tagged tag value = omega (arith, length-append (tag ∷ shortest_length (length value)) value)
 
-pub value_in : (old : List ℕ) (tag : ℕ) (value more : List ℕ) → length value < length (old ++ (tagged tag value ++ more))
-value_in old tag value more =
-    omega (arith, length-append old (tagged tag value ++ more), length-append (tagged tag value) more, length-tagged tag value)
-
 pub spellings-append : (some others : List Object) → spellings (some ++ others) ≡ spellings some ++ spellings others
 spellings-append [] others = refl
 spellings-append (object ∷ some) others =

@@ -3,16 +3,16 @@
 use Rattle.std.proofs.Common.{◌≡◌, ℕ, List, [], ◌∷◌, Option, Some, None, true, false, refl}
 use Rattle.std.specs.Prelude.{◌+◌, ◌%◌, map, replicate, codes, Result, Ok, Err, if◌then◌else◌, option_map}
 use Rattle.std.specs.List.{range_with_len}
-use Rattle.uicc_types.specs.declared.identifiers.Shelf.{Shelf}
+use Rattle.card_layout.specs.uicc_types.declared.identifiers.Shelf.{Shelf}
 use Rattle.card_layout.specs.Persistent.{Registration, Persistent}
-use Rattle.comprehension_tlv.specs.Reading as Reading
-use Rattle.comprehension_tlv.specs.Writing.{tagged}
+use Rattle.toolkit_commands.specs.comprehension_tlv.Reading as Reading
+use Rattle.toolkit_commands.specs.comprehension_tlv.Writing.{tagged}
 use Rattle.toolkit_commands.specs.Envelopes.{value_in, envelope_in, envelope_of}
 use Rattle.toolkit_commands.specs.Responses.{response_of}
 use Rattle.toolkit_commands.specs.declared.envelopes.Envelope.{Envelope}
 use Rattle.toolkit_commands.specs.declared.envelopes.Envelope.TheVariants.{Menu as Selected}
 use Rattle.toolkit_commands.specs.declared.responses.Response.{Response as Reply}
-use Rattle.terminal_profile.specs.Model.{allowed, allowed_event, consulted}
+use Rattle.toolkit_model.specs.Profiles.{allowed, allowed_event, consulted}
 use Rattle.applet_trait.specs.declared.stimuli.Stimulus.TheVariants.{Event, Went, Refused}
 use Rattle.applet_trait.specs.declared.stimuli.Act.TheVariants.{TakeTimer, FreeTimer}
 use Rattle.applet_trait.specs.Minds.{AppletState, fresh}

@@ -3,9 +3,9 @@
 use Rattle.std.proofs.Common.{◌≡◌, ℕ, Bool, true, false, List, [], ◌∷◌, ◌++◌, Option, Some, None, refl}
 use Rattle.std.specs.Prelude.{length, map, replicate, slice_set}
 use Rattle.std.specs.List.{flat_map}
-use Rattle.comprehension_tlv.specs.Writing.{tagged}
+use Rattle.toolkit_commands.specs.comprehension_tlv.Writing.{tagged}
 use Rattle.toolkit_commands.specs.declared.commands.Proactive.TheVariants.{DisplayText}
-use Rattle.terminal_profile.specs.Model.{allowed, consulted}
+use Rattle.toolkit_model.specs.Profiles.{allowed, consulted}
 use Rattle.applet_trait.specs.declared.stimuli.Stimulus.TheVariants.{Event}
 use Rattle.applet_trait.specs.declared.stimuli.Act.{Act}
 use Rattle.applet_trait.specs.declared.stimuli.Act.TheVariants.{Done, Send}

@@ -1,6 +1,36 @@
-//! What the toolkit's part of a card knows between two commands, and how commands move it, as definitions.
+//! What the toolkit's part of a card knows between two commands, and how commands move it, as definitions; what a terminal says
+//! of itself (ETSI TS 102 223, 5.2); who holds each of the eight timers; and what holds of the toolkit over whole runs of commands,
+//! by functions that do nothing: each carries a statement, which a caller has by calling it.
+//!
+//! It passes on the crates whose words it speaks, so that who stands on it need not list them.
 #![tactic(auto)]
 
+mod answering;
+mod events;
 mod faults;
+mod fetching;
+mod installing;
+mod kinds;
+mod order;
+mod profile;
+mod profile_places;
+mod sessions;
+mod soundness;
+mod timers;
 
+pub use answering::responses_reach_who_asked;
+pub use applet_trait;
+pub use card_layout;
+pub use card_layout::uicc_types;
+pub use events::no_event_is_lost;
 pub use faults::RowFault;
+pub use fetching::one_command_is_outstanding;
+pub use installing::installations_are_accepted;
+pub use kinds::kinds_are_those_of_the_rows;
+pub use order::{idle_targets_run_in_order, triggers_are_in_order};
+pub use profile::Profile;
+pub use sessions::{driving_ends, sessions_stay_in_order};
+pub use soundness::{installed_rows_are_sound, steps_leave_good};
+pub use timers::Timers;
+pub use toolkit_commands;
+pub use toolkit_commands::comprehension_tlv;

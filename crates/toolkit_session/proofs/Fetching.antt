@@ -1,12 +1,11 @@
 -- The outstanding command, before and after it is fetched.
-use Rattle.std.proofs.Common.{◌≡◌, refl, ap, sym, ◌∙◌, Bool, true, false, ℕ, length, Option, Some, None}
-use Rattle.std.specs.Prelude.{is_some, IfSome, if◌then◌else◌}
+use Rattle.std.proofs.Common.{◌≡◌, refl, ap, ◌∙◌, Bool, true, false, ℕ, length, Option, Some, None}
+use Rattle.std.specs.Prelude.{if◌then◌else◌}
 use Rattle.std.specs.Option.{option_map}
-use Rattle.general_laws.specs.Optional.{is_some-map}
-use Rattle.toolkit_commands.specs.declared.commands.Details.{Details}
-use Rattle.toolkit_commands.specs.Table.{details_of}
+use Rattle.toolkit_model.specs.toolkit_commands.declared.commands.Details.{Details}
+use Rattle.toolkit_model.specs.toolkit_commands.Table.{details_of}
 use Rattle.toolkit_model.specs.Sessions.{Outstanding, SessionState}
-use Rattle.toolkit_model.specs.Commands.{if_fetched, unfetched, unanswered, pending, bytes_of, as_fetched}
+use Rattle.toolkit_model.specs.Commands.{if_fetched, unanswered, pending, bytes_of}
 
 -- ---- how many bytes are to be fetched, and which command is to be answered
 
@@ -36,15 +35,3 @@ details_is session out is = ap (λ (o : Option Outstanding). option_map details_
 
 pub details_none : (session : SessionState) → session.out ≡ None → option_map details_in (unanswered session) ≡ None
 details_none session is = ap (λ (o : Option Outstanding). option_map details_in (if_fetched true o)) is
-
--- where bytes are to be fetched, there is a command to be fetched
-pub pending_there : (session : SessionState) (count : ℕ) → pending session ≡ Some count → is_some (unfetched session) ≡ true
-pending_there session count is = sym (is_some-map length_of (unfetched session)) ∙ ap is_some is
-
--- once it was fetched, there is one to be answered
-pub answerable : (old new : SessionState) → is_some (unfetched old) ≡ true → IfSome (unfetched old) (λ command. new ≡ record old { out = Some (as_fetched command) })
-    → is_some (unanswered new) ≡ true
-answerable old new some state = by_case (unfetched old) some state where
-  by_case : (found : Option Outstanding) → is_some found ≡ true → IfSome found (λ command. new ≡ record old { out = Some (as_fetched command) }) → is_some (unanswered new) ≡ true
-  by_case None is state = cc
-  by_case (Some command) is state = ap (λ (session : SessionState). is_some (unanswered session)) state

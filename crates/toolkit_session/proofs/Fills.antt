@@ -1,8 +1,8 @@
 -- What becomes outstanding, case by case.
 use Rattle.std.proofs.Common.{◌≡◌, refl, ap, true, false, List, Option, Some, None}
 use Rattle.std.specs.Prelude.{is_none}
-use Rattle.card_layout.specs.Persistent.{Registration}
-use Rattle.toolkit_commands.specs.declared.commands.Proactive.{Proactive}
+use Rattle.toolkit_model.specs.card_layout.Persistent.{Registration}
+use Rattle.toolkit_model.specs.toolkit_commands.declared.commands.Proactive.{Proactive}
 use Rattle.toolkit_model.specs.Sessions.{Outstanding, SessionState}
 use Rattle.toolkit_model.specs.Running.{putting_out}
 use Rattle.toolkit_model.specs.Driving.{wanted, announcing, front_out, next_out, filled}

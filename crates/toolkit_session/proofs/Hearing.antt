@@ -4,17 +4,13 @@ use Rattle.std.specs.Prelude.{not, ◌&&◌, ◌||◌, ◌==◌, if◌then◌els
 use Rattle.std.specs.List.{list_any}
 use Rattle.std.proofs.lemmas.Bool.Decides.{nat_tests}
 use Rattle.std.proofs.lemmas.List.{length-map}
-use Rattle.card_layout.specs.Persistent.{Registration}
-use Rattle.terminal_profile.specs.Model.{allowed_event}
+use Rattle.toolkit_model.specs.card_layout.Persistent.{Registration}
+use Rattle.toolkit_model.specs.Profiles.{allowed_event}
 use Rattle.toolkit_model.specs.Order.{is_for, in_order, trigger_order, targets}
 use Rattle.toolkit_model.specs.Driving.{download_codes, events_for}
-use Rattle.trigger_index.specs.Indexes.{StandsFor}
-use Rattle.trigger_index.proofs.Joining.{length_in_order}
+use Rattle.applet_registry.specs.Indexes.{StandsFor}
+use Rattle.applet_registry.proofs.Joining.{length_in_order}
 use Rattle.toolkit_session.specs.Events.{is_heard, is_asked_for, events_in}
-
-either : {X Y : Type 0} (f : X → Y) (y : Y) (b : Bool) (one other : X) → f one ≡ y → f other ≡ y → f (if b then one else other) ≡ y
-either f y true one other here there = here
-either f y false one other here there = there
 
 length_targets : (rows : List Registration) (code : ℕ) → length (targets rows code) ≡ length (filter (is_for code) rows)
 unfolding trigger_order

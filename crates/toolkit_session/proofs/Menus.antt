@@ -9,13 +9,13 @@ use Rattle.std.proofs.lemmas.Slice.Eq.{slice_eq-Decides, bytes_eq-Decides}
 use Rattle.std.proofs.lemmas.List.{length-map}
 use Rattle.std.proofs.lemmas.List.Elements.{All-map, All-filter}
 use Rattle.std.proofs.lemmas.List.Sums.{length-filter}
-use Rattle.card_layout.specs.Persistent.{Registration}
-use Rattle.card_layout.specs.Sections.{has_text}
-use Rattle.toolkit_commands.specs.declared.items.Item.{Item}
-use Rattle.toolkit_commands.specs.declared.commands.Proactive.{Proactive}
-use Rattle.toolkit_commands.specs.declared.commands.Proactive.TheVariants.{SetUpMenu}
-use Rattle.toolkit_commands.specs.Table.{spelled}
-use Rattle.toolkit_commands.specs.Matching.{IsShort, AreBounded}
+use Rattle.toolkit_model.specs.card_layout.Persistent.{Registration}
+use Rattle.toolkit_model.specs.card_layout.Sections.{has_text}
+use Rattle.toolkit_model.specs.toolkit_commands.declared.items.Item.{Item}
+use Rattle.toolkit_model.specs.toolkit_commands.declared.commands.Proactive.{Proactive}
+use Rattle.toolkit_model.specs.toolkit_commands.declared.commands.Proactive.TheVariants.{SetUpMenu}
+use Rattle.toolkit_model.specs.toolkit_commands.Table.{spelled}
+use Rattle.toolkit_model.specs.toolkit_commands.Matching.{IsShort, AreBounded}
 use Rattle.toolkit_model.specs.Orderly.{CanBeSent}
 use Rattle.toolkit_model.specs.Registry.{item_of, menu_of}
 use Rattle.toolkit_model.specs.Driving.{is_same_item, menu_title}

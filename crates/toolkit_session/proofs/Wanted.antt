@@ -1,21 +1,20 @@
 -- What the card itself has to send, by what was compared.
-use Rattle.std.proofs.Common.{◌≡◌, refl, ap, sym, ◌∙◌, subst, ℕ, zero, suc, arith, ◌+◌, ◌<◌, Bool, true, false, List, [], ◌∷◌, ◌++◌, length, take, Option, Some, None, get_or}
+use Rattle.std.proofs.Common.{◌≡◌, refl, ap, sym, ◌∙◌, subst, ℕ, ◌+◌, ◌<◌, Bool, true, false, List, [], ◌∷◌, ◌++◌, length, take, Option, Some, None, get_or}
 use Rattle.std.specs.Prelude.{not, ◌&&◌, if◌then◌else◌, filter, nat_eq, IfSome}
 use Rattle.std.specs.List.{list_any}
 use Rattle.std.specs.Cmp.Lexicographic.{pointwise}
 use Rattle.std.proofs.lemmas.List.Elements.{filter_more}
-use Rattle.uicc_types.specs.declared.events.TheConstants.{STATUS_COMMAND}
-use Rattle.card_layout.specs.Events.{bit_of}
-use Rattle.card_layout.specs.Persistent.{Registration}
-use Rattle.toolkit_commands.specs.declared.items.Item.{Item}
-use Rattle.toolkit_commands.specs.declared.commands.Proactive.{Proactive}
-use Rattle.toolkit_commands.specs.declared.commands.Proactive.TheVariants.{PollInterval, SetUpEventList, SetUpMenu}
+use Rattle.toolkit_model.specs.uicc_types.declared.events.TheConstants.{STATUS_COMMAND}
+use Rattle.toolkit_model.specs.card_layout.Persistent.{Registration}
+use Rattle.toolkit_model.specs.toolkit_commands.declared.items.Item.{Item}
+use Rattle.toolkit_model.specs.toolkit_commands.declared.commands.Proactive.{Proactive}
+use Rattle.toolkit_model.specs.toolkit_commands.declared.commands.Proactive.TheVariants.{PollInterval, SetUpEventList, SetUpMenu}
 use Rattle.toolkit_model.specs.Sessions.{Announced}
 use Rattle.toolkit_model.specs.Order.{is_for}
 use Rattle.toolkit_model.specs.Orderly.{CanBeSent}
 use Rattle.toolkit_model.specs.Registry.{menu_of}
-use Rattle.toolkit_model.specs.Driving.{download_codes, events_for, is_same_item, menu_title, half_a_minute, if_allowed, event_list_wanted, menu_wanted, polling_wanted}
-use Rattle.trigger_index.specs.Indexes.{StandsFor}
+use Rattle.toolkit_model.specs.Driving.{events_for, is_same_item, menu_title, half_a_minute, if_allowed, event_list_wanted, menu_wanted, polling_wanted}
+use Rattle.applet_registry.specs.Indexes.{StandsFor}
 use Rattle.toolkit_session.specs.Events.{is_heard, events_in}
 use Rattle.toolkit_session.proofs.Hearing.{heard, events_are}
 
@@ -91,16 +90,3 @@ pub polls_now : (profile : List ℕ) (lists : List (List ℕ)) (rows : List Regi
 polls_now profile lists rows announced stands none is =
     sym (ap (λ (b : Bool). if_allowed profile (b && not announced.polls) (PollInterval half_a_minute)) (sym (heard lists rows STATUS_COMMAND stands) ∙ is)
     ∙ ap (λ (b : Bool). if_allowed profile (not b) (PollInterval half_a_minute)) none)
-
--- the codes stand in the order of their places in an index
-pub bit_at_place : (at : ℕ) → at < 9 → bit_of (get_or download_codes at 0) ≡ Some at
-bit_at_place zero low = refl
-bit_at_place (suc zero) low = refl
-bit_at_place (suc (suc zero)) low = refl
-bit_at_place (suc (suc (suc zero))) low = refl
-bit_at_place (suc (suc (suc (suc zero)))) low = refl
-bit_at_place (suc (suc (suc (suc (suc zero))))) low = refl
-bit_at_place (suc (suc (suc (suc (suc (suc zero)))))) low = refl
-bit_at_place (suc (suc (suc (suc (suc (suc (suc zero))))))) low = refl
-bit_at_place (suc (suc (suc (suc (suc (suc (suc (suc zero)))))))) low = refl
-bit_at_place (suc (suc (suc (suc (suc (suc (suc (suc (suc at))))))))) low = absurd (omega (arith, low))

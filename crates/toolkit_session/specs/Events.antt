@@ -1,8 +1,8 @@
 -- The events that the handset is to report, found by an index of the rows (ETSI TS 102 223, 8.25).
 use Rattle.std.specs.Prelude.{ℕ, Bool, not, ◌&&◌, ◌==◌, List, length, filter}
-use Rattle.terminal_profile.specs.Model.{allowed_event}
+use Rattle.toolkit_model.specs.Profiles.{allowed_event}
 use Rattle.toolkit_model.specs.Driving.{download_codes}
-use Rattle.trigger_index.specs.Indexes.{targets_in}
+use Rattle.applet_registry.specs.Indexes.{targets_in}
 
 -- the index has a shelf under the code
 abbrev pub is_heard : List (List ℕ) → ℕ → Bool

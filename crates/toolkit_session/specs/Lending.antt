@@ -1,7 +1,7 @@
 -- What a session is once its timers were lent and are given back.
 use Rattle.std.specs.Borrow.{Lends, MutBor, Fml}
-use Rattle.timer_table.specs.Timers.{Owners}
-use Rattle.timer_table.specs.contracts.timers.Timers.{the_row as timers_row}
+use Rattle.toolkit_model.specs.Timers.{Owners}
+use Rattle.toolkit_model.specs.contracts.timers.Timers.{the_row as timers_row}
 use Rattle.toolkit_model.specs.Sessions.{SessionState}
 use Rattle.toolkit_session.specs.contracts.session.Session.{the_row}
 

@@ -1,10 +1,10 @@
 -- How the outstanding command is kept: by its bytes (ETSI TS 102 223, 6.6).
 use Rattle.std.specs.Prelude.{◌≡◌, ℕ, List, Option, option_map}
-use Rattle.uicc_types.specs.declared.identifiers.Shelf.{Shelf}
-use Rattle.toolkit_commands.specs.declared.commands.Proactive.{Proactive}
-use Rattle.toolkit_commands.specs.declared.commands.Details.{Details}
-use Rattle.toolkit_commands.specs.Table.{spelled, details_of}
-use Rattle.toolkit_commands.specs.Reading.{proactive_of}
+use Rattle.toolkit_model.specs.uicc_types.declared.identifiers.Shelf.{Shelf}
+use Rattle.toolkit_model.specs.toolkit_commands.declared.commands.Proactive.{Proactive}
+use Rattle.toolkit_model.specs.toolkit_commands.declared.commands.Details.{Details}
+use Rattle.toolkit_model.specs.toolkit_commands.Table.{spelled, details_of}
+use Rattle.toolkit_model.specs.toolkit_commands.Reading.{proactive_of}
 use Rattle.kept_triggers.specs.Commands.{read_command}
 
 -- the number of a shelf, where there is one

@@ -1,6 +1,6 @@
 //! The timers, for the run of an applet.
 use crate::Session;
-use timer_table::Timers;
+use toolkit_model::Timers;
 
 impl Session {
     ghost use Rattle.std.specs.Prelude.{◌≡◌};

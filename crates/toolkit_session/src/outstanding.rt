@@ -1,14 +1,14 @@
 //! The command that is outstanding.
 ghost use Rattle.std.specs.Prelude.{◌≡◌, ◌==◌, false, length, if◌then◌else◌, Some, None};
 ghost use Rattle.std.specs.List.{list_any};
-ghost use Rattle.toolkit_commands.specs.Table.{details_of as details_of_command};
+ghost use Rattle.toolkit_model.specs.toolkit_commands.Table.{details_of as details_of_command};
 ghost use Rattle.toolkit_model.specs.Orderly.{CanBeSent, sent_by};
 ghost use Rattle.toolkit_model.specs.Commands.{bytes_of, as_fetched};
 ghost use Rattle.toolkit_session.specs.Spelled.{IsSpelled, command_in, shelf_of};
 
 use std::marker::Model;
-use toolkit_commands::{Details, Proactive, details_of, spell};
-use uicc_types::{Answer, Full, Octets, Shelf, StatusWord};
+use toolkit_model::toolkit_commands::{Details, Proactive, details_of, spell};
+use toolkit_model::uicc_types::{Answer, Full, Octets, Shelf, StatusWord};
 
 /// A command that the handset was told of and has not answered yet. It is kept as it is spelled, with its details.
 #[derive(Drop)]
@@ -34,7 +34,8 @@ impl Outstanding {
     /// A command that can be sent, with its owner and its number.
     pub(crate) fn new(owner: Option<Shelf>, command: &Proactive, number: u8) -> Self
         requires { CanBeSent command.now }
-        ensures { result ≡ record { owner = shelf_of owner; command = command.now; number = number; is_fetched = false } }
+        ensures { result
+            ≡ record { owner = shelf_of owner; command = command.now; number = number; is_fetched = false } }
     {
         match spell(command, number) {
             Ok(bytes) => Outstanding {
@@ -50,7 +51,12 @@ impl Outstanding {
     /// A command that is spelled already, with its owner and the details that the bytes have.
     pub(crate) fn spelled(owner: Option<Shelf>, details: Details, bytes: Octets) -> Self
         requires { IsSpelled details bytes }
-        ensures { result ≡ record { owner = shelf_of owner; command = command_in bytes; number = details.number; is_fetched = false } }
+        ensures { result ≡ record {
+          owner = shelf_of owner;
+          command = command_in bytes;
+          number = details.number;
+          is_fetched = false;
+        } }
     {
         Outstanding {
             owner,
@@ -90,7 +96,8 @@ impl Outstanding {
 
     /// What a response has to name, where the handset fetched the command.
     pub(crate) fn fetched(&self) -> Option<Details>
-        ensures { result ≡ (if self.now.is_fetched then Some (details_of_command self.now.command self.now.number) else None) }
+        ensures { result ≡ (if self.now.is_fetched
+            then Some (details_of_command self.now.command self.now.number) else None) }
     {
         if self.is_fetched {
             Some(self.details)

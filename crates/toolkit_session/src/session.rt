@@ -1,9 +1,9 @@
 //! The session, and what is asked of it or told it.
 ghost use Rattle.std.specs.Prelude.{◌≡◌, ◌≤◌, ◌-◌, ◌==◌, [], true, length, map, is_some, if◌then◌else◌, IfSome, option_map, None, Some};
 ghost use Rattle.std.specs.List.{list_any};
-ghost use Rattle.terminal_profile.specs.Model.{consulted};
-ghost use Rattle.timer_table.specs.Timers.{owner_of, without};
-ghost use Rattle.toolkit_commands.specs.Table.{details_of};
+ghost use Rattle.toolkit_model.specs.Profiles.{consulted};
+ghost use Rattle.toolkit_model.specs.Timers.{owner_of, without};
+ghost use Rattle.toolkit_model.specs.toolkit_commands.Table.{details_of};
 ghost use Rattle.toolkit_model.specs.Sessions.{fresh_session};
 ghost use Rattle.toolkit_model.specs.Orderly.{asks, owned};
 ghost use Rattle.toolkit_model.specs.Driving.{is_idle};
@@ -15,11 +15,10 @@ use crate::outstanding::Outstanding;
 use frame_store::FrameStore;
 use kept_triggers::{Late, Waiting};
 use std::marker::Model;
-use terminal_profile::Profile;
-use timer_table::Timers;
-use toolkit_commands::Details;
-use uicc_types::events::{IDLE_SCREEN, USER_ACTIVITY};
-use uicc_types::{Answer, Shelf, StatusWord};
+use toolkit_model::toolkit_commands::Details;
+use toolkit_model::uicc_types::events::{IDLE_SCREEN, USER_ACTIVITY};
+use toolkit_model::uicc_types::{Answer, Shelf, StatusWord};
+use toolkit_model::{Profile, Timers};
 
 /// What a card knows of its toolkit between two commands, and loses at a reset (ETSI TS 102 223, 6 and 7).
 #[derive(Drop)]

@@ -1,17 +1,17 @@
 //! What becomes outstanding where nothing is.
 ghost use Rattle.std.specs.Prelude.{◌≡◌, ◌≤◌, true, None, length, count_by, All, IfSome};
-ghost use Rattle.card_layout.specs.Sections.{has_text};
-ghost use Rattle.card_layout.specs.States.{rows_of};
+ghost use Rattle.toolkit_model.specs.card_layout.Sections.{has_text};
+ghost use Rattle.toolkit_model.specs.card_layout.States.{rows_of};
 ghost use Rattle.toolkit_model.specs.Orderly.{CanBeSent};
 ghost use Rattle.toolkit_model.specs.Driving.{wanted, next_out, filled};
-ghost use Rattle.trigger_index.specs.Indexes.{StandsFor};
+ghost use Rattle.applet_registry.specs.Indexes.{StandsFor};
 
 use crate::Session;
 use crate::wanting::{is_all_known, wanted};
-use card_layout::Loaded;
-use card_layout::sizes::MENU_LIMIT;
-use toolkit_commands::Proactive;
-use trigger_index::Index;
+use applet_registry::Index;
+use toolkit_model::card_layout::Loaded;
+use toolkit_model::card_layout::sizes::MENU_LIMIT;
+use toolkit_model::toolkit_commands::Proactive;
 
 impl Session {
     /// The first command that the card itself has to send, once there is a profile.

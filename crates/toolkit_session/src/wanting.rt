@@ -1,24 +1,23 @@
 //! What the card itself has to tell the handset.
 ghost use Rattle.std.specs.Prelude.{◌≡◌, ◌≤◌, ◌<◌, ◌+◌, ◌++◌, ◌∷◌, [], if◌then◌else◌, length, slice_index_or, count_by, All, Some, None, IfSome, true};
-ghost use Rattle.card_layout.specs.Sections.{has_text};
-ghost use Rattle.card_layout.specs.States.{rows_of};
+ghost use Rattle.toolkit_model.specs.card_layout.Sections.{has_text};
+ghost use Rattle.toolkit_model.specs.card_layout.States.{rows_of};
 ghost use Rattle.toolkit_model.specs.Orderly.{CanBeSent};
 ghost use Rattle.toolkit_model.specs.Driving.{download_codes, if_allowed, event_list_wanted, menu_wanted, polling_wanted, wanted};
-ghost use Rattle.trigger_index.specs.Indexes.{StandsFor};
+ghost use Rattle.applet_registry.specs.Indexes.{StandsFor};
 ghost use Rattle.toolkit_session.specs.Events.{is_heard, is_asked_for, events_in};
 
 use crate::announced::Announced;
-use applet_registry::{is_menu, menu};
-use card_layout::Loaded;
-use card_layout::sizes::MENU_LIMIT;
-use terminal_profile::Profile;
-use toolkit_commands::{Proactive, lengths_of_commands};
-use trigger_index::Index;
-use uicc_types::events::{
+use applet_registry::{Index, is_menu, menu};
+use toolkit_model::Profile;
+use toolkit_model::card_layout::Loaded;
+use toolkit_model::card_layout::sizes::MENU_LIMIT;
+use toolkit_model::toolkit_commands::{Proactive, lengths_of_commands};
+use toolkit_model::uicc_types::events::{
     CALL_CONNECTED, CALL_DISCONNECTED, CHANNEL_STATUS, DATA_AVAILABLE, IDLE_SCREEN,
     LANGUAGE_SELECTION, LOCATION_STATUS, MT_CALL, STATUS_COMMAND, USER_ACTIVITY,
 };
-use uicc_types::{ByteList, Full, Octets, ShortText};
+use toolkit_model::uicc_types::{ByteList, Full, Octets, ShortText};
 
 /// The events that a handset can report (ETSI TS 102 223, 8.25), ascending.
 const DOWNLOAD_CODES: [u8; 9] = [

@@ -2,23 +2,23 @@
 use Rattle.std.proofs.Common.{◌≡◌, ℕ, Bool, ◌+◌, ◌≤◌, List, [], ◌∷◌, ◌++◌, Option, Some, None, inl, inr, refl, sym, ap, ◌∙◌, subst, arith}
 use Rattle.std.proofs.lemmas.List.Sums.{sum_by-append}
 use Rattle.std.specs.Prelude.{◌⊎◌, count_by}
-use Rattle.card_model.specs.Counts.{is_cut, is_failure}
+use Rattle.card_core.specs.card_model.Counts.{is_cut, is_failure}
 use Rattle.card_steps.proofs.LinkCounts.{IsShownOnce, cut, cut_over, failed, fetched_fits, given_shown, kept_shown, left}
 use Rattle.card_steps.specs.Showing.{CourseShows, MayBreakOffTpdu}
 use Rattle.card_steps.specs.Stepping.{IsBare}
-use Rattle.link_laws.specs.Shown.{item_of, kept_over, shown_for, shown_over}
-use Rattle.t0_link.specs.Linking.{Answers, Course, Linked, Passes, course_of, fetched, given, kept_back, link_answer, misformed}
-use Rattle.t0_link.specs.Tpdus.{apdu_of, p3_of, transfer_in}
-use Rattle.t0_link.specs.declared.tpdus.Transfer.{Transfer}
-use Rattle.t0_link.specs.declared.tpdus.Transfer.TheVariants.{GetResponse, Incoming, Outgoing}
+use Rattle.card_steps.specs.Shown.{item_of, kept_over, shown_for, shown_over}
+use Rattle.card_steps.specs.t0_link.Linking.{Answers, Course, Linked, Passes, course_of, fetched, given, kept_back, link_answer, misformed}
+use Rattle.card_steps.specs.t0_link.Tpdus.{apdu_of, p3_of, transfer_in}
+use Rattle.card_steps.specs.t0_link.declared.tpdus.Transfer.{Transfer}
+use Rattle.card_steps.specs.t0_link.declared.tpdus.Transfer.TheVariants.{GetResponse, Incoming, Outgoing}
 use Rattle.uicc_run.specs.Accounts.{Account, Deed, ShowsAsMany, Takes, Transfers, joined, kept_behind}
 use Rattle.uicc_run.specs.Showing.{AreShown, IsShown}
-use Rattle.uicc_types.specs.declared.answers.Answer.{Answer}
-use Rattle.uicc_types.specs.declared.plans.Plan.{Plan}
-use Rattle.uicc_types.specs.declared.runs.Step.{Step}
-use Rattle.uicc_types.specs.declared.runs.Step.TheVariants as step
-use Rattle.uicc_types.specs.declared.runs.TraceItem.{TraceItem}
-use Rattle.uicc_types.specs.declared.runs.TraceItem.TheVariants as item
+use Rattle.update_journal.specs.uicc_types.declared.answers.Answer.{Answer}
+use Rattle.update_journal.specs.uicc_types.declared.plans.Plan.{Plan}
+use Rattle.update_journal.specs.uicc_types.declared.runs.Step.{Step}
+use Rattle.update_journal.specs.uicc_types.declared.runs.Step.TheVariants as step
+use Rattle.update_journal.specs.uicc_types.declared.runs.TraceItem.{TraceItem}
+use Rattle.update_journal.specs.uicc_types.declared.runs.TraceItem.TheVariants as item
 
 -- where the link keeps no failure, the trace shows as many as the card did, and the link keeps none behind them
 record Alike (kept after : Option Answer) (shown own : List TraceItem) : Type 0 where

@@ -2,13 +2,13 @@
 use Rattle.std.proofs.Common.{◌≡◌, ℕ, List, [], Option, Some, None, refl, sym, ap, ◌∙◌, inl, inr, arith, subst}
 use Rattle.std.specs.Prelude.{◌⊎◌}
 use Rattle.std.specs.Result.{result_ok}
-use Rattle.byte_streams.specs.Laws.{IsTaken-none}
-use Rattle.card_model.specs.Counts.{IsCounted}
+use Rattle.card_steps.specs.byte_streams.Laws.{IsTaken-none}
+use Rattle.card_core.specs.card_model.Counts.{IsCounted}
 use Rattle.run_words.specs.Model.{AskForRun, IsMadeFor, IsRequest}
 use Rattle.run_words.specs.declared.requests.Devices.{Devices}
 use Rattle.run_words.specs.declared.requests.Mode.TheVariants.{Load}
 use Rattle.run_words.specs.declared.requests.Request.{Request}
-use Rattle.script_form.specs.Reads.{IsOnly}
+use Rattle.card_steps.specs.script_form.Reads.{IsOnly}
 use Rattle.uicc_run.specs.Answering.{HasEnded, HasLoaded, HasRun, KeepsToScript, NameNoImage}
 use Rattle.uicc_run.specs.Causes.{IsCaused, IsLoadCaused, IsSeenCause}
 use Rattle.uicc_run.specs.Endings.{HasFailed, status_for}
@@ -21,7 +21,7 @@ use Rattle.uicc_run.specs.Scripts.{IsUndisturbed}
 use Rattle.uicc_run.specs.Stores.{IsSizeFor, size_of}
 use Rattle.uicc_run.specs.declared.endings.Ending.{Ending}
 use Rattle.uicc_run.specs.declared.endings.Ending.TheVariants.{NoMemory, Usage}
-use Rattle.uicc_types.specs.Counts.{Meter, Rose}
+use Rattle.update_journal.specs.uicc_types.Counts.{Meter, Rose}
 
 -- ---- a run of which the device is let go
 

@@ -6,12 +6,12 @@ use Rattle.bip_runs.proofs.ScriptLaws.{bad_ends_not, bad_stops_there, end_was_go
 use Rattle.bip_runs.specs.Scripts.{IsFirstBadBip, IsGoodBip}
 use Rattle.bip_runs.specs.Serving.{EndsServing}
 use Rattle.bip_runs.specs.Traces.{trace_of}
-use Rattle.byte_streams.specs.Lines.{LineList}
-use Rattle.card_sections.specs.declared.behind.PlayEnd.TheVariants as play
+use Rattle.card_steps.specs.byte_streams.Lines.{LineList}
+use Rattle.phone_runs.specs.card_sections.declared.behind.PlayEnd.TheVariants as play
 use Rattle.run_words.specs.Model.{AskForRun}
 use Rattle.run_words.specs.declared.requests.Mode.TheVariants.{Bip}
-use Rattle.script_form.specs.Traces.{trace_text}
-use Rattle.script_form.specs.declared.trace.TraceLine.TheVariants as line
+use Rattle.card_steps.specs.script_form.Traces.{trace_text}
+use Rattle.card_steps.specs.script_form.declared.trace.TraceLine.TheVariants as line
 use Rattle.uicc_run.specs.Endings.{status_for}
 use Rattle.uicc_run.specs.Headline.{Closes, last_text}
 use Rattle.uicc_run.specs.Running.{ServesChannels}
@@ -20,7 +20,7 @@ use Rattle.uicc_run.specs.Scripts.{StopsAndTells, TellsNext}
 use Rattle.uicc_run.specs.Terminals.{AskForBip, ComesToBip, TracesBip}
 use Rattle.uicc_run.specs.declared.endings.Ending.{Ending}
 use Rattle.uicc_run.specs.declared.endings.Ending.TheVariants.{Usage, NoMemory, Section, FormatFailed, EepromFailed, NotACard, NoApplet, Played, Counted, LoadFailed}
-use Rattle.uicc_types.specs.Counts.{Rose}
+use Rattle.update_journal.specs.uicc_types.Counts.{Rose}
 
 -- a run with these words is one
 pub asks_for_run : (words : List (List ℕ)) → AskForBip words → AskForRun words

@@ -2,11 +2,11 @@
 use Rattle.std.proofs.Common.{◌≡◌, ℕ, zero, suc, ◌-◌, List, [], ◌∷◌, ◌++◌, length, replicate, Option, Some, None, refl, sym, subst}
 use Rattle.std.specs.Prelude.{All, IfSome, IsSomeAnd, option_map, slice_index_or}
 use Rattle.std.proofs.lemmas.List.Elements.{All-nil}
-use Rattle.applet_trait.specs.Minds.{AppletState}
+use Rattle.card_core.specs.applet_trait.Minds.{AppletState}
 use Rattle.card_core.specs.Openings.{with_all_shelves}
-use Rattle.card_layout.specs.Persistent.{Registration}
-use Rattle.card_model.specs.States.{HasBox}
-use Rattle.card_sections.specs.RowLaws.{AreOfTheirBoxes, IsOfItsBox}
+use Rattle.card_core.specs.card_layout.Persistent.{Registration}
+use Rattle.card_core.specs.card_model.States.{HasBox}
+use Rattle.phone_runs.specs.card_sections.RowLaws.{AreOfTheirBoxes, IsOfItsBox}
 use Rattle.run_words.specs.Model.{AskForRun, IsRequest}
 use Rattle.run_words.specs.declared.requests.Mode.{Mode}
 use Rattle.run_words.specs.declared.requests.Mode.TheVariants as mode

@@ -1,17 +1,17 @@
 -- A run whose card was open ends as its lines do.
 use Rattle.std.proofs.Common.{◌≡◌, ℕ, Result, Ok, Err, refl, sym, subst, inl}
 use Rattle.std.specs.Prelude.{is_some, IsErr}
-use Rattle.card_sections.specs.declared.behind.PlayEnd.{PlayEnd}
-use Rattle.card_sections.specs.declared.behind.PlayEnd.TheVariants as play
-use Rattle.load_runs.specs.declared.counting.MemoryFailed.{MemoryFailed}
-use Rattle.trace_counts.specs.declared.counts.Counts.{Counts}
+use Rattle.phone_runs.specs.card_sections.declared.behind.PlayEnd.{PlayEnd}
+use Rattle.phone_runs.specs.card_sections.declared.behind.PlayEnd.TheVariants as play
+use Rattle.phone_runs.specs.declared.counting.MemoryFailed.{MemoryFailed}
+use Rattle.phone_runs.specs.declared.counts.Counts.{Counts}
 use Rattle.uicc_run.specs.Causes.{EndsFor, EndsLoad}
 use Rattle.uicc_run.specs.Endings.{status_for}
 use Rattle.uicc_run.specs.Loading.{ending_for_load}
 use Rattle.uicc_run.specs.Scenes.{Scene}
 use Rattle.uicc_run.specs.declared.endings.Ending.{Ending}
 use Rattle.uicc_run.specs.declared.endings.Ending.TheVariants.{Played}
-use Rattle.uicc_types.specs.Counts.{CountsFailure, Meter, Rose}
+use Rattle.update_journal.specs.uicc_types.Counts.{CountsFailure, Meter, Rose}
 
 for_its_source : (end : PlayEnd) → status_for (Played end) ≡ 3 → end ≡ play.ReadFailed
 for_its_source play.Finished is = absurd (cc)

@@ -4,41 +4,41 @@ use Rattle.std.proofs.lemmas.List.{drop_more, take-append-drop}
 use Rattle.std.proofs.lemmas.Option.{get_or_from_slice_get, slice_get_within}
 use Rattle.std.specs.Prelude.{IfSome, IsOkAnd, is_some, option_map}
 use Rattle.std.proofs.lemmas.List.Elements.{All-contains, All-nil}
-use Rattle.applet_trait.specs.Minds.{AppletState}
+use Rattle.card_core.specs.applet_trait.Minds.{AppletState}
 use Rattle.card_core.specs.Cards.{card_of}
 use Rattle.card_core.specs.Openings.{opened, with_all_shelves}
 use Rattle.card_core.specs.Parts.{CardParts}
-use Rattle.card_layout.specs.Migration.{migrated}
-use Rattle.card_layout.specs.Persistent.{Persistent}
-use Rattle.card_layout.specs.Sections.{bare_card}
-use Rattle.card_layout.specs.Standing.{standing, stands_for}
-use Rattle.card_layout.specs.declared.faults.SectionFault.{SectionFault}
-use Rattle.card_model.specs.Counts.{IsCounted}
-use Rattle.card_model.specs.Laws.{CountsJoin}
-use Rattle.card_model.specs.States.{HasBox, woken}
-use Rattle.card_opening.specs.Boxes.{IsFirstWithoutBox}
-use Rattle.layout_mount.specs.Mounted.{read_told}
-use Rattle.card_opening.specs.Starts.{Finds, IsLeftMigrated, FaultLeaves}
-use Rattle.card_opening.specs.declared.faults.OpenFault.{OpenFault}
-use Rattle.card_opening.specs.declared.faults.OpenFault.TheVariants as fault
-use Rattle.card_sections.specs.RowLaws.{IsOfItsBox, rows_have_boxes}
-use Rattle.card_sections.specs.Script.{then_on, with_lines}
-use Rattle.card_sections.specs.SectionLaws.{splits, with_lines-append}
-use Rattle.card_sections.specs.declared.faults.ScriptFault.TheVariants as script
+use Rattle.card_core.specs.card_layout.Migration.{migrated}
+use Rattle.card_core.specs.card_layout.Persistent.{Persistent}
+use Rattle.card_core.specs.card_layout.Sections.{bare_card}
+use Rattle.card_core.specs.card_layout.Standing.{standing, stands_for}
+use Rattle.card_core.specs.card_layout.declared.faults.SectionFault.{SectionFault}
+use Rattle.card_core.specs.card_model.Counts.{IsCounted}
+use Rattle.card_core.specs.card_model.Laws.{CountsJoin}
+use Rattle.card_core.specs.card_model.States.{HasBox, woken}
+use Rattle.card_core.specs.card_opening.Boxes.{IsFirstWithoutBox}
+use Rattle.card_core.specs.layout_mount.Mounted.{read_told}
+use Rattle.card_core.specs.card_opening.Starts.{Finds, IsLeftMigrated, FaultLeaves}
+use Rattle.card_core.specs.card_opening.declared.faults.OpenFault.{OpenFault}
+use Rattle.card_core.specs.card_opening.declared.faults.OpenFault.TheVariants as fault
+use Rattle.phone_runs.specs.card_sections.RowLaws.{IsOfItsBox, rows_have_boxes}
+use Rattle.phone_runs.specs.card_sections.Script.{then_on, with_lines}
+use Rattle.phone_runs.specs.card_sections.SectionLaws.{splits, with_lines-append}
+use Rattle.phone_runs.specs.card_sections.declared.faults.ScriptFault.TheVariants as script
 use Rattle.card_steps.specs.Standing.{is_machine}
 use Rattle.card_steps.specs.Stepping.{Moment, moment}
-use Rattle.handset_model.specs.Legal.{IsLegal}
-use Rattle.load_runs.specs.Lines.{made_lines}
-use Rattle.load_runs.specs.FixedRows.{fixed_rows}
-use Rattle.load_runs.specs.Rows.{IsFirstRefused}
-use Rattle.load_runs.specs.Runs.{GivesLoad, all_heard}
-use Rattle.load_runs.specs.declared.counting.MemoryFailed.{MemoryFailed}
+use Rattle.phone_runs.specs.handset_model.Legal.{IsLegal}
+use Rattle.phone_runs.specs.LoadLines.{made_lines}
+use Rattle.phone_runs.specs.FixedRows.{fixed_rows}
+use Rattle.phone_runs.specs.Rows.{IsFirstRefused}
+use Rattle.phone_runs.specs.LoadRuns.{GivesLoad, all_heard}
+use Rattle.phone_runs.specs.declared.counting.MemoryFailed.{MemoryFailed}
 use Rattle.phone_runs.specs.Laws.{RunsAreLegal, RunsAreOfTheCard}
 use Rattle.phone_runs.specs.Logs.{heard, trace}
 use Rattle.phone_runs.specs.Playing.{Begins}
-use Rattle.script_form.specs.declared.handset.HandsetLine.{HandsetLine}
-use Rattle.script_form.specs.declared.lines.ScriptLine.{ScriptLine}
-use Rattle.trace_counts.specs.declared.counts.Counts.{Counts}
+use Rattle.card_steps.specs.script_form.declared.handset.HandsetLine.{HandsetLine}
+use Rattle.card_steps.specs.script_form.declared.lines.ScriptLine.{ScriptLine}
+use Rattle.phone_runs.specs.declared.counts.Counts.{Counts}
 use Rattle.uicc_run.proofs.BoxLemmas.{have_boxes}
 use Rattle.uicc_run.proofs.OpenLemmas.{caused_counted, caused_kept, refusal_keeps, stands_found, still}
 use Rattle.uicc_run.specs.Endings.{KeepsBytes, status_for}
@@ -50,9 +50,9 @@ use Rattle.uicc_run.specs.Runs.{first_machine}
 use Rattle.uicc_run.specs.Unplanned.{IsUnplanned}
 use Rattle.uicc_run.specs.declared.endings.Ending.{Ending}
 use Rattle.uicc_run.specs.declared.endings.Ending.TheVariants.{Usage, NoMemory, Section, FormatFailed, EepromFailed, NotACard, NoApplet, Played, Counted, LoadFailed}
-use Rattle.uicc_types.specs.Counts.{Caused, Meter}
-use Rattle.uicc_types.specs.declared.plans.Plan.{Plan}
-use Rattle.uicc_types.specs.declared.plans.TheConstants.Plan.{NONE}
+use Rattle.update_journal.specs.uicc_types.Counts.{Caused, Meter}
+use Rattle.update_journal.specs.uicc_types.declared.plans.Plan.{Plan}
+use Rattle.update_journal.specs.uicc_types.declared.plans.TheConstants.Plan.{NONE}
 
 -- the handset of a long run begins with the card that was opened
 pub load_begins : (given : Given) (card : Persistent) (mark : ℕ) (told : Option (List ℕ)) (meter : Meter) (boxes : List (Option AppletState)) (parts : CardParts) → CountsJoin

@@ -1,38 +1,38 @@
 -- What is told of the same lines twice, from the same card, is one where nothing fails.
 use Rattle.std.proofs.Common.{◌≡◌, ℕ, false, map, List, [], ◌∷◌, ◌++◌, Option, Some, None, Result, Ok, Err, refl, sym, ap, ◌∙◌, subst, inl}
 use Rattle.std.proofs.lemmas.List.{append-nil}
-use Rattle.general_laws.specs.Members.{front_of, back_of}
-use Rattle.applet_trait.specs.Minds.{AppletState}
-use Rattle.card_layout.specs.Persistent.{Persistent}
-use Rattle.card_model.specs.Counts.{is_cut, is_failure}
-use Rattle.card_model.specs.Runs.{StepGives, IsRun}
-use Rattle.card_model.specs.States.{Machine}
+use Rattle.update_journal.specs.uicc_types.Members.{front_of, back_of}
+use Rattle.card_core.specs.applet_trait.Minds.{AppletState}
+use Rattle.card_core.specs.card_layout.Persistent.{Persistent}
+use Rattle.card_core.specs.card_model.Counts.{is_cut, is_failure}
+use Rattle.card_core.specs.card_model.Runs.{StepGives, IsRun}
+use Rattle.card_core.specs.card_model.States.{Machine}
 use Rattle.card_steps.specs.Runs.{text_of}
 use Rattle.card_steps.specs.Tpdus.{CourseGives}
-use Rattle.link_laws.specs.Shown.{kept_over, shown_for, shown_over}
-use Rattle.run_laws.specs.FaultLaws.{RunsAreOne}
-use Rattle.run_laws.specs.Faults.{ShowsNoCut, ShowsNoFailure}
-use Rattle.script_form.specs.declared.lines.ScriptLine.{ScriptLine}
-use Rattle.t0_link.specs.Linking.{Answers, Course, Passes, link_answer}
+use Rattle.card_steps.specs.Shown.{kept_over, shown_for, shown_over}
+use Rattle.card_core.specs.card_laws.FaultLaws.{RunsAreOne}
+use Rattle.card_core.specs.card_laws.Faults.{ShowsNoCut, ShowsNoFailure}
+use Rattle.card_steps.specs.script_form.declared.lines.ScriptLine.{ScriptLine}
+use Rattle.card_steps.specs.t0_link.Linking.{Answers, Course, Passes, link_answer}
 use Rattle.uicc_run.specs.Accounts.{Account, AreTold, Deed, IsTold, Takes, Transfers, joined}
-use Rattle.handset_model.specs.Legal.{TraceEntry}
-use Rattle.load_runs.specs.Lines.{made_lines}
-use Rattle.load_runs.specs.Runs.{all_heard, entry_line}
+use Rattle.phone_runs.specs.handset_model.Legal.{TraceEntry}
+use Rattle.phone_runs.specs.LoadLines.{made_lines}
+use Rattle.phone_runs.specs.LoadRuns.{all_heard, entry_line}
 use Rattle.phone_runs.specs.Effects.{phone_lines}
 use Rattle.phone_runs.specs.Laws.{PhoneRunsAreOne}
 use Rattle.phone_runs.specs.Runs.{IsPhoneRun}
 use Rattle.phone_runs.specs.Traces.{entries_text}
-use Rattle.trace_counts.specs.Counts.{counts_of}
+use Rattle.phone_runs.specs.Counts.{counts_of}
 use Rattle.uicc_run.specs.Determined.{LoadsAreOne, ServedTracesAreOne, TracesAreOne}
 use Rattle.uicc_run.specs.Loading.{IsFixedCard}
 use Rattle.uicc_run.specs.Playing.{IsOpened}
 use Rattle.uicc_run.specs.Runs.{first_machine}
 use Rattle.uicc_run.specs.Steps.{deeds}
-use Rattle.uicc_types.specs.declared.answers.Answer.{Answer}
-use Rattle.uicc_types.specs.declared.runs.Step.{Step}
-use Rattle.uicc_types.specs.declared.runs.Step.TheVariants as step
-use Rattle.uicc_types.specs.declared.runs.TraceItem.{TraceItem}
-use Rattle.uicc_types.specs.declared.runs.TraceItem.TheVariants as item
+use Rattle.update_journal.specs.uicc_types.declared.answers.Answer.{Answer}
+use Rattle.update_journal.specs.uicc_types.declared.runs.Step.{Step}
+use Rattle.update_journal.specs.uicc_types.declared.runs.Step.TheVariants as step
+use Rattle.update_journal.specs.uicc_types.declared.runs.TraceItem.{TraceItem}
+use Rattle.update_journal.specs.uicc_types.declared.runs.TraceItem.TheVariants as item
 
 abbrev NotFailed : TraceItem → Type 0
 NotFailed seen = is_failure seen ≡ false

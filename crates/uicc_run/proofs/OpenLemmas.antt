@@ -3,33 +3,33 @@ use Rattle.std.proofs.Common.{◌≡◌, ℕ, true, false, List, [], ◌∷◌, 
 use Rattle.std.specs.Prelude.{◌⊎◌, IfSome, IsOkAnd}
 use Rattle.std.proofs.lemmas.List.Elements.{All-nil}
 use Rattle.std.specs.Result.{result_ok}
-use Rattle.general_laws.specs.Optional.{if_some_at}
-use Rattle.applet_trait.specs.Minds.{AppletState}
+use Rattle.update_journal.specs.uicc_types.Optional.{if_some_at}
+use Rattle.card_core.specs.applet_trait.Minds.{AppletState}
 use Rattle.card_core.specs.Cards.{card_of, held_by}
 use Rattle.card_core.specs.Openings.{opened, with_all_shelves}
 use Rattle.card_core.specs.Parts.{CardParts}
-use Rattle.card_layout.specs.Migration.{migrated}
-use Rattle.card_layout.specs.Persistent.{Persistent}
-use Rattle.card_layout.specs.Standing.{stands_for, standing}
-use Rattle.card_layout.specs.declared.faults.SectionFault.{SectionFault}
-use Rattle.card_model.specs.Counts.{IsCounted}
-use Rattle.card_model.specs.Laws.{CountsJoin}
-use Rattle.card_model.specs.States.{IsGood, woken}
-use Rattle.card_opening.specs.Boxes.{IsFirstWithoutBox}
-use Rattle.layout_mount.specs.Mounted.{read_told}
-use Rattle.card_opening.specs.Starts.{Finds, IsLeftMigrated, FaultLeaves}
-use Rattle.card_opening.specs.declared.faults.OpenFault.{OpenFault}
-use Rattle.card_opening.specs.declared.faults.OpenFault.TheVariants as fault
-use Rattle.byte_streams.specs.Laws.{HasRead-start}
-use Rattle.byte_streams.specs.Lines.{lines_within}
-use Rattle.byte_streams.specs.Reading.{at_start, pending}
-use Rattle.card_sections.specs.LineLaws.{Say-from_read}
-use Rattle.card_sections.specs.Reading.{AtStart, InSection}
-use Rattle.card_sections.specs.Script.{described, then_on, with_lines}
-use Rattle.card_sections.specs.declared.behind.PlayEnd.{PlayEnd}
-use Rattle.card_sections.specs.declared.script_reader.ScriptReader.{ScriptReader}
-use Rattle.script_form.specs.declared.lines.ScriptLine.{ScriptLine}
-use Rattle.script_form.specs.declared.lines.ScriptLine.TheVariants.{Passed, Start, Reset, Df, Transparent, Linear, Cyclic, Fill, Rec, Pin, Row, Apdu, Tpdu, Cut, Fail, ReadFail, Handset, Cmd, Echo, Lose}
+use Rattle.card_core.specs.card_layout.Migration.{migrated}
+use Rattle.card_core.specs.card_layout.Persistent.{Persistent}
+use Rattle.card_core.specs.card_layout.Standing.{stands_for, standing}
+use Rattle.card_core.specs.card_layout.declared.faults.SectionFault.{SectionFault}
+use Rattle.card_core.specs.card_model.Counts.{IsCounted}
+use Rattle.card_core.specs.card_model.Laws.{CountsJoin}
+use Rattle.card_core.specs.card_model.States.{IsGood, woken}
+use Rattle.card_core.specs.card_opening.Boxes.{IsFirstWithoutBox}
+use Rattle.card_core.specs.layout_mount.Mounted.{read_told}
+use Rattle.card_core.specs.card_opening.Starts.{Finds, IsLeftMigrated, FaultLeaves}
+use Rattle.card_core.specs.card_opening.declared.faults.OpenFault.{OpenFault}
+use Rattle.card_core.specs.card_opening.declared.faults.OpenFault.TheVariants as fault
+use Rattle.card_steps.specs.byte_streams.Laws.{HasRead-start}
+use Rattle.card_steps.specs.byte_streams.Lines.{lines_within}
+use Rattle.card_steps.specs.byte_streams.Reading.{at_start, pending}
+use Rattle.phone_runs.specs.card_sections.LineLaws.{Say-from_read}
+use Rattle.phone_runs.specs.card_sections.Reading.{AtStart, InSection}
+use Rattle.phone_runs.specs.card_sections.Script.{described, then_on, with_lines}
+use Rattle.phone_runs.specs.card_sections.declared.behind.PlayEnd.{PlayEnd}
+use Rattle.phone_runs.specs.card_sections.declared.script_reader.ScriptReader.{ScriptReader}
+use Rattle.card_steps.specs.script_form.declared.lines.ScriptLine.{ScriptLine}
+use Rattle.card_steps.specs.script_form.declared.lines.ScriptLine.TheVariants.{Passed, Start, Reset, Df, Transparent, Linear, Cyclic, Fill, Rec, Pin, Row, Apdu, Tpdu, Cut, Fail, ReadFail, Handset, Cmd, Echo, Lose}
 use Rattle.uicc_run.specs.Endings.{KeepsBytes}
 use Rattle.uicc_run.specs.Headline.{Comes, FailsToFormat, HasNoMemory, HoldsStart, IsMigratedAtMost, IsNotOpened}
 use Rattle.uicc_run.specs.Opening.{IsGiven, IsMade, IsStarted, ending_for, makes}
@@ -42,8 +42,8 @@ use Rattle.uicc_run.specs.Unplanned.{IsUnplanned}
 use Rattle.uicc_run.specs.declared.endings.Ending.{Ending}
 use Rattle.uicc_run.specs.declared.endings.Ending.TheVariants.{EepromFailed, FormatFailed, NoMemory}
 use Rattle.card_steps.specs.Standing.{is_machine}
-use Rattle.uicc_types.specs.Counts.{Caused, Meter}
-use Rattle.uicc_types.specs.declared.plans.TheConstants.Plan.{NONE}
+use Rattle.update_journal.specs.uicc_types.Counts.{Caused, Meter}
+use Rattle.update_journal.specs.uicc_types.declared.plans.TheConstants.Plan.{NONE}
 
 -- ---- counts
 

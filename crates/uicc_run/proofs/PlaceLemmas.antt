@@ -3,18 +3,18 @@ use Rattle.std.proofs.Common.{◌≡◌, ℕ, Bool, true, false, List, [], ◌�
 use Rattle.std.specs.List.{AllPass}
 use Rattle.std.proofs.lemmas.Bool.{false≢true}
 use Rattle.std.proofs.lemmas.List.Elements.{All-head, All-tail}
-use Rattle.applet_trait.specs.Minds.{AppletState}
-use Rattle.byte_streams.specs.Lines.{LineList}
-use Rattle.card_layout.specs.Persistent.{Persistent}
-use Rattle.card_layout.specs.declared.faults.SectionFault.TheVariants.{Bad, NoRoom as has_no_room}
-use Rattle.card_sections.specs.Behind.{IsBadBehind}
-use Rattle.card_sections.specs.Reading.{IsBadHere, IsTooMuchHere}
-use Rattle.card_sections.specs.Script.{Each, with_line, with_lines}
-use Rattle.card_sections.specs.SectionLaws.{splits}
-use Rattle.script_form.specs.Forms.{IsLine}
-use Rattle.script_form.specs.Reads.{IsOnly}
-use Rattle.script_form.specs.declared.lines.ScriptLine.{ScriptLine}
-use Rattle.script_form.specs.declared.lines.ScriptLine.TheVariants.{Start}
+use Rattle.card_core.specs.applet_trait.Minds.{AppletState}
+use Rattle.card_steps.specs.byte_streams.Lines.{LineList}
+use Rattle.card_core.specs.card_layout.Persistent.{Persistent}
+use Rattle.card_core.specs.card_layout.declared.faults.SectionFault.TheVariants.{Bad, NoRoom as has_no_room}
+use Rattle.phone_runs.specs.card_sections.Behind.{IsBadBehind}
+use Rattle.phone_runs.specs.card_sections.Reading.{IsBadHere, IsTooMuchHere}
+use Rattle.phone_runs.specs.card_sections.Script.{Each, with_line, with_lines}
+use Rattle.phone_runs.specs.card_sections.SectionLaws.{splits}
+use Rattle.card_steps.specs.script_form.Forms.{IsLine}
+use Rattle.card_steps.specs.script_form.Reads.{IsOnly}
+use Rattle.card_steps.specs.script_form.declared.lines.ScriptLine.{ScriptLine}
+use Rattle.card_steps.specs.script_form.declared.lines.ScriptLine.TheVariants.{Start}
 
 -- the boxes of the applets, and which lines may stand behind `start`
 pub record Rules : Type 0 where

@@ -1,28 +1,28 @@
 -- From one line after `start` to the next, and why the run ends there.
 use Rattle.std.proofs.Common.{◌≡◌, ℕ, true, false, List, [], ◌∷◌, ◌++◌, Option, Some, None, refl, sym, ap, ◌∙◌, append_assoc, subst}
 use Rattle.std.proofs.lemmas.List.Elements.{All-push}
-use Rattle.byte_streams.specs.Lines.{LineList}
-use Rattle.card_layout.specs.Persistent.{Persistent}
-use Rattle.card_model.specs.Counts.{IsCounted}
-use Rattle.card_model.specs.Laws.{CountsJoin, PlansAreSetInOrder}
-use Rattle.card_model.specs.Runs.{plan_given, armed_after, waiting_after}
-use Rattle.card_model.specs.States.{Machine}
-use Rattle.card_sections.specs.LineLaws.{AreRead-more}
-use Rattle.card_sections.specs.Reading.{Finds, Follows}
-use Rattle.card_sections.specs.Script.{AreRead}
-use Rattle.card_sections.specs.declared.behind.PlayEnd.{PlayEnd}
-use Rattle.card_sections.specs.declared.behind.PlayEnd.TheVariants.{Finished, BadLine, ReadFailed, SinkFailed, ResetFailed}
-use Rattle.card_sections.specs.declared.script_reader.ScriptReader.{ScriptReader}
-use Rattle.script_form.specs.Forms.{IsLine}
-use Rattle.script_form.specs.Reads.{IsOnly}
-use Rattle.script_form.specs.declared.lines.ScriptLine.{ScriptLine}
-use Rattle.script_form.specs.declared.lines.ScriptLine.TheVariants.{Start}
+use Rattle.card_steps.specs.byte_streams.Lines.{LineList}
+use Rattle.card_core.specs.card_layout.Persistent.{Persistent}
+use Rattle.card_core.specs.card_model.Counts.{IsCounted}
+use Rattle.card_core.specs.card_model.Laws.{CountsJoin, PlansAreSetInOrder}
+use Rattle.card_core.specs.card_model.Runs.{plan_given, armed_after, waiting_after}
+use Rattle.card_core.specs.card_model.States.{Machine}
+use Rattle.phone_runs.specs.card_sections.LineLaws.{AreRead-more}
+use Rattle.phone_runs.specs.card_sections.Reading.{Finds, Follows}
+use Rattle.phone_runs.specs.card_sections.Script.{AreRead}
+use Rattle.phone_runs.specs.card_sections.declared.behind.PlayEnd.{PlayEnd}
+use Rattle.phone_runs.specs.card_sections.declared.behind.PlayEnd.TheVariants.{Finished, BadLine, ReadFailed, SinkFailed, ResetFailed}
+use Rattle.phone_runs.specs.card_sections.declared.script_reader.ScriptReader.{ScriptReader}
+use Rattle.card_steps.specs.script_form.Forms.{IsLine}
+use Rattle.card_steps.specs.script_form.Reads.{IsOnly}
+use Rattle.card_steps.specs.script_form.declared.lines.ScriptLine.{ScriptLine}
+use Rattle.card_steps.specs.script_form.declared.lines.ScriptLine.TheVariants.{Start}
 use Rattle.card_steps.specs.RunLaws.{calm_before, calm_behind, run_ends, run_of}
 use Rattle.card_steps.specs.Runs.{GoesOn, ends_calm, text_of}
 use Rattle.card_steps.specs.Stepping.{BreaksOff, BreaksStep, EndsStep, Moment, TakesStep}
 use Rattle.card_steps.specs.Tpdus.{BreaksOffTpdu, BreaksTpdu, TakesTpdu, steps_of}
-use Rattle.link_laws.specs.Shown.{shown_for}
-use Rattle.t0_link.specs.Linking.{link_answer}
+use Rattle.card_steps.specs.Shown.{shown_for}
+use Rattle.card_steps.specs.t0_link.Linking.{link_answer}
 use Rattle.uicc_run.specs.Accounts.{Account, AreTold, Deed, IsTold, Takes, Transfers, joined, kept_behind}
 use Rattle.uicc_run.specs.Playing.{BreaksSo, CardComesTo, EndsSo, FailsSo, Given, IsPlayed, IsPlaying, Leaves, Reaches, StopsPlaying, left_at}
 use Rattle.uicc_run.specs.Runs.{HasKindsOf, first_machine}
@@ -32,9 +32,9 @@ use Rattle.uicc_run.proofs.AccountCounts.{shows_in_step, shows_in_tpdu, shows_as
 use Rattle.uicc_run.proofs.AccountLemmas.{goes_on, told_one, told_then}
 use Rattle.uicc_run.proofs.RunLemmas.{deeds_none, deeds_one}
 use Rattle.uicc_run.proofs.ShowLemmas.{behind, plans_then, stands_there, told_broken, told_shows, waiting_then}
-use Rattle.uicc_types.specs.declared.answers.Answer.{Answer}
-use Rattle.uicc_types.specs.declared.runs.Step.{Step}
-use Rattle.uicc_types.specs.declared.runs.Step.TheVariants as step
+use Rattle.update_journal.specs.uicc_types.declared.answers.Answer.{Answer}
+use Rattle.update_journal.specs.uicc_types.declared.runs.Step.{Step}
+use Rattle.update_journal.specs.uicc_types.declared.runs.Step.TheVariants as step
 
 -- one more line behind `start`
 played_more : (given : Given) (found : LineList) (section played : List ScriptLine) (start : Persistent) (bytes : List ℕ) (line : ScriptLine) → IsPlayed given found section played start → IsOnly (IsLine bytes) line → may_stand given.is_served line ≡ true

@@ -1,6 +1,6 @@
 -- From what a run is given to what each part of it is given.
 use Rattle.std.proofs.Common.{◌≡◌, ℕ, Bool, List, Option}
-use Rattle.card_layout.specs.Persistent.{Persistent}
+use Rattle.card_core.specs.card_layout.Persistent.{Persistent}
 use Rattle.uicc_run.specs.Listeners.{is_handset}
 use Rattle.uicc_run.specs.Opening.{IsToPlay, IsToRead, ReadsFrom, RunsFrom}
 use Rattle.uicc_run.specs.Playing.{Given}

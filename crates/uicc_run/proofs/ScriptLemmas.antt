@@ -5,25 +5,25 @@ use Rattle.std.specs.Io.KnownBytes.{append_known}
 use Rattle.std.proofs.lemmas.Bool.{cases_order}
 use Rattle.std.proofs.lemmas.List.{append-nil}
 use Rattle.std.proofs.lemmas.List.Elements.{All-contains, All-nil}
-use Rattle.applet_trait.specs.Minds.{AppletState}
-use Rattle.byte_streams.specs.Lines.{LineList, lines}
-use Rattle.byte_streams.specs.Reading.{IsTakenFor}
+use Rattle.card_core.specs.applet_trait.Minds.{AppletState}
+use Rattle.card_steps.specs.byte_streams.Lines.{LineList, lines}
+use Rattle.card_steps.specs.byte_streams.Reading.{IsTakenFor}
 use Rattle.card_core.specs.Openings.{with_all_shelves}
-use Rattle.card_layout.specs.Persistent.{Persistent, Registration}
-use Rattle.card_model.specs.States.{HasBox, IsGood}
-use Rattle.card_opening.specs.Boxes.{IsFirstWithoutBox}
-use Rattle.card_sections.specs.LineLaws.{Say-from_read}
-use Rattle.card_sections.specs.Reading.{EndsInSection}
-use Rattle.card_sections.specs.RowLaws.{AreOfTheirBoxes, rows_have_boxes}
-use Rattle.card_sections.specs.Script.{Say, with_lines}
-use Rattle.card_sections.specs.declared.behind.PlayEnd.{PlayEnd}
-use Rattle.card_sections.specs.declared.behind.PlayEnd.TheVariants as play
-use Rattle.card_sections.specs.declared.faults.ScriptFault.TheVariants as script
-use Rattle.script_form.specs.Forms.{IsLine}
-use Rattle.script_form.specs.Traces.{trace_text}
-use Rattle.script_form.specs.declared.lines.ScriptLine.{ScriptLine}
-use Rattle.script_form.specs.declared.lines.ScriptLine.TheVariants.{Start}
-use Rattle.script_form.specs.declared.trace.TraceLine.TheVariants as line
+use Rattle.card_core.specs.card_layout.Persistent.{Persistent, Registration}
+use Rattle.card_core.specs.card_model.States.{HasBox, IsGood}
+use Rattle.card_core.specs.card_opening.Boxes.{IsFirstWithoutBox}
+use Rattle.phone_runs.specs.card_sections.LineLaws.{Say-from_read}
+use Rattle.phone_runs.specs.card_sections.Reading.{EndsInSection}
+use Rattle.phone_runs.specs.card_sections.RowLaws.{AreOfTheirBoxes, rows_have_boxes}
+use Rattle.phone_runs.specs.card_sections.Script.{Say, with_lines}
+use Rattle.phone_runs.specs.card_sections.declared.behind.PlayEnd.{PlayEnd}
+use Rattle.phone_runs.specs.card_sections.declared.behind.PlayEnd.TheVariants as play
+use Rattle.phone_runs.specs.card_sections.declared.faults.ScriptFault.TheVariants as script
+use Rattle.card_steps.specs.script_form.Forms.{IsLine}
+use Rattle.card_steps.specs.script_form.Traces.{trace_text}
+use Rattle.card_steps.specs.script_form.declared.lines.ScriptLine.{ScriptLine}
+use Rattle.card_steps.specs.script_form.declared.lines.ScriptLine.TheVariants.{Start}
+use Rattle.card_steps.specs.script_form.declared.trace.TraceLine.TheVariants as line
 use Rattle.uicc_run.specs.Endings.{IsUnshown, status_for}
 use Rattle.uicc_run.specs.Headline.{Closes, Comes, IsNoCard, IsNotOpened, LacksBox, last_text}
 use Rattle.uicc_run.specs.Playing.{EndsSo, Given, IsOpened, IsPlayed, Leaves, StopsPlaying}

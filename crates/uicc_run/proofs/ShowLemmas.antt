@@ -3,33 +3,33 @@ use Rattle.std.proofs.Common.{◌≡◌, ℕ, Bool, true, false, List, [], ◌�
 use Rattle.std.specs.Prelude.{MatchBool}
 use Rattle.std.proofs.lemmas.List.{append-nil}
 use Rattle.std.proofs.lemmas.List.Elements.{All-nil, All-push}
-use Rattle.byte_streams.specs.Lines.{LineList}
-use Rattle.card_layout.specs.Persistent.{Persistent}
-use Rattle.card_model.specs.Answers.{answer}
-use Rattle.card_model.specs.Counts.{IsCounted}
-use Rattle.card_model.specs.Laws.{CountsJoin, PlansAreSetInOrder}
-use Rattle.card_model.specs.Runs.{Commands, MeetsNoPower, StepGives, armed_after, plan_given, waiting_after}
-use Rattle.card_model.specs.States.{Machine}
-use Rattle.card_opening.specs.declared.faults.OpenFault.{OpenFault}
-use Rattle.card_opening.specs.declared.faults.OpenFault.TheVariants as fault
-use Rattle.card_sections.specs.LineLaws.{AreRead-more}
-use Rattle.card_sections.specs.Reading.{AtStart, Finds, Follows}
-use Rattle.card_sections.specs.Script.{AreRead}
-use Rattle.card_sections.specs.declared.behind.PlayEnd.{PlayEnd}
-use Rattle.card_sections.specs.declared.behind.PlayEnd.TheVariants.{Finished, BadLine, ReadFailed, SinkFailed, ResetFailed}
-use Rattle.card_sections.specs.declared.script_reader.ScriptReader.{ScriptReader}
+use Rattle.card_steps.specs.byte_streams.Lines.{LineList}
+use Rattle.card_core.specs.card_layout.Persistent.{Persistent}
+use Rattle.card_core.specs.card_model.Answers.{answer}
+use Rattle.card_core.specs.card_model.Counts.{IsCounted}
+use Rattle.card_core.specs.card_model.Laws.{CountsJoin, PlansAreSetInOrder}
+use Rattle.card_core.specs.card_model.Runs.{Commands, MeetsNoPower, StepGives, armed_after, plan_given, waiting_after}
+use Rattle.card_core.specs.card_model.States.{Machine}
+use Rattle.card_core.specs.card_opening.declared.faults.OpenFault.{OpenFault}
+use Rattle.card_core.specs.card_opening.declared.faults.OpenFault.TheVariants as fault
+use Rattle.phone_runs.specs.card_sections.LineLaws.{AreRead-more}
+use Rattle.phone_runs.specs.card_sections.Reading.{AtStart, Finds, Follows}
+use Rattle.phone_runs.specs.card_sections.Script.{AreRead}
+use Rattle.phone_runs.specs.card_sections.declared.behind.PlayEnd.{PlayEnd}
+use Rattle.phone_runs.specs.card_sections.declared.behind.PlayEnd.TheVariants.{Finished, BadLine, ReadFailed, SinkFailed, ResetFailed}
+use Rattle.phone_runs.specs.card_sections.declared.script_reader.ScriptReader.{ScriptReader}
 use Rattle.card_steps.specs.RunLaws.{shows_one, shows_then, text_of-append}
 use Rattle.card_steps.specs.Runs.{text_of}
 use Rattle.card_steps.specs.Showing.{CourseShows, CutsOffStep, CutsOffTpdu, MayBreakOff, MayBreakOffTpdu, MayShow, MayShowAll, ShowsLast, ShowsStep, ShowsTpdu}
 use Rattle.card_steps.specs.Stepping.{Moment}
 use Rattle.card_steps.specs.Tpdus.{BreaksOffTpdu, CourseGives, steps_of}
-use Rattle.link_laws.specs.Shown.{shown_for}
+use Rattle.card_steps.specs.Shown.{shown_for}
 use Rattle.phone_runs.specs.Showing.{Outset, StartsShowing}
-use Rattle.script_form.specs.Forms.{IsLine}
-use Rattle.script_form.specs.Reads.{IsOnly}
-use Rattle.script_form.specs.declared.lines.ScriptLine.{ScriptLine}
-use Rattle.script_form.specs.declared.lines.ScriptLine.TheVariants.{Start}
-use Rattle.t0_link.specs.Linking.{Answers, Course, Passes, link_answer}
+use Rattle.card_steps.specs.script_form.Forms.{IsLine}
+use Rattle.card_steps.specs.script_form.Reads.{IsOnly}
+use Rattle.card_steps.specs.script_form.declared.lines.ScriptLine.{ScriptLine}
+use Rattle.card_steps.specs.script_form.declared.lines.ScriptLine.TheVariants.{Start}
+use Rattle.card_steps.specs.t0_link.Linking.{Answers, Course, Passes, link_answer}
 use Rattle.uicc_run.proofs.AccountCounts.{IsBroken, shows_as_many, shows_in_step, shows_in_tpdu, shown_broken}
 use Rattle.uicc_run.proofs.AccountLemmas.{joined_assoc, joined_nothing}
 use Rattle.uicc_run.proofs.RunLemmas.{deeds_none, deeds_one}
@@ -39,15 +39,15 @@ use Rattle.uicc_run.specs.Playing.{Given, StopsPlaying}
 use Rattle.uicc_run.specs.Reading.{AreReadInPlace}
 use Rattle.uicc_run.specs.Showing.{AreShown, CutsOffSo, HasLinesOf, IsShowing, IsShown, LinesShow, ShowsFailure, ShowsSo, ShowsTo, ShowsUpTo}
 use Rattle.uicc_run.specs.Steps.{deeds, deeds_of, may_follow, may_stand}
-use Rattle.uicc_types.specs.Counts.{Meter}
-use Rattle.uicc_types.specs.declared.answers.Answer.{Answer}
-use Rattle.uicc_types.specs.declared.answers.TheConstants.StatusWord.{MEMORY_PROBLEM}
-use Rattle.uicc_types.specs.declared.plans.Plan.{Plan}
-use Rattle.uicc_types.specs.declared.plans.TheConstants.Plan.{NONE}
-use Rattle.uicc_types.specs.declared.runs.Step.{Step}
-use Rattle.uicc_types.specs.declared.runs.Step.TheVariants as step
-use Rattle.uicc_types.specs.declared.runs.TraceItem.{TraceItem}
-use Rattle.uicc_types.specs.declared.runs.TraceItem.TheVariants as item
+use Rattle.update_journal.specs.uicc_types.Counts.{Meter}
+use Rattle.update_journal.specs.uicc_types.declared.answers.Answer.{Answer}
+use Rattle.update_journal.specs.uicc_types.declared.answers.TheConstants.StatusWord.{MEMORY_PROBLEM}
+use Rattle.update_journal.specs.uicc_types.declared.plans.Plan.{Plan}
+use Rattle.update_journal.specs.uicc_types.declared.plans.TheConstants.Plan.{NONE}
+use Rattle.update_journal.specs.uicc_types.declared.runs.Step.{Step}
+use Rattle.update_journal.specs.uicc_types.declared.runs.Step.TheVariants as step
+use Rattle.update_journal.specs.uicc_types.declared.runs.TraceItem.{TraceItem}
+use Rattle.update_journal.specs.uicc_types.declared.runs.TraceItem.TheVariants as item
 
 -- ---- what the card did is shown so
 

@@ -1,7 +1,7 @@
 -- What is given to a run over one of the two stores, and what it comes to.
 use Rattle.std.proofs.Common.{◌≡◌, ℕ, Bool, List, Option, Result, sym, ap, ◌∙◌, subst}
-use Rattle.applet_trait.specs.Minds.{AppletState}
-use Rattle.card_layout.specs.Persistent.{Persistent}
+use Rattle.card_core.specs.applet_trait.Minds.{AppletState}
+use Rattle.card_core.specs.card_layout.Persistent.{Persistent}
 use Rattle.uicc_run.specs.Endings.{KeepsBytes}
 use Rattle.uicc_run.specs.Headline.{Comes}
 use Rattle.uicc_run.specs.Loading.{ComesToLoad}
@@ -9,7 +9,7 @@ use Rattle.uicc_run.specs.Opening.{IsGiven}
 use Rattle.uicc_run.specs.Playing.{Given}
 use Rattle.uicc_run.specs.Stores.{content_in, held_in, memory_in}
 use Rattle.uicc_run.specs.declared.endings.Ending.{Ending}
-use Rattle.uicc_types.specs.Counts.{Meter}
+use Rattle.update_journal.specs.uicc_types.Counts.{Meter}
 
 -- what is read off a device is what is read off the store that was made over it
 pub given_over : (given : Given) (pages : Bool) (taken contents : Option (List ℕ)) (memory : Option (Result Persistent ℕ)) (meter meter_now : Meter) (boxes : List (Option AppletState)) → given.pages ≡ pages → memory ≡ memory_in pages contents → meter_now ≡ meter

@@ -2,10 +2,10 @@
 use Rattle.std.specs.Prelude.{◌≡◌, ◌⊎◌, ◌+◌, ◌≤◌, ℕ, List, [], Option, Some, true, is_some}
 use Rattle.std.specs.Io.KnownBytes.{append_known}
 use Rattle.bip_runs.specs.Scripts.{IsFirstBadBip, IsGoodBip}
-use Rattle.byte_streams.specs.Lines.{LineList}
-use Rattle.byte_streams.specs.Reading.{IsTaken}
-use Rattle.byte_streams.specs.declared.limits.TheConstants.{MOST_BYTES}
-use Rattle.card_layout.specs.Persistent.{Persistent}
+use Rattle.card_steps.specs.byte_streams.Lines.{LineList}
+use Rattle.card_steps.specs.byte_streams.Reading.{IsTaken}
+use Rattle.card_steps.specs.byte_streams.declared.limits.TheConstants.{MOST_BYTES}
+use Rattle.card_core.specs.card_layout.Persistent.{Persistent}
 use Rattle.run_words.specs.Model.{AskForRun}
 use Rattle.uicc_run.specs.Causes.{IsCaused, IsLoadCaused}
 use Rattle.uicc_run.specs.Endings.{HasFailed, IsEarly, IsUnopened}
@@ -22,7 +22,7 @@ use Rattle.uicc_run.specs.Terminals.{AskForBip, IsUnbroken, TracesBip}
 use Rattle.uicc_run.specs.Unplanned.{IsUnplanned}
 use Rattle.uicc_run.specs.declared.endings.Ending.{Ending}
 use Rattle.uicc_run.specs.declared.endings.Ending.TheVariants.{Usage, EepromFailed}
-use Rattle.uicc_types.specs.Counts.{CountsFailure, Rose}
+use Rattle.update_journal.specs.uicc_types.Counts.{CountsFailure, Rose}
 
 -- Over a memory that tells its bytes the trace is that of the abstract card, and the memory holds at the end what that card does.
 abbrev pub IsTraced : List (List ℕ) → ℕ → Scene → Scene → Type 0 → Type 0 → Type 0

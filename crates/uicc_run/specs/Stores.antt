@@ -1,8 +1,8 @@
 -- The two stores that a run can be made over: the one whose pages move, and the journal.
 use Rattle.std.specs.Prelude.{◌≡◌, ℕ, Bool, true, false, List, Option, Result, option_map}
-use Rattle.card_layout.specs.Persistent.{Persistent}
-use Rattle.card_layout.specs.Places.{memory_size}
-use Rattle.card_layout.specs.Standing.{standing, stands_for}
+use Rattle.card_core.specs.card_layout.Persistent.{Persistent}
+use Rattle.card_core.specs.card_layout.Places.{memory_size}
+use Rattle.card_core.specs.card_layout.Standing.{standing, stands_for}
 use Rattle.page_store.specs.Pages.{content}
 use Rattle.page_store.specs.declared.places.TheConstants.{DEVICE_SIZE}
 use Rattle.run_words.specs.Model.{IsRequest}

@@ -9,7 +9,7 @@ use Rattle.uicc_run.specs.Headline.{Closes}
 use Rattle.uicc_run.specs.Scenes.{Scene, Seen}
 use Rattle.uicc_run.specs.declared.endings.Ending.{Ending}
 use Rattle.uicc_run.specs.declared.endings.Ending.TheVariants.{Usage, NoMemory, Section, FormatFailed, EepromFailed, NotACard, NoApplet, Played, Counted, LoadFailed}
-use Rattle.uicc_types.specs.Counts.{Rose}
+use Rattle.update_journal.specs.uicc_types.Counts.{Rose}
 
 -- the words ask for it
 abbrev pub AskForBip : List (List ℕ) → Type 0

@@ -1,9 +1,9 @@
 //! What the program answers to the words of its command line.
 ghost use Rattle.std.specs.Prelude.{◌≡◌, ◌≤◌, ℕ, [], Some, None, true, length, map, option_map, slice_get, string_bytes};
-ghost use Rattle.card_layout.specs.declared.sizes.TheConstants.{ROW_COUNT};
-ghost use Rattle.card_opening.specs.Boxes.{minds_of};
+ghost use Rattle.card_core.specs.card_layout.declared.sizes.TheConstants.{ROW_COUNT};
+ghost use Rattle.card_core.specs.applet_trait.Minds.{minds_of};
 ghost use Rattle.run_words.specs.Model.{AskForRun, IsMadeFor};
-ghost use Rattle.script_form.specs.Reads.{IsOnly};
+ghost use Rattle.card_steps.specs.script_form.Reads.{IsOnly};
 ghost use Rattle.uicc_run.specs.Answering.{HasLoadedOnBench, HasLoadedOver, HasOuterCauses, HasRunOnBench, HasRunOver, HasServed, HasUsedCauses, IsUsage, KeepsToScripts, NameNoImage, RefusesUseless, ShowsPages};
 ghost use Rattle.uicc_run.specs.Causes.{FitsRun};
 ghost use Rattle.uicc_run.specs.Pages.{AsksForNone, words_of};
@@ -14,16 +14,15 @@ use crate::endings::Ending;
 use crate::images::{image_file, use_of};
 use crate::pages::{Page, page_of, show};
 use crate::running::{close, run};
-use applet_trait::Applet;
-use byte_streams::{Sink, Source};
-use card_layout::places::MEMORY_SIZE;
-use eeprom_file::FileEeprom;
-use eeprom_model::{BenchEeprom, Eeprom};
+use card_core::applet_trait::Applet;
+use card_core::card_layout::places::MEMORY_SIZE;
+use card_steps::byte_streams::{Sink, Source};
 use page_store::DEVICE_SIZE;
 use run_words::{Devices, devices};
 use std::alloc::Global;
 use std::fs::File;
 use std::rt::Files;
+use update_journal::eeprom_model::{BenchEeprom, Eeprom, FileEeprom};
 
 /// Answers `--help` and `--version`, each alone behind the program's name, with their pages, and has all other words run, with the
 /// boxes of the applets on their shelves.

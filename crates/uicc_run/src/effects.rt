@@ -2,8 +2,8 @@
 ghost use Rattle.uicc_run.specs.Steps.{IsEffect};
 
 use card_steps::Move;
-use script_form::ScriptLine;
-use uicc_types::Plan;
+use card_steps::script_form::ScriptLine;
+use update_journal::uicc_types::Plan;
 
 /// What a line after `start` is for the card.
 #[derive(Clone, Copy, Debug)]

@@ -3,8 +3,8 @@ ghost use Rattle.std.specs.Prelude.{◌≡◌};
 ghost use Rattle.uicc_run.specs.Listeners.{IsCarrierBy, listener_of};
 
 use card_steps::Carrier;
+use card_steps::t0_link::Link;
 use run_words::{Mode, Transport};
-use t0_link::Link;
 
 /// To whom the lines after `start` go.
 #[derive(Clone, Copy, Debug, PartialEq, Eq)]

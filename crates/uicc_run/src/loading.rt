@@ -1,10 +1,10 @@
 //! A long run: a handset carries out lines that are made from a number, and what it did is counted.
 ghost use Rattle.std.specs.Prelude.{◌≡◌, ◌⊎◌, [], ℕ, List, Option, Some, Ok, option_map, IfSome};
-ghost use Rattle.card_layout.specs.Persistent.{Persistent};
-ghost use Rattle.card_layout.specs.Places.{memory_size};
-ghost use Rattle.card_layout.specs.Standing.{standing, stands_for};
-ghost use Rattle.card_model.specs.Counts.{IsCounted};
-ghost use Rattle.card_opening.specs.Boxes.{minds_of};
+ghost use Rattle.card_core.specs.card_layout.Persistent.{Persistent};
+ghost use Rattle.card_core.specs.card_layout.Places.{memory_size};
+ghost use Rattle.card_core.specs.card_layout.Standing.{standing, stands_for};
+ghost use Rattle.card_core.specs.card_model.Counts.{IsCounted};
+ghost use Rattle.card_core.specs.applet_trait.Minds.{minds_of};
 ghost use Rattle.uicc_run.specs.Causes.{EndsLoad, FitsStore};
 ghost use Rattle.uicc_run.specs.Loading.{ComesToLoad, HoldsFixed, IsFixedCard, ending_for_load};
 ghost use Rattle.uicc_run.specs.Opening.{IsGiven};
@@ -13,21 +13,19 @@ ghost use Rattle.uicc_run.specs.Stores.{content_in, held_in, mark_of, memory_in,
 
 use crate::endings::Ending;
 use crate::running::ending_of;
-use applet_trait::Applet;
 use card_core::CardOver;
-use card_model::runs_are_counted;
-use card_sections::{PlayEnd, ScriptFault};
+use card_core::applet_trait::Applet;
+use card_core::card_model::runs_are_counted;
 use card_steps::CardEnd;
-use eeprom_model::Eeprom;
-use layout_section::{Section, format};
-use load_runs::{MemoryFailed, count_lines, describe_rows};
 use page_store::PageStore;
-use phone_runs::phone_runs_are_lawful;
+use phone_runs::card_sections::{PlayEnd, ScriptFault};
+use phone_runs::layout_section::{Section, format};
+use phone_runs::{Counts, MemoryFailed, count_lines, describe_rows, phone_runs_are_lawful};
 use std::alloc::Global;
-use store_form::Store;
-use trace_counts::Counts;
-use uicc_types::Plan;
 use update_journal::Journal;
+use update_journal::eeprom_model::Eeprom;
+use update_journal::store_form::Store;
+use update_journal::uicc_types::Plan;
 
 /// Makes the card of a long run, and has a handset carry out `count` lines that are made from the number `start`.
 pub fn load<E: Eeprom, B: Applet>(

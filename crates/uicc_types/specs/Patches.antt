@@ -4,7 +4,7 @@ use Rattle.std.proofs.Common.{add-zero, get_or, refl, sym, ◌∙◌, ap, inl, i
 use Rattle.std.proofs.lemmas.List.{append-nil, length-take, length-drop, places, take-append-drop, drop_all}
 use Rattle.std.proofs.lemmas.List.Elements.{All-append, All-drop, All-take}
 use Rattle.std.proofs.lemmas.Bool.{cases_lt}
-use Rattle.general_laws.specs.Ranges.{length-range, get_or-range}
+use Rattle.uicc_types.specs.Ranges.{length-range, get_or-range}
 use Rattle.std.proofs.lemmas.Grind.{same_number_lists}
 
 -- the image with these bytes in place of as many from `at` on

@@ -1,5 +1,6 @@
 //! The words that every part of the card, the handset and the script speak: lists of bytes that take no memory,
-//! identifiers, status words, planned memory faults, and the steps and trace items of a run.
+//! identifiers, status words, planned memory faults, and the steps and trace items of a run; and laws of lists, pairs and
+//! conditions, which stand on no part of the card.
 #![tactic(auto)]
 
 mod answers;

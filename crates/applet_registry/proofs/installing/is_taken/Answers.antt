@@ -1,5 +1,5 @@
 use Rattle.std.proofs.Common.{sym, ◌∙◌}
-use Rattle.card_layout.specs.States.{registration_of, rows_of}
+use Rattle.toolkit_model.specs.card_layout.States.{registration_of, rows_of}
 use Rattle.applet_registry.specs.Rows.{answers_calls}
 use Rattle.applet_registry.proofs.Registered.{taken_there, taken_by_call, not_taken}
 use Rattle.applet_registry.proofs.installing.is_taken.Goals as goal

@@ -1,5 +1,5 @@
 use Rattle.std.proofs.Common.{◌≡◌, ◌++◌, drop}
-use Rattle.card_layout.specs.States.{rows_of}
+use Rattle.toolkit_model.specs.card_layout.States.{rows_of}
 use Rattle.toolkit_model.specs.Registry.{menu_of}
 use Rattle.applet_registry.proofs.Registered.{items_from}
 use Rattle.applet_registry.proofs.items.menu.Given as goal

@@ -1,8 +1,8 @@
 use Rattle.std.proofs.Common.{refl, List, ◌++◌, ◌∙◌, ap}
 use Rattle.std.proofs.lemmas.List.{append-nil}
-use Rattle.card_layout.specs.Changing.{with_row_changed}
-use Rattle.card_layout.specs.Persistent.{Registration}
-use Rattle.applet_registry.proofs.Leaving.{below, above, left}
+use Rattle.toolkit_model.specs.card_layout.Changing.{with_row_changed}
+use Rattle.toolkit_model.specs.card_layout.Persistent.{Registration}
+use Rattle.applet_registry.proofs.OneGoes.{below, above, left}
 use Rattle.applet_registry.proofs.laws.commits_are_those_of_sessions.Goals as goal
 
 pub returns-clause-installed : goal.returns-clause-installed

@@ -2,7 +2,7 @@
 use Rattle.std.proofs.Common.{◌≡◌, List, ℕ, Option, is_some, ◌≤◌}
 use Rattle.bip_runs.specs.Serving.{IsServing}
 use Rattle.bip_runs.specs.declared.effects.Place.TheVariants.{Before}
-use Rattle.byte_streams.specs.Reading.{IsWithin}
+use Rattle.script_form.specs.byte_streams.Reading.{IsWithin}
 use Rattle.bip_runs.proofs.serving.serve_lines.Given as goal
 
 abbrev pub invariant-loop-end : goal.invariant-loop-end

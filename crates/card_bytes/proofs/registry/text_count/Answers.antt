@@ -1,8 +1,8 @@
 use Rattle.std.proofs.Common.{◌≡◌, sym, ◌∙◌, ap, rules}
 use Rattle.std.specs.Prelude.{List, count_by, []}
-use Rattle.card_layout.specs.Persistent.{Registration}
-use Rattle.card_layout.specs.Sections.{has_text}
-use Rattle.card_layout.specs.StateLaws.{text_count_of}
+use Rattle.file_model.specs.card_layout.Persistent.{Registration}
+use Rattle.file_model.specs.card_layout.Sections.{has_text}
+use Rattle.file_model.specs.card_layout.StateLaws.{text_count_of}
 use Rattle.card_bytes.proofs.registry.text_count.Goals as goal
 
 pub returns : goal.returns

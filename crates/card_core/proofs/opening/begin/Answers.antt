@@ -2,13 +2,12 @@ use Rattle.std.proofs.Common.{◌≡◌, ◌++◌, ◌-◌, List, length, replic
 use Rattle.std.specs.Prelude.{OnOk, IfErr}
 use Rattle.std.proofs.lemmas.List.{with_items_is}
 use Rattle.std.proofs.lemmas.Result.{on_ok_weaker}
-use Rattle.applet_trait.specs.Minds.{AppletState}
-use Rattle.card_layout.specs.States.{rows_of}
+use Rattle.toolkit_model.specs.applet_trait.Minds.{AppletState, minds_of}
+use Rattle.file_model.specs.card_layout.States.{rows_of}
 use Rattle.card_model.specs.States.{woken_boxes}
-use Rattle.card_opening.specs.Boxes.{minds_of}
 use Rattle.card_opening.specs.Starts.{Opens, Refuses}
 use Rattle.layout_mount.specs.Mounted.{unread}
-use Rattle.card_layout.specs.Memory.{memory}
+use Rattle.file_model.specs.card_layout.Memory.{memory}
 use Rattle.card_core.specs.Openings.{with_all_shelves}
 use Rattle.card_core.proofs.Opened.{minds_filled}
 use Rattle.card_core.proofs.opening.begin.Goals as goal

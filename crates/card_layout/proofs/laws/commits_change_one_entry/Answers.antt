@@ -14,10 +14,10 @@ pub returns-clause-long_row : goal.returns-clause-long_row
 returns-clause-long_row c = λ content shelf from row long is low fields kept_too ranges many. long_row_written content long shelf from row is low fields kept_too ranges many
 
 pub returns-clause-kept : goal.returns-clause-kept
-returns-clause-kept c = λ content shelf to row long low few enough inside. kept_written content long shelf to row low few enough inside
-
-pub returns-clause-kept_apart : goal.returns-clause-kept_apart
-returns-clause-kept_apart c = λ content shelf row long is low few. kept_apart_written content long shelf row is low few
+returns-clause-kept c = record {
+  whole = λ content shelf to row long low few enough inside. kept_written content long shelf to row low few enough inside;
+  apart = λ content shelf row long is low few. kept_apart_written content long shelf row is low few;
+}
 
 pub returns-clause-sequence : goal.returns-clause-sequence
 returns-clause-sequence c = λ content next long low. sequence_written content long next low

@@ -6,9 +6,7 @@ returns c = record {
   files = files_found;
   pins = pins_found;
   rows = rows_found;
-  from_nodes = files_come;
-  from_slots = pins_come;
-  from_rows = rows_come;
+  from = record { files = files_come; pins = pins_come; rows = rows_come };
   tables = of_table;
   fields = fields_same;
   texts = texts_counted;

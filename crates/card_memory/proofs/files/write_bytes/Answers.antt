@@ -1,7 +1,7 @@
 use Rattle.std.specs.Prelude.{length}
 use Rattle.std.proofs.Common.{arith}
-use Rattle.card_layout.specs.Places.{memory_size}
-use Rattle.card_layout.specs.Changing.{with_bytes}
+use Rattle.file_model.specs.card_layout.Places.{memory_size}
+use Rattle.file_model.specs.card_layout.Changing.{with_bytes}
 use Rattle.card_memory.proofs.Found.{bytes_lie, usable, usable_piece, bytes_commit}
 use Rattle.card_memory.proofs.files.write_bytes.Goals as goal
 

@@ -1,4 +1,4 @@
-use Rattle.card_layout.specs.Changing.{with_life}
+use Rattle.file_model.specs.card_layout.Changing.{with_life}
 use Rattle.std.proofs.Common.{arith}
 use Rattle.card_memory.specs.Entries.{with_node_at}
 use Rattle.card_memory.proofs.Committing.{stopped}

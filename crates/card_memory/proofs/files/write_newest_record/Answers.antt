@@ -1,9 +1,9 @@
 use Rattle.std.specs.Prelude.{length, ◌+◌, ◌*◌, ◌<◌}
 use Rattle.std.proofs.Common.{refl, ◌∙◌, sym, ap, subst, arith}
-use Rattle.card_layout.specs.declared.entries.Node.{Node}
-use Rattle.card_layout.specs.Places.{memory_size}
-use Rattle.card_layout.specs.Changing.{with_newest_record}
-use Rattle.store_form.specs.Pieces.{IsUsable}
+use Rattle.file_model.specs.card_layout.declared.entries.Node.{Node}
+use Rattle.file_model.specs.card_layout.Places.{memory_size}
+use Rattle.file_model.specs.card_layout.Changing.{with_newest_record}
+use Rattle.file_model.specs.store_form.Pieces.{IsUsable}
 use Rattle.card_memory.specs.Entries.{with_node_at}
 use Rattle.card_memory.proofs.Committing.{stopped}
 use Rattle.card_memory.proofs.Recorded.{ring_lies, record_usable, record_below, two_usable, node_usable, head_long, newest_commit, oldest_low}

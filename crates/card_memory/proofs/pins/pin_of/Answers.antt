@@ -1,6 +1,6 @@
 use Rattle.std.proofs.lemmas.Option.{slice_get_within, get_or_from_slice_get}
 use Rattle.std.proofs.Common.{sym, subst}
-use Rattle.card_layout.specs.Used.{HasPin}
+use Rattle.file_model.specs.card_layout.Used.{HasPin}
 use Rattle.card_memory.specs.Entries.{pin_at}
 use Rattle.card_memory.proofs.PinCommits.{pin_there}
 use Rattle.card_memory.proofs.pins.pin_of.Goals as goal

@@ -1,22 +1,22 @@
 use Rattle.std.specs.Prelude.{[], ◌∷◌, List}
 use Rattle.std.proofs.Common.{ap, subst, ◌∙◌, inl, arith}
 use Rattle.std.proofs.lemmas.Result.{on_ok_weaker}
-use Rattle.card_layout.specs.declared.entries.Row.{Row}
+use Rattle.file_model.specs.card_layout.declared.entries.Row.{Row}
 use Rattle.card_memory.specs.Entries.{row_at, with_row_at}
-use Rattle.card_layout.specs.Changing.{without_code_committed}
-use Rattle.card_layout.specs.States.{registration_of, rows_of}
+use Rattle.file_model.specs.card_layout.Changing.{without_code_committed}
+use Rattle.file_model.specs.card_layout.States.{registration_of, rows_of}
 use Rattle.card_memory.proofs.RowCommits.{events_commit, rows_after, changed_rows, left_call_control}
 use Rattle.card_memory.proofs.rows.deregister.Goals as goal
 use Rattle.std.specs.Prelude.{ℕ, filter, not, ◌==◌}
-use Rattle.card_layout.specs.Spelling.{row_part}
-use Rattle.card_layout.specs.Persistent.{Registration}
+use Rattle.file_model.specs.card_layout.Spelling.{row_part}
+use Rattle.file_model.specs.card_layout.Persistent.{Registration}
 use Rattle.card_memory.specs.Commits.{Commits}
 
 pub returns-clause-committed : goal.returns-clause-committed
 returns-clause-committed g c = c.replace_events.ensures.committed (without_code_committed c.args.shelf.0 c.args.code)
     (subst (λ (row : Row). Commits (g.S.Store.store_mark c.args.store.now) (g.S.Store.stable c.args.store.now) c.args.loaded.now (row_part c.args.shelf.0 (record row { events = c.without_event-events.result }) 5 7 ∷ []) (with_row_at c.args.loaded.now c.args.shelf.0 (record row { events = c.without_event-events.result })) (without_code_committed c.args.shelf.0 c.args.code))
     c.row_of.ensures.value
-    (events_commit c.cards_are_known.ensures.table c.states_are_of_entries.ensures.from_rows _ _ c.args.loaded.now c.args.shelf.0 c.row_of.result.now c.row_of.ensures.there c.rows_stand.ensures.events c.without_event-events.result (λ r. record r { codes = filter (λ other. not (other == c.args.code)) r.codes })
+    (events_commit c.cards_are_known.ensures.table c.states_are_of_entries.ensures.from.rows _ _ c.args.loaded.now c.args.shelf.0 c.row_of.result.now c.row_of.ensures.there c.rows_stand.ensures.codes.events c.without_event-events.result (λ r. record r { codes = filter (λ other. not (other == c.args.code)) r.codes })
     (omega (arith, c.without_event-events.ensures.low, (c.cards_are_known.ensures.rows _ _ c.args.loaded.now _ c.args.shelf.0 c.row_of.result.now c.requires.mounted.agrees.stands c.row_of.ensures.there).events))
     (inl (left_call_control c.args.code _ _ c.without_event-events.ensures.value))
     (ap (λ (codes : List ℕ). let new : Registration = record (registration_of c.args.shelf.0 c.row_of.result.now) { codes = codes } in new) c.without_event-events.ensures.value)))
@@ -29,7 +29,7 @@ returns-clause-rows g c =
     ∙ rows_after c.cards_are_known.ensures.table _ _ c.args.loaded.now (row_part c.args.shelf.0 (record (row_at c.args.loaded.now c.args.shelf.0) { events = c.without_event-events.result }) 5 7 ∷ []) (with_row_at c.args.loaded.now c.args.shelf.0 (record (row_at c.args.loaded.now c.args.shelf.0) { events = c.without_event-events.result })) (without_code_committed c.args.shelf.0 c.args.code) c.requires.mounted.agrees
     (subst (λ (row : Row). Commits (g.S.Store.store_mark c.args.store.now) (g.S.Store.stable c.args.store.now) c.args.loaded.now (row_part c.args.shelf.0 (record row { events = c.without_event-events.result }) 5 7 ∷ []) (with_row_at c.args.loaded.now c.args.shelf.0 (record row { events = c.without_event-events.result })) (without_code_committed c.args.shelf.0 c.args.code))
     c.row_of.ensures.value
-    (events_commit c.cards_are_known.ensures.table c.states_are_of_entries.ensures.from_rows _ _ c.args.loaded.now c.args.shelf.0 c.row_of.result.now c.row_of.ensures.there c.rows_stand.ensures.events c.without_event-events.result (λ r. record r { codes = filter (λ other. not (other == c.args.code)) r.codes })
+    (events_commit c.cards_are_known.ensures.table c.states_are_of_entries.ensures.from.rows _ _ c.args.loaded.now c.args.shelf.0 c.row_of.result.now c.row_of.ensures.there c.rows_stand.ensures.codes.events c.without_event-events.result (λ r. record r { codes = filter (λ other. not (other == c.args.code)) r.codes })
     (omega (arith, c.without_event-events.ensures.low, (c.cards_are_known.ensures.rows _ _ c.args.loaded.now _ c.args.shelf.0 c.row_of.result.now c.requires.mounted.agrees.stands c.row_of.ensures.there).events))
     (inl (left_call_control c.args.code _ _ c.without_event-events.ensures.value))
     (ap (λ (codes : List ℕ). let new : Registration = record (registration_of c.args.shelf.0 c.row_of.result.now) { codes = codes } in new) c.without_event-events.ensures.value)))

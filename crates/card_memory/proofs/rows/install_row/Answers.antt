@@ -3,7 +3,7 @@ use Rattle.std.proofs.Common.{refl, ap, ◌∙◌, arith}
 use Rattle.std.proofs.lemmas.Result.{on_ok_weaker}
 use Rattle.card_memory.specs.Entries.{with_row_at}
 use Rattle.card_memory.specs.Rows.{with_row_installed}
-use Rattle.card_layout.specs.States.{registration_of, rows_of}
+use Rattle.file_model.specs.card_layout.States.{registration_of, rows_of}
 use Rattle.card_memory.proofs.RowCommits.{installed_usable, install_commit, rows_after, placed_rows, few_rows}
 use Rattle.card_memory.proofs.rows.install_row.Goals as goal
 

@@ -1,8 +1,8 @@
 use Rattle.std.proofs.Common.{refl, ap, ◌∙◌, arith}
 use Rattle.std.proofs.lemmas.Result.{on_ok_weaker}
 use Rattle.card_memory.specs.Entries.{with_row_at}
-use Rattle.card_layout.specs.Changing.{with_kept_committed}
-use Rattle.card_layout.specs.States.{rows_of}
+use Rattle.file_model.specs.card_layout.Changing.{with_kept_committed}
+use Rattle.file_model.specs.card_layout.States.{rows_of}
 use Rattle.card_memory.proofs.Recorded.{one_usable}
 use Rattle.card_memory.proofs.RowCommits.{part_usable, rows_after, changed_rows, kept_copied}
 use Rattle.card_memory.proofs.rows.keep_bytes.Goals as goal
@@ -12,7 +12,7 @@ replace_row-requires-clause-usable g c = one_usable _ c.row_piece.new.writes c.r
 
 pub returns-clause-committed : goal.returns-clause-committed
 returns-clause-committed g c = c.replace_row.ensures.committed (with_kept_committed c.args.shelf.0 c.args.kept.now)
-    (kept_copied c.cards_are_known.ensures.table c.states_are_of_entries.ensures.from_rows _ _ c.args.loaded.now c.args.shelf.0 c.row_of.result.now c.row_of.ensures.there c.rows_stand.ensures.kept c.copy_of.result c.args.kept.now c.from_slice.result _ c.row_piece.new.writes c.copy_of.ensures c.from_slice.ensures.value c.requires.few refl c.row_piece.ensures)
+    (kept_copied c.cards_are_known.ensures.table c.states_are_of_entries.ensures.from.rows _ _ c.args.loaded.now c.args.shelf.0 c.row_of.result.now c.row_of.ensures.there c.rows_stand.ensures.kept.whole c.copy_of.result c.args.kept.now c.from_slice.result _ c.row_piece.new.writes c.copy_of.ensures c.from_slice.ensures.value c.requires.few refl c.row_piece.ensures)
 
 pub returns-clause-rows : goal.returns-clause-rows
 returns-clause-rows g c =
@@ -20,6 +20,6 @@ returns-clause-rows g c =
     (λ table.
     ap rows_of table
     ∙ rows_after c.cards_are_known.ensures.table _ _ c.args.loaded.now c.row_piece.new.writes (with_row_at c.args.loaded.now c.args.shelf.0 (record c.copy_of.result { kept = c.from_slice.result })) (with_kept_committed c.args.shelf.0 c.args.kept.now) c.requires.mounted.agrees
-    (kept_copied c.cards_are_known.ensures.table c.states_are_of_entries.ensures.from_rows _ _ c.args.loaded.now c.args.shelf.0 c.row_of.result.now c.row_of.ensures.there c.rows_stand.ensures.kept c.copy_of.result c.args.kept.now c.from_slice.result _ c.row_piece.new.writes c.copy_of.ensures c.from_slice.ensures.value c.requires.few refl c.row_piece.ensures)
+    (kept_copied c.cards_are_known.ensures.table c.states_are_of_entries.ensures.from.rows _ _ c.args.loaded.now c.args.shelf.0 c.row_of.result.now c.row_of.ensures.there c.rows_stand.ensures.kept.whole c.copy_of.result c.args.kept.now c.from_slice.result _ c.row_piece.new.writes c.copy_of.ensures c.from_slice.ensures.value c.requires.few refl c.row_piece.ensures)
     ∙ changed_rows c.cards_are_known.ensures.table _ _ c.args.loaded.now (λ r. record r { kept = c.args.kept.now }) c.args.shelf.0 c.requires.mounted.agrees)
     c.replace_row.ensures.table

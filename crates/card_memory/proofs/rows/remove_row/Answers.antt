@@ -3,7 +3,7 @@ use Rattle.std.proofs.Common.{ap, ◌∙◌, arith}
 use Rattle.std.proofs.lemmas.Result.{on_ok_weaker}
 use Rattle.card_memory.specs.Entries.{with_row_at}
 use Rattle.card_memory.specs.Rows.{without_row_on}
-use Rattle.card_layout.specs.States.{rows_of}
+use Rattle.file_model.specs.card_layout.States.{rows_of}
 use Rattle.card_memory.proofs.Recorded.{one_usable}
 use Rattle.card_memory.proofs.RowCommits.{part_usable, rows_after, placed_rows, removed_copied}
 use Rattle.card_memory.proofs.rows.remove_row.Goals as goal
@@ -13,7 +13,7 @@ replace_row-requires-clause-usable g c = one_usable _ c.row_piece.new.writes c.r
 
 pub returns-clause-committed : goal.returns-clause-committed
 returns-clause-committed g c = c.replace_row.ensures.committed (without_row_on c.args.shelf.0)
-    (removed_copied c.cards_are_known.ensures.table c.states_are_of_entries.ensures.from_rows _ _ c.args.loaded.now c.args.shelf.0 c.row_of.result.now c.row_of.ensures.there c.rows_stand.ensures.removed c.copy_of.result c.unused.result c.row_piece.new.writes c.copy_of.ensures c.unused.ensures c.row_piece.ensures)
+    (removed_copied c.cards_are_known.ensures.table c.states_are_of_entries.ensures.from.rows _ _ c.args.loaded.now c.args.shelf.0 c.row_of.result.now c.row_of.ensures.there c.rows_stand.ensures.removed c.copy_of.result c.unused.result c.row_piece.new.writes c.copy_of.ensures c.unused.ensures c.row_piece.ensures)
 
 pub returns-clause-rows : goal.returns-clause-rows
 returns-clause-rows g c =
@@ -21,6 +21,6 @@ returns-clause-rows g c =
     (λ table.
     ap rows_of table
     ∙ rows_after c.cards_are_known.ensures.table _ _ c.args.loaded.now c.row_piece.new.writes (with_row_at c.args.loaded.now c.args.shelf.0 c.unused.result) (without_row_on c.args.shelf.0) c.requires.mounted.agrees
-    (removed_copied c.cards_are_known.ensures.table c.states_are_of_entries.ensures.from_rows _ _ c.args.loaded.now c.args.shelf.0 c.row_of.result.now c.row_of.ensures.there c.rows_stand.ensures.removed c.copy_of.result c.unused.result c.row_piece.new.writes c.copy_of.ensures c.unused.ensures c.row_piece.ensures)
+    (removed_copied c.cards_are_known.ensures.table c.states_are_of_entries.ensures.from.rows _ _ c.args.loaded.now c.args.shelf.0 c.row_of.result.now c.row_of.ensures.there c.rows_stand.ensures.removed c.copy_of.result c.unused.result c.row_piece.new.writes c.copy_of.ensures c.unused.ensures c.row_piece.ensures)
     ∙ placed_rows c.cards_are_known.ensures.table _ _ c.args.loaded.now c.args.shelf.0 None c.requires.mounted.agrees)
     c.replace_row.ensures.table

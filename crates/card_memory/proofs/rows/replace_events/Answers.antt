@@ -1,5 +1,5 @@
 use Rattle.std.proofs.Common.{ap, ◌∙◌, arith}
-use Rattle.card_layout.specs.declared.entries.Row.{Row}
+use Rattle.file_model.specs.card_layout.declared.entries.Row.{Row}
 use Rattle.card_memory.specs.Entries.{row_at}
 use Rattle.card_memory.proofs.Recorded.{one_usable}
 use Rattle.card_memory.proofs.RowCommits.{part_usable, carried}

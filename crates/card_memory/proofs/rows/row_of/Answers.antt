@@ -1,6 +1,6 @@
 use Rattle.std.proofs.Common.{get_or, ◌≡◌, ◌∙◌, sym, subst}
 use Rattle.std.proofs.lemmas.Option.{slice_get_within, get_or_from_slice_get}
-use Rattle.card_layout.specs.Used.{HasRow}
+use Rattle.file_model.specs.card_layout.Used.{HasRow}
 use Rattle.card_memory.specs.Entries.{row_at}
 use Rattle.card_memory.proofs.RowCommits.{row_there}
 use Rattle.card_memory.proofs.rows.row_of.Goals as goal

@@ -1,9 +1,9 @@
 use Rattle.std.proofs.Common.{◌≡◌, ◌<◌, ℕ, false, length, slice_get, slice_index_or, Option, Some, None, option_map, sym, ◌∙◌, ap, subst, arith}
 use Rattle.std.specs.Prelude.{IfSome}
 use Rattle.std.proofs.lemmas.List.{length-map}
-use Rattle.applet_trait.specs.Minds.{AppletState}
+use Rattle.card_model.specs.applet_trait.Minds.{AppletState, minds_of}
 use Rattle.card_model.specs.States.{IsOfSevenKinds}
-use Rattle.card_opening.specs.Boxes.{minds_of, lacks_box}
+use Rattle.card_opening.specs.Boxes.{lacks_box}
 use Rattle.card_opening.proofs.Shelves.{all_have, first_found, have_more, one_more, all_of_kinds, box_at, row_at}
 use Rattle.card_opening.proofs.boxes.first_without_box.Goals as goal
 
@@ -14,7 +14,7 @@ returns-then-lacks-clause-found g c =
     row_at c.args.loaded.now.rows c.all_rows-rows.result.now c.loop-shelf.shelf c.from-at.result c.index-rows-at.result c.all_rows-rows.ensures.value c.from-at.ensures (omega (arith, c.all_rows-rows.ensures.long, c.loop-shelf-test.true)) c.index-rows-at.is in
     let box_is : slice_index_or (minds_of g.B.Applet.mind c.args.boxes.now) c.loop-shelf.shelf None ≡ option_map g.B.Applet.mind c.index-boxes-at.result =
     box_at g.B.Applet.mind c.args.boxes.now c.loop-shelf.shelf c.index-boxes-at.result low (subst (λ (at : ℕ). c.index-boxes-at.result ≡ slice_index_or c.args.boxes.now at c.index-boxes-at.result) c.from-at.ensures c.index-boxes-at.is) in
-    first_found c.states_are_of_entries.ensures.rows c.states_are_of_entries.ensures.from_rows c.args.loaded.now (minds_of g.B.Applet.mind c.args.boxes.now) c.loop-shelf.shelf c.index-rows-at.result there
+    first_found c.states_are_of_entries.ensures.rows c.states_are_of_entries.ensures.from.rows c.args.loaded.now (minds_of g.B.Applet.mind c.args.boxes.now) c.loop-shelf.shelf c.index-rows-at.result there
     (ap (lacks_box c.index-rows-at.result) box_is ∙ sym c.lacks.ensures.value ∙ c.if-lacks.true) c.loop-shelf.invariant.0
 
 pub loop-shelf-preserved : goal.loop-shelf-preserved
@@ -33,7 +33,7 @@ loop-shelf-preserved g c =
 
 pub returns-clause-all : goal.returns-clause-all
 returns-clause-all g c =
-    all_have c.states_are_of_entries.ensures.rows c.states_are_of_entries.ensures.from_rows c.args.loaded.now (minds_of g.B.Applet.mind c.args.boxes.now) c.loop-shelf.shelf
+    all_have c.states_are_of_entries.ensures.rows c.states_are_of_entries.ensures.from.rows c.args.loaded.now (minds_of g.B.Applet.mind c.args.boxes.now) c.loop-shelf.shelf
     (omega (arith, ap length c.all_rows-rows.ensures.value, c.all_rows-rows.ensures.long, c.loop-shelf-test.false, c.loop-shelf.auto.shelf-end)) c.loop-shelf.invariant.0
 
 pub returns-clause-kinds : goal.returns-clause-kinds

@@ -3,7 +3,8 @@ use Rattle.std.proofs.Common.{◌≡◌, ℕ, ◌<◌, false, Some, None, slice_
 use Rattle.std.specs.Prelude.{IfSome}
 use Rattle.card_layout.specs.declared.entries.Row.{Row}
 use Rattle.card_model.specs.States.{IsOfSevenKinds}
-use Rattle.card_opening.specs.Boxes.{minds_of, lacks_box}
+use Rattle.card_opening.specs.Boxes.{lacks_box}
+use Rattle.card_model.specs.applet_trait.Minds.{minds_of}
 use Rattle.card_opening.proofs.boxes.first_without_box.Given as goal
 
 abbrev pub invariant-loop-shelf : goal.invariant-loop-shelf

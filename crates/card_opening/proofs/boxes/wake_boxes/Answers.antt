@@ -1,7 +1,7 @@
 use Rattle.std.proofs.Common.{◌≡◌, List, length, get_or, option_map, ap, subst, arith}
 use Rattle.card_layout.specs.declared.entries.Row.{Row}
 use Rattle.std.proofs.lemmas.List.{length-map}
-use Rattle.card_opening.specs.Boxes.{minds_of}
+use Rattle.card_model.specs.applet_trait.Minds.{minds_of}
 use Rattle.card_opening.proofs.Waking.{woke_more, all_woke}
 use Rattle.card_opening.proofs.boxes.wake_boxes.Goals as goal
 

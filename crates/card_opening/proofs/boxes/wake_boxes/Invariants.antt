@@ -2,7 +2,7 @@
 use Rattle.std.proofs.Common.{◌≡◌, take, drop, ◌++◌}
 use Rattle.card_layout.specs.States.{rows_of}
 use Rattle.card_model.specs.States.{woken_boxes}
-use Rattle.card_opening.specs.Boxes.{minds_of}
+use Rattle.card_model.specs.applet_trait.Minds.{minds_of}
 use Rattle.card_opening.proofs.boxes.wake_boxes.Given as goal
 
 abbrev pub invariant-loop-shelf : goal.invariant-loop-shelf

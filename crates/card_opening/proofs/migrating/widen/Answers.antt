@@ -1,5 +1,5 @@
 use Rattle.std.proofs.Common.{ℕ, inl, ◌∙◌, ap, rules}
-use Rattle.general_laws.specs.Optional.{on_err}
+use Rattle.card_layout.specs.uicc_types.Optional.{on_err}
 use Rattle.card_layout.specs.Standing.{standing}
 use Rattle.card_opening.proofs.Widened.{after_torn, after_version, after_either, agrees_marked, either_marked}
 use Rattle.card_opening.proofs.migrating.widen.Goals as goal

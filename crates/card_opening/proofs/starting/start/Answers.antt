@@ -3,7 +3,7 @@ use Rattle.std.specs.Prelude.{Err}
 use Rattle.std.proofs.lemmas.Result.{IfErr-weaker, on_ok_weaker}
 use Rattle.card_layout.specs.Memory.{memory}
 use Rattle.layout_mount.specs.Mounted.{unread}
-use Rattle.card_opening.specs.Boxes.{minds_of}
+use Rattle.card_model.specs.applet_trait.Minds.{minds_of}
 use Rattle.card_opening.specs.Starts.{Refuses}
 use Rattle.card_opening.proofs.Started.{table_moved}
 use Rattle.card_opening.proofs.Openings.{opens_moved, refuses_moved, recovery_answered, mount_refused}
@@ -16,7 +16,7 @@ pub returns-in-Ok-clause-opens : goal.returns-in-Ok-clause-opens
 returns-in-Ok-clause-opens g c =
     on_ok_weaker c.test_and_migrate.result
     (opens_moved (unread g.S.Store c.args.store.now) (unread g.S.Store c.mount.new.store) (memory g.S.Store c.test_and_migrate.new.store c.test_and_migrate.new.loaded) (minds_of g.B.Applet.mind c.args.boxes.now)
-    (c.mount.ensures.reads.mark ∙ c.recover.ensures.mark) (c.mount.ensures.reads.stable ∙ c.recover.ensures.stable) (c.mount.ensures.reads.commits ∙ c.recover.ensures.commits))
+    (c.mount.ensures.reads.mark ∙ c.recover.ensures.keeps.mark) (c.mount.ensures.reads.stable ∙ c.recover.ensures.keeps.stable) (c.mount.ensures.reads.commits ∙ c.recover.ensures.keeps.commits))
     c.test_and_migrate.ensures.opens
 
 pub returns-in-Ok-clause-refuses : goal.returns-in-Ok-clause-refuses
@@ -25,17 +25,17 @@ returns-in-Ok-clause-refuses g c =
     (Refuses (unread g.S.Store c.mount.new.store) (unread g.S.Store c.test_and_migrate.new.store) (minds_of g.B.Applet.mind c.args.boxes.now))
     (Refuses (unread g.S.Store c.args.store.now) (unread g.S.Store c.test_and_migrate.new.store) (minds_of g.B.Applet.mind c.args.boxes.now))
     (refuses_moved (unread g.S.Store c.args.store.now) (unread g.S.Store c.mount.new.store) (unread g.S.Store c.test_and_migrate.new.store) (minds_of g.B.Applet.mind c.args.boxes.now)
-    (c.mount.ensures.reads.mark ∙ c.recover.ensures.mark) (c.mount.ensures.reads.stable ∙ c.recover.ensures.stable) (c.mount.ensures.reads.commits ∙ c.recover.ensures.commits))
+    (c.mount.ensures.reads.mark ∙ c.recover.ensures.keeps.mark) (c.mount.ensures.reads.stable ∙ c.recover.ensures.keeps.stable) (c.mount.ensures.reads.commits ∙ c.recover.ensures.keeps.commits))
     c.test_and_migrate.ensures.refuses
 
 pub returns-in_err-recover-clause-refuses : goal.returns-in_err-recover-clause-refuses
 returns-in_err-recover-clause-refuses g c =
     recovery_answered c.from_residual.result (unread g.S.Store c.args.store.now) (unread g.S.Store c.recover.new.self) (minds_of g.B.Applet.mind c.args.boxes.now) c.in_err-recover.field-0.0 c.from_residual.ensures.1
-    c.recover.ensures.stable c.recover.ensures.commits
+    c.recover.ensures.keeps.stable c.recover.ensures.keeps.commits
 
 pub returns-in-Err-clause-refuses : goal.returns-in-Err-clause-refuses
 returns-in-Err-clause-refuses g c =
-    refuses_moved (unread g.S.Store c.args.store.now) (unread g.S.Store c.recover.new.self) (unread g.S.Store c.mount.new.store) (minds_of g.B.Applet.mind c.args.boxes.now) c.recover.ensures.mark c.recover.ensures.stable c.recover.ensures.commits
+    refuses_moved (unread g.S.Store c.args.store.now) (unread g.S.Store c.recover.new.self) (unread g.S.Store c.mount.new.store) (minds_of g.B.Applet.mind c.args.boxes.now) c.recover.ensures.keeps.mark c.recover.ensures.keeps.stable c.recover.ensures.keeps.commits
     c.from.result
     (mount_refused c.from.result (unread g.S.Store c.recover.new.self) (unread g.S.Store c.mount.new.store) (minds_of g.B.Applet.mind c.args.boxes.now) c.in-Err.fault c.from.ensures c.mount.ensures.reads.stable c.mount.ensures.reads.commits
     (λ at is. (c.mount.ensures.no_card at (c.in-Err.is ∙ ap Err is)).no_card))

@@ -4,7 +4,7 @@ use Rattle.card_layout.specs.Memory.{memory}
 use Rattle.card_layout.specs.Persistent.{Registration}
 use Rattle.card_model.specs.States.{HasBox}
 use Rattle.layout_mount.specs.Mounted.{unread}
-use Rattle.card_opening.specs.Boxes.{minds_of}
+use Rattle.card_model.specs.applet_trait.Minds.{minds_of}
 use Rattle.card_opening.specs.Migrations.{awaits_migration}
 use Rattle.card_opening.proofs.Counted.{counts_by_table, either_same}
 use Rattle.card_opening.proofs.Started.{holds_card, rows_alike, leaves_store_fault, sound_after_marked}

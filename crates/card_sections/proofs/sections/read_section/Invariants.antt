@@ -1,8 +1,8 @@
 -- Between two lines the section is where it was at first, or further.
 use Rattle.std.proofs.Common.{ℕ, List, Option, ◌≤◌}
-use Rattle.byte_streams.specs.Reading.{IsWithin}
+use Rattle.script_form.specs.byte_streams.Reading.{IsWithin}
 use Rattle.card_layout.specs.Persistent.{Persistent}
-use Rattle.card_sections.specs.Cast.{minds_of}
+use Rattle.applet_trait.specs.Minds.{minds_of}
 use Rattle.card_sections.specs.Reading.{InSection}
 use Rattle.card_sections.proofs.sections.read_section.Given as goal
 

@@ -1,4 +1,4 @@
-use Rattle.card_sections.specs.Cast.{minds_of}
+use Rattle.applet_trait.specs.Minds.{minds_of}
 use Rattle.card_sections.proofs.Causes.{at_end, ends, in_script, out_of_place, takes, too_much}
 use Rattle.card_sections.proofs.sections.read_section_line.Goals as goal
 

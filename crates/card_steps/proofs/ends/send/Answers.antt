@@ -1,8 +1,8 @@
 use Rattle.std.proofs.Common.{ap, refl, inl, ◌∙◌, rules}
 use Rattle.std.proofs.lemmas.Bool.{eqb-true, false≢true}
 use Rattle.std.specs.Prelude.{◌==◌}
-use Rattle.uicc_types.specs.declared.answers.StatusWord.{StatusWord}
-use Rattle.uicc_types.specs.declared.answers.TheConstants.StatusWord.{MEMORY_PROBLEM}
+use Rattle.script_form.specs.uicc_types.declared.answers.StatusWord.{StatusWord}
+use Rattle.script_form.specs.uicc_types.declared.answers.TheConstants.StatusWord.{MEMORY_PROBLEM}
 use Rattle.card_core.specs.Cards.{parts_of}
 use Rattle.card_steps.specs.Runs.{machine_of}
 use Rattle.card_steps.proofs.CardLemmas.{caused_as, on_or_off, sends_answer, sends_cut, sends_off}

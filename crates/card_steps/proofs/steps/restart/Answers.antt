@@ -4,7 +4,7 @@ use Rattle.card_steps.specs.declared.steps.ResetOutcome.TheVariants as restart
 use Rattle.card_steps.proofs.Shown.{failure_cut_off, failure_shows, restart_shows}
 use Rattle.card_steps.proofs.StepLemmas.{counted_as, faults_behind, none_waits, parts_set, reset_failed, resets_as, restart_cut, restart_failed, restart_failed_broken, restarts, with_plan}
 use Rattle.card_steps.proofs.steps.restart.Goals as goal
-use Rattle.uicc_types.specs.declared.runs.TraceItem.TheVariants as item
+use Rattle.script_form.specs.uicc_types.declared.runs.TraceItem.TheVariants as item
 
 pub returns-in-Ok-clause-gives : goal.returns-in-Ok-clause-gives
 returns-in-Ok-clause-gives g c = λ old before is told.

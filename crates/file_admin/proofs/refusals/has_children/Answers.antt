@@ -1,6 +1,6 @@
 use Rattle.std.proofs.Common.{get_or, ◌≡◌, List, length, sym, ap, ◌∙◌, arith}
-use Rattle.card_layout.specs.Blank.{unused_node}
-use Rattle.card_layout.specs.declared.entries.Node.{Node}
+use Rattle.file_model.specs.card_layout.Blank.{unused_node}
+use Rattle.file_model.specs.card_layout.declared.entries.Node.{Node}
 use Rattle.file_admin.proofs.Children.{lies, one_lies, none_lies}
 use Rattle.file_admin.proofs.refusals.has_children.Goals as goal
 

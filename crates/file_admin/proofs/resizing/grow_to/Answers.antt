@@ -1,15 +1,15 @@
 use Rattle.std.proofs.Common.{◌≡◌, ℕ, List, ◌<◌, sym, ◌∙◌, ap, subst, arith}
 use Rattle.std.specs.Prelude.{◌≢◌}
-use Rattle.card_layout.specs.declared.entries.Loaded.{Loaded}
-use Rattle.card_layout.specs.Kinds.{transparent_kind}
-use Rattle.card_layout.specs.Laws.{after}
-use Rattle.card_layout.specs.Persistent.{Persistent}
-use Rattle.card_layout.specs.Spelling.{node_part}
-use Rattle.card_layout.specs.Standing.{Stands}
-use Rattle.card_layout.specs.States.{state_of}
+use Rattle.file_model.specs.card_layout.declared.entries.Loaded.{Loaded}
+use Rattle.file_model.specs.card_layout.Kinds.{transparent_kind}
+use Rattle.file_model.specs.card_layout.Laws.{after}
+use Rattle.file_model.specs.card_layout.Persistent.{Persistent}
+use Rattle.file_model.specs.card_layout.Spelling.{node_part}
+use Rattle.file_model.specs.card_layout.Standing.{Stands}
+use Rattle.file_model.specs.card_layout.States.{state_of}
 use Rattle.file_making.specs.Resizing.{resized_if_room}
 use Rattle.file_making.specs.Rooms.{IsSmallestRoom, room_at}
-use Rattle.prepared_commits.specs.Prepared.{moved}
+use Rattle.card_memory.specs.Prepared.{moved}
 use Rattle.file_admin.specs.Written.{with_file_resized}
 use Rattle.file_admin.proofs.Answering.{refused, not_still, carried_out, stopped}
 use Rattle.file_admin.proofs.Known.{same_state}

@@ -1,8 +1,8 @@
 use Rattle.std.proofs.Common.{List, ℕ, Option, sym, ap, ◌∙◌, inl, inr}
 use Rattle.std.specs.Prelude.{IsTrue}
-use Rattle.general_laws.specs.Optional.{if_some, if_some_at}
-use Rattle.access_rules.specs.Reading.{grants}
-use Rattle.card_layout.specs.Kinds.{has_records}
+use Rattle.file_model.specs.uicc_types.Optional.{if_some, if_some_at}
+use Rattle.file_model.specs.Reading.{grants}
+use Rattle.file_model.specs.card_layout.Kinds.{has_records}
 use Rattle.card_memory.specs.Model.{held_by}
 use Rattle.file_model.specs.Holdings.{records_in}
 use Rattle.file_model.specs.Access.{granted_by}

@@ -1,9 +1,9 @@
 use Rattle.std.proofs.Common.{◌≡◌, ◌≤◌, ◌+◌, Option, Some, length, sym, ◌∙◌, true, arith}
 use Rattle.std.proofs.lemmas.Grind.{common_steps}
-use Rattle.general_laws.specs.Optional.{on_err, if_some, if_some_at}
-use Rattle.card_layout.specs.Persistent.{Persistent}
-use Rattle.card_layout.specs.Changing.{with_bytes}
-use Rattle.access_rules.specs.declared.rules.Op.TheVariants.{UpdateBinary}
+use Rattle.file_model.specs.uicc_types.Optional.{on_err, if_some, if_some_at}
+use Rattle.file_model.specs.card_layout.Persistent.{Persistent}
+use Rattle.file_model.specs.card_layout.Changing.{with_bytes}
+use Rattle.file_model.specs.declared.rules.Op.TheVariants.{UpdateBinary}
 use Rattle.file_model.specs.Access.{may}
 use Rattle.file_model.specs.Binaries.{offset_of}
 use Rattle.card_memory.specs.Model.{held_by, standing}

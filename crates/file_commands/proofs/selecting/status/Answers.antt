@@ -1,5 +1,5 @@
 use Rattle.std.proofs.Common.{refl}
-use Rattle.general_laws.specs.Optional.{if_some}
+use Rattle.file_model.specs.uicc_types.Optional.{if_some}
 use Rattle.file_model.specs.Selecting.{status_told}
 use Rattle.card_memory.specs.Model.{held_by}
 use Rattle.file_commands.specs.Chained.{answered}

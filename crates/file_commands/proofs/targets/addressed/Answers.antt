@@ -1,7 +1,7 @@
 use Rattle.std.proofs.Common.{ℕ, Option, None, sym, ◌∙◌, subst}
 use Rattle.std.specs.Prelude.{IfOk, Result}
-use Rattle.general_laws.specs.Optional.{if_some_at}
-use Rattle.uicc_types.specs.declared.answers.StatusWord.{StatusWord}
+use Rattle.file_model.specs.uicc_types.Optional.{if_some_at}
+use Rattle.file_model.specs.uicc_types.declared.answers.StatusWord.{StatusWord}
 use Rattle.file_model.specs.declared.descriptors.Descriptor.{Descriptor}
 use Rattle.file_model.specs.Files.{descriptors_of}
 use Rattle.file_model.specs.Selections.{IsSelection}

@@ -1,6 +1,6 @@
 use Rattle.std.proofs.Common.{◌+◌, List, sym, ap, ◌∙◌, subst}
-use Rattle.card_layout.specs.declared.entries.PinSlot.{PinSlot}
-use Rattle.card_layout.specs.States.{pins_of}
+use Rattle.file_model.specs.card_layout.declared.entries.PinSlot.{PinSlot}
+use Rattle.file_model.specs.card_layout.States.{pins_of}
 use Rattle.file_model.specs.Fcp.{enabled_bits}
 use Rattle.file_commands.specs.Telling.{key_objects, pins_in}
 use Rattle.file_commands.proofs.PinLists.{AreTold, one_told, all_enabled, all_keys}

@@ -1,8 +1,8 @@
 use Rattle.std.proofs.Common.{◌+◌, List, ℕ, ◌∷◌, drop, get_or, sym, ap, subst, ◌∙◌, arith}
 use Rattle.std.proofs.lemmas.List.Elements.{Contains-get_or}
 use Rattle.std.proofs.lemmas.List.{drop_more}
-use Rattle.card_layout.specs.Blank.{unused_node}
-use Rattle.card_layout.specs.declared.entries.Node.{Node}
+use Rattle.file_model.specs.card_layout.Blank.{unused_node}
+use Rattle.file_model.specs.card_layout.declared.entries.Node.{Node}
 use Rattle.file_making.proofs.Ways.{IsBehind, behind_one, beside_one}
 use Rattle.file_making.proofs.rooms.behind_files.Goals as goal
 use Rattle.file_making.proofs.rooms.behind_files.Goals.{Joined-is_in_the_way, then-is_in_the_way, else-is_in_the_way}

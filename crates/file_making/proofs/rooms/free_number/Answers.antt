@@ -1,6 +1,6 @@
 use Rattle.std.proofs.Common.{get_or, ◌≡◌, false, List, length, ap, ◌∙◌, sym, arith}
-use Rattle.card_layout.specs.Blank.{unused_node}
-use Rattle.card_layout.specs.declared.entries.Node.{Node}
+use Rattle.file_model.specs.card_layout.Blank.{unused_node}
+use Rattle.file_model.specs.card_layout.declared.entries.Node.{Node}
 use Rattle.file_making.proofs.Numbers.{number_found, no_number_found, entry_at}
 use Rattle.file_making.proofs.rooms.free_number.Goals as goal
 

@@ -1,8 +1,8 @@
 use Rattle.std.proofs.Common.{ℕ, ◌+◌, ◌≤◌, Some, None, List, arith, ap, ◌∙◌, sym, subst}
 use Rattle.std.specs.Prelude.{find}
-use Rattle.card_layout.specs.declared.entries.Node.{Node}
-use Rattle.card_layout.specs.Places.{data_end}
-use Rattle.card_layout.specs.States.{state_of}
+use Rattle.file_model.specs.card_layout.declared.entries.Node.{Node}
+use Rattle.file_model.specs.card_layout.Places.{data_end}
+use Rattle.file_model.specs.card_layout.States.{state_of}
 use Rattle.file_making.specs.Rooms.{IsSmallestRoom, room_at}
 use Rattle.file_making.specs.Tables.{is_node_in_the_way}
 use Rattle.file_making.proofs.Ways.{none_in_the_way, way_clear, too_late}
@@ -26,7 +26,7 @@ found c content =
     let size : ℕ = c.from-size.result in
     let ends : place + size ≤ data_end c.args.loaded.now.wide = subst (λ (n : ℕ). place + size ≤ n) c.end_of_files-end.ensures.value c.loop-place-test.true in
     subst (λ (n : ℕ). IsSmallestRoom (state_of c.args.loaded.now content) n (Some place)) c.from-size.ensures (
-      way_clear c.args.loaded.now content size place c.states_are_of_entries.ensures.from_nodes c.loop-place.invariant.from ends
+      way_clear c.args.loaded.now content size place c.states_are_of_entries.ensures.from.files c.loop-place.invariant.from ends
           (ap (λ (nodes : List Node). find (is_node_in_the_way place size) nodes) (sym c.all_nodes.ensures.value) ∙ c.behind_files-behind.ensures.clear c.if-behind-place.true),
       c.loop-place.invariant.passed content,
     )

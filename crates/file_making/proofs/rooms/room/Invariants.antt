@@ -1,7 +1,7 @@
 use Rattle.std.proofs.Common.{◌≡◌, ℕ, ◌≤◌, List}
 use Rattle.std.specs.Prelude.{◌-◌, ◌^◌, ◌<◌}
-use Rattle.card_layout.specs.Places.{data_place}
-use Rattle.card_layout.specs.States.{state_of}
+use Rattle.file_model.specs.card_layout.Places.{data_place}
+use Rattle.file_model.specs.card_layout.States.{state_of}
 use Rattle.file_making.specs.Rooms.{IsRoom}
 use Rattle.file_making.proofs.rooms.room.Given as goal
 

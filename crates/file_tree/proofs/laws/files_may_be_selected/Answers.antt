@@ -1,7 +1,7 @@
 use Rattle.std.proofs.Common.{◌≡◌, ap, ◌∙◌, subst}
-use Rattle.card_layout.specs.declared.entries.Loaded.{Loaded}
-use Rattle.card_layout.specs.States.{state_of}
-use Rattle.card_layout.specs.Soundness.{IsSound}
+use Rattle.file_model.specs.card_layout.declared.entries.Loaded.{Loaded}
+use Rattle.file_model.specs.card_layout.States.{state_of}
+use Rattle.file_model.specs.card_layout.Soundness.{IsSound}
 use Rattle.file_tree.specs.Tables.{MayBeSelected}
 use Rattle.file_tree.proofs.Lying.{all_lawful}
 use Rattle.file_tree.proofs.laws.files_may_be_selected.Goals as goal

@@ -1,6 +1,6 @@
 use Rattle.std.proofs.Common.{◌≡◌, ℕ, true, Some, ap, ◌∙◌, sym, subst, arith}
 use Rattle.std.proofs.lemmas.Bool.{and_parts}
-use Rattle.card_layout.specs.declared.entries.Node.{Node}
+use Rattle.file_model.specs.card_layout.declared.entries.Node.{Node}
 use Rattle.file_model.specs.Files.{descriptor_of, descriptors_of}
 use Rattle.file_tree.specs.Tables.{IsNumbered}
 use Rattle.file_tree.proofs.FirstFound.{entry_found, no_entry_found, has_entry, entry_numbered, passes, entry_at}

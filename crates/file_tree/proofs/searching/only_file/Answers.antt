@@ -1,6 +1,6 @@
 use Rattle.std.proofs.Common.{◌≡◌, ℕ, Bool, true, false, Some, length, ap, ◌∙◌, sym, subst, arith}
 use Rattle.std.specs.Prelude.{◌&&◌}
-use Rattle.card_layout.specs.declared.entries.Node.{Node}
+use Rattle.file_model.specs.card_layout.declared.entries.Node.{Node}
 use Rattle.file_model.specs.Files.{descriptor_of, descriptors_of, is_wanted}
 use Rattle.file_tree.specs.Tables.{IsNumbered}
 use Rattle.file_tree.proofs.FirstFound.{entry_found, no_entry_found, has_entry, entry_numbered, other_fails, one_fails, passes, entry_at}

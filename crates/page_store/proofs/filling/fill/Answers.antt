@@ -1,6 +1,6 @@
 use Rattle.std.proofs.Common.{◌≡◌, ◌∙◌, length, subst, arith}
-use Rattle.uicc_types.specs.Told.{Becomes}
-use Rattle.uicc_types.specs.Patches.{Torn}
+use Rattle.update_journal.specs.uicc_types.Told.{Becomes}
+use Rattle.update_journal.specs.uicc_types.Patches.{Torn}
 use Rattle.page_store.proofs.Told.{HasLength}
 use Rattle.page_store.proofs.Blanks.{HasOwn, map_torn, map_put, kept_first, first_formed}
 use Rattle.page_store.proofs.filling.fill.Goals as goal
@@ -10,12 +10,12 @@ returns-in_err-prepare-clause-same g c =
     let mid = c.fill_pages.new.store in
     let new = c.prepare.new.self in
     let size : g.S.Store.byte_count mid ≡ 71680 = c.in_ok-fill_pages.ensures.keeps.size ∙ c.requires.below.size in
-    let size' : g.S.Store.byte_count new ≡ 71680 = c.in_err-prepare.ensures.size ∙ size in
+    let size' : g.S.Store.byte_count new ≡ 71680 = c.in_err-prepare.ensures.keeps.size ∙ size in
     let long = subst (λ n. HasLength (g.S.Store.stable mid) n) size (g.met.S.Store.told_length mid) in
     let own : HasOwn (g.S.Store.stable mid) = λ k low high. g.met.S.Store.own_bytes mid k low high (omega arith) in
     let own' : HasOwn (g.S.Store.stable new) = λ k low high. g.met.S.Store.own_bytes new k low high (omega arith) in
     let count : length c.first_map-bytes.result ≡ 2022 = c.first_map-bytes.ensures.long in
-    let torn = subst (λ n. Becomes (Torn 832 n) (g.S.Store.stable mid) (g.S.Store.stable new)) count c.in_err-prepare.ensures.torn in
+    let torn = subst (λ n. Becomes (Torn 832 n) (g.S.Store.stable mid) (g.S.Store.stable new)) count c.in_err-prepare.ensures.writes.torn in
     map_torn (g.S.Store.stable mid) (g.S.Store.stable new) long c.in_ok-fill_pages.ensures.blank own own' torn ∙ c.in_ok-fill_pages.ensures.same
 
 pub unreachable-requires : goal.unreachable-requires
@@ -26,12 +26,12 @@ returns-clause-same g c =
     let mid = c.fill_pages.new.store in
     let new = c.prepare.new.self in
     let size : g.S.Store.byte_count mid ≡ 71680 = c.in_ok-fill_pages.ensures.keeps.size ∙ c.requires.below.size in
-    let size' : g.S.Store.byte_count new ≡ 71680 = c.in_ok-prepare.ensures.size ∙ size in
+    let size' : g.S.Store.byte_count new ≡ 71680 = c.in_ok-prepare.ensures.keeps.size ∙ size in
     let long = subst (λ n. HasLength (g.S.Store.stable mid) n) size (g.met.S.Store.told_length mid) in
     let own : HasOwn (g.S.Store.stable mid) = λ k low high. g.met.S.Store.own_bytes mid k low high (omega arith) in
     let own' : HasOwn (g.S.Store.stable new) = λ k low high. g.met.S.Store.own_bytes new k low high (omega arith) in
     let count : length c.first_map-bytes.result ≡ 2022 = c.first_map-bytes.ensures.long in
-    let put = map_put (g.S.Store.stable mid) (g.S.Store.stable new) c.first_map-bytes.result long count c.in_ok-prepare.ensures.ok in
+    let put = map_put (g.S.Store.stable mid) (g.S.Store.stable new) c.first_map-bytes.result long count c.in_ok-prepare.ensures.writes.ok in
     map_torn (g.S.Store.stable mid) (g.S.Store.stable new) long c.in_ok-fill_pages.ensures.blank own own' put.0 ∙ c.in_ok-fill_pages.ensures.same
 
 pub returns-clause-kept : goal.returns-clause-kept
@@ -40,6 +40,6 @@ returns-clause-kept g c =
     let size : g.S.Store.byte_count mid ≡ 71680 = c.in_ok-fill_pages.ensures.keeps.size ∙ c.requires.below.size in
     let long = subst (λ n. HasLength (g.S.Store.stable mid) n) size (g.met.S.Store.told_length mid) in
     let count : length c.first_map-bytes.result ≡ 2022 = c.first_map-bytes.ensures.long in
-    let put = map_put (g.S.Store.stable mid) (g.S.Store.stable c.prepare.new.self) c.first_map-bytes.result long count c.in_ok-prepare.ensures.ok in
+    let put = map_put (g.S.Store.stable mid) (g.S.Store.stable c.prepare.new.self) c.first_map-bytes.result long count c.in_ok-prepare.ensures.writes.ok in
     let loads = c.in-Some.ensures in
     kept_first (g.S.Store.stable c.prepare.new.self) c.first_map-bytes.result c.in-Some.table loads.0 loads.1 put.1

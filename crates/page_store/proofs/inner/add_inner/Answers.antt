@@ -1,5 +1,5 @@
 use Rattle.std.proofs.Common.{◌++◌, ◌∷◌, ◌+◌, ◌-◌, ◌*◌, ◌/◌, [], length, ap, ◌∙◌, arith}
-use Rattle.store_form.specs.Pieces.{Piece}
+use Rattle.update_journal.specs.store_form.Pieces.{Piece}
 use Rattle.page_store.proofs.Spelled.{bytes_from, high_piece}
 use Rattle.page_store.proofs.inner.add_inner.Goals as goal
 

@@ -1,8 +1,8 @@
 use Rattle.std.proofs.Common.{List, inl, inr, sym, ap, ◌∙◌, subst, map, ⊎_elim}
 use Rattle.std.specs.Prelude.{option_map}
 use Rattle.std.proofs.lemmas.Result.{on_ok_weaker, on_err_weaker}
-use Rattle.store_form.specs.Pieces.{Piece, applied}
-use Rattle.store_form.specs.Spared.{AreUsable}
+use Rattle.update_journal.specs.store_form.Pieces.{Piece, applied}
+use Rattle.update_journal.specs.store_form.Spared.{AreUsable}
 use Rattle.page_store.specs.Pages.{content}
 use Rattle.page_store.specs.Commits.{inner_piece}
 use Rattle.page_store.proofs.Told.{HasLength}
@@ -23,16 +23,16 @@ returns-clause-writes g c =
     record {
       ok =
           on_ok_weaker c.commit.result (λ put. (commit_done c.args.writes.now c.args.table.now c.move_pages.new.table (g.S.Store.stable c.args.store.now) (g.S.Store.stable c.move_pages.new.store) (g.S.Store.stable c.commit.new.self)
-          c.requires.pieces.usable long c.requires.kept c.in_ok-move_pages.ensures.ok (put ∙ ap (λ (ps : List Piece). option_map (applied ps) (g.S.Store.stable c.move_pages.new.store)) c.inner_writes-inner.ensures)).0) c.commit.ensures.ok;
+          c.requires.pieces.usable long c.requires.kept c.in_ok-move_pages.ensures.ok (put ∙ ap (λ (ps : List Piece). option_map (applied ps) (g.S.Store.stable c.move_pages.new.store)) c.inner_writes-inner.ensures)).0) c.commit.ensures.writes.ok;
       whole =
           on_err_weaker c.commit.result (λ whole. ⊎_elim
           (λ same. inl (ap content same ∙ moves_content c.args.writes.now 1024 c.args.table.now c.move_pages.new.table (g.S.Store.stable c.args.store.now) (g.S.Store.stable c.move_pages.new.store) long c.requires.kept c.in_ok-move_pages.ensures.ok))
           (λ put. inr (commit_done c.args.writes.now c.args.table.now c.move_pages.new.table (g.S.Store.stable c.args.store.now) (g.S.Store.stable c.move_pages.new.store) (g.S.Store.stable c.commit.new.self)
-          c.requires.pieces.usable long c.requires.kept c.in_ok-move_pages.ensures.ok (put ∙ ap (λ (ps : List Piece). option_map (applied ps) (g.S.Store.stable c.move_pages.new.store)) c.inner_writes-inner.ensures)).0) whole) c.commit.ensures.whole;
+          c.requires.pieces.usable long c.requires.kept c.in_ok-move_pages.ensures.ok (put ∙ ap (λ (ps : List Piece). option_map (applied ps) (g.S.Store.stable c.move_pages.new.store)) c.inner_writes-inner.ensures)).0) whole) c.commit.ensures.writes.whole;
     }
 
 pub returns-clause-kept : goal.returns-clause-kept
 returns-clause-kept g c =
     let long = subst (λ n. HasLength (g.S.Store.stable c.args.store.now) n) c.requires.below.size (g.met.S.Store.told_length c.args.store.now) in
     on_ok_weaker c.commit.result (λ put. (commit_done c.args.writes.now c.args.table.now c.move_pages.new.table (g.S.Store.stable c.args.store.now) (g.S.Store.stable c.move_pages.new.store) (g.S.Store.stable c.commit.new.self)
-    c.requires.pieces.usable long c.requires.kept c.in_ok-move_pages.ensures.ok (put ∙ ap (λ (ps : List Piece). option_map (applied ps) (g.S.Store.stable c.move_pages.new.store)) c.inner_writes-inner.ensures)).1) c.commit.ensures.ok
+    c.requires.pieces.usable long c.requires.kept c.in_ok-move_pages.ensures.ok (put ∙ ap (λ (ps : List Piece). option_map (applied ps) (g.S.Store.stable c.move_pages.new.store)) c.inner_writes-inner.ensures)).1) c.commit.ensures.writes.ok

@@ -1,9 +1,9 @@
 use Rattle.std.proofs.Common.{◌≡◌, ◌+◌, ◌*◌, List, ℕ, Option, sym, ap, ◌∙◌, subst, rules}
 use Rattle.std.specs.Prelude.{option_map}
-use Rattle.general_laws.specs.Optional.{on_err}
-use Rattle.uicc_types.specs.Told.{Becomes}
-use Rattle.uicc_types.specs.Patches.{patched, Torn}
-use Rattle.store_form.specs.Pieces.{IsUsable}
+use Rattle.update_journal.specs.uicc_types.Optional.{on_err}
+use Rattle.update_journal.specs.uicc_types.Told.{Becomes}
+use Rattle.update_journal.specs.uicc_types.Patches.{patched, Torn}
+use Rattle.update_journal.specs.store_form.Pieces.{IsUsable}
 use Rattle.page_store.specs.Tables.{IsPool}
 use Rattle.page_store.specs.Commits.{Moves}
 use Rattle.page_store.proofs.Maps.{pool_moved}
@@ -15,7 +15,7 @@ pub read-requires-clause-usable : goal.read-requires-clause-usable
 read-requires-clause-usable g c = usable_place c.args.table.now (64 * c.args.page) 64 (g.S.Store.byte_count c.args.store.now) c.place.result (whole_page c.args.page c.requires.may.from c.requires.may.to) c.requires.below.size c.place.ensures c.requires.may.pool
 
 pub prepare-requires-clause-usable : goal.prepare-requires-clause-usable
-prepare-requires-clause-usable g c = subst (λ n. IsUsable (g.S.Store.byte_count c.read.new.self) (64 * c.from.result) n) (sym c.put_pieces.array_long) (usable_target c.args.table.now (g.S.Store.byte_count c.read.new.self) (64 * c.from.result) (c.in_ok-read.ensures.size ∙ c.requires.below.size) c.requires.may.pool (ap (λ n. 64 * n) (c.from.ensures ∙ c.oldest.ensures)))
+prepare-requires-clause-usable g c = subst (λ n. IsUsable (g.S.Store.byte_count c.read.new.self) (64 * c.from.result) n) (sym c.put_pieces.array_long) (usable_target c.args.table.now (g.S.Store.byte_count c.read.new.self) (64 * c.from.result) (c.in_ok-read.ensures.keeps.size ∙ c.requires.below.size) c.requires.may.pool (ap (λ n. 64 * n) (c.from.ensures ∙ c.oldest.ensures)))
 
 pub returns-in_err-read-clause-moves : goal.returns-in_err-read-clause-moves
 returns-in_err-read-clause-moves g c = record {
@@ -24,7 +24,7 @@ returns-in_err-read-clause-moves g c = record {
       on_err c.from_residual.result
       (λ start told is moves.
       moves_content c.args.writes.now c.args.page start c.args.table.now told (g.S.Store.stable c.read.new.self) is.long is.kept_is
-      (subst (λ o. Moves c.args.writes.now c.args.page start c.args.table.now told o) (sym c.in_err-read.ensures.stable) moves));
+      (subst (λ o. Moves c.args.writes.now c.args.page start c.args.table.now told o) (sym c.in_err-read.ensures.keeps.stable) moves));
 }
 
 pub returns-in_err-prepare-clause-moves : goal.returns-in_err-prepare-clause-moves
@@ -36,7 +36,7 @@ returns-in_err-prepare-clause-moves g c = record {
       let torn : Option (List ℕ) → Type 0 = λ o. Becomes (Torn (64 * c.from.result) 64) o (g.S.Store.stable c.prepare.new.self) in
       move_torn c.args.writes.now c.args.page start c.args.table.now c.requires.may.from c.requires.may.to c.requires.touched c.requires.few told (g.S.Store.stable c.args.store.now) is.long is.kept_is moves
       (g.S.Store.stable c.prepare.new.self) (64 * c.from.result) (ap (λ n. 64 * n) (c.from.ensures ∙ c.oldest.ensures))
-      (subst torn c.in_ok-read.ensures.stable (subst (λ n. Becomes (Torn (64 * c.from.result) n) (g.S.Store.stable c.read.new.self) (g.S.Store.stable c.prepare.new.self)) c.put_pieces.array_long c.in_err-prepare.ensures.torn)));
+      (subst torn c.in_ok-read.ensures.keeps.stable (subst (λ n. Becomes (Torn (64 * c.from.result) n) (g.S.Store.stable c.read.new.self) (g.S.Store.stable c.prepare.new.self)) c.put_pieces.array_long c.in_err-prepare.ensures.writes.torn)));
 }
 
 pub returns-clause-moves : goal.returns-clause-moves
@@ -46,7 +46,7 @@ returns-clause-moves g c = record {
       subst (λ kept. Moves c.args.writes.now (c.args.page + 1) start kept told (g.S.Store.stable c.prepare.new.self)) (sym c.move_page.ensures)
       (move_done c.args.writes.now c.args.page start c.args.table.now c.requires.may.from c.requires.may.to c.requires.touched c.requires.few told (g.S.Store.stable c.args.store.now) is.long is.kept_is moves
       (g.S.Store.stable c.prepare.new.self) c.read.new.out c.put_pieces.new.bytes c.place.result (64 * c.from.result) c.place.ensures c.in_ok-read.ensures.ok c.put_pieces.ensures c.put_pieces.array_long
-      (ap (λ n. 64 * n) (c.from.ensures ∙ c.oldest.ensures)) (subst written c.in_ok-read.ensures.stable c.in_ok-prepare.ensures.ok));
+      (ap (λ n. 64 * n) (c.from.ensures ∙ c.oldest.ensures)) (subst written c.in_ok-read.ensures.keeps.stable c.in_ok-prepare.ensures.writes.ok));
   same = search rules;
 }
 

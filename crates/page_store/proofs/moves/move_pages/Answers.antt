@@ -1,7 +1,7 @@
 use Rattle.std.specs.Prelude.{if◌then◌else◌}
 use Rattle.std.proofs.Common.{◌≡◌, sym, ap, ◌∙◌, refl, subst, arith}
-use Rattle.general_laws.specs.Optional.{on_err}
-use Rattle.uicc_types.specs.Calls.{calm_same, caused_then, calm_ok}
+use Rattle.update_journal.specs.uicc_types.Optional.{on_err}
+use Rattle.update_journal.specs.uicc_types.Calls.{calm_same, caused_then, calm_ok}
 use Rattle.page_store.specs.Commits.{is_touched, moved_below, Moves}
 use Rattle.page_store.specs.Tables.{Kept, moved, IsTold}
 use Rattle.page_store.proofs.Moving.{none_moved, none_below, moved_next}

@@ -12,7 +12,7 @@ returns-clause-kept g c =
     on_ok_weaker c.prepare.result
     (λ put. (put_part c.args.table.now c.args.at (g.S.Store.byte_count c.args.store.now) c.place.result c.args.bytes.now
     (g.S.Store.stable c.args.store.now) (g.S.Store.stable c.prepare.new.self) c.requires.part c.requires.below.size c.place.ensures (g.met.S.Store.told_length c.args.store.now) c.requires.kept put).1)
-    c.prepare.ensures.ok
+    c.prepare.ensures.writes.ok
 
 pub returns-clause-writes : goal.returns-clause-writes
 returns-clause-writes g c = record {
@@ -20,10 +20,10 @@ returns-clause-writes g c = record {
       on_ok_weaker c.prepare.result
       (λ put. (put_part c.args.table.now c.args.at (g.S.Store.byte_count c.args.store.now) c.place.result c.args.bytes.now
       (g.S.Store.stable c.args.store.now) (g.S.Store.stable c.prepare.new.self) c.requires.part c.requires.below.size c.place.ensures (g.met.S.Store.told_length c.args.store.now) c.requires.kept put).0)
-      c.prepare.ensures.ok;
+      c.prepare.ensures.writes.ok;
   torn =
       on_err_weaker c.prepare.result
       (λ torn. torn_part c.args.table.now c.args.at (length c.args.bytes.now) (g.S.Store.byte_count c.args.store.now) c.place.result c.requires.part c.requires.below.size c.place.ensures
       (g.S.Store.stable c.args.store.now) (g.S.Store.stable c.prepare.new.self) (g.met.S.Store.told_length c.args.store.now) c.requires.kept torn)
-      c.prepare.ensures.torn;
+      c.prepare.ensures.writes.torn;
 }

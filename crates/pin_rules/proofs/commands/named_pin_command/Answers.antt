@@ -1,8 +1,8 @@
 use Rattle.std.proofs.Common.{◌≡◌, length, refl, sym, ◌∙◌, ap, subst}
 use Rattle.std.proofs.lemmas.Bool.{false≢true}
-use Rattle.general_laws.specs.Optional.{on_err}
-use Rattle.uicc_types.specs.Counts.{raised_by}
-use Rattle.card_layout.specs.States.{pins_of}
+use Rattle.file_model.specs.uicc_types.Optional.{on_err}
+use Rattle.file_model.specs.uicc_types.Counts.{raised_by}
+use Rattle.file_model.specs.card_layout.States.{pins_of}
 use Rattle.file_model.specs.Commands.{pin_settled}
 use Rattle.file_model.specs.Outcomes.{PinOutcome}
 use Rattle.card_memory.specs.Model.{memory}

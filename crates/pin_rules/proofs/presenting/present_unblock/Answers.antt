@@ -1,6 +1,6 @@
 use Rattle.std.proofs.Common.{◌-◌, true, sym, ◌∙◌, arith}
 use Rattle.std.specs.Str.{bytes_eq}
-use Rattle.card_layout.specs.States.{pin_state}
+use Rattle.file_model.specs.card_layout.States.{pin_state}
 use Rattle.file_model.specs.Pins.{marked, unblock_presented}
 use Rattle.card_memory.specs.declared.pins.PinChange.TheVariants.{UnblockTries, Unblocked}
 use Rattle.card_memory.specs.Model.{memory, pin_at, changed_pin}

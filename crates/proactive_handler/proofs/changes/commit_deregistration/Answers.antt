@@ -1,10 +1,10 @@
 use Rattle.std.proofs.Common.{refl, ◌∙◌, List}
-use Rattle.card_layout.specs.Changing.{without_code_committed}
-use Rattle.card_layout.specs.Memory.{memory}
-use Rattle.card_layout.specs.Persistent.{Registration}
-use Rattle.card_layout.specs.States.{rows_of}
+use Rattle.card_memory.specs.card_layout.Changing.{without_code_committed}
+use Rattle.card_memory.specs.card_layout.Memory.{memory}
+use Rattle.card_memory.specs.card_layout.Persistent.{Registration}
+use Rattle.card_memory.specs.card_layout.States.{rows_of}
 use Rattle.card_memory.specs.Model.{rows_alone}
-use Rattle.applet_trait.specs.declared.stimuli.Act.TheVariants.{Deregister}
+use Rattle.toolkit_model.specs.applet_trait.declared.stimuli.Act.TheVariants.{Deregister}
 use Rattle.toolkit_model.specs.Registry.{without_code}
 use Rattle.proactive_handler.proofs.Indexing.{removed_follows, rows_alone_differ}
 use Rattle.proactive_handler.proofs.Kept.{deregister_goes}

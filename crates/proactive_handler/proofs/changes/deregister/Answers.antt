@@ -1,7 +1,7 @@
 use Rattle.std.proofs.Common.{sym, ◌∙◌}
-use Rattle.card_layout.specs.Memory.{memory}
-use Rattle.applet_trait.specs.declared.stimuli.Stimulus.TheVariants.{Went, Refused}
-use Rattle.applet_trait.specs.declared.stimuli.Act.TheVariants.{Deregister}
+use Rattle.card_memory.specs.card_layout.Memory.{memory}
+use Rattle.toolkit_model.specs.applet_trait.declared.stimuli.Stimulus.TheVariants.{Went, Refused}
+use Rattle.toolkit_model.specs.applet_trait.declared.stimuli.Act.TheVariants.{Deregister}
 use Rattle.proactive_handler.proofs.Kept.{deregister_rests, deregister_fails}
 use Rattle.proactive_handler.proofs.Shelves.{row_shown}
 use Rattle.proactive_handler.proofs.Standings.{rests_so}

@@ -1,12 +1,12 @@
 use Rattle.std.proofs.Common.{refl, ◌∙◌, List, arith}
 use Rattle.std.proofs.lemmas.Bool.Decides.{nat_tests}
-use Rattle.card_layout.specs.Changing.{with_kept_committed}
-use Rattle.card_layout.specs.Memory.{memory}
-use Rattle.card_layout.specs.Persistent.{Registration}
-use Rattle.card_layout.specs.States.{rows_of}
+use Rattle.card_memory.specs.card_layout.Changing.{with_kept_committed}
+use Rattle.card_memory.specs.card_layout.Memory.{memory}
+use Rattle.card_memory.specs.card_layout.Persistent.{Registration}
+use Rattle.card_memory.specs.card_layout.States.{rows_of}
 use Rattle.card_memory.specs.Model.{rows_alone}
-use Rattle.applet_trait.specs.declared.stimuli.Stimulus.TheVariants.{Refused}
-use Rattle.applet_trait.specs.declared.stimuli.Act.TheVariants.{Keep}
+use Rattle.toolkit_model.specs.applet_trait.declared.stimuli.Stimulus.TheVariants.{Refused}
+use Rattle.toolkit_model.specs.applet_trait.declared.stimuli.Act.TheVariants.{Keep}
 use Rattle.toolkit_model.specs.Registry.{with_kept}
 use Rattle.proactive_handler.proofs.Indexing.{kept_follows, rows_alone_differ}
 use Rattle.proactive_handler.proofs.Kept.{keep_goes, keep_fails}

@@ -2,15 +2,16 @@ use Rattle.std.proofs.Common.{◌-◌, sym, ap, ◌∙◌, subst, false, List, a
 use Rattle.toolkit_model.specs.Sessions.{SessionState, LateTrigger}
 use Rattle.toolkit_model.specs.Driving.{caught_up}
 use Rattle.kept_triggers.specs.Frames.{kept}
-use Rattle.proactive_handler.specs.Boxes.{minds_of, AreForOthers}
+use Rattle.proactive_handler.specs.Boxes.{AreForOthers}
+use Rattle.toolkit_model.specs.applet_trait.Minds.{minds_of}
 use Rattle.proactive_handler.specs.Steps.{scene, IsDone, toolkit}
 use Rattle.proactive_handler.specs.Scenes.{scene_then, scene_since}
 use Rattle.proactive_handler.specs.Moved.{has_rows}
 use Rattle.proactive_handler.proofs.Caught.{caught_row, caught_idle, caught_served, caught_apart, zero_done, none_done, one_stops, more_moves, one_leaves, more_leaves}
-use Rattle.applet_trait.specs.declared.stimuli.Stimulus.TheVariants.{Event}
+use Rattle.toolkit_model.specs.applet_trait.declared.stimuli.Stimulus.TheVariants.{Event}
 use Rattle.toolkit_model.specs.Passing.{ToolkitState}
-use Rattle.card_layout.specs.Memory.{memory}
-use Rattle.toolkit_laws.proofs.Asks.{run_late}
+use Rattle.card_memory.specs.card_layout.Memory.{memory}
+use Rattle.toolkit_model.proofs.Asks.{run_late}
 use Rattle.proactive_handler.proofs.driving.+catch_each.Goals as goal
 
 pub returns-then-count-eq0-clause-moves : goal.returns-then-count-eq0-clause-moves

@@ -1,9 +1,9 @@
 use Rattle.std.proofs.Common.{arith, refl}
-use Rattle.proactive_handler.specs.Boxes.{minds_of}
+use Rattle.toolkit_model.specs.applet_trait.Minds.{minds_of}
 use Rattle.proactive_handler.specs.Steps.{scene}
 use Rattle.proactive_handler.specs.Moved.{has_rows}
 use Rattle.proactive_handler.proofs.Caught.{zero_done}
-use Rattle.card_layout.specs.Memory.{memory}
+use Rattle.card_memory.specs.card_layout.Memory.{memory}
 use Rattle.proactive_handler.proofs.driving.catch_up.Goals as goal
 
 pub returns-then-count-eq0-clause-moves : goal.returns-then-count-eq0-clause-moves

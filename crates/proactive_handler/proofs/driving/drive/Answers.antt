@@ -1,13 +1,13 @@
 use Rattle.std.proofs.Common.{refl, sym, ap, subst, arith, rules}
-use Rattle.card_layout.specs.States.{rows_of}
+use Rattle.card_memory.specs.card_layout.States.{rows_of}
 use Rattle.toolkit_model.specs.Sessions.{SessionState}
-use Rattle.proactive_handler.specs.Boxes.{minds_of}
+use Rattle.toolkit_model.specs.applet_trait.Minds.{minds_of}
 use Rattle.proactive_handler.specs.Serving.{IsSessionServed}
 use Rattle.proactive_handler.specs.Steps.{toolkit, scene}
 use Rattle.proactive_handler.specs.Moved.{has_rows}
 use Rattle.proactive_handler.proofs.Caught.{driven_stops, driven_done, driven_leaves, driven_left}
 use Rattle.proactive_handler.proofs.Serving.{settled_served}
-use Rattle.card_layout.specs.Memory.{memory}
+use Rattle.card_memory.specs.card_layout.Memory.{memory}
 use Rattle.proactive_handler.proofs.driving.drive.Goals as goal
 
 pub returns-in_err-catch_up-clause-moves : goal.returns-in_err-catch_up-clause-moves

@@ -1,5 +1,6 @@
-use Rattle.toolkit_commands.specs.Replies.{replied}
-use Rattle.proactive_handler.specs.Boxes.{minds_of, AreForOthers}
+use Rattle.toolkit_model.specs.toolkit_commands.Replies.{replied}
+use Rattle.proactive_handler.specs.Boxes.{AreForOthers}
+use Rattle.toolkit_model.specs.applet_trait.Minds.{minds_of}
 use Rattle.proactive_handler.specs.Scenes.{scene_then}
 use Rattle.proactive_handler.specs.Steps.{scene, toolkit}
 use Rattle.proactive_handler.proofs.Serving.{awaited}
@@ -7,7 +8,7 @@ use Rattle.proactive_handler.proofs.Answered.{of_awaited, awaited_of, answered_l
 use Rattle.std.proofs.Common.{sym, ap, ◌∙◌, subst, List}
 use Rattle.toolkit_model.specs.Sessions.{LateTrigger}
 use Rattle.toolkit_model.specs.Passing.{ToolkitState}
-use Rattle.card_layout.specs.Memory.{memory}
+use Rattle.card_memory.specs.card_layout.Memory.{memory}
 use Rattle.proactive_handler.proofs.responding.respond.Goals as goal
 
 pub returns-in_err-answer-clause-moves : goal.returns-in_err-answer-clause-moves

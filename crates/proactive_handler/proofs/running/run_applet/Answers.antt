@@ -1,5 +1,5 @@
 use Rattle.std.proofs.Common.{refl}
-use Rattle.card_layout.specs.Memory.{memory}
+use Rattle.card_memory.specs.card_layout.Memory.{memory}
 use Rattle.proactive_handler.specs.Runs.{ended_by}
 use Rattle.proactive_handler.specs.Steps.{scene}
 use Rattle.proactive_handler.proofs.Ran.{run_same, run_done, run_stopped, run_answer}

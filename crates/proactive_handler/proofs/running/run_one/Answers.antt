@@ -1,17 +1,17 @@
 use Rattle.std.proofs.Common.{set, ℕ, List, Option, Some, None, refl, sym, ap, ◌∙◌, subst, arith, rules, ◌<◌, length, slice_index_or}
 use Rattle.std.proofs.lemmas.List.{set-get_or, get_or-set_other}
-use Rattle.applet_trait.specs.Minds.{AppletState}
+use Rattle.toolkit_model.specs.applet_trait.Minds.{AppletState, minds_of}
 use Rattle.toolkit_model.specs.Passing.{ToolkitState, Passed, passed_rows}
 use Rattle.toolkit_model.specs.Commands.{last_answer}
 use Rattle.toolkit_model.specs.Running.{mind_on, run_of_row, with_mind}
 use Rattle.card_memory.specs.Model.{HasRowOn}
-use Rattle.proactive_handler.specs.Boxes.{minds_of, kinds_of}
+use Rattle.proactive_handler.specs.Boxes.{kinds_of}
 use Rattle.proactive_handler.specs.Steps.{Scene, toolkit, scene}
 use Rattle.proactive_handler.specs.Reached.{Tells}
 use Rattle.proactive_handler.specs.Moved.{on_done, mind_there, none_there, put_back, same_kinds, has_rows, still_done}
 use Rattle.proactive_handler.proofs.Places.{run_served}
 use Rattle.proactive_handler.proofs.Ran.{none_runs}
-use Rattle.card_layout.specs.Memory.{memory}
+use Rattle.card_memory.specs.card_layout.Memory.{memory}
 use Rattle.proactive_handler.proofs.Begun.{run_turns}
 use Rattle.proactive_handler.proofs.running.run_one.Goals as goal
 

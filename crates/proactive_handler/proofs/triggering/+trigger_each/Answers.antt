@@ -1,8 +1,8 @@
 use Rattle.std.proofs.Common.{ap, ◌∙◌, map, arith}
-use Rattle.uicc_types.specs.declared.identifiers.Shelf.{Shelf}
-use Rattle.card_layout.specs.Memory.{memory}
+use Rattle.card_memory.specs.uicc_types.declared.identifiers.Shelf.{Shelf}
+use Rattle.card_memory.specs.card_layout.Memory.{memory}
 use Rattle.toolkit_model.specs.Passing.{in_turn}
-use Rattle.proactive_handler.specs.Boxes.{minds_of}
+use Rattle.toolkit_model.specs.applet_trait.Minds.{minds_of}
 use Rattle.proactive_handler.specs.Serving.{triggered_one}
 use Rattle.proactive_handler.specs.Scenes.{IsInService, scene_then, scene_done, scene_fault}
 use Rattle.proactive_handler.specs.Steps.{scene}

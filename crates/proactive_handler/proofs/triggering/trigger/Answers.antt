@@ -1,9 +1,9 @@
 use Rattle.std.proofs.Common.{sym, subst, ℕ}
 use Rattle.std.specs.Prelude.{◌≢◌, All, AllPairs}
-use Rattle.general_laws.specs.Numbered.{all_unmapped}
-use Rattle.general_laws.specs.Pairs.{pairs_unmap}
+use Rattle.card_memory.specs.uicc_types.Numbered.{all_unmapped}
+use Rattle.card_memory.specs.uicc_types.Pairs.{pairs_unmap}
 use Rattle.card_memory.specs.Model.{HasRowOn}
-use Rattle.uicc_types.specs.declared.identifiers.Shelf.{Shelf}
+use Rattle.card_memory.specs.uicc_types.declared.identifiers.Shelf.{Shelf}
 use Rattle.proactive_handler.proofs.triggering.trigger.Goals as goal
 
 pub trigger_each-requires-clause-rows : goal.trigger_each-requires-clause-rows

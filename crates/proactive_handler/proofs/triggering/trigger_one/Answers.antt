@@ -1,12 +1,12 @@
 use Rattle.std.proofs.Common.{refl, sym, ap, ◌∙◌, subst, Bool, false, rules}
 use Rattle.std.proofs.lemmas.Result.{IfOk-weaker}
-use Rattle.applet_trait.specs.declared.stimuli.Stimulus.{Stimulus}
+use Rattle.toolkit_model.specs.applet_trait.declared.stimuli.Stimulus.{Stimulus}
 use Rattle.toolkit_model.specs.Sessions.{SessionState}
 use Rattle.toolkit_model.specs.Passing.{ToolkitState}
 use Rattle.toolkit_model.specs.Commands.{last_answer}
 use Rattle.toolkit_model.specs.Running.{run_of_row}
 use Rattle.toolkit_model.specs.Driving.{trigger_for, with_session}
-use Rattle.proactive_handler.specs.Boxes.{minds_of}
+use Rattle.toolkit_model.specs.applet_trait.Minds.{minds_of}
 use Rattle.proactive_handler.specs.Serving.{IsSessionServed, HasPlaces}
 use Rattle.proactive_handler.specs.Steps.{toolkit, scene, Moves}
 use Rattle.proactive_handler.specs.Reached.{TurnsOnly}
@@ -14,7 +14,7 @@ use Rattle.proactive_handler.specs.Moved.{has_rows, on_done}
 use Rattle.proactive_handler.proofs.Places.{run_places, kept_places}
 use Rattle.proactive_handler.proofs.Serving.{late_served}
 use Rattle.proactive_handler.proofs.Told.{idle_moves, idle_answers, missed, busy_done, busy_answers}
-use Rattle.card_layout.specs.Memory.{memory}
+use Rattle.card_memory.specs.card_layout.Memory.{memory}
 use Rattle.proactive_handler.proofs.Told.{idle_turns}
 use Rattle.proactive_handler.proofs.triggering.trigger_one.Goals as goal
 

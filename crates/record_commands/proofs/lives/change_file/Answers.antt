@@ -1,8 +1,8 @@
 use Rattle.std.proofs.Common.{◌≡◌, Option, Some, [], ◌∷◌, refl, sym, ◌∙◌, true, rules}
 use Rattle.std.proofs.lemmas.Bool.{ne_eqb}
-use Rattle.general_laws.specs.Optional.{on_err, if_some, if_some_at}
-use Rattle.card_layout.specs.Persistent.{Persistent}
-use Rattle.card_layout.specs.Changing.{with_life}
+use Rattle.file_model.specs.uicc_types.Optional.{on_err, if_some, if_some_at}
+use Rattle.file_model.specs.card_layout.Persistent.{Persistent}
+use Rattle.file_model.specs.card_layout.Changing.{with_life}
 use Rattle.file_model.specs.Access.{may}
 use Rattle.file_model.specs.Files.{descriptors_of}
 use Rattle.card_memory.specs.Model.{held_by}

@@ -1,7 +1,7 @@
 use Rattle.std.proofs.Common.{◌≡◌, ◌-◌, ◌++◌, ◌∷◌, [], ℕ, Bool, Option, cond, List, sym, ap, ◌∙◌, arith, rules}
 use Rattle.std.specs.Prelude.{filter}
-use Rattle.general_laws.specs.Optional.{if_some, if_some_at}
-use Rattle.card_layout.specs.Persistent.{Persistent}
+use Rattle.file_model.specs.uicc_types.Optional.{if_some, if_some_at}
+use Rattle.file_model.specs.card_layout.Persistent.{Persistent}
 use Rattle.card_memory.specs.Model.{held_by}
 use Rattle.record_commands.specs.Searching.{is_match, numbers_left}
 use Rattle.record_commands.proofs.Numbers.{one_looked_at, none_left}

@@ -1,7 +1,7 @@
 use Rattle.std.proofs.Common.{◌≡◌, Some, sym, ◌∙◌, true, [], ◌∷◌}
-use Rattle.general_laws.specs.Optional.{on_err, if_some, if_some_at}
-use Rattle.card_layout.specs.Persistent.{Persistent}
-use Rattle.access_rules.specs.declared.rules.Op.TheVariants.{UpdateRecord}
+use Rattle.file_model.specs.uicc_types.Optional.{on_err, if_some, if_some_at}
+use Rattle.file_model.specs.card_layout.Persistent.{Persistent}
+use Rattle.file_model.specs.declared.rules.Op.TheVariants.{UpdateRecord}
 use Rattle.file_model.specs.Access.{may}
 use Rattle.file_model.specs.Outcomes.{settled_file}
 use Rattle.card_memory.specs.Model.{held_by}

@@ -1,13 +1,13 @@
 use Rattle.std.proofs.Common.{inr, ℕ, refl, sym, ap, subst, ◌∙◌, []}
 use Rattle.std.specs.Prelude.{Ok, Err}
-use Rattle.apdu_form.specs.Model.{Apdu}
-use Rattle.card_layout.specs.Memory.{memory}
-use Rattle.card_layout.specs.States.{rows_of}
+use Rattle.file_model.specs.apdu_form.Model.{Apdu}
+use Rattle.file_model.specs.card_layout.Memory.{memory}
+use Rattle.file_model.specs.card_layout.States.{rows_of}
 use Rattle.toolkit_model.specs.Orderly.{asks}
 use Rattle.toolkit_model.specs.Driving.{is_idle}
 use Rattle.toolkit_model.specs.Commands.{deleted}
 use Rattle.toolkit_model.specs.Steps.{Delete}
-use Rattle.proactive_handler.specs.Boxes.{minds_of}
+use Rattle.toolkit_model.specs.applet_trait.Minds.{minds_of}
 use Rattle.proactive_handler.specs.Steps.{scene, toolkit}
 use Rattle.card_model.specs.Toolkit.{applet_deleted}
 use Rattle.session_commands.specs.Deleting.{HasLost, KeepsBesides}
@@ -20,7 +20,7 @@ use Rattle.session_commands.proofs.deleting.delete.Goals as goal
 
 pub remove-requires-clause-may_go : goal.remove-requires-clause-may_go
 remove-requires-clause-may_go g c =
-    may_go_at c.states_are_of_entries.ensures.from_rows c.states_are_of_entries.ensures.tables (scene (memory g.S.Store c.args.store.now c.args.loaded.now) c.args.index.now c.args.session.now (minds_of g.B.Applet.mind c.args.cast.now)) c.args.seen.now c.args.command.now
+    may_go_at c.states_are_of_entries.ensures.from.rows c.states_are_of_entries.ensures.tables (scene (memory g.S.Store c.args.store.now c.args.loaded.now) c.args.index.now c.args.session.now (minds_of g.B.Applet.mind c.args.cast.now)) c.args.seen.now c.args.command.now
     (is_allowed (rows_of c.args.loaded.now) (is_idle (asks c.args.session.now) c.args.command.now.p2) c.args.seen.now c.args.command.now c.in-Ok.field-0 (sym c.try_delete.ensures.value ∙ c.in-Ok.is)) c.command.inside.p2 (ap (λ (a : Apdu). a.p2) c.command.view_is)
 
 pub returns-in_err-remove-in-Ok-clause-carries : goal.returns-in_err-remove-in-Ok-clause-carries

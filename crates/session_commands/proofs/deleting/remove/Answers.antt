@@ -1,7 +1,8 @@
 use Rattle.std.proofs.Common.{sym, subst, List, ◌∙◌}
-use Rattle.card_layout.specs.Memory.{memory}
+use Rattle.file_model.specs.card_layout.Memory.{memory}
 use Rattle.toolkit_model.specs.Sessions.{LateTrigger}
-use Rattle.proactive_handler.specs.Boxes.{minds_of, AreForOthers}
+use Rattle.proactive_handler.specs.Boxes.{AreForOthers}
+use Rattle.toolkit_model.specs.applet_trait.Minds.{minds_of}
 use Rattle.proactive_handler.specs.Steps.{scene}
 use Rattle.session_commands.proofs.Besides.{besides_then, besides_again}
 use Rattle.session_commands.proofs.Deleted.{removed_stops, removed_done, removed_then_stops, has_lost}

@@ -1,13 +1,13 @@
 use Rattle.std.proofs.Common.{sym, ap, subst, refl, ℕ}
-use Rattle.card_layout.specs.Blank.{unused_row}
-use Rattle.card_layout.specs.declared.entries.Loaded.{Loaded}
-use Rattle.card_layout.specs.Memory.{memory}
-use Rattle.card_layout.specs.States.{rows_of}
-use Rattle.card_memory.specs.Model.{HasRowOn}
+use Rattle.file_model.specs.card_layout.Blank.{unused_row}
+use Rattle.file_model.specs.card_layout.declared.entries.Loaded.{Loaded}
+use Rattle.file_model.specs.card_layout.Memory.{memory}
+use Rattle.file_model.specs.card_layout.States.{rows_of}
+use Rattle.proactive_handler.specs.card_memory.Model.{HasRowOn}
 use Rattle.toolkit_model.specs.Sessions.{SessionState}
-use Rattle.trigger_index.specs.Indexes.{StandsFor}
-use Rattle.proactive_handler.specs.Boxes.{minds_of}
-use Rattle.proactive_handler.specs.Keeping.{keeps_done, fault_keeps}
+use Rattle.proactive_handler.specs.applet_registry.Indexes.{StandsFor}
+use Rattle.toolkit_model.specs.applet_trait.Minds.{minds_of}
+use Rattle.proactive_handler.specs.card_memory.Keeping.{keeps_done, fault_keeps}
 use Rattle.proactive_handler.specs.Moved.{has_rows}
 use Rattle.proactive_handler.specs.Steps.{scene}
 use Rattle.proactive_handler.proofs.Indexing.{rows_alone_differ}

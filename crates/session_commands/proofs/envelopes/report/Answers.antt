@@ -1,11 +1,12 @@
 use Rattle.std.proofs.Common.{◌≡◌, refl, sym, subst, List}
 use Rattle.std.proofs.lemmas.Result.{IfOk-weaker}
-use Rattle.toolkit_commands.specs.Reports.{reported}
-use Rattle.card_layout.specs.Memory.{memory}
-use Rattle.card_layout.specs.States.{rows_of}
+use Rattle.toolkit_model.specs.toolkit_commands.Reports.{reported}
+use Rattle.file_model.specs.card_layout.Memory.{memory}
+use Rattle.file_model.specs.card_layout.States.{rows_of}
 use Rattle.toolkit_model.specs.Sessions.{LateTrigger}
 use Rattle.toolkit_model.specs.Commands.{triggered, last_answer}
-use Rattle.proactive_handler.specs.Boxes.{minds_of, AreForOthers}
+use Rattle.proactive_handler.specs.Boxes.{AreForOthers}
+use Rattle.toolkit_model.specs.applet_trait.Minds.{minds_of}
 use Rattle.proactive_handler.specs.Scenes.{scene_since}
 use Rattle.proactive_handler.specs.Steps.{scene, toolkit}
 use Rattle.session_commands.proofs.Told.{report_late, report_served, report_places, report_moves, report_answers}

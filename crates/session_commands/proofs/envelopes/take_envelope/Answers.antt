@@ -1,11 +1,11 @@
 use Rattle.std.proofs.Common.{refl, sym, ap, ◌∙◌, ℕ, subst}
 use Rattle.std.specs.Prelude.{◌≢◌, All}
-use Rattle.uicc_types.specs.declared.answers.TheConstants.StatusWord.{TOOLKIT_BUSY}
-use Rattle.toolkit_commands.specs.Reports.{reported}
-use Rattle.card_layout.specs.Memory.{memory}
+use Rattle.file_model.specs.uicc_types.declared.answers.TheConstants.StatusWord.{TOOLKIT_BUSY}
+use Rattle.toolkit_model.specs.toolkit_commands.Reports.{reported}
+use Rattle.file_model.specs.card_layout.Memory.{memory}
 use Rattle.toolkit_model.specs.Commands.{enveloped, call_data}
 use Rattle.toolkit_model.specs.Steps.{Report}
-use Rattle.proactive_handler.specs.Boxes.{minds_of}
+use Rattle.toolkit_model.specs.applet_trait.Minds.{minds_of}
 use Rattle.proactive_handler.specs.Scenes.{scene_done}
 use Rattle.proactive_handler.specs.Steps.{scene, toolkit}
 use Rattle.card_model.specs.Toolkit.{toolkit_of, envelope_taken}

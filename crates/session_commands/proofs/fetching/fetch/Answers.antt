@@ -1,8 +1,8 @@
 use Rattle.std.proofs.Common.{◌≡◌, refl, sym, ◌∙◌, Some}
-use Rattle.card_layout.specs.Memory.{memory}
+use Rattle.file_model.specs.card_layout.Memory.{memory}
 use Rattle.toolkit_model.specs.Commands.{unfetched, as_fetched, bytes_of}
 use Rattle.toolkit_model.specs.Steps.{Fetch}
-use Rattle.proactive_handler.specs.Boxes.{minds_of}
+use Rattle.toolkit_model.specs.applet_trait.Minds.{minds_of}
 use Rattle.proactive_handler.specs.Steps.{scene, toolkit}
 use Rattle.card_model.specs.Toolkit.{command_fetched}
 use Rattle.session_commands.proofs.Carried.{refused_carries, done_carries, order_after}

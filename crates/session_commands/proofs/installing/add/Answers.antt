@@ -1,9 +1,10 @@
 use Rattle.std.proofs.Common.{sym, ap, ◌∙◌, subst, List}
-use Rattle.card_layout.specs.Memory.{memory}
-use Rattle.card_layout.specs.States.{registration_of}
+use Rattle.file_model.specs.card_layout.Memory.{memory}
+use Rattle.file_model.specs.card_layout.States.{registration_of}
 use Rattle.toolkit_model.specs.Sessions.{LateTrigger}
 use Rattle.toolkit_model.specs.Passing.{ToolkitState}
-use Rattle.proactive_handler.specs.Boxes.{minds_of, AreForOthers}
+use Rattle.proactive_handler.specs.Boxes.{AreForOthers}
+use Rattle.toolkit_model.specs.applet_trait.Minds.{minds_of}
 use Rattle.proactive_handler.specs.Steps.{scene}
 use Rattle.session_commands.proofs.Carried.{tells_here}
 use Rattle.session_commands.proofs.Installed.{not_installed, then_installed}

@@ -1,9 +1,9 @@
 use Rattle.std.proofs.Common.{refl, sym, ap, ◌∙◌, []}
-use Rattle.apdu_form.specs.Model.{Apdu}
-use Rattle.card_layout.specs.Memory.{memory}
-use Rattle.card_layout.specs.States.{registration_of}
+use Rattle.file_model.specs.apdu_form.Model.{Apdu}
+use Rattle.file_model.specs.card_layout.Memory.{memory}
+use Rattle.file_model.specs.card_layout.States.{registration_of}
 use Rattle.toolkit_model.specs.Steps.{Install}
-use Rattle.proactive_handler.specs.Boxes.{minds_of}
+use Rattle.toolkit_model.specs.applet_trait.Minds.{minds_of}
 use Rattle.proactive_handler.specs.Steps.{scene, toolkit}
 use Rattle.card_model.specs.Toolkit.{applet_installed}
 use Rattle.session_commands.specs.Trying.{registration_for}

@@ -1,14 +1,13 @@
 use Rattle.std.proofs.Common.{ℕ, List, Option, None, refl, sym, ◌∙◌, ap, subst}
 use Rattle.std.specs.Prelude.{Contains}
 use Rattle.std.proofs.lemmas.List.{get_or-set_other}
-use Rattle.applet_trait.specs.Minds.{AppletState}
-use Rattle.card_memory.specs.Model.{HasRowOn}
-use Rattle.card_layout.specs.Memory.{memory}
-use Rattle.card_layout.specs.Persistent.{Registration}
-use Rattle.card_layout.specs.declared.entries.Loaded.{Loaded}
-use Rattle.card_layout.specs.States.{registration_of, rows_of}
+use Rattle.toolkit_model.specs.applet_trait.Minds.{AppletState, minds_of}
+use Rattle.proactive_handler.specs.card_memory.Model.{HasRowOn}
+use Rattle.file_model.specs.card_layout.Memory.{memory}
+use Rattle.file_model.specs.card_layout.Persistent.{Registration}
+use Rattle.file_model.specs.card_layout.declared.entries.Loaded.{Loaded}
+use Rattle.file_model.specs.card_layout.States.{registration_of, rows_of}
 use Rattle.toolkit_model.specs.Running.{mind_on}
-use Rattle.proactive_handler.specs.Boxes.{minds_of}
 use Rattle.proactive_handler.specs.Steps.{scene}
 use Rattle.session_commands.proofs.Entries.{has_set, served_on}
 use Rattle.session_commands.proofs.Installed.{wakes, wakes_kind, rows_with, registered_so, with_row_has}
@@ -29,7 +28,7 @@ returns-clause-keeps g c =
     let row : Registration = registration_of c.args.shelf.0 c.args.row in
     let rows = rows_with c.commits_are_those_of_sessions.ensures.installed old new c.args.shelf.0 c.args.row c.in_ok-install_row.ensures.table c.in_ok-install_row.ensures.rows in
     let there : Contains (rows_of c.install_row.new.loaded) row = subst (λ (list : List Registration). Contains list row) (sym rows) (with_row_has (rows_of c.args.loaded.now) row) in
-    let has : HasRowOn c.install_row.new.loaded c.args.shelf.0 = contained_has c.states_are_of_entries.ensures.from_rows c.states_are_of_entries.ensures.tables c.install_row.new.loaded row there in
+    let has : HasRowOn c.install_row.new.loaded c.args.shelf.0 = contained_has c.states_are_of_entries.ensures.from.rows c.states_are_of_entries.ensures.tables c.install_row.new.loaded row there in
     record {
       kinds = wakes_kind (minds_of g.B.Applet.mind c.args.cast.now) (minds_of g.B.Applet.mind c.wake.new.cast) c.args.shelf.0 c.args.row.kind c.args.row.kept c.copy-kept.result c.requires.installable.kind c.copy-kept.ensures c.wake.ensures.minds;
       others = λ other none.

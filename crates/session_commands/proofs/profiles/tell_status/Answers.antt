@@ -1,9 +1,9 @@
 use Rattle.std.proofs.Common.{ℕ, sym, subst, refl, []}
 use Rattle.std.specs.Prelude.{◌≢◌, All, Ok, Err}
-use Rattle.store_form.specs.declared.store.StoreFault.TheVariants.{Failed}
-use Rattle.card_layout.specs.Memory.{memory}
+use Rattle.file_model.specs.store_form.declared.store.StoreFault.TheVariants.{Failed}
+use Rattle.file_model.specs.card_layout.Memory.{memory}
 use Rattle.toolkit_model.specs.Commands.{polled}
-use Rattle.proactive_handler.specs.Boxes.{minds_of}
+use Rattle.toolkit_model.specs.applet_trait.Minds.{minds_of}
 use Rattle.proactive_handler.specs.Scenes.{scene_done, scene_fault}
 use Rattle.proactive_handler.specs.Steps.{scene, toolkit}
 use Rattle.session_commands.proofs.Resting.{in_service}

@@ -1,11 +1,11 @@
 use Rattle.std.proofs.Common.{refl, sym, ap, ◌∙◌, [], ◌∷◌}
-use Rattle.toolkit_commands.specs.Replies.{replied}
-use Rattle.card_layout.specs.Memory.{memory}
-use Rattle.card_layout.specs.States.{rows_of}
+use Rattle.toolkit_model.specs.toolkit_commands.Replies.{replied}
+use Rattle.file_model.specs.card_layout.Memory.{memory}
+use Rattle.file_model.specs.card_layout.States.{rows_of}
 use Rattle.toolkit_model.specs.Passing.{passed_rows}
 use Rattle.toolkit_model.specs.Commands.{unanswered, responded}
 use Rattle.toolkit_model.specs.Steps.{Respond}
-use Rattle.proactive_handler.specs.Boxes.{minds_of}
+use Rattle.toolkit_model.specs.applet_trait.Minds.{minds_of}
 use Rattle.proactive_handler.specs.Runs.{StopsAt}
 use Rattle.proactive_handler.specs.Steps.{scene, toolkit, IsDone}
 use Rattle.card_model.specs.Toolkit.{response_taken}

@@ -1,7 +1,7 @@
 use Rattle.std.proofs.Common.{ap, ◌∙◌, set, None}
 use Rattle.std.specs.Option.{option_map}
 use Rattle.std.proofs.lemmas.List.{map-set}
-use Rattle.proactive_handler.specs.Boxes.{minds_of}
+use Rattle.toolkit_model.specs.applet_trait.Minds.{minds_of}
 use Rattle.std.proofs.lemmas.List.{get_or-set_other}
 use Rattle.session_commands.proofs.shelves.put_back.Goals as goal
 

@@ -1,5 +1,5 @@
 use Rattle.std.proofs.Common.{sym, subst, ◌<◌, length, ◌∙◌, None}
-use Rattle.applet_trait.specs.Minds.{fresh}
+use Rattle.toolkit_model.specs.applet_trait.Minds.{fresh}
 use Rattle.session_commands.proofs.Boxed.{woken_there}
 use Rattle.std.proofs.lemmas.List.{get_or-set_other}
 use Rattle.session_commands.proofs.shelves.wake.Goals as goal

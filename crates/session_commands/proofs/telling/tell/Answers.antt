@@ -1,9 +1,10 @@
 use Rattle.std.proofs.Common.{sym, ap, ◌∙◌, subst, List}
-use Rattle.card_layout.specs.Memory.{memory}
+use Rattle.file_model.specs.card_layout.Memory.{memory}
 use Rattle.toolkit_model.specs.Driving.{driven}
 use Rattle.toolkit_model.specs.Passing.{ToolkitState, in_turn}
 use Rattle.toolkit_model.specs.Sessions.{LateTrigger}
-use Rattle.proactive_handler.specs.Boxes.{minds_of, AreForOthers}
+use Rattle.proactive_handler.specs.Boxes.{AreForOthers}
+use Rattle.toolkit_model.specs.applet_trait.Minds.{minds_of}
 use Rattle.proactive_handler.specs.Joining.{both_done}
 use Rattle.proactive_handler.specs.Late.{turns_apart}
 use Rattle.proactive_handler.specs.Scenes.{scene_then, scene_done, scene_fault}

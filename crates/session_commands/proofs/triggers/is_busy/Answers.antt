@@ -1,5 +1,5 @@
 use Rattle.std.proofs.Common.{sym, length}
-use Rattle.toolkit_commands.specs.Reports.{reported}
+use Rattle.toolkit_model.specs.toolkit_commands.Reports.{reported}
 use Rattle.toolkit_model.specs.Orderly.{asks}
 use Rattle.session_commands.proofs.Targets.{full_busy, call_busy, others_busy}
 use Rattle.session_commands.proofs.triggers.is_busy.Goals as goal

@@ -1,14 +1,14 @@
 use Rattle.std.proofs.Common.{sym, subst}
 use Rattle.std.specs.Prelude.{All}
-use Rattle.card_memory.specs.Model.{HasRowOn}
-use Rattle.card_layout.specs.States.{rows_of}
+use Rattle.proactive_handler.specs.card_memory.Model.{HasRowOn}
+use Rattle.file_model.specs.card_layout.States.{rows_of}
 use Rattle.session_commands.proofs.Targets.{Apart, targets_have, targets_apart}
 use Rattle.session_commands.proofs.triggers.targets_of.Goals as goal
 
 pub returns-clause-rows : goal.returns-clause-rows
 returns-clause-rows c =
     subst (All (HasRowOn c.args.loaded.now)) (sym c.copy.ensures)
-    (targets_have c.states_are_of_entries.ensures.from_rows c.states_are_of_entries.ensures.tables c.args.loaded.now c.args.code c.targets.result.now (c.targets.ensures.order (rows_of c.args.loaded.now) c.requires.listed c.requires.indexed))
+    (targets_have c.states_are_of_entries.ensures.from.rows c.states_are_of_entries.ensures.tables c.args.loaded.now c.args.code c.targets.result.now (c.targets.ensures.order (rows_of c.args.loaded.now) c.requires.listed c.requires.indexed))
 
 pub returns-clause-apart : goal.returns-clause-apart
 returns-clause-apart c =

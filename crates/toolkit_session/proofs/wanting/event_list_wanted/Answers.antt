@@ -2,8 +2,8 @@ use Rattle.std.proofs.Common.{◌≡◌, ℕ, List, true, ap, ◌∙◌}
 use Rattle.std.proofs.Math.Path.{ap₂}
 use Rattle.std.specs.Prelude.{nat_eq}
 use Rattle.std.specs.Cmp.Lexicographic.{pointwise}
-use Rattle.card_layout.specs.States.{rows_of}
-use Rattle.toolkit_commands.specs.declared.commands.Proactive.TheVariants.{SetUpEventList}
+use Rattle.toolkit_model.specs.card_layout.States.{rows_of}
+use Rattle.toolkit_model.specs.toolkit_commands.declared.commands.Proactive.TheVariants.{SetUpEventList}
 use Rattle.toolkit_model.specs.Driving.{if_allowed}
 use Rattle.toolkit_session.proofs.Wanted.{list_known, list_new}
 use Rattle.toolkit_session.proofs.wanting.event_list_wanted.Goals as goal

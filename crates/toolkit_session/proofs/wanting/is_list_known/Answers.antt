@@ -2,7 +2,7 @@ use Rattle.std.proofs.Common.{◌≡◌, ◌∙◌}
 use Rattle.std.proofs.Math.Path.{ap₂}
 use Rattle.std.specs.Prelude.{nat_eq}
 use Rattle.std.specs.Cmp.Lexicographic.{pointwise}
-use Rattle.card_layout.specs.States.{rows_of}
+use Rattle.toolkit_model.specs.card_layout.States.{rows_of}
 use Rattle.toolkit_session.proofs.Wanted.{list_known}
 use Rattle.toolkit_session.proofs.wanting.is_list_known.Goals as goal
 

@@ -1,7 +1,7 @@
 use Rattle.std.proofs.Common.{◌≡◌, refl, sym, ◌∙◌, true, List}
 use Rattle.std.specs.Cmp.Lexicographic.{pointwise}
-use Rattle.card_layout.specs.States.{rows_of}
-use Rattle.toolkit_commands.specs.declared.items.Item.{Item}
+use Rattle.toolkit_model.specs.card_layout.States.{rows_of}
+use Rattle.toolkit_model.specs.toolkit_commands.declared.items.Item.{Item}
 use Rattle.toolkit_model.specs.Driving.{is_same_item}
 use Rattle.toolkit_model.specs.Registry.{menu_of}
 use Rattle.toolkit_session.proofs.Menus.{same_items}

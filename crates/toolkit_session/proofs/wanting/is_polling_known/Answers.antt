@@ -1,5 +1,5 @@
 use Rattle.std.proofs.Common.{◌≡◌, false, sym, ◌∙◌, arith}
-use Rattle.card_layout.specs.States.{rows_of}
+use Rattle.toolkit_model.specs.card_layout.States.{rows_of}
 use Rattle.toolkit_session.proofs.Wanted.{polls_for_nobody}
 use Rattle.toolkit_session.proofs.wanting.is_polling_known.Goals as goal
 

@@ -1,8 +1,8 @@
 use Rattle.std.proofs.Common.{◌≡◌, ap, sym, ◌∙◌, subst}
 use Rattle.std.proofs.Math.Path.{ap₂}
 use Rattle.std.specs.Cmp.Lexicographic.{pointwise}
-use Rattle.card_layout.specs.States.{rows_of}
-use Rattle.toolkit_commands.specs.declared.commands.Proactive.TheVariants.{SetUpMenu}
+use Rattle.toolkit_model.specs.card_layout.States.{rows_of}
+use Rattle.toolkit_model.specs.toolkit_commands.declared.commands.Proactive.TheVariants.{SetUpMenu}
 use Rattle.toolkit_model.specs.Orderly.{CanBeSent}
 use Rattle.toolkit_model.specs.Driving.{is_same_item}
 use Rattle.toolkit_session.proofs.Menus.{same_items, menu_sent}

@@ -1,5 +1,5 @@
 use Rattle.std.proofs.Common.{◌≡◌, sym, ◌∙◌, true, false, arith}
-use Rattle.card_layout.specs.States.{rows_of}
+use Rattle.toolkit_model.specs.card_layout.States.{rows_of}
 use Rattle.toolkit_session.proofs.Wanted.{polls_already, polls_for_nobody, polls_now}
 use Rattle.toolkit_session.proofs.wanting.polling_wanted.Goals as goal
 

@@ -1,6 +1,6 @@
 use Rattle.std.proofs.Common.{◌≡◌, [], arith, ◌∙◌, subst, sym}
 use Rattle.std.proofs.lemmas.Grind.{common_steps}
-use Rattle.card_opening.specs.Boxes.{minds_of}
+use Rattle.card_core.specs.applet_trait.Minds.{minds_of}
 use Rattle.run_words.specs.Model.{AskForRun}
 use Rattle.uicc_run.specs.Answering.{HasLoadedOnBench, HasOuterCauses, HasRunOnBench, HasServed, KeepsToScripts, NameNoImage}
 use Rattle.uicc_run.specs.Scenes.{outside}

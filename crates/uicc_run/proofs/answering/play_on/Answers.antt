@@ -1,5 +1,5 @@
 use Rattle.std.proofs.Common.{map, string_bytes, ap, ◌∙◌, subst}
-use Rattle.card_opening.specs.Boxes.{minds_of}
+use Rattle.card_core.specs.applet_trait.Minds.{minds_of}
 use Rattle.uicc_run.specs.Loading.{LoadsFrom}
 use Rattle.uicc_run.specs.Opening.{RunsFrom}
 use Rattle.uicc_run.specs.Scenes.{outside, over_bench}

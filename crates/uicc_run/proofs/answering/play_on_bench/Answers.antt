@@ -1,6 +1,6 @@
 use Rattle.std.proofs.Common.{ℕ, length, map, string_bytes, [], Some, ap, subst, ◌∙◌}
 use Rattle.std.proofs.lemmas.List.{length-replicate}
-use Rattle.card_opening.specs.Boxes.{minds_of}
+use Rattle.card_core.specs.applet_trait.Minds.{minds_of}
 use Rattle.uicc_run.specs.Answering.{HasLoadedOver, HasRunOver}
 use Rattle.uicc_run.specs.Scenes.{outside}
 use Rattle.uicc_run.proofs.AnswerLemmas.{has_no_device, keeps_without_device, loads_no_device}

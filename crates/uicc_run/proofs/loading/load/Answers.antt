@@ -1,9 +1,9 @@
 use Rattle.std.proofs.Common.{◌≡◌, Some, Ok, ap, sym, ◌∙◌, subst, inl, inr, refl}
 use Rattle.std.specs.Prelude.{IfSome}
-use Rattle.card_layout.specs.Standing.{stands_for}
-use Rattle.card_opening.specs.Boxes.{minds_of}
-use Rattle.card_sections.specs.Script.{with_lines}
-use Rattle.load_runs.specs.FixedRows.{fixed_rows}
+use Rattle.card_core.specs.card_layout.Standing.{stands_for}
+use Rattle.card_core.specs.applet_trait.Minds.{minds_of}
+use Rattle.phone_runs.specs.card_sections.Script.{with_lines}
+use Rattle.phone_runs.specs.FixedRows.{fixed_rows}
 use Rattle.uicc_run.specs.Loading.{IsFixedCard}
 use Rattle.uicc_run.specs.Stores.{content_in, mark_of}
 use Rattle.uicc_run.proofs.OpenLemmas.{none_counted}

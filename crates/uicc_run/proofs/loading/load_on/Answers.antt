@@ -1,7 +1,7 @@
 use Rattle.std.proofs.Common.{◌≡◌, true, false, ap, sym, ◌∙◌, subst, Ok}
 use Rattle.std.specs.Prelude.{IfSome}
-use Rattle.card_layout.specs.Standing.{stands_for}
-use Rattle.card_opening.specs.Boxes.{minds_of}
+use Rattle.card_core.specs.card_layout.Standing.{stands_for}
+use Rattle.card_core.specs.applet_trait.Minds.{minds_of}
 use Rattle.uicc_run.specs.Loading.{ComesToLoad}
 use Rattle.uicc_run.specs.Stores.{content_in, held_in, mark_of, memory_in}
 use Rattle.uicc_run.proofs.StoreLemmas.{given_over, load_comes_over}

@@ -1,5 +1,5 @@
 use Rattle.std.proofs.Common.{false}
-use Rattle.card_sections.specs.BehindLaws.{bad_behind, ends_reading, reads_on, reads_to_end}
+use Rattle.phone_runs.specs.card_sections.BehindLaws.{bad_behind, ends_reading, reads_on, reads_to_end}
 use Rattle.card_steps.specs.Moves.{step_of}
 use Rattle.card_steps.specs.Standing.{machine_minds, machine_stands}
 use Rattle.uicc_run.proofs.CardLemmas.{machine_kinds}

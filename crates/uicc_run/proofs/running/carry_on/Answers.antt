@@ -1,6 +1,6 @@
 use Rattle.std.proofs.Common.{inl, inr, refl, ap, sym, ◌∙◌, subst}
 use Rattle.std.proofs.lemmas.Bool.{false≢true}
-use Rattle.card_sections.specs.Behind.{IsReading, LinesReadTo}
+use Rattle.phone_runs.specs.card_sections.Behind.{IsReading, LinesReadTo}
 use Rattle.card_steps.specs.Ends.{moment_at}
 use Rattle.phone_runs.proofs.LineLemmas.{ends_amid, starts_serving, stops_at_start, unread_amid}
 use Rattle.phone_runs.proofs.ShowSteps.{starts_so, stops_amid, stops_first}

@@ -1,5 +1,5 @@
 use Rattle.std.proofs.Common.{Some, refl, ap, sym, ◌∙◌, inl}
-use Rattle.byte_streams.specs.Laws.{IsTaken-none}
+use Rattle.card_steps.specs.byte_streams.Laws.{IsTaken-none}
 use Rattle.run_words.specs.declared.requests.Mode.TheVariants.{Bip, Load}
 use Rattle.uicc_run.specs.Headline.{first_of, is_served_by}
 use Rattle.uicc_run.specs.Listeners.{is_handset}

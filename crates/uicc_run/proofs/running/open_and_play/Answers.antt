@@ -13,8 +13,8 @@ use Rattle.uicc_run.proofs.ReadingLemmas.{reads_behind, reads_refused, reads_sta
 use Rattle.uicc_run.proofs.ServingLemmas.{opening}
 use Rattle.uicc_run.proofs.ShowLemmas.{outset, refused_shows, serves_shown_first, shows_first}
 use Rattle.uicc_run.specs.Showing.{IsShowing, LinesShow}
-use Rattle.uicc_types.specs.Counts.{Meter}
-use Rattle.uicc_types.specs.declared.plans.TheConstants.Plan.{NONE}
+use Rattle.update_journal.specs.uicc_types.Counts.{Meter}
+use Rattle.update_journal.specs.uicc_types.declared.plans.TheConstants.Plan.{NONE}
 use Rattle.uicc_run.proofs.running.open_and_play.Goals as goal
 
 pub returns-in-Ok-clause-comes : goal.returns-in-Ok-clause-comes

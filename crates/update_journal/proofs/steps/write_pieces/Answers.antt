@@ -1,6 +1,6 @@
 use Rattle.std.proofs.Common.{◌≡◌, ℕ, refl, subst, ◌∙◌, arith, length}
 use Rattle.std.specs.Prelude.{option_map}
-use Rattle.general_laws.specs.Optional.{on_err}
+use Rattle.uicc_types.specs.Optional.{on_err}
 use Rattle.uicc_types.specs.Patches.{patched, Torn}
 use Rattle.uicc_types.specs.Told.{Becomes}
 use Rattle.uicc_types.specs.Calls.{calm_same, caused_then, calm_ok}

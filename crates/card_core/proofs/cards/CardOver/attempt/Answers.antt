@@ -1,6 +1,6 @@
 use Rattle.std.proofs.Common.{false, refl, sym, ◌∙◌, ap, rules}
-use Rattle.apdu_form.specs.Model.{Apdu}
-use Rattle.uicc_types.specs.declared.answers.TheConstants.StatusWord.{WRONG_LENGTH}
+use Rattle.file_model.specs.apdu_form.Model.{Apdu}
+use Rattle.file_model.specs.uicc_types.declared.answers.TheConstants.StatusWord.{WRONG_LENGTH}
 use Rattle.card_model.specs.Answers.{cut_to, tried}
 use Rattle.card_model.specs.Instructions.{is_known}
 use Rattle.card_core.specs.Acting.{in_bytes}

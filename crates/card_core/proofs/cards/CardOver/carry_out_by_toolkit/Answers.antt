@@ -1,6 +1,6 @@
 use Rattle.std.proofs.Common.{◌∷◌, Err, Option, ap, subst, sym, ◌∙◌, rules}
 use Rattle.std.specs.Prelude.{All, IfSome, IsSomeAnd}
-use Rattle.card_layout.specs.declared.entries.Loaded.{Loaded}
+use Rattle.file_model.specs.card_layout.declared.entries.Loaded.{Loaded}
 use Rattle.card_model.specs.Answers.{settled, carried_out}
 use Rattle.card_model.specs.Runs.{IsLeft}
 use Rattle.card_model.specs.States.{CardState}

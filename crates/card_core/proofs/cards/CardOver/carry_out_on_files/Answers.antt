@@ -1,17 +1,17 @@
 use Rattle.std.proofs.Common.{◌≡◌, ℕ, List, Option, Some, refl, sym, ◌∙◌, ap, subst, rules}
 use Rattle.std.specs.Prelude.{slice_set, unwrap_or, Ok, Err}
 use Rattle.std.proofs.lemmas.Bool.{false≢true}
-use Rattle.apdu_form.specs.Model.{Apdu}
-use Rattle.card_layout.specs.declared.entries.Loaded.{Loaded}
-use Rattle.card_layout.specs.Memory.{memory}
-use Rattle.card_layout.specs.Standing.{standing, Agrees}
-use Rattle.card_layout.specs.States.{pins_of, rows_of}
+use Rattle.file_model.specs.apdu_form.Model.{Apdu}
+use Rattle.file_model.specs.card_layout.declared.entries.Loaded.{Loaded}
+use Rattle.file_model.specs.card_layout.Memory.{memory}
+use Rattle.file_model.specs.card_layout.Standing.{standing, Agrees}
+use Rattle.file_model.specs.card_layout.States.{pins_of, rows_of}
 use Rattle.file_model.specs.Access.{keys_seen}
 use Rattle.file_model.specs.Files.{descriptors_of}
 use Rattle.file_model.specs.declared.selections.Selection.{Selection}
 use Rattle.file_model.specs.declared.selections.TheConstants.Selection.{AT_START}
 use Rattle.card_model.specs.Channels.{channel_of, selected_on}
-use Rattle.card_memory.specs.Laws.{IsTold}
+use Rattle.proactive_handler.specs.card_memory.Laws.{IsTold}
 use Rattle.card_core.specs.AnyStore.{RefusesFile, NeedsNoContents}
 use Rattle.card_core.specs.Cards.{parts_of, card_of, memory_of}
 use Rattle.file_making.specs.Lawful.{AreSelected}

@@ -3,10 +3,10 @@ use Rattle.card_core.proofs.Restored.{silent_agrees}
 use Rattle.std.proofs.Common.{ℕ, List, ◌∷◌, Option, refl, sym, ◌∙◌, ap, subst, rules}
 use Rattle.std.specs.Prelude.{Contains, Ok, Err}
 use Rattle.std.proofs.lemmas.Bool.{false≢true}
-use Rattle.card_layout.specs.Standing.{standing, Agrees}
-use Rattle.card_layout.specs.declared.entries.Loaded.{Loaded}
-use Rattle.card_layout.specs.States.{pins_of, rows_of}
-use Rattle.card_memory.specs.Performing.{with_each}
+use Rattle.file_model.specs.card_layout.Standing.{standing, Agrees}
+use Rattle.file_model.specs.card_layout.declared.entries.Loaded.{Loaded}
+use Rattle.file_model.specs.card_layout.States.{pins_of, rows_of}
+use Rattle.proactive_handler.specs.card_memory.Performing.{with_each}
 use Rattle.file_model.specs.declared.descriptors.Descriptor.{Descriptor}
 use Rattle.file_model.specs.Files.{descriptors_of}
 use Rattle.file_model.specs.Commands.{pin_outcome, pin_settled}
@@ -16,8 +16,8 @@ use Rattle.pin_rules.specs.Outcomes.{IsCarriedOut}
 use Rattle.card_core.specs.Cards.{parts_of, card_of}
 use Rattle.file_making.specs.Lawful.{AreSelected}
 use Rattle.card_opening.proofs.Started.{holds_card}
-use Rattle.access_rules.specs.declared.rules.Verified.{Verified}
-use Rattle.card_layout.specs.Memory.{memory}
+use Rattle.file_model.specs.declared.rules.Verified.{Verified}
+use Rattle.file_model.specs.card_layout.Memory.{memory}
 use Rattle.card_core.proofs.Denied.{all_stays, pins_refused}
 use Rattle.card_core.proofs.Kept.{rows_beside_pins, files_beside_pins, holds_passed, set_after}
 use Rattle.card_core.proofs.Lost.{fault_left, card_boxes}

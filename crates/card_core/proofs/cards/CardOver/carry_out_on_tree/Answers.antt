@@ -1,7 +1,7 @@
 use Rattle.std.proofs.Common.{ℕ, List, Option, refl, ◌∙◌, ap, subst, rules, Ok, Err}
-use Rattle.card_layout.specs.declared.entries.Loaded.{Loaded}
-use Rattle.card_layout.specs.Standing.{standing, Agrees}
-use Rattle.card_layout.specs.States.{pins_of, rows_of}
+use Rattle.file_model.specs.card_layout.declared.entries.Loaded.{Loaded}
+use Rattle.file_model.specs.card_layout.Standing.{standing, Agrees}
+use Rattle.file_model.specs.card_layout.States.{pins_of, rows_of}
 use Rattle.file_model.specs.Access.{keys_seen}
 use Rattle.card_opening.proofs.Started.{holds_card}
 use Rattle.card_core.specs.Cards.{parts_of, card_of}
@@ -12,7 +12,7 @@ use Rattle.card_core.proofs.Served.{cards_in_order}
 use Rattle.card_model.specs.declared.instructions.Instruction.TheVariants.{Tree}
 use Rattle.card_core.proofs.Levels.{tree_acts}
 use Rattle.card_core.proofs.Trees.{trees_stand, trees_settle, trees_fault, tree_moved, trees_counts, trees_calm, trees_so}
-use Rattle.card_layout.specs.Memory.{memory}
+use Rattle.file_model.specs.card_layout.Memory.{memory}
 use Rattle.card_core.proofs.cards.CardOver.carry_out_on_tree.Goals as goal
 
 pub returns-in-Ok-clause-settled : goal.returns-in-Ok-clause-settled

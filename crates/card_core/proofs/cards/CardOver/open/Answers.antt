@@ -1,11 +1,11 @@
 use Rattle.std.proofs.Common.{true, false, None, option_map, refl, subst, arith, rules}
 use Rattle.std.proofs.lemmas.List.{length-map}
-use Rattle.card_layout.specs.declared.entries.Loaded.{Loaded}
-use Rattle.card_layout.specs.Standing.{standing}
-use Rattle.card_layout.specs.States.{rows_of}
-use Rattle.trigger_index.specs.Indexes.{StandsFor}
+use Rattle.file_model.specs.card_layout.declared.entries.Loaded.{Loaded}
+use Rattle.file_model.specs.card_layout.Standing.{standing}
+use Rattle.file_model.specs.card_layout.States.{rows_of}
+use Rattle.proactive_handler.specs.applet_registry.Indexes.{StandsFor}
 use Rattle.card_model.specs.States.{nothing_verified}
-use Rattle.card_opening.specs.Boxes.{minds_of}
+use Rattle.toolkit_model.specs.applet_trait.Minds.{minds_of}
 use Rattle.card_core.specs.Parts.{CardParts}
 use Rattle.card_core.specs.Openings.{with_all_shelves}
 use Rattle.card_core.proofs.Opened.{all_shelves, opened_is, opened_ready, holds_migrated}

@@ -1,7 +1,7 @@
 use Rattle.std.proofs.Common.{◌≡◌, ℕ, [], Option, sym, ◌∙◌, ap, subst, rules}
 use Rattle.std.proofs.lemmas.Bool.{false≢true}
 use Rattle.std.specs.Prelude.{IfSome, IsSomeAnd, is_some}
-use Rattle.card_layout.specs.Standing.{standing}
+use Rattle.file_model.specs.card_layout.Standing.{standing}
 use Rattle.card_model.specs.States.{CardState, IsGood}
 use Rattle.card_model.specs.Answers.{answer, passed}
 use Rattle.card_model.specs.Runs.{IsLeft}

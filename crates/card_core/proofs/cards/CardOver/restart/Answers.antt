@@ -2,18 +2,18 @@ use Rattle.std.proofs.Common.{List, Option, None, true, false, refl, sym, ◌∙
 use Rattle.std.specs.Prelude.{All}
 use Rattle.std.specs.Vec.{with_items}
 use Rattle.std.proofs.lemmas.List.{with_items_is}
-use Rattle.card_layout.specs.States.{rows_of}
+use Rattle.file_model.specs.card_layout.States.{rows_of}
 use Rattle.card_model.specs.States.{HasBox, woken_boxes, nothing_verified}
 use Rattle.layout_mount.specs.Mounted.{HasRead}
-use Rattle.card_opening.specs.Boxes.{minds_of}
+use Rattle.toolkit_model.specs.applet_trait.Minds.{minds_of}
 use Rattle.card_opening.specs.Starts.{IsReadAgain}
 use Rattle.card_core.specs.Parts.{CardParts}
 use Rattle.card_core.specs.Cards.{parts_of, boxes_kept}
 use Rattle.card_core.proofs.Boxes.{length-kept}
-use Rattle.card_layout.specs.declared.entries.Loaded.{Loaded}
+use Rattle.file_model.specs.card_layout.declared.entries.Loaded.{Loaded}
 use Rattle.file_model.specs.Files.{descriptors_of}
 use Rattle.file_model.specs.declared.selections.Selection.{Selection}
-use Rattle.trigger_index.specs.Indexes.{StandsFor}
+use Rattle.proactive_handler.specs.applet_registry.Indexes.{StandsFor}
 use Rattle.file_making.specs.Lawful.{AreSelected}
 use Rattle.card_core.proofs.Restarts.{due_same, restart_is, set_restarted, still_has, toolkit_begun}
 use Rattle.card_core.proofs.Selecting.{basic_selected}

@@ -1,13 +1,12 @@
 use Rattle.std.proofs.Common.{◌≡◌, ℕ, List, ◌∷◌, length, Option, option_map, Ok, Err, refl, sym, ◌∙◌, ap, subst, rules}
 use Rattle.std.proofs.lemmas.List.{with_items_is, length-map}
-use Rattle.applet_trait.specs.Minds.{AppletState}
-use Rattle.card_layout.specs.declared.entries.Loaded.{Loaded}
-use Rattle.card_layout.specs.Standing.{Agrees}
-use Rattle.card_opening.specs.Boxes.{minds_of}
+use Rattle.toolkit_model.specs.applet_trait.Minds.{AppletState, minds_of}
+use Rattle.file_model.specs.card_layout.declared.entries.Loaded.{Loaded}
+use Rattle.file_model.specs.card_layout.Standing.{Agrees}
 use Rattle.file_model.specs.declared.descriptors.Descriptor.{Descriptor}
 use Rattle.proactive_handler.specs.Boxes.{kinds_of}
 use Rattle.proactive_handler.specs.Steps.{scene, toolkit}
-use Rattle.toolkit_laws.specs.Orderly.{IsInOrder}
+use Rattle.toolkit_model.specs.OrderlySessions.{IsInOrder}
 use Rattle.card_model.specs.Runs.{IsLeft}
 use Rattle.card_model.specs.States.{CardState}
 use Rattle.session_commands.specs.Carrying.{HasToolkit, Comes}
@@ -21,7 +20,7 @@ use Rattle.card_core.proofs.Carried.{lent, files_beside_rows, rows_alone_moved, 
 use Rattle.card_core.proofs.Calm.{polled_calm}
 use Rattle.card_core.proofs.Staying.{status_lent}
 use Rattle.card_core.proofs.Stopped.{polled_rows}
-use Rattle.card_layout.specs.Memory.{memory}
+use Rattle.file_model.specs.card_layout.Memory.{memory}
 use Rattle.card_opening.proofs.Started.{holds_card}
 use Rattle.card_core.proofs.cards.CardOver.serve_status.Goals as goal
 

@@ -1,7 +1,7 @@
 use Rattle.std.proofs.Common.{true, false, refl, sym, ◌∙◌, ap, rules, Ok}
 use Rattle.file_model.specs.Chains.{and_given}
 use Rattle.file_model.specs.declared.commands.FileCommand.TheVariants.{Select, Status, Contents}
-use Rattle.apdu_form.specs.Model.{Apdu}
+use Rattle.file_model.specs.apdu_form.Model.{Apdu}
 use Rattle.card_model.specs.Answers.{carried_with}
 use Rattle.card_model.specs.Instructions.{instruction_tried, is_known}
 use Rattle.card_model.specs.declared.instructions.Instruction.TheVariants.{File, Pin, ManageChannel, Toolkit, Tree}

@@ -1,8 +1,8 @@
 use Rattle.std.proofs.Common.{◌≡◌, false, refl, subst, rules, Ok, Err}
 use Rattle.std.specs.Prelude.{OnErr}
-use Rattle.card_layout.specs.declared.entries.Loaded.{Loaded}
+use Rattle.file_model.specs.card_layout.declared.entries.Loaded.{Loaded}
 use Rattle.std.proofs.lemmas.Bool.{eq-eqb, false≢true, ne_eqb}
-use Rattle.uicc_types.specs.declared.answers.TheConstants.StatusWord.{DONE}
+use Rattle.file_model.specs.uicc_types.declared.answers.TheConstants.StatusWord.{DONE}
 use Rattle.card_core.specs.Cards.{parts_of, card_of, card_due, card_with}
 use Rattle.card_core.proofs.Polling.{status_both, status_so, status_silent_on, status_stopped, status_answers_other}
 use Rattle.card_core.proofs.Staying.{status_moved, status_kept}

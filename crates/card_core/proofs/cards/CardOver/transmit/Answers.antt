@@ -1,9 +1,9 @@
 use Rattle.std.proofs.Common.{◌≡◌, [], length, Option, true, refl, sym, ◌∙◌, ap, subst, Err, inl, inr, Ok}
 use Rattle.std.proofs.lemmas.Bool.{false≢true}
 use Rattle.std.specs.Prelude.{IfSome, IsSomeAnd}
-use Rattle.general_laws.specs.Optional.{on_err}
-use Rattle.uicc_types.specs.declared.answers.StatusWord.{StatusWord}
-use Rattle.card_memory.specs.Performing.{CommitsAtMost}
+use Rattle.file_model.specs.uicc_types.Optional.{on_err}
+use Rattle.file_model.specs.uicc_types.declared.answers.StatusWord.{StatusWord}
+use Rattle.proactive_handler.specs.card_memory.Performing.{CommitsAtMost}
 use Rattle.card_model.specs.States.{CardState}
 use Rattle.card_model.specs.Answers.{passed, answer}
 use Rattle.card_model.specs.Runs.{IsLeft}

@@ -1,5 +1,5 @@
 use Rattle.std.proofs.Common.{subst}
-use Rattle.uicc_types.specs.Told.{AreBytes}
+use Rattle.card_layout.specs.uicc_types.Told.{AreBytes}
 use Rattle.layout_mount.proofs.Parts.{bytes-whole}
 use Rattle.layout_mount.proofs.image.Image.holds_bytes.Goals as goal
 

@@ -9,8 +9,8 @@ returns-clause-image g c =
     let table : List ℕ = c.read-2.new.out in
     let upper : List ℕ = c.read-3.new.out in
     let a = c.in_ok-read.ensures.ok in
-    let b = same_told _ _ (λ held. table ≡ slice_range held 832 3968) c.in_ok-read.ensures.stable c.in_ok-read-2.ensures.ok in
-    let d = same_told _ _ (λ held. upper ≡ slice_range held 63488 65536) (c.in_ok-read-2.ensures.stable ∙ c.in_ok-read.ensures.stable) c.in_ok-read-3.ensures.ok in
+    let b = same_told _ _ (λ held. table ≡ slice_range held 832 3968) c.in_ok-read.ensures.keeps.stable c.in_ok-read-2.ensures.ok in
+    let d = same_told _ _ (λ held. upper ≡ slice_range held 63488 65536) (c.in_ok-read-2.ensures.keeps.stable ∙ c.in_ok-read.ensures.keeps.stable) c.in_ok-read-3.ensures.ok in
     record {
       long = length-whole first table upper (omega arith) (omega arith) (omega arith);
       same = same_entries (g.S.Store.stable c.args.store.now) first table upper a b d (omega arith) (omega arith) (omega arith);

@@ -1,0 +1,5 @@
+use Rattle.card_laws.proofs.Determined.{runs_are_one}
+use Rattle.card_laws.proofs.faults.runs_are_one.Goals as goal
+
+pub returns : goal.returns
+returns c = runs_are_one

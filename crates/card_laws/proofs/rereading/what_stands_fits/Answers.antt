@@ -1,0 +1,5 @@
+use Rattle.card_laws.proofs.Fitted.{stands_fits}
+use Rattle.card_laws.proofs.rereading.what_stands_fits.Goals as goal
+
+pub returns : goal.returns
+returns c = stands_fits

@@ -1,0 +1,5 @@
+use Rattle.card_laws.proofs.Held.{others_leave}
+use Rattle.card_laws.proofs.stretches.unanswered_commands_stay.Goals as goal
+
+pub returns : goal.returns
+returns c = others_leave c.cards_go_on.ensures.answers

@@ -1,0 +1,52 @@
+//! What commands on files are refused for. The functions do nothing: their contracts are the laws.
+ghost use Rattle.file_model.specs.declared.rules.Op.TheVariants.{Activate, Deactivate, Increase, ReadBinary, ReadRecord, Search, UpdateBinary, UpdateRecord};
+ghost use Rattle.card_model.specs.file_making.Creating.{created};
+ghost use Rattle.card_model.specs.file_making.Deleting.{deleted};
+ghost use Rattle.card_model.specs.file_making.Resizing.{resized};
+ghost use Rattle.file_model.specs.Binaries.{binary_read, binary_updated, short_in_p1};
+ghost use Rattle.file_model.specs.LifeCycles.{file_activated, file_deactivated};
+ghost use Rattle.file_model.specs.Records.{increased, record_read, record_updated, searched, short_in_p2, short_to_increase};
+ghost use Rattle.file_model.specs.Selecting.{file_selected, status_told};
+ghost use Rattle.card_laws.specs.RefusalLaws.{IsDoneByAdm, IsDoneByLeave, IsDoneByRule, IsRefusedFor, IsTreeRefusedFor};
+ghost use Rattle.card_laws.specs.Refusals.{refusals_of_create, refusals_of_delete, refusals_of_increase, refusals_of_life_cycle, refusals_of_read_binary, refusals_of_read_record, refusals_of_resize, refusals_of_search_record, refusals_of_select, refusals_of_status, refusals_of_update_binary, refusals_of_update_record};
+
+/// Each of these commands has a list of conditions with their status, and is refused with that of the first that holds; where none
+/// holds it is carried out.
+pub fn the_first_condition_refuses()
+    ensures read_binary { IsRefusedFor refusals_of_read_binary binary_read }
+    ensures update_binary { IsRefusedFor refusals_of_update_binary binary_updated }
+    ensures read_record { IsRefusedFor refusals_of_read_record record_read }
+    ensures update_record { IsRefusedFor refusals_of_update_record record_updated }
+    ensures search_record { IsRefusedFor refusals_of_search_record searched }
+    ensures increase { IsRefusedFor refusals_of_increase increased }
+{}
+
+/// So has each command that selects a file or tells of one, that is on its life cycle, or that makes, deletes or resizes it.
+pub fn the_first_condition_refuses_on_files()
+    ensures select { IsRefusedFor refusals_of_select (λ state seen. file_selected state) }
+    ensures status { IsRefusedFor refusals_of_status (λ state seen. status_told state) }
+    ensures deactivate { IsRefusedFor (refusals_of_life_cycle Deactivate) file_deactivated }
+    ensures activate { IsRefusedFor (refusals_of_life_cycle Activate) file_activated }
+    ensures create { IsTreeRefusedFor refusals_of_create created }
+    ensures delete { IsTreeRefusedFor refusals_of_delete deleted }
+    ensures resize { IsTreeRefusedFor refusals_of_resize resized }
+{}
+
+/// Where a file is made, deleted or resized, the key ADM1 counts as verified, as one does that is disabled, too.
+pub fn files_are_made_by_leave()
+    ensures create { IsDoneByAdm created }
+    ensures delete { IsDoneByAdm deleted }
+    ensures resize { IsDoneByAdm resized }
+{}
+
+/// Where one of these commands is carried out, the rule of its file lets this be done, and the file is activated, but for the last two.
+pub fn what_is_done_was_allowed()
+    ensures read_binary { IsDoneByLeave ReadBinary short_in_p1 binary_read }
+    ensures update_binary { IsDoneByLeave UpdateBinary short_in_p1 binary_updated }
+    ensures read_record { IsDoneByLeave ReadRecord short_in_p2 record_read }
+    ensures update_record { IsDoneByLeave UpdateRecord short_in_p2 record_updated }
+    ensures search_record { IsDoneByLeave Search short_in_p2 searched }
+    ensures increase { IsDoneByLeave Increase short_to_increase increased }
+    ensures deactivate { IsDoneByRule Deactivate file_deactivated }
+    ensures activate { IsDoneByRule Activate file_activated }
+{}

@@ -1,0 +1,75 @@
+//! One entry of a file, committed over prepared bytes.
+ghost use Rattle.std.specs.Prelude.{◌≡◌, ◌≤◌, ◌<◌, OnOk, OnErr};
+ghost use Rattle.file_model.specs.card_layout.Fields.{shown_node};
+ghost use Rattle.file_model.specs.card_layout.Laws.{after};
+ghost use Rattle.file_model.specs.card_layout.Memory.{IsMounted, Committed, memory};
+ghost use Rattle.file_model.specs.card_layout.Persistent.{Persistent};
+ghost use Rattle.file_model.specs.card_layout.Spelling.{node_part};
+ghost use Rattle.layout_standing.specs.Changes.{with_node};
+ghost use Rattle.card_memory.specs.PreparedCommits.{CommitsOver};
+ghost use Rattle.card_memory.specs.Ranges.{IsStoreReady, CommitsChange};
+
+use file_model::card_layout::sizes::{NODE_COUNT, NODE_WIDTH};
+use file_model::card_layout::{Loaded, Node, node_write};
+use file_model::store_form::{Store, StoreFault, Writes};
+use file_model::uicc_types::Full;
+use layout_standing::stores_stand;
+
+// Commits the bytes of an entry from `from` up to but without `to`.
+fn commit_part<S: Store>(
+    store: &mut S,
+    number: u8,
+    node: &Node,
+    from: u8,
+    to: u8,
+) -> Result<(), StoreFault>
+    requires ready { IsStoreReady S.Store store.old }
+    requires entry { number < NODE_COUNT }
+    requires some { from < to }
+    requires inside { to ≤ NODE_WIDTH }
+    ensures { CommitsChange S.Store store.old store.new result (after (node_part number node.now from to)) }
+{
+    let mut writes = Writes::new();
+    match node_write(number, node, from, to, &mut writes) {
+        Ok(()) => store.commit(&writes),
+        Err(Full) => unreachable!(),
+    }
+}
+
+// An entry as a table has it.
+fn shown(node: Node) -> Node
+    ensures { result ≡ shown_node node }
+{
+    if node.used { node } else { Node::UNUSED }
+}
+
+/// Commits the bytes of a file's entry from `from` up to but without `to`, of its 16, and then has the entry in the table. After
+/// a fault the table is as it was. Over prepared bytes with which that stands for a changed state it is one commit of the change.
+pub fn commit_node<S: Store>(
+    store: &mut S,
+    loaded: &mut Loaded,
+    number: u8,
+    node: Node,
+    from: u8,
+    to: u8,
+) -> Result<(), StoreFault>
+    requires mounted { IsMounted (memory S.Store store.old loaded.old) }
+    requires entry { number < NODE_COUNT }
+    requires some { from < to }
+    requires inside { to ≤ NODE_WIDTH }
+    ensures committed { (change : Persistent → Persistent)
+        → CommitsOver (memory S.Store store.old loaded.old) number node from to change
+        → Committed (memory S.Store store.old loaded.old) (memory S.Store store.new loaded.new) result change }
+    ensures table { OnOk result (loaded.new ≡ with_node loaded.old number node) }
+    ensures kept { OnErr result (loaded.new ≡ loaded.old) }
+{
+    // This call is a law, and does nothing.
+    stores_stand();
+    match commit_part(store, number, &node, from, to) {
+        Ok(()) => {
+            loaded.nodes[usize::from(number)] = shown(node);
+            Ok(())
+        }
+        Err(fault) => Err(fault),
+    }
+}

@@ -1,4 +1,0 @@
-pub mod Inserting
-pub mod Orders
-pub mod Placing
-pub mod Since

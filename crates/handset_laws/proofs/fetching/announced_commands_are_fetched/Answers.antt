@@ -1,5 +1,0 @@
-use Rattle.handset_laws.proofs.Exchanging.{announced_fetched}
-use Rattle.handset_laws.proofs.fetching.announced_commands_are_fetched.Goals as goal
-
-pub returns : goal.returns
-returns c = announced_fetched c.fetches_give_commands.ensures.gives

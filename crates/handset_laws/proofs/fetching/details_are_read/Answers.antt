@@ -1,5 +1,0 @@
-use Rattle.handset_laws.proofs.Reading.{details_read}
-use Rattle.handset_laws.proofs.fetching.details_are_read.Goals as goal
-
-pub returns : goal.returns
-returns c = details_read c.exact_reading.ensures.objects c.exact_reading.ensures.template c.spelled_is_read.ensures.has_its_objects

@@ -1,8 +1,0 @@
-mod ContentChanges
-mod FileChanges
-mod PinChanges
-mod PinPlaces
-mod Reading
-mod Records
-mod RowChanges
-mod Worked

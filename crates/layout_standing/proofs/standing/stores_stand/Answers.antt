@@ -1,0 +1,17 @@
+use Rattle.layout_standing.proofs.Stores.{agreeing_stands, written_stands, one_of_both_stands, prepared_stands, torn_stands}
+use Rattle.layout_standing.proofs.standing.stores_stand.Goals as goal
+
+pub returns-clause-known : goal.returns-clause-known
+returns-clause-known c = agreeing_stands c.standing_is_sound.ensures.sound
+
+pub returns-clause-written : goal.returns-clause-written
+returns-clause-written c = written_stands
+
+pub returns-clause-fault : goal.returns-clause-fault
+returns-clause-fault c = one_of_both_stands
+
+pub returns-clause-prepared : goal.returns-clause-prepared
+returns-clause-prepared c = prepared_stands c.what_files_hold_stands.ensures.free
+
+pub returns-clause-torn : goal.returns-clause-torn
+returns-clause-torn c = torn_stands c.what_files_hold_stands.ensures.free

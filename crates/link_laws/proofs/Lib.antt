@@ -1,6 +1,0 @@
-mod Cutting
-mod Answering
-mod Spelling
-mod Passing
-mod Stepping
-mod Worked

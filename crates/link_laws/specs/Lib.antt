@@ -1,4 +1,0 @@
-pub mod Le
-pub mod Linked
-pub mod Shown
-pub mod Stepped

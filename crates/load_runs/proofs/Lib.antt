@@ -1,4 +1,0 @@
-mod Adding
-mod Loading
-mod Table
-mod OneCount

@@ -1,5 +1,0 @@
-use Rattle.load_runs.proofs.OneCount.{loads_are_one}
-use Rattle.load_runs.proofs.laws.loads_are_one.Goals as goal
-
-pub returns : goal.returns
-returns c = loads_are_one c.phone_runs_are_one.ensures c.undisturbed_runs_show_no_fault.ensures

@@ -1,5 +1,0 @@
-pub mod FixedRows
-pub mod Lines
-pub mod Rows
-pub mod Runs
-pub mod Laws

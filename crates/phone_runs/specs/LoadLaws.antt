@@ -1,0 +1,19 @@
+-- What holds of long runs.
+use Rattle.std.specs.Prelude.{◌≡◌, true, List}
+use Rattle.card_steps.specs.Stepping.{Moment}
+use Rattle.phone_runs.specs.LoadRuns.{IsCountedRun}
+use Rattle.phone_runs.specs.Runs.{Beginning}
+use Rattle.card_laws.specs.Faults.{CountsNoFault}
+use Rattle.handset_model.specs.script_form.declared.handset.HandsetLine.{HandsetLine}
+use Rattle.phone_runs.specs.declared.counts.Counts.{Counts}
+
+-- A run over these lines, in which the device of the memory counts neither a failure nor a loss of power: this is counted in its trace.
+pub record IsCalmLoad (made : List HandsetLine) (given : Beginning) (counts : Counts) (now : Moment) : Type 0 where
+  pub run : IsCountedRun made given counts now
+  pub calm : CountsNoFault given.meter now.meter
+
+-- Lines and a card with power determine what is counted there, and what the memory holds at the end.
+abbrev pub LoadRunsAreOne : Type 0
+LoadRunsAreOne =
+    (made : List HandsetLine) (given : Beginning) (counts others : Counts) (now left : Moment) → given.first.on ≡ true
+    → IsCalmLoad made given counts now → IsCalmLoad made given others left → (counts ≡ others) × (now.held ≡ left.held)

@@ -1,0 +1,78 @@
+-- A long run of a handset, and what is counted in its trace.
+use Rattle.std.specs.Prelude.{◌≡◌, ℕ, Bool, true, false, List, [], ◌++◌, map, reverse, Option, Some, Result, Ok, Err}
+use Rattle.card_steps.specs.card_core.Parts.{CardParts}
+use Rattle.card_steps.specs.card_model.Counts.{IsCounted}
+use Rattle.card_steps.specs.card_model.States.{Machine}
+use Rattle.card_steps.specs.Runs.{ends_calm, line_of}
+use Rattle.card_steps.specs.Stepping.{Moment, moment}
+use Rattle.card_steps.specs.declared.steps.StepEnd.TheVariants.{ResetFailed}
+use Rattle.handset_model.specs.Legal.{TraceEntry, Seen, Shown}
+use Rattle.handset_model.specs.Rules.{asked}
+use Rattle.handset_model.specs.declared.known.Duty.TheVariants.{Rest}
+use Rattle.phone_runs.specs.declared.counting.MemoryFailed.{MemoryFailed}
+use Rattle.phone_runs.specs.Logs.{Event, Hears, PhoneLine, history, lines, shown, trace}
+use Rattle.phone_runs.specs.Runs.{Beginning, RunEnds, IsAt, IsPhoneRun}
+use Rattle.handset_model.specs.script_form.declared.handset.HandsetLine.{HandsetLine}
+use Rattle.handset_model.specs.script_form.declared.trace.TraceLine.{TraceLine}
+use Rattle.handset_model.specs.script_form.declared.trace.TraceLine.TheVariants.{Note}
+use Rattle.terminal_side.specs.Kept.{Kept}
+use Rattle.phone_runs.specs.Counts.{counts_of}
+use Rattle.phone_runs.specs.declared.counts.Counts.{Counts}
+use Rattle.handset_model.specs.uicc_types.declared.plans.Plan.{Plan}
+
+-- the line of a trace that shows an entry
+abbrev pub entry_line : TraceEntry → TraceLine
+entry_line (Seen item) = line_of item
+entry_line (Shown note) = Note note
+
+-- the handset hears these lines, and no faults are planned
+abbrev pub all_heard : List HandsetLine → List PhoneLine
+all_heard made = map Hears made
+
+-- This is counted in the trace of a run of a handset over these lines, on a card that stood so at first.
+pub record IsCountedRun (made : List HandsetLine) (given : Beginning) (counts : Counts) (now : Moment) : Type 0 where
+  pub log : List Event
+  pub machine : Machine
+  pub run : IsPhoneRun given.first log machine
+  pub lines_are : lines log ≡ all_heard made
+  pub rests : asked (history log) ≡ Rest
+  pub counts_are : counts ≡ counts_of (map entry_line (trace log))
+  pub stands : now.held ≡ Some machine.card.persistent
+  pub counted : IsCounted given.meter now.meter [] (shown log)
+  pub minds : ends_calm (shown log) ≡ true → now.boxes ≡ machine.card.boxes
+
+-- the memory failed in a reset that was asked for amid the lines
+pub record FailsAmid (made : List HandsetLine) (given : Beginning) (now : Moment) : Type 0 where
+  pub told : List PhoneLine
+  pub others : List HandsetLine
+  pub parted : reverse told ++ all_heard others ≡ all_heard made
+  pub ended : RunEnds given told now ResetFailed
+
+-- these lines are still to come, and the others were carried out
+pub record IsLoading (made : List HandsetLine) (given : Beginning) (others : List HandsetLine) (phone : Kept) (now : Moment) : Type 0 where
+  pub log : List Event
+  pub parted : lines log ++ all_heard others ≡ all_heard made
+  pub at : IsAt given log phone now
+  pub rests : asked (history log) ≡ Rest
+
+-- what the next line comes to, if there is one
+abbrev pub GivesServed : List HandsetLine → Beginning → List HandsetLine → Kept → Moment → Result Bool MemoryFailed → Type 0
+GivesServed made given others phone now (Ok true) = IsLoading made given others phone now
+GivesServed made given others phone now (Ok false) = (others ≡ []) × IsLoading made given others phone now
+GivesServed made given others phone now (Err failed) = FailsAmid made given now
+
+-- what all of them come to
+abbrev pub GivesAll : List HandsetLine → Beginning → Kept → Moment → Result (Unit {0}) MemoryFailed → Type 0
+GivesAll made given phone now (Ok done) = IsLoading made given [] phone now
+GivesAll made given phone now (Err failed) = FailsAmid made given now
+
+-- what the run comes to
+abbrev pub GivesLoad : List HandsetLine → Beginning → Moment → Result Counts MemoryFailed → Type 0
+GivesLoad made given now (Ok counts) = IsCountedRun made given counts now
+GivesLoad made given now (Err failed) = FailsAmid made given now
+
+-- the same, whatever was put into the sink, and whatever plan waits then
+pub record Gives (made : List HandsetLine) (given : Beginning) (parts : CardParts) (result : Result Counts MemoryFailed) : Type 0 where
+  pub taken : Option (List ℕ)
+  pub waiting : Plan
+  pub gives : GivesLoad made given (moment parts taken waiting) result

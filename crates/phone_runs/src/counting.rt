@@ -1,0 +1,120 @@
+//! The lines of a long run, and what is counted in its trace.
+ghost use Rattle.std.specs.Prelude.{◌≡◌, ◌<◌, ◌≤◌, ◌+◌, ◌*◌, ◌^◌, [], List, Some, Ok, IsErr, OnOk, length, true};
+ghost use Rattle.card_steps.specs.Ends.{moment_at};
+ghost use Rattle.phone_runs.specs.LoadLines.{made_lines};
+ghost use Rattle.phone_runs.specs.declared.load_lines.TheConstants.{LONGEST_SPAN};
+ghost use Rattle.phone_runs.specs.LoadRuns.{Gives, GivesAll, GivesServed, IsLoading};
+ghost use Rattle.phone_runs.specs.Playing.{Begins};
+ghost use Rattle.phone_runs.specs.Runs.{Beginning};
+ghost use Rattle.phone_runs.specs.Serving.{IsAtRest};
+ghost use Rattle.handset_model.specs.script_form.declared.handset.HandsetLine.{HandsetLine as AnyLine};
+ghost use Rattle.handset_model.specs.uicc_types.Counts.{Rose};
+
+use crate::load_lines::LoadLines;
+use crate::{
+    CountingSink, Counts, PhoneMove, Places, counts_are_those_of_the_lines, play_on_phone,
+    start_phone,
+};
+use card_steps::applet_trait::Applet;
+use card_steps::store_form::Store;
+use card_steps::{CardEnd, Carrier, StepEnd};
+use terminal_side::Phone;
+
+/// The memory failed in a reset.
+#[derive(Clone, Copy, Debug, PartialEq, Eq)]
+pub struct MemoryFailed;
+
+/// Starts a handset on a card that was just opened, has it carry out `count` lines that are made from the number `start`, and
+/// counts what its trace would show. It takes no memory.
+pub fn count_lines<S: Store, B: Applet>(
+    card: &mut CardEnd<S, B>,
+    start: u32,
+    count: u32,
+) -> Result<Counts, MemoryFailed>
+    ensures counts { (given : Beginning) → given.before ≡ [] → Begins given (moment_at card.old (Some []))
+        → Gives (made_lines start count) given card.new.parts result }
+    ensures kept { card.old.parts.meter.faults ≤ card.new.parts.meter.faults }
+    ensures failed { IsErr result → Rose card.old.parts.meter.faults card.new.parts.meter.faults }
+{
+    counts_are_those_of_the_lines();
+    let mut carrier = Carrier::Direct;
+    let mut places = Places::new();
+    let mut phone = Phone::new();
+    let mut sink = CountingSink::new();
+    match start_phone(card, &mut carrier, &mut phone, &mut places, &mut sink) {
+        Ok(()) => {
+            let mut lines = LoadLines::new(start, count);
+            match serve_all(
+                card,
+                &mut lines,
+                &mut carrier,
+                &mut phone,
+                &mut places,
+                &mut sink,
+            ) {
+                Ok(()) => Ok(sink.counts()),
+                Err(failed) => Err(failed),
+            }
+        }
+        Err(StepEnd::ResetFailed) => Err(MemoryFailed),
+        Err(StepEnd::SinkFailed) => unreachable!(),
+    }
+}
+
+/// Carries out all lines that are to come.
+fn serve_all<S: Store, B: Applet>(
+    card: &mut CardEnd<S, B>,
+    lines: &mut LoadLines,
+    carrier: &mut Carrier,
+    phone: &mut Phone,
+    places: &mut Places,
+    sink: &mut CountingSink,
+) -> Result<(), MemoryFailed>
+    requires rest { IsAtRest phone.old }
+    requires clock { phone.old.known.clock + length lines.old * LONGEST_SPAN < 2 ^ 63 }
+    ensures served { (made : List AnyLine) (given : Beginning)
+        → IsLoading made given lines.old phone.old (moment_at card.old (Some sink.old))
+        → GivesAll made given phone.new (moment_at card.new (Some sink.new)) result }
+    ensures kept { card.old.parts.meter.faults ≤ card.new.parts.meter.faults }
+    ensures failed { IsErr result → Rose card.old.parts.meter.faults card.new.parts.meter.faults }
+{
+    loop {
+        match serve_next(card, lines, carrier, phone, places, sink) {
+            Ok(true) => {}
+            Ok(false) => return Ok(()),
+            Err(failed) => return Err(failed),
+        }
+    }
+}
+
+/// Carries out the next line, and answers whether there was one.
+fn serve_next<S: Store, B: Applet>(
+    card: &mut CardEnd<S, B>,
+    lines: &mut LoadLines,
+    carrier: &mut Carrier,
+    phone: &mut Phone,
+    places: &mut Places,
+    sink: &mut CountingSink,
+) -> Result<bool, MemoryFailed>
+    requires rest { IsAtRest phone.old }
+    requires clock { phone.old.known.clock + length lines.old * LONGEST_SPAN < 2 ^ 63 }
+    ensures served { (made : List AnyLine) (given : Beginning)
+        → IsLoading made given lines.old phone.old (moment_at card.old (Some sink.old))
+        → GivesServed made given lines.new phone.new (moment_at card.new (Some sink.new)) result }
+    ensures rest { OnOk result (IsAtRest phone.new) }
+    ensures clock { OnOk result (phone.new.known.clock + length lines.new * LONGEST_SPAN < 2 ^ 63) }
+    ensures nearer { result ≡ Ok true → length lines.new < length lines.old }
+    ensures kept { card.old.parts.meter.faults ≤ card.new.parts.meter.faults }
+    ensures failed { IsErr result → Rose card.old.parts.meter.faults card.new.parts.meter.faults }
+{
+    match lines.next() {
+        None => Ok(false),
+        Some(line) => {
+            match play_on_phone(card, carrier, phone, PhoneMove::Hears(&line), places, sink) {
+                Ok(()) => Ok(true),
+                Err(StepEnd::ResetFailed) => Err(MemoryFailed),
+                Err(StepEnd::SinkFailed) => unreachable!(),
+            }
+        }
+    }
+}

@@ -1,4 +1,0 @@
-mod Committing
-mod Parts
-mod StillStanding
-mod Worked

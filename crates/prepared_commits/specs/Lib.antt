@@ -1,4 +1,0 @@
-pub mod Commits
-pub mod Model
-pub mod Prepared
-pub mod Ranges

@@ -1,5 +1,0 @@
-use Rattle.run_laws.proofs.Lasting.{power_lasts}
-use Rattle.run_laws.proofs.faults.power_lasts.Goals as goal
-
-pub returns : goal.returns
-returns c = power_lasts

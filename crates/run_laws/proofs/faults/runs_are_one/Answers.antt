@@ -1,5 +1,0 @@
-use Rattle.run_laws.proofs.Determined.{runs_are_one}
-use Rattle.run_laws.proofs.faults.runs_are_one.Goals as goal
-
-pub returns : goal.returns
-returns c = runs_are_one

@@ -1,5 +1,0 @@
-use Rattle.run_laws.proofs.Fitted.{stands_fits}
-use Rattle.run_laws.proofs.rereading.what_stands_fits.Goals as goal
-
-pub returns : goal.returns
-returns c = stands_fits

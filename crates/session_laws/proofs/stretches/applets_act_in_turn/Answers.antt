@@ -1,9 +1,0 @@
-use Rattle.session_laws.proofs.Acts.{command_acts}
-use Rattle.session_laws.proofs.Turning.{turn_tells}
-use Rattle.session_laws.proofs.stretches.applets_act_in_turn.Goals as goal
-
-pub returns-clause-commands : goal.returns-clause-commands
-returns-clause-commands c = command_acts
-
-pub returns-clause-turns : goal.returns-clause-turns
-returns-clause-turns c = turn_tells

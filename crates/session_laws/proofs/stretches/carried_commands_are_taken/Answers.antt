@@ -1,5 +1,0 @@
-use Rattle.session_laws.proofs.Carrying.{carried_taken}
-use Rattle.session_laws.proofs.stretches.carried_commands_are_taken.Goals as goal
-
-pub returns : goal.returns
-returns c = carried_taken

@@ -1,5 +1,0 @@
-use Rattle.session_laws.proofs.Held.{others_leave}
-use Rattle.session_laws.proofs.stretches.unanswered_commands_stay.Goals as goal
-
-pub returns : goal.returns
-returns c = others_leave c.cards_go_on.ensures.answers

@@ -1,2 +1,0 @@
-pub mod FreeTimers
-pub mod WorkedTimers

@@ -1,8 +1,0 @@
-use Rattle.toolkit_laws.proofs.Stepping.{HasLaws}
-use Rattle.toolkit_laws.proofs.EventLaws.{nothing_lost}
-use Rattle.toolkit_laws.proofs.events.no_event_is_lost.Goals as goal
-
-pub returns : goal.returns
-returns c =
-    let laws : HasLaws = record { any = c.lengths_of_commands.ensures.any_number; short = c.lengths_of_commands.ensures.short; proper = c.commands_are_proper.ensures } in
-    nothing_lost laws

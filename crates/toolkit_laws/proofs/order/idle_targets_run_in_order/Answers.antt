@@ -1,5 +1,0 @@
-use Rattle.toolkit_laws.proofs.Begins.{told_begin, triggered_begin, before_driving}
-use Rattle.toolkit_laws.proofs.order.idle_targets_run_in_order.Goals as goal
-
-pub returns : goal.returns
-returns c = record { by_envelope = triggered_begin; by_card = told_begin; before_driving = before_driving }

@@ -1,5 +1,0 @@
-use Rattle.toolkit_laws.proofs.Ordered.{order_is_exact}
-use Rattle.toolkit_laws.proofs.order.triggers_are_in_order.Goals as goal
-
-pub returns : goal.returns
-returns c = order_is_exact

@@ -1,0 +1,5 @@
+use Rattle.toolkit_model.proofs.Inserted.{installations_accepted}
+use Rattle.toolkit_model.proofs.installing.installations_are_accepted.Goals as goal
+
+pub returns : goal.returns
+returns c = installations_accepted

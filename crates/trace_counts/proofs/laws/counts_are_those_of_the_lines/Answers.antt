@@ -1,5 +1,0 @@
-use Rattle.trace_counts.proofs.CountLemmas.{counts_are_those}
-use Rattle.trace_counts.proofs.laws.counts_are_those_of_the_lines.Goals as goal
-
-pub returns : goal.returns
-returns c = counts_are_those

@@ -1,4 +1,0 @@
-pub mod Counts
-pub mod Walks
-pub mod Laws
-pub mod Lines
