@@ -87,6 +87,10 @@ pub fn run(x: u8) -> u8
         ("use Rattle.card_model.specs.Runs.{IsRun, armed as set}",
          [("IsRun", "card_model", "Runs", "IsRun", False), ("set", "card_model", "Runs", "armed", False)]),
         ("pub use Rattle.card_layout.specs.Used.{HasNode}", [("HasNode", "card_layout", "Used", "HasNode", True)]),
+        ("use Rattle.file_model.specs.card_layout.Memory.{Memory as Held}", [("Held", "card_layout", "Memory", "Memory", False)]),
+        ("ghost use Rattle.file_model.specs.card_layout.declared.entries.Loaded.{Loaded};",
+         [("Loaded", "card_layout", "declared", "Loaded", False)]),
+        ("pub use Rattle.card_layout.specs as card_layout", []),
         ("    ghost use Rattle.uicc_types.specs.declared.plans.TheConstants.Plan.{NONE};",
          [("NONE", "uicc_types", "declared", "NONE", False)]),
         ("ghost use Rattle.uicc_types.specs.declared.runs.Step.TheVariants as step;", []),
@@ -123,7 +127,16 @@ pub fn run(x: u8) -> u8
         (("card_layout", "Persistent", "Pin"), ("crates/card_model/specs/Answers.antt", "with_pins", "")),
         (("uicc_run", "Playing", "Reaches"), ("crates/uicc_run/specs/Playing.antt", "BreaksSo", "")),
         (("card_layout", "Used", "HasNode"), ("crates/card_memory/src/entries.rt", "node_of", "there")),
+        (("byte_streams", "Lines", "LineList"), ("crates/phone_runs/specs/Lines.antt", "AreServed", "")),
     ]
+
+    # a crate, and one that it passes on, or does not
+    PASSED_ON = [("file_model", "card_layout", True), ("file_model", "uicc_types", True), ("file_model", "file_model", False),
+                 ("card_layout", "file_model", False), ("uicc_types", "uicc_types", False), ("uicc_program", "uicc_run", False)]
+
+    def test_passed_on(self):
+        for crate, below, is_passed_on in self.PASSED_ON:
+            self.assertEqual(below in sources.passed_on(crate), is_passed_on, (crate, below))
 
     def test_citations(self):
         cited = sources.citations()
@@ -140,10 +153,10 @@ class Told(unittest.TestCase):
     ]
     # the words, the status, and a part of what is printed
     RUNS = [
-        (["run_laws"], 0, "tells_tries"),
-        (["crates/run_laws/", "--word", "63CX"], 0, "crates/run_laws/specs/Guesses.antt:"),
-        (["--word", "tells_tries", "--cited-by"], 0, "cited by crates/run_laws/specs/Guesses.antt: is_guess"),
-        (["run_laws", "--word", "no such word"], 1, "nothing is found"),
+        (["card_laws"], 0, "tells_tries"),
+        (["crates/card_laws/", "--word", "63CX"], 0, "crates/card_laws/specs/Guesses.antt:"),
+        (["--word", "tells_tries", "--cited-by"], 0, "cited by crates/card_laws/specs/Guesses.antt: is_guess"),
+        (["card_laws", "--word", "no such word"], 1, "nothing is found"),
         (["none"], 2, "there is no crate none"),
         ([], 2, "name a crate"),
     ]

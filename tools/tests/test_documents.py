@@ -129,9 +129,9 @@ class Names(unittest.TestCase):
     # a name, the crate whose README names it (none: another page), and the part that is unknown
     NAMES = [
         ("IsRun", None, None), ("IsRin", None, "IsRin"), ("uicc_run::run", None, None), ("uicc_run::rum", None, "rum"),
-        ("card_model", None, None), ("guesses_are_bounded", "run_laws", None), ("guesses_are_bounded", "uicc_types", "guesses_are_bounded"),
-        ("IsRun", "run_laws", None), ("IsRun", "uicc_types", "IsRun"), ("room", "uicc_types", None), ("HEX", None, None),
-        ("00A4", None, None), ("a b", None, None), ("LineReader::next()", None, None), ("no_line", None, None),
+        ("card_model", None, None), ("guesses_are_bounded", "card_laws", None), ("guesses_are_bounded", "uicc_types", "guesses_are_bounded"),
+        ("IsRun", "card_laws", None), ("Store", "page_store", None), ("IsRun", "uicc_types", "IsRun"), ("room", "uicc_types", None),
+        ("HEX", None, None), ("00A4", None, None), ("a b", None, None), ("LineReader::next()", None, None), ("no_line", None, None),
     ]
     # a file, the page that names it, and whether it is there
     FILES = [
@@ -180,7 +180,7 @@ class Trials(unittest.TestCase):
         ("`tools/lint [--phone | --open] SCRIPT..` `tools/lint --x`", [":1: tools/lint knows no --x"]),
         ("[a](none.md)\n[b](#there)\n[c](#not-there)\n# There", [":1: the link none.md", ":3: the link #not-there"]),
         ("[a](https://example.org)", []),
-        ("| `timer_table`: `Timers`, `lib` | 0 |\n| together | 0 |", [":1: 0 lines are told, and", ":2: 0 lines are told, and"]),
+        ("| `toolkit_model`: `Timers`, `lib` | 0 |\n| together | 0 |", [":1: 0 lines are told, and", ":2: 0 lines are told, and"]),
     ]
     # how many lines a page has, and whether that is its length
     LENGTHS = [("crates/uicc_types/README.md", 4, False), ("crates/uicc_types/README.md", 5, True), ("README.md", 221, False),

@@ -37,8 +37,9 @@ class Declared:
     inside: str = ""
 
 
+@functools.cache
 def crates(text=None):
-    """Each crate with the libraries that it stands on, in the order of crates.txt."""
+    """Each crate with the libraries that its row names, in the order of crates.txt."""
     if text is None:
         with open(os.path.join(process.TOP, "crates.txt"), encoding="utf-8") as lines:
             text = lines.read()
@@ -154,7 +155,8 @@ def definitions():
 # what a file cites
 
 def used(lines):
-    """What the `use` lines of a file say: the name that stands in the file, the crate, the module and the name there."""
+    """What the `use` lines of a file say: the name that stands in the file, the crate, the module and the name there. A crate that passes
+    on another one may stand before it: `Rattle.file_model.specs.card_layout.Memory` is the module `Memory` of `card_layout`."""
     for line in lines:
         found = USE.match(line)
         if not found:
@@ -162,11 +164,14 @@ def used(lines):
         parts = found.group(2).split(".")
         if len(parts) < 2 or parts[1] != "specs":
             continue
-        home = "declared" if parts[2:3] == ["declared"] else ".".join(parts[2:])
+        crate, inside = parts[0], parts[2:]
+        if inside and inside[0] in crates():
+            crate, inside = inside[0], inside[1:]
+        home = "declared" if inside[:1] == ["declared"] else ".".join(inside)
         for item in (found.group(3) or "").split(", "):
             if item:
                 name, _, alias = item.partition(" as ")
-                yield alias or name, parts[0], home, name, found.group(1) == "pub "
+                yield alias or name, crate, home, name, found.group(1) == "pub "
 
 
 def handed_on():
@@ -174,6 +179,15 @@ def handed_on():
     return {(crate, module_of(path), alias): (origin, home, name)
             for crate in crates() for path in files_below(crate, "specs", ".antt")
             for alias, origin, home, name, public in used(lines_of(path)) if public}
+
+
+@functools.cache
+def passed_on(crate):
+    """The crates below it that a crate passes on to those above: `pub use Rattle.card_layout.specs as card_layout`."""
+    path = f"crates/{crate}/specs/Lib.antt"
+    lines = lines_of(path) if os.path.exists(os.path.join(process.TOP, path)) else ()
+    uses = [found for line in lines if (found := USE.match(line)) and found.group(1) == "pub "]
+    return {name for found in uses if (name := found.group(4) or found.group(2).split(".")[-1]) in crates()}
 
 
 def origin_of(key, handing):
