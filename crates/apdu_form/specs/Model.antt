@@ -55,3 +55,10 @@ unfoldable pub command_in : List ℕ → Option Apdu
 command_in (class ∷ ins ∷ p1 ∷ p2 ∷ fields) =
     option_map (λ field. record { class = class; ins = ins; p1 = p1; p2 = p2; body = field.0; expected = field.1 }) (fields_in fields)
 command_in _ = None
+
+-- ---- the data of an answer
+
+-- Le bounds the data of an answer; without Le all of them are answered (5.1)
+abbrev pub cut_to : Option ℕ → List ℕ → List ℕ
+cut_to None body = body
+cut_to (Some expected) body = take expected body

@@ -136,22 +136,10 @@ module _ (rows : List Row) (items whole : List Item) (from : ℕ) (row : Row) (l
       let next = next_items rows from row low is ∙ ap (λ b. cond b (item_of (registration_of from row) ∷ items_from (from + 1) (drop (from + 1) rows)) (items_from (from + 1) (drop (from + 1) rows))) shows in
       append_assoc items (item_of (registration_of from row) ∷ []) (items_from (from + 1) (drop (from + 1) rows)) ∙ ap (λ (l : List Item). items ++ l) (sym next) ∙ so_far
 
--- Items are the menu where those that are left are those of the rows that are left.
+-- Items that don't go on with the item of a row that is shown are not the menu.
 module _ (Whole : Type 0) (rows : List Row) (rest : List Item) (from : ℕ) (row : Row) (low : from + 1 ≤ length rows) (is : row ≡ get_or rows from row) (so_far : Whole ↔ (rest ≡ items_from from (drop from rows))) where
   next_shown : shows_item row ≡ true → items_from from (drop from rows) ≡ item_of (registration_of from row) ∷ items_from (from + 1) (drop (from + 1) rows)
   next_shown shows = next_items rows from row low is ∙ ap (λ b. cond b (item_of (registration_of from row) ∷ items_from (from + 1) (drop (from + 1) rows)) (items_from (from + 1) (drop (from + 1) rows))) shows
-
-  next_hidden : shows_item row ≡ false → items_from from (drop from rows) ≡ items_from (from + 1) (drop (from + 1) rows)
-  next_hidden hides = next_items rows from row low is ∙ ap (λ b. cond b (item_of (registration_of from row) ∷ items_from (from + 1) (drop (from + 1) rows)) (items_from (from + 1) (drop (from + 1) rows))) hides
-
-  pub after_shown : (others : List Item) → shows_item row ≡ true → rest ≡ item_of (registration_of from row) ∷ others → Whole ↔ (others ≡ items_from (from + 1) (drop (from + 1) rows))
-  after_shown others shows first = (
-    (λ whole. ap (λ (l : List Item). drop 1 l) (sym first ∙ so_far.0 whole ∙ next_shown shows)),
-    (λ same. so_far.1 (first ∙ ap (λ (l : List Item). item_of (registration_of from row) ∷ l) same ∙ sym (next_shown shows))),
-  )
-
-  pub after_hidden : shows_item row ≡ false → Whole ↔ (rest ≡ items_from (from + 1) (drop (from + 1) rows))
-  after_hidden hides = ((λ whole. so_far.0 whole ∙ next_hidden hides), (λ same. so_far.1 (same ∙ sym (next_hidden hides))))
 
   pub not_whole : shows_item row ≡ true → ((others : List Item) → rest ≢ item_of (registration_of from row) ∷ others) → Whole → ⊥
   not_whole shows none whole = none (items_from (from + 1) (drop (from + 1) rows)) (so_far.0 whole ∙ next_shown shows)

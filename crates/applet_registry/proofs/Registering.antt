@@ -14,7 +14,8 @@ use Rattle.toolkit_model.specs.card_layout.Events.{bit_of}
 use Rattle.toolkit_model.specs.card_layout.Sections.{is_code, sorted_codes}
 use Rattle.toolkit_model.specs.Order.{is_for, in_order, trigger_order, targets}
 use Rattle.toolkit_model.specs.Registry.{is_on, row_on, is_registered, with_code, without_row}
-use Rattle.toolkit_model.specs.Steps.{AreRows, apart_of}
+use Rattle.toolkit_model.specs.Steps.{AreRows}
+use Rattle.toolkit_model.proofs.StepsLemmas.{apart_of}
 use Rattle.applet_registry.proofs.Ordering.{taken_first, taken_second, is_other}
 use Rattle.applet_registry.proofs.ChangingTargets.{shelf_of, all_others_stay, recoded, same_order, same_shelf, same_code, targets_kept}
 use Rattle.applet_registry.proofs.Standing.{AreKnown, no_targets}

@@ -2,7 +2,7 @@
 use Rattle.std.specs.Prelude.{◌≡◌, ◌<◌, false, ℕ, ◌==◌, not, ◌&&◌, Bool, Result, Ok, Err}
 use Rattle.toolkit_model.specs.card_layout.declared.entries.Row.{Row}
 use Rattle.toolkit_model.specs.card_layout.declared.entries.Loaded.{Loaded}
-use Rattle.toolkit_model.specs.card_layout.Checks.{has_row_text}
+pub use Rattle.toolkit_model.specs.card_layout.Checks.{shows_item}
 use Rattle.toolkit_model.specs.card_layout.Persistent.{Registration}
 use Rattle.toolkit_model.specs.card_layout.Sections.{needs_wide, is_call_control}
 use Rattle.toolkit_model.specs.card_layout.States.{registration_of, rows_of}
@@ -16,10 +16,6 @@ answers_calls row = is_call_control (registration_of 0 row)
 -- an entry that is used, of another shelf, and is to answer it
 abbrev pub answers_beside : ℕ → ℕ → Row → Bool
 answers_beside shelf other row = row.used && (not (other == shelf) && answers_calls row)
-
--- an entry that is used and has an item in the menu
-abbrev pub shows_item : Row → Bool
-shows_item row = row.used && has_row_text row
 
 -- a row that may stand on this shelf beside the others: nothing is against it, and a sequence number is left
 pub record IsAdmitted (loaded : Loaded) (shelf : ℕ) (row : Row) : Type 0 where

@@ -12,7 +12,8 @@ use Rattle.bip_channels.specs.declared.commands.BipCommand.{BipCommand}
 use Rattle.bip_channels.specs.declared.commands.BipCommand.TheVariants.{OpenChannel, CloseChannel, ReceiveBytes, SendBytes, ChannelStatus}
 use Rattle.bip_channels.specs.Rules.{is_available}
 use Rattle.bip_channels.specs.Reading.{bip_of}
-use Rattle.bip_channels.specs.Replies.{status_object, performed, protocol_error, opened, or_none, misread, result_object, response}
+use Rattle.bip_channels.specs.Replies.{status_object, performed, protocol_error, opened, or_none, misread, response}
+use Rattle.toolkit_commands.specs.Responses.{result_object}
 use Rattle.bip_channels.specs.Channels.{BipChannel, new_channel, Outcome, if_open, unless_dropped, closing, sending, receiving, Carried, carried, opening_at, at_place, statuses, carried_out, answering, answered, Noted, if_linked, echoing, dropping, Reported, reported, noted_at, on_number, echoed, cut}
 use Rattle.bip_channels.specs.Kept.{Held, closed, link_of, kept, IsSoundIfOpen, IsKept, by_link, is_closed, is_closed_link, if_up, kept_closing, kept_sending, kept_receiving, kept_opening_at, kept_statuses, kept_carried, if_up_noted, kept_echoing, kept_dropping, kept_echoed, kept_cut}
 use Rattle.bip_channels.proofs.Places.{each_set}

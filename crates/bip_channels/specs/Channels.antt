@@ -10,7 +10,8 @@ use Rattle.bip_channels.specs.declared.codes.TheConstants.{NONE_AVAILABLE, LINK_
 use Rattle.bip_channels.specs.declared.commands.BipCommand.{BipCommand}
 use Rattle.bip_channels.specs.declared.commands.BipCommand.TheVariants.{OpenChannel, CloseChannel, ReceiveBytes, SendBytes, ChannelStatus}
 use Rattle.bip_channels.specs.Reading.{bip_of}
-use Rattle.bip_channels.specs.Replies.{status_object, count_object, result_object, performed, protocol_error, unable, opened, taken_bytes, or_none, misread, response, bytes_available, link_lost}
+use Rattle.bip_channels.specs.Replies.{status_object, count_object, performed, protocol_error, unable, opened, taken_bytes, or_none, misread, response, bytes_available, link_lost}
+use Rattle.toolkit_commands.specs.Responses.{result_object}
 use Rattle.bip_channels.specs.Rules.{is_available, fits, moved, received, is_short}
 
 -- An open channel: the size of its buffer, the bytes that are kept for later, all bytes that were sent, how many of these

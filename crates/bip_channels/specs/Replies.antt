@@ -4,6 +4,7 @@ use Rattle.std.specs.Int.{to_be_bytes, w16}
 use Rattle.toolkit_commands.specs.comprehension_tlv.Model.{Object}
 use Rattle.toolkit_commands.specs.comprehension_tlv.Writing.{tagged, spellings}
 use Rattle.toolkit_commands.specs.Table.{required}
+use Rattle.toolkit_commands.specs.Responses.{result_object}
 use Rattle.toolkit_commands.specs.declared.commands.Details.{Details}
 use Rattle.toolkit_commands.specs.declared.devices.TheConstants.{CARD, TERMINAL}
 use Rattle.toolkit_commands.specs.declared.faults.ProactiveFault.{ProactiveFault}
@@ -34,9 +35,6 @@ abbrev pub count_object : ℕ → Object
 count_object count = required CHANNEL_DATA_LENGTH (in_a_byte count ∷ [])
 
 -- ---- results (8.12), and the objects behind them
-
-abbrev pub result_object : ℕ → Object
-result_object general = required RESULT (general ∷ [])
 
 abbrev pub performed : List Object → List Object
 performed objects = result_object PERFORMED ∷ objects

@@ -2,7 +2,8 @@
 ghost use Rattle.std.specs.Prelude.{◌≡◌, ◌+◌, ◌≤◌, ◌<◌, ◌++◌, ◌∷◌, [], length};
 ghost use Rattle.toolkit_commands.specs.comprehension_tlv.Writing.{spellings, tagged};
 ghost use Rattle.toolkit_commands.specs.Table.{required};
-ghost use Rattle.bip_channels.specs.Replies.{heading, from_terminal, status_object, count_object, result_object, protocol_error, unable, opened, misread, no_channel, bytes_available, link_lost};
+ghost use Rattle.toolkit_commands.specs.Responses.{result_object};
+ghost use Rattle.bip_channels.specs.Replies.{heading, from_terminal, status_object, count_object, protocol_error, unable, opened, misread, no_channel, bytes_available, link_lost};
 
 use crate::codes::{
     BEARER_DESCRIPTION, BUFFER_SIZE, CHANNEL_DATA, CHANNEL_DATA_LENGTH, CHANNEL_STATUS,

@@ -5,7 +5,8 @@ ghost use Rattle.toolkit_commands.specs.Reading.{details_found};
 ghost use Rattle.bip_channels.specs.Commands.{IsProper};
 ghost use Rattle.bip_channels.specs.Channels.{BipChannel, none_open, answered, echoed, cut};
 ghost use Rattle.bip_channels.specs.Kept.{IsKept, is_closed, listed, kept_statuses, kept_opening, kept_carried, kept_echoed, kept_cut};
-ghost use Rattle.bip_channels.specs.Replies.{performed, or_none, response, result_object, misread};
+ghost use Rattle.bip_channels.specs.Replies.{performed, or_none, response, misread};
+ghost use Rattle.toolkit_commands.specs.Responses.{result_object};
 
 use crate::channels::{Channel, Link, MOST_SIZE};
 use crate::codes::{NONE_AVAILABLE, SIZE_NOT_AVAILABLE};

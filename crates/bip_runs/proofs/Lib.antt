@@ -1,4 +1,5 @@
 pub mod ScriptLaws
 mod Lines
 mod Putting
+pub mod Readings
 mod Worked

@@ -6,12 +6,12 @@ use Rattle.bip_runs.specs.Scripts.{IsFirstBadBip, IsGoodBip}
 use Rattle.bip_runs.specs.Serving.{EndsServing, IsBadAt, IsUnstarted}
 use Rattle.bip_runs.specs.declared.effects.Place.{Place}
 use Rattle.bip_runs.specs.declared.effects.Place.TheVariants.{Before, Behind}
+use Rattle.bip_runs.proofs.Readings.{Only, Says, Agree, only_first, only_last, only_says, says_itself}
 use Rattle.script_form.specs.byte_streams.Lines.{LineList}
 use Rattle.card_sections.specs.LineLaws.{Say-from_read}
 use Rattle.card_sections.specs.Script.{Each}
 use Rattle.card_sections.specs.declared.behind.PlayEnd.TheVariants.{Finished, BadLine}
 use Rattle.script_form.specs.Forms.{IsLine}
-use Rattle.script_form.specs.Reads.{IsOnly}
 use Rattle.script_form.specs.declared.lines.ScriptLine.{ScriptLine}
 
 -- ---- places
@@ -38,29 +38,6 @@ moved_by-more from (first ∷ said) line place to is one =
     ap (option_and_then (λ next. moved_by next (said ++ line ∷ []))) parts.first_is ∙ moved_by-more parts.middle said line place to parts.then_is one
 
 -- ---- two readings of a text
-
-abbrev Only : List ℕ → ScriptLine → Type 0
-Only bytes line = IsOnly (IsLine bytes) line
-
--- what is read is said
-abbrev Says : (List ℕ → ScriptLine → Type 0) → Type 0
-Says R = (bytes : List ℕ) (line : ScriptLine) → R bytes line → IsLine bytes line
-
--- what two readings of a line have in common
-abbrev Agree : (List ℕ → ScriptLine → Type 0) → (List ℕ → ScriptLine → Type 0) → Type 0
-Agree R S = (bytes : List ℕ) (line other : ScriptLine) → R bytes line → S bytes other → line ≡ other
-
-only_first : Agree Only IsLine
-only_first bytes line other only says = sym (only.only other says)
-
-only_last : Agree IsLine Only
-only_last bytes line other says only = only.only line says
-
-only_says : Says Only
-only_says bytes line only = only.so
-
-says_itself : Says IsLine
-says_itself bytes line says = says
 
 -- a line that is bad here leads nowhere
 leads_nowhere : (S : List ℕ → ScriptLine → Type 0) → Says S → (next more : LineList) (bytes : List ℕ) (line : ScriptLine) (others : List ScriptLine) (place to : Place) → next ≡ Some bytes ∷ more → IsBadAt place next → S bytes line → moved_by place (line ∷ others) ≡ Some to → ⊥

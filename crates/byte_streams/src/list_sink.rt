@@ -1,9 +1,9 @@
 //! A sink into memory.
-ghost use Rattle.std.specs.Prelude.{◌≡◌, ◌≤◌, ◌<◌, ◌+◌, ◌↔◌, ◌⊎◌, [], Some, length, if◌then◌else◌, is_err, IfOk, IsErr, OnOk, OnErr};
+ghost use Rattle.std.specs.Prelude.{◌≡◌, ◌≤◌, ◌<◌, ◌+◌, ◌↔◌, ◌⊎◌, [], Some, length, is_err, IfOk, IsErr, OnOk, OnErr};
 ghost use Rattle.std.specs.Io.KnownBytes.{append_known};
 ghost use Rattle.uicc_types.specs.Counts.{CountsFailure};
 ghost use Rattle.uicc_types.specs.Told.{Becomes};
-ghost use Rattle.byte_streams.specs.Planned.{FailsNext, count_after};
+ghost use Rattle.byte_streams.specs.Planned.{FailsNext, no_calls, with_call};
 ghost use Rattle.byte_streams.specs.Streams.{TakesFront};
 
 use crate::planned::is_planned;
@@ -29,7 +29,7 @@ impl Model for ListSink {
 
     ghost Value = { Collected };
 
-    ghost view = { λ s. record { taken = s.taken.items; room = s.room; fails = s.fails.items; calls = s.calls; faults = s.faults } };
+    ghost view = { λ s. record { taken = s.taken.items; room = s.room; calls = record { failing = s.fails.items; made = s.calls; failed = s.faults } } };
 
     ghost invariant = { λ s. (vec_len s.taken ≤ s.room) × (s.room ≤ vec_capacity s.taken) };
 }
@@ -38,7 +38,7 @@ impl ListSink {
     /// A sink for at most `room` bytes whose calls with the numbers in `fails` fail.
     pub fn new(alloc: Global, room: usize, fails: &[u32]) -> Result<ListSink, OutOfMemory>
         ensures { IfOk result
-            (λ sink. sink ≡ record { taken = []; room = room; fails = fails.now; calls = 0; faults = 0 }) }
+            (λ sink. sink ≡ record { taken = []; room = room; calls = no_calls fails.now }) }
     {
         let Ok(taken) = Vec::with_capacity(alloc, room) else {
             return Err(OutOfMemory);
@@ -65,28 +65,26 @@ impl ListSink {
 
     /// How often it was given a part.
     pub fn calls(&self) -> u64
-        ensures { result ≡ self.now.calls }
+        ensures { result ≡ self.now.calls.made }
     {
         self.calls
     }
 }
 
 impl Sink for ListSink {
-    ghost faults = { λ sink. sink.faults };
+    ghost faults = { λ sink. sink.calls.failed };
 
     ghost taken = { λ sink. Some sink.taken };
 
     fn put(&mut self, part: &[u8]) -> Result<(), Failed>
         ensures ok { OnOk result (Some self.new.taken ≡ append_known (Some self.old.taken) part.now) }
         ensures err { OnErr result (Becomes (TakesFront part.now) (Some self.old.taken) (Some self.new.taken)) }
-        ensures cause { CountsFailure self.old.faults self.new.faults (IsErr result) }
-        ensures fails { IsErr result ↔ (FailsNext self.old.fails self.old.calls
+        ensures cause { CountsFailure self.old.calls.failed self.new.calls.failed (IsErr result) }
+        ensures fails { IsErr result ↔ (FailsNext self.old.calls
             ⊎ (self.old.room < length self.old.taken + length part.now)) }
         ensures none_taken { OnErr result (self.new.taken ≡ self.old.taken) }
-        ensures calls { self.new.calls ≡ count_after self.old.calls }
-        ensures same_fails { self.new.fails ≡ self.old.fails }
+        ensures calls { self.new.calls ≡ with_call (is_err result) self.old.calls }
         ensures same_room { self.new.room ≡ self.old.room }
-        ensures faults { self.new.faults ≡ (if is_err result then count_after self.old.faults else self.old.faults) }
     {
         self.calls = self.calls.saturating_add(1);
         let fits = part.len() <= self.room - self.taken.len();

@@ -1,8 +1,8 @@
 //! A source over bytes in memory.
-ghost use Rattle.std.specs.Prelude.{◌≡◌, ◌≤◌, ◌<◌, ◌↔◌, [], Some, length, take, min, if◌then◌else◌, is_err, IfOk, IsErr, OnErr};
+ghost use Rattle.std.specs.Prelude.{◌≡◌, ◌≤◌, ◌<◌, ◌↔◌, [], Some, length, take, min, is_err, IfOk, IsErr, OnErr};
 ghost use Rattle.std.specs.Io.KnownBytes.{prepend_known};
 ghost use Rattle.uicc_types.specs.Counts.{CountsFailure};
-ghost use Rattle.byte_streams.specs.Planned.{FailsNext, count_after};
+ghost use Rattle.byte_streams.specs.Planned.{FailsNext, no_calls, with_call};
 
 use crate::planned::is_planned;
 use crate::{Failed, Source};
@@ -23,13 +23,13 @@ impl<'a> Model for SliceSource<'a> {
 
     ghost Value = { Supply };
 
-    ghost view = { λ s. record { left = s.left.now; fails = s.fails.now; calls = s.calls; faults = s.faults } };
+    ghost view = { λ s. record { left = s.left.now; calls = record { failing = s.fails.now; made = s.calls; failed = s.faults } } };
 }
 
 impl<'a> SliceSource<'a> {
     /// A source of `text` whose calls with the numbers in `fails` fail.
     pub fn new(text: &'a [u8], fails: &'a [u32]) -> SliceSource<'a>
-        ensures { result ≡ record { left = text.now; fails = fails.now; calls = 0; faults = 0 } }
+        ensures { result ≡ record { left = text.now; calls = no_calls fails.now } }
     {
         SliceSource {
             left: text,
@@ -41,14 +41,14 @@ impl<'a> SliceSource<'a> {
 
     /// How often it was asked.
     pub fn calls(&self) -> u64
-        ensures { result ≡ self.now.calls }
+        ensures { result ≡ self.now.calls.made }
     {
         self.calls
     }
 }
 
 impl Source for SliceSource<'_> {
-    ghost faults = { λ source. source.faults };
+    ghost faults = { λ source. source.calls.failed };
 
     ghost left = { λ source. Some source.left };
 
@@ -58,12 +58,10 @@ impl Source for SliceSource<'_> {
             (Some self.new.left)) }
         ensures end { IfOk result (λ count. 0 < length out.old → (count ≡ 0) ↔ (self.old.left ≡ [])) }
         ensures err { OnErr result (Some self.new.left ≡ Some self.old.left) }
-        ensures cause { CountsFailure self.old.faults self.new.faults (IsErr result) }
-        ensures fails { IsErr result ↔ FailsNext self.old.fails self.old.calls }
+        ensures cause { CountsFailure self.old.calls.failed self.new.calls.failed (IsErr result) }
+        ensures fails { IsErr result ↔ FailsNext self.old.calls }
         ensures amount { IfOk result (λ count. count ≡ min (length out.old) (length self.old.left)) }
-        ensures calls { self.new.calls ≡ count_after self.old.calls }
-        ensures same_fails { self.new.fails ≡ self.old.fails }
-        ensures faults { self.new.faults ≡ (if is_err result then count_after self.old.faults else self.old.faults) }
+        ensures calls { self.new.calls ≡ with_call (is_err result) self.old.calls }
     {
         self.calls = self.calls.saturating_add(1);
         if is_planned(self.fails, self.calls) {

@@ -31,7 +31,7 @@ impl<I: Read> Source for InputSource<I> {
     ghost use Rattle.std.specs.Prelude.{◌≡◌, ◌≤◌, None, length, if◌then◌else◌, is_err, IfOk, IsErr};
     ghost use Rattle.std.specs.Io.KnownBytes.{ReadConsumes};
     ghost use Rattle.uicc_types.specs.Counts.{CountsFailure};
-    ghost use Rattle.byte_streams.specs.Planned.{count_after};
+    ghost use Rattle.uicc_types.specs.Counts.{raised};
     ghost use Rattle.byte_streams.specs.Standard.{reader_of, source_faults};
 
     ghost faults = { source_faults };
@@ -45,7 +45,7 @@ impl<I: Read> Source for InputSource<I> {
         // It hands on what the reader gave, and no other bytes.
         ensures bytes { ReadConsumes (I.remaining (reader_of self.old))
             (I.remaining (reader_of self.new)) result out.new }
-        ensures faults { source_faults self.new ≡ (if is_err result then count_after
+        ensures faults { source_faults self.new ≡ (if is_err result then raised
             (source_faults self.old) else source_faults self.old) }
     {
         match self.input.read(out) {
@@ -83,7 +83,7 @@ impl<O: Write> Sink for OutputSink<O> {
     ghost use Rattle.std.specs.Prelude.{◌≡◌, None, if◌then◌else◌, is_err, IsErr, OnOk};
     ghost use Rattle.std.specs.Io.KnownBytes.{Appends};
     ghost use Rattle.uicc_types.specs.Counts.{CountsFailure};
-    ghost use Rattle.byte_streams.specs.Planned.{count_after};
+    ghost use Rattle.uicc_types.specs.Counts.{raised};
     ghost use Rattle.byte_streams.specs.Standard.{sink_faults, writer_of};
 
     ghost faults = { sink_faults };
@@ -96,7 +96,7 @@ impl<O: Write> Sink for OutputSink<O> {
         // The writer was given the whole part.
         ensures written { OnOk result (Appends (O.contents (writer_of self.old))
             (O.contents (writer_of self.new)) part.now) }
-        ensures faults { sink_faults self.new ≡ (if is_err result then count_after
+        ensures faults { sink_faults self.new ≡ (if is_err result then raised
             (sink_faults self.old) else sink_faults self.old) }
     {
         match write_out(&mut self.output, part) {

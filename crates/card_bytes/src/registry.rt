@@ -2,7 +2,7 @@
 ghost use Rattle.std.specs.Prelude.{◌≡◌, count_by, IsSome, IsTrue};
 ghost use Rattle.file_model.specs.card_layout.Sections.{has_text};
 ghost use Rattle.file_model.specs.card_layout.States.{rows_of};
-ghost use Rattle.card_bytes.specs.Registered.{shows_item};
+ghost use Rattle.applet_registry.specs.Rows.{shows_item};
 ghost use Rattle.toolkit_model.specs.Registry.{row_on};
 
 use crate::spelled::show_items;

@@ -32,7 +32,8 @@ use Rattle.card_laws.specs.Moving.{HasOrder, LeavesRows, command_by}
 use Rattle.toolkit_model.specs.Steps.{Command}
 use Rattle.proactive_handler.specs.Counting.{Counts}
 use Rattle.session_commands.specs.Carrying.{HasToolkit, IsToolkitCutShort, Carries, state_at}
-use Rattle.session_commands.specs.Cards.{AnswersSo, answers_so, holds_so, counts_so, at_most_so}
+use Rattle.session_commands.specs.Cards.{AnswersSo}
+use Rattle.session_commands.proofs.CardsLemmas.{answers_so, holds_so, counts_so, at_most_so}
 use Rattle.proactive_handler.specs.card_memory.Performing.{CommitsAtMost}
 use Rattle.card_core.specs.AnyStore.{AnswersAs}
 use Rattle.card_core.specs.Cards.{memory_of, held_by, card_with, card_of}

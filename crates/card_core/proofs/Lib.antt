@@ -31,5 +31,5 @@ mod Comes
 mod Keeping
 mod Restored
 mod Taking
-mod Named
+pub mod Named
 mod Levels

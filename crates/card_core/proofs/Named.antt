@@ -7,12 +7,12 @@ use Rattle.file_model.specs.uicc_types.declared.answers.Answer.{Answer}
 use Rattle.file_model.specs.uicc_types.declared.answers.StatusWord.{StatusWord}
 use Rattle.file_model.specs.uicc_types.declared.answers.TheConstants.StatusWord.{MEMORY_PROBLEM, WRONG_LENGTH}
 use Rattle.file_model.specs.store_form.declared.store.StoreFault.{StoreFault}
-use Rattle.file_model.specs.apdu_form.Model.{Apdu, command_in}
+use Rattle.file_model.specs.apdu_form.Model.{Apdu, command_in, cut_to}
 use Rattle.file_model.specs.card_layout.Persistent.{Persistent}
 use Rattle.file_model.specs.Chains.{given, and_given}
 use Rattle.file_model.specs.declared.selections.Selection.{Selection}
 use Rattle.toolkit_model.specs.Commands.{pending}
-use Rattle.card_model.specs.Answers.{Answered, settled, refused as refused_with, carried_out, carried_with, is_status, cut_to, cut_answer, tried, answer, told_pending}
+use Rattle.card_model.specs.Answers.{Answered, settled, refused as refused_with, carried_out, carried_with, is_status, cut_answer, tried, answer, told_pending}
 use Rattle.card_model.specs.Instructions.{instruction_tried, is_known}
 use Rattle.card_model.specs.Runs.{IsLeft}
 use Rattle.card_model.specs.States.{CardState}
@@ -122,7 +122,7 @@ refused_acts done parts out taken status named body is = record {
 
 -- ---- Le cuts
 
-cut_nothing : (expected : Option ℕ) → cut_to expected [] ≡ []
+pub cut_nothing : (expected : Option ℕ) → cut_to expected [] ≡ []
 cut_nothing None = refl
 cut_nothing (Some zero) = refl
 cut_nothing (Some (suc n)) = refl

@@ -23,7 +23,8 @@ use Rattle.card_model.specs.Toolkit.{ToolkitOutcome, toolkit_of, coming_to, stat
 use Rattle.card_model.specs.declared.instructions.ToolkitCommand.TheVariants.{TerminalProfile}
 use Rattle.card_laws.specs.ToolkitLaws.{TellingLeavesRows}
 use Rattle.card_laws.specs.Moving.{HaveFixed, HasOrder}
-use Rattle.session_commands.specs.Cards.{AnswersSo, answers_so, holds_so, counts_so, at_most_so}
+use Rattle.session_commands.specs.Cards.{AnswersSo}
+use Rattle.session_commands.proofs.CardsLemmas.{answers_so, holds_so, counts_so, at_most_so}
 use Rattle.proactive_handler.specs.Steps.{Scene}
 use Rattle.session_commands.specs.Carrying.{HasToolkit, HasCome, IsToolkitCutShort, IsAnswered, Carries, Comes}
 use Rattle.session_commands.specs.Deleting.{LeavesUnregistered}

@@ -22,7 +22,8 @@ use Rattle.file_model.specs.Chains.{and_given}
 use Rattle.proactive_handler.specs.applet_registry.Rows.{allowed}
 use Rattle.toolkit_model.specs.Registry.{given, faulty_if, without_row, installed_row, deleted_row}
 use Rattle.card_model.specs.States.{CardState, row_on}
-use Rattle.card_model.specs.Chained.{Any, past}
+use Rattle.card_model.specs.Chained.{Any}
+use Rattle.card_model.proofs.ChainedLemmas.{past}
 use Rattle.card_model.specs.Toolkit.{ToolkitOutcome, applet_deleted, row_or_status, kind_in}
 use Rattle.card_model.specs.declared.instructions.Instruction.TheVariants.{Toolkit}
 use Rattle.card_model.specs.declared.instructions.ToolkitCommand.{ToolkitCommand}

@@ -5,7 +5,8 @@ use Rattle.file_model.specs.uicc_types.declared.answers.StatusWord.{StatusWord}
 use Rattle.file_model.specs.apdu_form.Model.{Apdu}
 use Rattle.file_model.specs.declared.rules.Verified.{Verified}
 use Rattle.file_model.specs.card_layout.Persistent.{Persistent}
-use Rattle.card_model.specs.Chained.{Any, past, past_given, past_result}
+use Rattle.card_model.specs.Chained.{Any}
+use Rattle.card_model.proofs.ChainedLemmas.{past, past_given, past_result}
 use Rattle.file_making.specs.Commands.{tree_outcome}
 use Rattle.file_making.specs.Creating.{created, creating}
 use Rattle.file_making.specs.Deleting.{deleted, deleting}

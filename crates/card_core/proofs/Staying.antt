@@ -24,7 +24,8 @@ use Rattle.file_model.specs.declared.rules.Verified.{Verified}
 use Rattle.toolkit_model.specs.applet_trait.Minds.{AppletState}
 use Rattle.file_model.specs.Outcomes.{FileOutcome, settled_file}
 use Rattle.file_model.specs.Selecting.{status_told, telling}
-use Rattle.card_model.specs.Chained.{Any, past, past_given}
+use Rattle.card_model.specs.Chained.{Any}
+use Rattle.card_model.proofs.ChainedLemmas.{past, past_given}
 use Rattle.toolkit_model.specs.Running.{mind_on}
 use Rattle.session_commands.specs.Deleting.{LeavesUnregistered}
 use Rattle.card_core.specs.AnyStore.{BeginsAnew, command_named, IsRefusedWith, MovesFiles, MovesStatus, MovesToolkit, MovesItsOwn, ActsAnew}

@@ -14,7 +14,8 @@ use Rattle.file_model.specs.declared.selections.Selection.{Selection}
 use Rattle.file_model.specs.Outcomes.{FileOutcome, settled_file}
 use Rattle.file_model.specs.Selecting.{file_selected, selecting, status_told, telling}
 use Rattle.card_model.specs.Answers.{Answered, settled, carried_out, carried_with, answer, managed, selection_on}
-use Rattle.card_model.specs.Chained.{Any, past, past_given}
+use Rattle.card_model.specs.Chained.{Any}
+use Rattle.card_model.proofs.ChainedLemmas.{past, past_given}
 use Rattle.card_model.specs.Channels.{ChannelOutcome, channel_of}
 use Rattle.card_model.specs.States.{CardState}
 use Rattle.card_model.specs.declared.instructions.Instruction.TheVariants.{File, ManageChannel}

@@ -28,7 +28,8 @@ use Rattle.file_model.specs.declared.commands.PinCommand.{PinCommand}
 use Rattle.card_model.specs.file_making.declared.commands.TreeCommand.{TreeCommand}
 use Rattle.file_model.specs.Commands.{file_outcome, pin_outcome}
 use Rattle.card_model.specs.file_making.Commands.{tree_outcome}
-use Rattle.card_model.specs.Cases.{cut_so, command_is}
+use Rattle.card_model.specs.Cases.{cut_so}
+use Rattle.card_model.proofs.CasesLemmas.{command_is}
 use Rattle.card_model.proofs.Lawful.{channel_low, selected_is, managed_lawful}
 use Rattle.card_model.specs.Laws.{statuses}
 use Rattle.card_laws.specs.Announcing.{TellsWhatWaits}

@@ -20,7 +20,8 @@ use Rattle.file_model.proofs.GuardLaws.{key_found, less_key, less_tries}
 use Rattle.card_model.specs.Answers.{Answered, cut_answer, refused, with_pins, on_pins, told_pending, with_pending}
 use Rattle.card_model.specs.States.{CardState}
 use Rattle.card_model.proofs.Lawful.{last_with_pins}
-use Rattle.card_laws.specs.Guesses.{presents_by, is_trial, if_command, presents, tells_tries, tries_of, IsOneLess, value_by, is_right_by, presents_right, is_marked}
+use Rattle.card_laws.specs.Guesses.{presents_by, is_trial, if_command, presents, tells_tries, tries_of, IsOneLess, value_by, is_right_by, presents_right}
+use Rattle.file_model.specs.Conditions.{is_satisfied}
 use Rattle.card_laws.proofs.Files.{HaveSamePins}
 use Rattle.card_laws.proofs.Marks.{mark_gone, mark_other}
 use Rattle.card_laws.proofs.Pins.{itself_found, other_found, tries_found, KeepsOrFills, kept_or_filled}
@@ -60,7 +61,7 @@ pub record IsGuarded (card : CardState) (bytes : List ℕ) (answered : Answered)
   pub steps : EachStep EachKeepsOrFills card.persistent answered.commits
   pub guess : (guard : Guard) (key : ℕ) → presents guard key bytes ≡ true → tells_tries answered.status ≡ true → IsOneLess guard key answered.status card.persistent.pins answered.state.persistent.pins
   pub wrong : (key : ℕ) (pin : Pin) → pin_found card.persistent.pins key ≡ Some pin → presents_right key pin (step.Apdu bytes) ≡ false → All (λ (state : Persistent). StaysWorn key pin state.pins) answered.commits
-  pub mark : (key : ℕ) (pin : Pin) → pin_found card.persistent.pins key ≡ Some pin → presents_right key pin (step.Apdu bytes) ≡ false → is_marked key card.verified ≡ false → is_marked key answered.state.verified ≡ false
+  pub mark : (key : ℕ) (pin : Pin) → pin_found card.persistent.pins key ≡ Some pin → presents_right key pin (step.Apdu bytes) ≡ false → is_satisfied key card.verified ≡ false → is_satisfied key answered.state.verified ≡ false
 
 -- a refusal of a command that presents a value tells no tries
 abbrev pub NoGuess : List ℕ → StatusWord → Type 0
@@ -106,7 +107,7 @@ quiet_guarded card bytes answered none ends same marks = record {
   steps = each_kept card.persistent card.persistent answered.commits refl same;
   guess = λ guard key is told. absurd (false≢true (sym (none guard key) ∙ is));
   wrong = λ key pin found not_right. all_worn card.persistent answered.commits key pin found same;
-  mark = λ key pin found not_right unmarked. ap (is_marked key) marks ∙ unmarked;
+  mark = λ key pin found not_right unmarked. ap (is_satisfied key) marks ∙ unmarked;
 }
 
 -- ---- a PIN command
@@ -153,17 +154,17 @@ module _ (pins : List Pin) (verified : Verified) (key : ℕ) (pin : Pin) (found 
   presented_wrong false is = All-cons (StaysWorn key pin) after [] (stays key pin taken after taken_found (less_worn guard pin)) (All-nil (StaysWorn key pin))
 
   -- the mark is gone then
-  presented_gone : (is_right : Bool) → is_right ≡ false → is_marked key (presented pins verified is_right taken (tries_by guard pin - 1) restored marks).verified ≡ false
+  presented_gone : (is_right : Bool) → is_right ≡ false → is_satisfied key (presented pins verified is_right taken (tries_by guard pin - 1) restored marks).verified ≡ false
   unfolding presented
   presented_gone true is = absurd (false≢true (sym is))
-  presented_gone false is = ap (λ (k : ℕ). is_marked key (marked verified k false)) (less_key guard pin ∙ pin_key) ∙ mark_gone key verified
+  presented_gone false is = ap (λ (k : ℕ). is_satisfied key (marked verified k false)) (less_key guard pin ∙ pin_key) ∙ mark_gone key verified
 
   -- and that of another key is as it was
-  presented_unmarked : (is_right : Bool) (other : ℕ) → (key ≡ other → ⊥) → (marks ≡ verified) ⊎ (marks ≡ marked verified pin.key true) → is_marked other verified ≡ false
-      → is_marked other (presented pins verified is_right taken (tries_by guard pin - 1) restored marks).verified ≡ false
+  presented_unmarked : (is_right : Bool) (other : ℕ) → (key ≡ other → ⊥) → (marks ≡ verified) ⊎ (marks ≡ marked verified pin.key true) → is_satisfied other verified ≡ false
+      → is_satisfied other (presented pins verified is_right taken (tries_by guard pin - 1) restored marks).verified ≡ false
   unfolding presented
-  presented_unmarked true other differs (inl same) unmarked = ap (is_marked other) same ∙ unmarked
-  presented_unmarked true other differs (inr set) unmarked = ap (is_marked other) set ∙ mark_other other pin.key true verified (λ is. differs (sym pin_key ∙ is)) ∙ unmarked
+  presented_unmarked true other differs (inl same) unmarked = ap (is_satisfied other) same ∙ unmarked
+  presented_unmarked true other differs (inr set) unmarked = ap (is_satisfied other) set ∙ mark_other other pin.key true verified (λ is. differs (sym pin_key ∙ is)) ∙ unmarked
   presented_unmarked false other differs is unmarked = mark_other other taken.key false verified (λ is. differs (sym (less_key guard pin ∙ pin_key) ∙ is)) ∙ unmarked
 
   -- the PINs of other keys stay, whatever comes of the value
@@ -205,7 +206,7 @@ module _ (card : CardState) (bytes : List ℕ) (apdu : Apdu) (read : command_in 
     steps = each_step card.persistent card.persistent.pins outcome.passed (subst (EachStep GivesNoTries card.persistent.pins) (sym is.nothing) tt);
     guess = λ other key shown told. absurd (false≢true (sym (trial_shown other key shown).2 ∙ is.none));
     wrong = λ key pin found not_right. all_each card.persistent key pin outcome.passed (subst (All (StaysWorn key pin)) (sym is.nothing) (All-nil (StaysWorn key pin)));
-    mark = λ key pin found not_right unmarked. ap (is_marked key) is.same ∙ unmarked;
+    mark = λ key pin found not_right unmarked. ap (is_satisfied key) is.same ∙ unmarked;
   }
 
   not_right : (key : ℕ) (pin : Pin) → key ≡ apdu.p2 → has_no_data apdu ≡ false → presents_right key pin (step.Apdu bytes) ≡ false → bytes_eq (value_presented apdu) (value_by guard pin) ≡ false
@@ -229,10 +230,10 @@ module _ (card : CardState) (bytes : List ℕ) (apdu : Apdu) (read : command_in 
       (cases_eq apdu.p2 key))
 
   tried_mark : (outcome : PinOutcome) (is : IsTrialOf guard card.persistent.pins card.verified apdu outcome) (key : ℕ) (pin : Pin) → pin_found card.persistent.pins key ≡ Some pin
-      → presents_right key pin (step.Apdu bytes) ≡ false → is_marked key card.verified ≡ false → is_marked key outcome.verified ≡ false
+      → presents_right key pin (step.Apdu bytes) ≡ false → is_satisfied key card.verified ≡ false → is_satisfied key outcome.verified ≡ false
   tried_mark outcome is key pin found wrong unmarked =
-      subst (λ (o : PinOutcome). is_marked key o.verified ≡ false) (sym is.is) (
-      ⊎_elim {C = is_marked key (presented card.persistent.pins card.verified (bytes_eq (value_presented apdu) (value_by guard is.pin)) (with_one_less guard is.pin) (tries_by guard is.pin - 1) is.restored is.marks).verified ≡ false}
+      subst (λ (o : PinOutcome). is_satisfied key o.verified ≡ false) (sym is.is) (
+      ⊎_elim {C = is_satisfied key (presented card.persistent.pins card.verified (bytes_eq (value_presented apdu) (value_by guard is.pin)) (with_one_less guard is.pin) (tries_by guard is.pin - 1) is.restored is.marks).verified ≡ false}
       (λ same.
       let one : is.pin ≡ pin = same_Some is.pin pin (sym is.found ∙ ap (pin_found card.persistent.pins) same ∙ found) in
       presented_gone card.persistent.pins card.verified key is.pin (ap (pin_found card.persistent.pins) (sym same) ∙ is.found) guard is.some is.restored is.marks is.named

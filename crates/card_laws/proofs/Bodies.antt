@@ -6,7 +6,7 @@ use Rattle.std.proofs.lemmas.List.{take_all}
 use Rattle.update_journal.specs.uicc_types.Told.{AreBytes}
 use Rattle.update_journal.specs.uicc_types.declared.answers.StatusWord.{StatusWord}
 use Rattle.update_journal.specs.uicc_types.declared.answers.TheConstants.StatusWord.{DONE}
-use Rattle.file_model.specs.apdu_form.Model.{Apdu}
+use Rattle.file_model.specs.apdu_form.Model.{Apdu, cut_to}
 use Rattle.file_model.specs.card_layout.Persistent.{Registration}
 use Rattle.file_model.specs.Chains.{and_given}
 use Rattle.file_model.specs.Chained.{unless_so, given_so}
@@ -18,9 +18,11 @@ use Rattle.toolkit_model.specs.Sessions.{Outstanding}
 use Rattle.toolkit_model.specs.Commands.{if_fetched, unfetched, unanswered, reply_to, bytes_of, as_fetched, fetched}
 use Rattle.toolkit_model.specs.Registry.{installed_row}
 use Rattle.toolkit_model.specs.Steps.{Command, Profile, Status, Report, Fetch, Respond, Delete, Wake}
-use Rattle.card_model.specs.Answers.{Answered, settled, told_pending, with_pending, on_toolkit, toolkit_tried, carried_out, carried_with, cut_to, cut_answer, tried, answer_of, is_carried_out}
-use Rattle.card_model.specs.Chained.{Any, past}
-use Rattle.card_model.specs.Cases.{cut_result, all_so}
+use Rattle.card_model.specs.Answers.{Answered, settled, told_pending, with_pending, on_toolkit, toolkit_tried, carried_out, carried_with, cut_answer, tried, answer_of, is_carried_out}
+use Rattle.card_model.specs.Chained.{Any}
+use Rattle.card_model.proofs.ChainedLemmas.{past}
+use Rattle.card_model.specs.Cases.{cut_result}
+use Rattle.card_model.proofs.CasesLemmas.{all_so}
 use Rattle.card_model.specs.Instructions.{has_toolkit}
 use Rattle.card_model.specs.States.{CardState, IsGood}
 use Rattle.card_model.specs.Toolkit.{ToolkitOutcome, toolkit_of, coming_to, is_length_of, kind_in, command_fetched, toolkit_outcome}

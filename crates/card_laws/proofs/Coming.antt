@@ -28,7 +28,8 @@ use Rattle.toolkit_model.specs.Installing.{InstallationsAreAccepted}
 use Rattle.toolkit_model.specs.Sound.{HasApplet, InstalledRowsAreSound}
 use Rattle.toolkit_model.proofs.Inserted.{with_all}
 use Rattle.toolkit_model.proofs.Others.{rows_without}
-use Rattle.card_model.specs.Chained.{Any, past}
+use Rattle.card_model.specs.Chained.{Any}
+use Rattle.card_model.proofs.ChainedLemmas.{past}
 use Rattle.card_model.specs.States.{CardState, IsOfSevenKinds, AreOfSevenKinds}
 use Rattle.card_model.specs.Toolkit.{has_shelf, ToolkitOutcome, toolkit_of, coming_to, with_rows, states_passed, row_or_status, kind_in, profile_taken, command_fetched, response_taken, envelope_taken, applet_installed, applet_deleted, toolkit_outcome}
 use Rattle.card_model.specs.declared.instructions.ToolkitCommand.{ToolkitCommand}

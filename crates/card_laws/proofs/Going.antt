@@ -5,7 +5,7 @@ use Rattle.std.specs.Option.{option_to_list}
 use Rattle.std.proofs.lemmas.List.Elements.{All-nil, All-cons, All-map, All-contains}
 use Rattle.update_journal.specs.uicc_types.declared.answers.StatusWord.{StatusWord}
 use Rattle.update_journal.specs.uicc_types.declared.answers.TheConstants.StatusWord.{DONE}
-use Rattle.file_model.specs.apdu_form.Model.{Apdu}
+use Rattle.file_model.specs.apdu_form.Model.{Apdu, cut_to}
 use Rattle.file_model.specs.card_layout.Persistent.{Persistent, Registration}
 use Rattle.file_model.specs.Chains.{and_given}
 use Rattle.file_model.specs.Outcomes.{FileOutcome, PinOutcome, last_of}
@@ -21,12 +21,15 @@ use Rattle.toolkit_model.specs.Steps.{HaveMinds, Command, Status, Wake, IsAccept
 use Rattle.toolkit_model.specs.Installing.{InstallationsAreAccepted}
 use Rattle.toolkit_model.specs.OrderlySessions.{IsInOrder}
 use Rattle.toolkit_model.specs.Sound.{InstalledRowsAreSound}
-use Rattle.card_model.specs.Answers.{Answered, refused, settled, on_files, on_pins, on_channels, on_trees, on_toolkit, with_pins, file_tried, pin_tried, managed, tree_tried, toolkit_tried, selection_on, seen_by, then_polled, carried_out, carried_with, cut_to, tried, answer_of, passed_of}
-use Rattle.card_model.specs.Chained.{Any, past, past_given}
+use Rattle.card_model.specs.Answers.{Answered, refused, settled, on_files, on_pins, on_channels, on_trees, on_toolkit, with_pins, file_tried, pin_tried, managed, tree_tried, toolkit_tried, selection_on, seen_by, then_polled, carried_out, carried_with, tried, answer_of, passed_of}
+use Rattle.card_model.specs.Chained.{Any}
+use Rattle.card_model.proofs.ChainedLemmas.{past, past_given}
 use Rattle.card_model.specs.Channels.{ChannelOutcome, channel_of}
 use Rattle.card_model.specs.Instructions.{has_toolkit}
-use Rattle.card_model.specs.OtherFiles.{HaveOtherFiles, file_leaves, tree_leaves}
-use Rattle.card_model.specs.Cases.{cut_result, all_so}
+use Rattle.card_model.specs.OtherFiles.{HaveOtherFiles}
+use Rattle.card_model.proofs.OtherFilesLemmas.{file_leaves, tree_leaves}
+use Rattle.card_model.specs.Cases.{cut_result}
+use Rattle.card_model.proofs.CasesLemmas.{all_so}
 use Rattle.card_model.specs.Runs.{boxes_left}
 use Rattle.card_model.specs.States.{CardState, IsGood, woken}
 use Rattle.card_model.specs.Toolkit.{ToolkitOutcome, toolkit_of, coming_to, with_rows, states_passed}

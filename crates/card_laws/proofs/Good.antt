@@ -21,7 +21,8 @@ use Rattle.toolkit_model.specs.Steps.{Command, Status, moved}
 use Rattle.toolkit_model.specs.Installing.{InstallationsAreAccepted}
 use Rattle.toolkit_model.specs.Sound.{AreSoundRows, HasApplet, IsGoodToolkit, LeavesGood, StepsLeaveGood, InstalledRowsAreSound}
 use Rattle.card_model.specs.Answers.{Answered, settled, on_toolkit, toolkit_tried, then_polled, is_status, event_told, carried_out, carried_with, seen_by, answer_of, passed_of}
-use Rattle.card_model.specs.Cases.{cut_result, all_so, command_is}
+use Rattle.card_model.specs.Cases.{cut_result}
+use Rattle.card_model.proofs.CasesLemmas.{all_so, command_is}
 use Rattle.card_model.specs.Chained.{Any}
 use Rattle.card_model.specs.Instructions.{has_toolkit, is_of_tree}
 use Rattle.card_model.specs.Laws.{key_named, IsStatusOf, IsLawfulAnswer, CommandsAreLawful}

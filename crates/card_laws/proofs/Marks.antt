@@ -6,7 +6,7 @@ use Rattle.update_journal.specs.uicc_types.declared.keys.TheConstants.{PIN_1, PI
 use Rattle.file_model.specs.declared.rules.Verified.{Verified}
 use Rattle.file_model.specs.Pins.{marked}
 use Rattle.card_model.specs.States.{nothing_verified}
-use Rattle.card_laws.specs.Guesses.{is_marked}
+use Rattle.file_model.specs.Conditions.{is_satisfied}
 
 gone_by : (a b c x y z : Bool) → (if a then (if a then false else x) else if b then (if b then false else y) else if c then (if c then false else z) else false) ≡ false
 gone_by true b c x y z = refl
@@ -15,7 +15,7 @@ gone_by false false true x y z = refl
 gone_by false false false x y z = refl
 
 -- the mark that was taken away is gone
-pub mark_gone : (key : ℕ) (verified : Verified) → is_marked key (marked verified key false) ≡ false
+pub mark_gone : (key : ℕ) (verified : Verified) → is_satisfied key (marked verified key false) ≡ false
 mark_gone key verified = gone_by (key == PIN_1) (key == PIN_2) (key == ADM_1) verified.pin1 verified.pin2 verified.adm1
 
 none_by : (a b c : Bool) → (if a then false else if b then false else if c then false else false) ≡ false
@@ -25,7 +25,7 @@ none_by false false true = refl
 none_by false false false = refl
 
 -- nothing is verified after a reset
-pub nothing_marked : (key : ℕ) → is_marked key nothing_verified ≡ false
+pub nothing_marked : (key : ℕ) → is_satisfied key nothing_verified ≡ false
 nothing_marked key = none_by (key == PIN_1) (key == PIN_2) (key == ADM_1)
 
 other_by : (truth a b c p q r x y z : Bool) → (a ≡ true → p ≡ false) → (b ≡ true → q ≡ false) → (c ≡ true → r ≡ false)
@@ -36,7 +36,7 @@ other_by truth false false true p q r x y z first second third = subst (λ (s : 
 other_by truth false false false p q r x y z first second third = refl
 
 -- the mark of another key changes none of this key's
-pub mark_other : (key other : ℕ) (truth : Bool) (verified : Verified) → other ≢ key → is_marked key (marked verified other truth) ≡ is_marked key verified
+pub mark_other : (key other : ℕ) (truth : Bool) (verified : Verified) → other ≢ key → is_satisfied key (marked verified other truth) ≡ is_satisfied key verified
 mark_other key other truth verified differs =
     other_by truth (key == PIN_1) (key == PIN_2) (key == ADM_1) (other == PIN_1) (other == PIN_2) (other == ADM_1) verified.pin1 verified.pin2 verified.adm1
     (λ same. ne_eqb other PIN_1 (λ is. differs (is ∙ sym (eqb-true key PIN_1 same)))) (λ same. ne_eqb other PIN_2 (λ is. differs (is ∙ sym (eqb-true key PIN_2 same)))) (λ same. ne_eqb other ADM_1 (λ is. differs (is ∙ sym (eqb-true key ADM_1 same))))

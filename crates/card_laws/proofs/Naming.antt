@@ -19,7 +19,8 @@ use Rattle.toolkit_model.specs.Commands.{unfetched, unanswered, reply_to, bytes_
 use Rattle.toolkit_model.specs.Registry.{installed_row}
 use Rattle.toolkit_model.specs.Steps.{Command, Profile, Status, Report, Fetch, Respond, Delete}
 use Rattle.card_model.specs.Answers.{Answered, settled, told_pending, with_pending, toolkit_tried, carried_out, carried_with, answer_of, is_carried_out}
-use Rattle.card_model.specs.Cases.{cut_result, command_is}
+use Rattle.card_model.specs.Cases.{cut_result}
+use Rattle.card_model.proofs.CasesLemmas.{command_is}
 use Rattle.card_model.specs.Channels.{family}
 use Rattle.card_model.specs.Instructions.{has_toolkit}
 use Rattle.card_model.specs.Naming.{IsNamed, named_so}

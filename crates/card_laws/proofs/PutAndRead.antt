@@ -12,7 +12,7 @@ use Rattle.file_model.specs.card_layout.Persistent.{Bytes, Contents, File, Files
 use Rattle.file_model.specs.card_layout.Soundness.{AreContents, IsSound, IsSoundFile}
 use Rattle.file_model.specs.card_layout.StateLaws.{file_with_number}
 use Rattle.file_model.specs.Binaries.{binary_file, binary_read, binary_updated, has_binary_parameters, offset_of, read_from, reading, short_in_p1, update_in, updating}
-use Rattle.file_model.specs.Chained.{past_given}
+use Rattle.file_model.proofs.ChainedLemmas.{past_given}
 use Rattle.file_model.specs.Chains.{and_given, given, refused_if}
 use Rattle.file_model.specs.Files.{descriptor_in, descriptors_in, record_count}
 use Rattle.file_model.specs.Holdings.{bytes_held, bytes_in, contents_if, held_by, records_held, records_in}

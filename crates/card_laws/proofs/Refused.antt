@@ -14,11 +14,11 @@ use Rattle.card_model.specs.file_making.Deleting.{deleted}
 use Rattle.card_model.specs.file_making.Resizing.{resized}
 use Rattle.file_model.specs.Access.{may}
 use Rattle.file_model.specs.Binaries.{binary_file, has_binary_parameters, binary_read, binary_updated, read_from, short_in_p1, update_in}
-use Rattle.file_model.specs.Chained.{past_given as past_result}
+use Rattle.file_model.proofs.ChainedLemmas.{past_given as past_result}
 use Rattle.file_model.specs.Chains.{and_given, given, refused_if}
 use Rattle.file_model.specs.Files.{descriptor_in, descriptors_in, file_found, is_wanted}
-use Rattle.file_model.specs.LifeCycles.{file_activated, file_deactivated, has_no_parameters, life_changed, life_file, life_in}
-use Rattle.file_model.specs.Outcomes.{addressed, has_data, has_le_alone, has_no_data, is_deactivated}
+use Rattle.file_model.specs.LifeCycles.{file_activated, file_deactivated, life_changed, life_file, life_in}
+use Rattle.file_model.specs.Outcomes.{has_no_parameters, addressed, has_data, has_le_alone, has_no_data, is_deactivated}
 use Rattle.file_model.specs.Records.{has_increase_length, has_increase_parameters, has_record_parameters, has_search_parameters, increase_in, increased, may_be_increased, may_be_updated, number_to_read, number_to_search, number_to_update, record_file, record_read, record_read_from, record_update_in, record_updated, search_in, searched, short_in_p2, short_to_increase, sum_to_write}
 use Rattle.file_model.specs.Selecting.{file_selected, status_told}
 use Rattle.file_model.specs.Selections.{current_ef}

@@ -7,7 +7,8 @@ use Rattle.file_model.specs.declared.rules.Verified.{Verified}
 use Rattle.file_model.specs.apdu_form.Model.{Apdu}
 use Rattle.file_model.specs.card_layout.Persistent.{Registration}
 use Rattle.file_model.specs.Chains.{refused_if, and_given}
-use Rattle.file_model.specs.Chained.{unless_so, given_so, and_given_so}
+use Rattle.file_model.specs.Chained.{unless_so, given_so}
+use Rattle.file_model.proofs.ChainedLemmas.{and_given_so}
 use Rattle.toolkit_model.specs.declared.faults.RowFault.{RowFault}
 use Rattle.toolkit_model.specs.declared.faults.RowFault.TheVariants.{BadData, NoBox, Narrow, Taken, MenuFull, Spent, NoRow, NotIdle}
 use Rattle.toolkit_model.specs.Sessions.{Outstanding, SessionState}

@@ -18,7 +18,8 @@ use Rattle.card_model.specs.file_making.Outcomes.{TreeOutcome}
 use Rattle.toolkit_model.specs.Commands.{polled}
 use Rattle.toolkit_model.specs.Passing.{passed_rows}
 use Rattle.card_model.specs.Answers.{Answered, settled, file_tried, pin_tried, managed, tree_tried, toolkit_tried, selection_on, seen_by, carried_out, on_files, then_polled, carried_with, tried, answer_of, passed}
-use Rattle.card_model.specs.Cases.{cut_so, of_tried}
+use Rattle.card_model.specs.Cases.{cut_so}
+use Rattle.card_model.proofs.CasesLemmas.{of_tried}
 use Rattle.card_model.specs.Channels.{ChannelOutcome, family, channel_of}
 use Rattle.card_model.specs.Instructions.{has_toolkit}
 use Rattle.card_model.specs.States.{CardState}
@@ -31,7 +32,8 @@ use Rattle.card_laws.proofs.Answers.{IsGuarded, NoGuess, PresentsNone, PresentsB
 use Rattle.card_model.specs.Chained.{Any}
 use Rattle.card_model.specs.Naming.{IsNamed, named_so}
 use Rattle.card_laws.proofs.Files.{HaveSamePins, same_with_files, same_with_rows, same_joined, same_last}
-use Rattle.card_model.specs.OtherFiles.{HaveOtherFiles, file_leaves, tree_leaves}
+use Rattle.card_model.specs.OtherFiles.{HaveOtherFiles}
+use Rattle.card_model.proofs.OtherFilesLemmas.{file_leaves, tree_leaves}
 use Rattle.card_model.proofs.Counted.{last_joined}
 use Rattle.card_laws.proofs.Pins.{KeepsOrFills}
 use Rattle.card_laws.proofs.Trials.{Comes, TellsNone, pin_comes}

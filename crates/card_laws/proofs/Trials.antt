@@ -15,7 +15,7 @@ use Rattle.file_model.specs.declared.commands.PinCommand.TheVariants.{Verify, Ch
 use Rattle.file_model.specs.Guards.{Guard, OfPin, OfUnblock, guard_of, tries_by, with_one_less}
 use Rattle.file_model.specs.Chained.{unless_so, given_so}
 use Rattle.card_laws.specs.Guesses.{tells_tries, value_by}
-use Rattle.card_model.specs.Chained.{either_so}
+use Rattle.card_model.proofs.ChainedLemmas.{either_so}
 
 -- a value was presented against a PIN that had a try
 pub record IsTrialOf (guard : Guard) (pins : List Pin) (verified : Verified) (apdu : Apdu) (outcome : PinOutcome) : Type 0 where

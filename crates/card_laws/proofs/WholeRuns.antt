@@ -19,7 +19,8 @@ use Rattle.card_model.specs.Runs.{IsLeft, Commands, MeetsNoPower, StepGives, IsR
 use Rattle.card_model.specs.States.{CardState, Machine, woken}
 use Rattle.card_model.proofs.Counted.{last_joined}
 use Rattle.card_laws.specs.Commits.{commits_until, command_commits, step_commits, commits_in}
-use Rattle.card_laws.specs.Guesses.{presents, presents_right, tells_tries, one_more_if, guesses, tries_of, is_marked}
+use Rattle.card_laws.specs.Guesses.{presents, presents_right, tells_tries, one_more_if, guesses, tries_of}
+use Rattle.file_model.specs.Conditions.{is_satisfied}
 use Rattle.card_laws.specs.GuessLaws.{SetsNoTries, IsGuessedAt}
 use Rattle.card_laws.proofs.Answers.{IsGuarded, IsWorn, StaysWorn, EachKeepsOrFills, same_worn}
 use Rattle.card_laws.proofs.Marks.{nothing_marked}
@@ -257,27 +258,27 @@ module _ (guarded : (card : CardState) (bytes : List ℕ) → IsGuarded card byt
   -- ---- marks
 
   command_unmarked : (key : ℕ) (pin : Pin) (old : Machine) (apdu : List ℕ) (items : List TraceItem) (new : Machine) (on : Bool) → MatchBool on (Commands old apdu items new) (MeetsNoPower old apdu items new)
-      → pin_found old.card.persistent.pins key ≡ Some pin → presents_right key pin (step.Apdu apdu) ≡ false → is_marked key old.card.verified ≡ false → is_marked key new.card.verified ≡ false
+      → pin_found old.card.persistent.pins key ≡ Some pin → presents_right key pin (step.Apdu apdu) ≡ false → is_satisfied key old.card.verified ≡ false → is_satisfied key new.card.verified ≡ false
   unfolding woken
-  command_unmarked key pin old apdu items new true (inl done) found wrong unmarked = ap (λ (m : Machine). is_marked key m.card.verified) done.moved ∙ (guarded old.card apdu).mark key pin found wrong unmarked
+  command_unmarked key pin old apdu items new true (inl done) found wrong unmarked = ap (λ (m : Machine). is_satisfied key m.card.verified) done.moved ∙ (guarded old.card apdu).mark key pin found wrong unmarked
   command_unmarked key pin old apdu items new true (inr (inl fails)) found wrong unmarked =
-      ap (λ (m : Machine). is_marked key m.card.verified) fails.moved ∙ ap (λ (c : CardState). is_marked key c.verified) fails.left.woke ∙ nothing_marked key
+      ap (λ (m : Machine). is_satisfied key m.card.verified) fails.moved ∙ ap (λ (c : CardState). is_satisfied key c.verified) fails.left.woke ∙ nothing_marked key
   command_unmarked key pin old apdu items new true (inr (inr lost)) found wrong unmarked =
-      ap (λ (m : Machine). is_marked key m.card.verified) lost.moved ∙ ap (λ (c : CardState). is_marked key c.verified) lost.left.woke ∙ nothing_marked key
-  command_unmarked key pin old apdu items new false none found wrong unmarked = ap (λ (m : Machine). is_marked key m.card.verified) none.stays ∙ unmarked
+      ap (λ (m : Machine). is_satisfied key m.card.verified) lost.moved ∙ ap (λ (c : CardState). is_satisfied key c.verified) lost.left.woke ∙ nothing_marked key
+  command_unmarked key pin old apdu items new false none found wrong unmarked = ap (λ (m : Machine). is_satisfied key m.card.verified) none.stays ∙ unmarked
 
   step_unmarked : (key : ℕ) (pin : Pin) (old : Machine) (each : Step) (items : List TraceItem) (new : Machine) → StepGives old each items new → pin_found old.card.persistent.pins key ≡ Some pin → presents_right key pin each ≡ false
-      → is_marked key old.card.verified ≡ false → is_marked key new.card.verified ≡ false
+      → is_satisfied key old.card.verified ≡ false → is_satisfied key new.card.verified ≡ false
   unfolding woken
   step_unmarked key pin old (step.Apdu apdu) items new gives found wrong unmarked = command_unmarked key pin old apdu items new old.on gives found wrong unmarked
-  step_unmarked key pin old step.Reset items new (inl restarts) found wrong unmarked = ap (λ (m : Machine). is_marked key m.card.verified) restarts.moved ∙ nothing_marked key
-  step_unmarked key pin old step.Reset items new (inr cut) found wrong unmarked = ap (λ (m : Machine). is_marked key m.card.verified) cut.moved ∙ nothing_marked key
-  step_unmarked key pin old (step.Plan plan) items new waits found wrong unmarked = ap (λ (m : Machine). is_marked key m.card.verified) waits.stays ∙ unmarked
+  step_unmarked key pin old step.Reset items new (inl restarts) found wrong unmarked = ap (λ (m : Machine). is_satisfied key m.card.verified) restarts.moved ∙ nothing_marked key
+  step_unmarked key pin old step.Reset items new (inr cut) found wrong unmarked = ap (λ (m : Machine). is_satisfied key m.card.verified) cut.moved ∙ nothing_marked key
+  step_unmarked key pin old (step.Plan plan) items new waits found wrong unmarked = ap (λ (m : Machine). is_satisfied key m.card.verified) waits.stays ∙ unmarked
 
   pub wrong_unmarked : (key : ℕ) (pin : Pin) (old new : Machine) (steps : List Step) (items : List TraceItem) → pin_found old.card.persistent.pins key ≡ Some pin → list_any (presents_right key pin) steps ≡ false
-      → is_marked key old.card.verified ≡ false → IsRun old steps items new → is_marked key new.card.verified ≡ false
+      → is_satisfied key old.card.verified ≡ false → IsRun old steps items new → is_satisfied key new.card.verified ≡ false
   unfolding woken
-  wrong_unmarked key pin old new [] items found wrong unmarked rests = ap (λ (m : Machine). is_marked key m.card.verified) rests.stays ∙ unmarked
+  wrong_unmarked key pin old new [] items found wrong unmarked rests = ap (λ (m : Machine). is_satisfied key m.card.verified) rests.stays ∙ unmarked
   wrong_unmarked key pin old new (each ∷ more) items found wrong unmarked (inl goes) =
       let both = or_false (presents_right key pin each) (list_any (presents_right key pin) more) wrong in
       let middle = some_of (IsWorn pin) (pin_found goes.middle.card.persistent.pins key) (step_worn key pin old each goes.front goes.middle goes.first found both.0) in
@@ -286,5 +287,5 @@ module _ (guarded : (card : CardState) (bytes : List ℕ) → IsGuarded card byt
       ap (λ (p : Pin). list_any (presents_right key p) more) middle.2.others ∙ rights_same key after.tries after.unblock_tries pin more ∙ both.1 in
       wrong_unmarked key after goes.middle new more goes.back middle.1 later (step_unmarked key pin old each goes.front goes.middle goes.first found both.0 unmarked) goes.rest
   wrong_unmarked key pin old new (step.Apdu apdu ∷ more) items found wrong unmarked (inr ends) = absurd ends.1
-  wrong_unmarked key pin old new (step.Reset ∷ more) items found wrong unmarked (inr ends) = ap (λ (m : Machine). is_marked key m.card.verified) ends.1.moved ∙ nothing_marked key
+  wrong_unmarked key pin old new (step.Reset ∷ more) items found wrong unmarked (inr ends) = ap (λ (m : Machine). is_satisfied key m.card.verified) ends.1.moved ∙ nothing_marked key
   wrong_unmarked key pin old new (step.Plan plan ∷ more) items found wrong unmarked (inr ends) = absurd ends.1

@@ -10,7 +10,7 @@ use Rattle.toolkit_model.specs.applet_trait.Turns.{act}
 use Rattle.toolkit_model.specs.Timers.{Owners}
 use Rattle.toolkit_model.specs.Commands.{with_profile, registering, unregistering, woken}
 use Rattle.toolkit_model.specs.Passing.{ToolkitState, ShelfTurn, Happening, Turned, Committed}
-use Rattle.toolkit_model.specs.Running.{Setting, Works, Carried, admitted, carried, kept_on, most_acts, begins_call, mind_on, with_mind}
+use Rattle.toolkit_model.specs.Running.{Setting, Works, Carried, admitted, awakened, carried, kept_on, most_acts, begins_call, mind_on, with_mind}
 use Rattle.toolkit_model.specs.Steps.{Command, Profile, Install, Delete, Wake, moved}
 use Rattle.card_model.specs.Instructions.{has_toolkit}
 use Rattle.card_model.specs.States.{CardState}
@@ -69,15 +69,11 @@ works_in point mind = record { rows = point.rows; timers = point.timers; mind = 
 abbrev pub changed_to : Point → ℕ → Works → Option OpenRun → Point
 changed_to point shelf works run = record { profile = point.profile; rows = works.rows; timers = works.timers; minds = with_mind point.minds shelf (Some works.mind); run = run }
 
--- the applet begins anew, with what its row keeps for it
-abbrev pub wakes_within : ℕ → Works → Works
-wakes_within shelf works = record works { mind = fresh works.mind.kind (kept_on works.rows shelf) }
-
 -- Once an act was carried out: where the applet is told nothing then, the run is over, as after a command that was admitted. Else it
 -- is told so and goes on; but after the last act that a run may have it begins anew, and the run is over.
 abbrev pub after_act : Point → OpenRun → Works → Option Stimulus → Bool → Point
 after_act point run works None is_last = changed_to point run.shelf works None
-after_act point run works (Some told) true = changed_to point run.shelf (wakes_within run.shelf works) None
+after_act point run works (Some told) true = changed_to point run.shelf (awakened run.shelf works) None
 after_act point run works (Some told) false = changed_to point run.shelf works (Some (record run { acts = run.acts + 1; tells = told }))
 
 -- One turn: the applet of the shelf does this act when it is told this, and what is noted as admitted is a command that is. The act

@@ -12,7 +12,8 @@ use Rattle.card_model.specs.Answers.{answer}
 use Rattle.card_model.specs.Runs.{IsRun}
 use Rattle.card_model.specs.States.{CardState, Machine, IsGood}
 use Rattle.card_laws.specs.Commits.{commits_in}
-use Rattle.card_laws.specs.Guesses.{presents, tells_tries, guesses, tries_of, IsOneLess, all_tries, presents_right, is_marked}
+use Rattle.card_laws.specs.Guesses.{presents, tells_tries, guesses, tries_of, IsOneLess, all_tries, presents_right}
+use Rattle.file_model.specs.Conditions.{is_satisfied}
 
 -- Where a value that a command presents is answered `63CX`, the guard of its key has one try less than before, and X is the number
 -- that is left.
@@ -58,8 +59,8 @@ WrongValuesAreBounded =
 abbrev pub WrongValuesVerifyNothing : Type 0
 WrongValuesVerifyNothing =
     (key : ℕ) (pin : Pin) (old new : Machine) (steps : List Step) (items : List TraceItem)
-    → pin_found old.card.persistent.pins key ≡ Some pin → list_any (presents_right key pin) steps ≡ false → is_marked key old.card.verified ≡ false → IsRun old steps items new
-    → is_marked key new.card.verified ≡ false
+    → pin_found old.card.persistent.pins key ≡ Some pin → list_any (presents_right key pin) steps ≡ false → is_satisfied key old.card.verified ≡ false → IsRun old steps items new
+    → is_satisfied key new.card.verified ≡ false
 
 -- a good card has at most three tries for a PIN, and ten for an UNBLOCK PIN
 abbrev pub TriesAreFew : Type 0

@@ -2,13 +2,11 @@
 use Rattle.std.specs.Prelude.{◌≡◌, ℕ, ◌+◌, ◌/◌, ◌==◌, ◌||◌, ◌&&◌, Bool, false, if◌then◌else◌, List, [], ◌∷◌, Option, Some, None}
 use Rattle.std.specs.Str.{bytes_eq}
 use Rattle.update_journal.specs.uicc_types.declared.answers.StatusWord.{StatusWord}
-use Rattle.update_journal.specs.uicc_types.declared.keys.TheConstants.{PIN_1, PIN_2, ADM_1}
 use Rattle.update_journal.specs.uicc_types.declared.runs.Step.{Step}
 use Rattle.update_journal.specs.uicc_types.declared.runs.Step.TheVariants as step
 use Rattle.update_journal.specs.uicc_types.declared.runs.TraceItem.{TraceItem}
 use Rattle.update_journal.specs.uicc_types.declared.runs.TraceItem.TheVariants as item
 use Rattle.file_model.specs.apdu_form.Model.{Apdu, command_in}
-use Rattle.file_model.specs.declared.rules.Verified.{Verified}
 use Rattle.file_model.specs.card_layout.declared.sizes.TheConstants.{TRIES, UNBLOCK_TRIES}
 use Rattle.file_model.specs.card_layout.Persistent.{Pin}
 use Rattle.file_model.specs.Guards.{Guard, OfPin, OfUnblock, tries_by, TakesATry}
@@ -88,9 +86,3 @@ is_right_by guard key pin apdu = is_trial guard key apdu && bytes_eq (value_pres
 abbrev pub presents_right : ℕ → Pin → Step → Bool
 presents_right key pin (step.Apdu bytes) = if_command (λ apdu. is_right_by OfPin key pin apdu || is_right_by OfUnblock key pin apdu) (command_in bytes)
 presents_right key pin _ = false
-
--- ---- marks
-
--- the key is verified
-abbrev pub is_marked : ℕ → Verified → Bool
-is_marked key verified = if key == PIN_1 then verified.pin1 else if key == PIN_2 then verified.pin2 else if key == ADM_1 then verified.adm1 else false

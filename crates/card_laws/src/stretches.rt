@@ -27,7 +27,6 @@ pub fn events_are_noted()
     ensures follow { StretchesFollow }
 {
     cards_go_on();
-    commands_are_noted();
 }
 
 /// In each stretch of what happens to a card that runs applets: an applet is told of every answer that was accepted to a command
@@ -38,7 +37,6 @@ pub fn toolkit_laws_hold_throughout()
     ensures runs { LawsHoldThroughoutRuns }
 {
     cards_go_on();
-    commands_are_noted();
     responses_reach_who_asked();
     sessions_stay_in_order();
     toolkit_laws_hold_of_cards();
@@ -93,5 +91,4 @@ pub fn applets_act_at_each_event()
     ensures { AppletsActAtEachEvent }
 {
     cards_go_on();
-    applets_act_in_turn();
 }

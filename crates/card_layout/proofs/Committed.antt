@@ -7,7 +7,7 @@ use Rattle.std.proofs.lemmas.Bool.Decides.{nat_tests}
 use Rattle.uicc_types.specs.Patches.{patched, IsApart, get_or-patched_apart, range-patched_apart}
 use Rattle.card_layout.specs.Blank.{unused_row}
 use Rattle.card_layout.specs.Places.{pin_place, row_place, kept_place, node_place, row_count}
-use Rattle.card_layout.specs.RowPlaces.{row_place_low, row_place_high, below_32}
+use Rattle.card_layout.proofs.RowPlacesLemmas.{row_place_low, row_place_high, below_32}
 use Rattle.card_layout.specs.Decoding.{number_at, is_wide, row_bytes, kept_bytes, node_in, pin_in, row_in, row_when, node_at, pin_at, row_at}
 
 -- ---- places

@@ -17,7 +17,8 @@ use Rattle.card_layout.specs.Spelling.{node_spelled, pin_spelled, row_spelled}
 use Rattle.card_layout.specs.Decoding.{node_of, pin_of, row_of}
 use Rattle.card_layout.specs.Ranges.{HasNodeRanges, HasPinRanges, HasRowRanges}
 use Rattle.card_layout.specs.Fields.{node_fields, pin_fields, row_fields, is_among, is_beside, is_uncut, AreWholeFields, merged_node, merged_pin, merged_row, kept_anew}
-use Rattle.card_layout.specs.ReadingBack.{node_back, pin_back, row_back, row_front_back, kept_count, kept_spelled, take-padded, length-node_spelled, length-pin_spelled, length-row_spelled}
+use Rattle.card_layout.specs.ReadingBack.{length-node_spelled, length-pin_spelled, length-row_spelled}
+use Rattle.card_layout.proofs.ReadingBackLemmas.{node_back, pin_back, row_back, row_front_back, kept_count, kept_spelled, take-padded}
 
 -- ---- choices
 

@@ -17,8 +17,9 @@ use Rattle.card_layout.specs.declared.entries.Row.{Row}
 use Rattle.card_layout.specs.declared.entries.Loaded.{Loaded}
 use Rattle.card_layout.specs.Places.{pin_place, row_place, kept_place, node_place, row_count, data_place, data_end, version_of}
 use Rattle.card_layout.specs.Spelling.{node_part, pin_part, row_part, kept_part, version_part, sequence_part, node_spelled, pin_spelled, row_spelled}
-use Rattle.card_layout.specs.EntryLaws.{same_table}
-use Rattle.card_layout.specs.RowPlaces.{row_place_low, row_place_high, row_below_kept, below_32, row_above, data_end_inside}
+use Rattle.card_layout.proofs.EntryLemmas.{same_table}
+use Rattle.card_layout.specs.RowPlaces.{data_end_inside}
+use Rattle.card_layout.proofs.RowPlacesLemmas.{row_place_low, row_place_high, row_below_kept, below_32, row_above}
 use Rattle.card_layout.specs.Decoding.{bytes_at, is_wide, node_bytes, pin_bytes, row_bytes, kept_bytes, node_in, pin_in, row_of, row_in, row_when, node_at, pin_at, row_at, bytes_apart, rows_when, table_of}
 use Rattle.card_layout.specs.Ranges.{HasNodeRanges, HasPinRanges, HasRowRanges}
 use Rattle.card_layout.specs.Fields.{node_fields, pin_fields, row_fields, AreWholeFields, merged_node, merged_pin, merged_row, kept_anew, reread_node, reread_pin, reread_row, node_there, pin_there, shown_node, shown_pin, shown_row}

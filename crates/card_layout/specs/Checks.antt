@@ -44,6 +44,10 @@ is_call_control row = bit_at row.events call_control_bit == 1
 abbrev pub has_row_text : Row → Bool
 has_row_text row = not (length row.text == 0)
 
+-- an entry that is used and has an item in the menu
+abbrev pub shows_item : Row → Bool
+shows_item row = row.used && has_row_text row
+
 -- a known kind, a priority, a sequence number that was given out, known events
 abbrev pub has_known_numbers : ℕ → Row → Bool
 has_known_numbers next row = nat_le 1 row.kind && nat_le row.kind 7 && nat_le 1 row.priority && nat_lt row.sequence next && nat_lt row.events EVENTS_END

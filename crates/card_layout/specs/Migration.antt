@@ -1,8 +1,6 @@
 -- The state that a card of version 1 of the layout comes to when it is opened.
-use Rattle.std.specs.Prelude.{◌≡◌, ℕ, ◌+◌, ◌<◌, Bool, true, not, ◌&&◌, ◌||◌, nat_le, if◌then◌else◌, List, length, replicate}
+use Rattle.std.specs.Prelude.{ℕ, ◌+◌, Bool, true, not, ◌&&◌, ◌||◌, nat_le, if◌then◌else◌, List, replicate}
 use Rattle.std.specs.List.{list_all}
-use Rattle.std.proofs.Common.{get_or}
-use Rattle.std.proofs.lemmas.List.{length-replicate, get_or-replicate}
 use Rattle.card_layout.specs.declared.entries.Node.{Node}
 use Rattle.card_layout.specs.declared.entries.Loaded.{Loaded}
 use Rattle.card_layout.specs.Kinds.{is_ef_kind}
@@ -27,11 +25,3 @@ entries_end_low table = list_all entry_ends_low table.nodes
 -- the rows of the shelves above 15, behind the files of a wide card: none of them is used
 unfoldable pub no_upper_rows : List ℕ
 no_upper_rows = replicate 1024 0
-
-pub length-no_upper_rows : length no_upper_rows ≡ 1024
-unfolding no_upper_rows
-length-no_upper_rows = length-replicate {A = ℕ} 1024 0
-
-pub get_or-no_upper_rows : (k : ℕ) → k < 1024 → get_or no_upper_rows k 0 ≡ 0
-unfolding no_upper_rows
-get_or-no_upper_rows k low = get_or-replicate {A = ℕ} 1024 k 0 0 low

@@ -1,12 +1,12 @@
 -- From a table of entries to its state, and back.
-use Rattle.std.specs.Prelude.{◌≡◌, ℕ, ◌<◌, ◌==◌, ◌&&◌, List, length, map, find, slice_get, Option, option_and_then, Contains, count_by}
+use Rattle.std.specs.Prelude.{◌≡◌, ℕ, ◌<◌, ◌==◌, List, length, map, find, slice_get, Option, option_and_then, Contains, count_by}
 use Rattle.card_layout.specs.declared.entries.Node.{Node}
 use Rattle.card_layout.specs.declared.entries.PinSlot.{PinSlot}
 use Rattle.card_layout.specs.declared.entries.Row.{Row}
 use Rattle.card_layout.specs.declared.entries.Loaded.{Loaded}
 use Rattle.card_layout.specs.declared.sizes.TheConstants.{PIN_COUNT}
 use Rattle.card_layout.specs.Persistent.{Files, File, Pin, Registration, Persistent}
-use Rattle.card_layout.specs.Checks.{key_of_slot, has_row_text}
+use Rattle.card_layout.specs.Checks.{key_of_slot, shows_item}
 use Rattle.card_layout.specs.Sections.{has_text}
 use Rattle.card_layout.specs.States.{file_of, pins_of, rows_of, state_of, registration_of, pin_state}
 use Rattle.card_layout.specs.Used.{HasNode, HasPin, HasRow, HasOwnKeys, file_if, registration_if, pin_if}
@@ -90,7 +90,7 @@ FieldsAreOfTables = (table : Loaded) (content content' : List ℕ) → map empti
 
 -- the texts that are counted in a table
 abbrev pub text_count_of : Loaded → ℕ
-text_count_of table = count_by (λ row. row.used && has_row_text row) table.rows
+text_count_of table = count_by shows_item table.rows
 
 -- As many rows of the table have a text as of the state.
 abbrev pub TextsAreCounted : Type 0

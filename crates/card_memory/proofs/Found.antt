@@ -52,9 +52,6 @@ told_of numbers table number node is has file = subst (λ (found : Option Descri
 -- ---- what the entry tells
 
 module _ (number : ℕ) (node : Node) where
-  other_kind : (kind : ℕ) → kind ≢ df_kind → node.kind ≡ kind → (node.kind == df_kind) ≡ false
-  other_kind kind other is = grind (arith, nat_tests, other)
-
   pub kind_told : (descriptor_of number node).kind ≡ node.kind
   unfolding descriptor_of
   kind_told = by_test (node.kind == df_kind) where

@@ -4,13 +4,14 @@ use Rattle.file_model.specs.card_layout.declared.entries.Node.{Node}
 use Rattle.file_model.specs.card_layout.declared.entries.PinSlot.{PinSlot}
 use Rattle.file_model.specs.card_layout.declared.entries.Row.{Row}
 use Rattle.file_model.specs.card_layout.declared.entries.Loaded.{Loaded}
-use Rattle.file_model.specs.card_layout.Blank.{unused_node, absent_pin, unused_row}
+use Rattle.file_model.specs.card_layout.Blank.{absent_pin, unused_row}
 use Rattle.file_model.specs.card_layout.Kinds.{transparent_kind, linear_kind, cyclic_kind, is_ef_kind, has_records}
 use Rattle.file_model.specs.card_layout.States.{record_count}
 use Rattle.layout_standing.specs.ChangeLaws.{oldest}
 use Rattle.file_model.specs.declared.descriptors.Descriptor.{Descriptor}
 use Rattle.file_model.specs.declared.descriptors.Wanted.TheVariants.{Number}
 use Rattle.file_model.specs.Files.{descriptors_of, file_found}
+pub use Rattle.file_model.specs.Files.{node_at}
 
 -- ---- files
 
@@ -42,9 +43,6 @@ abbrev pub HasEf : Loaded → ℕ → Type 0
 HasEf table number = HasFile table number (λ file. IsTrue (is_ef_kind file.kind))
 
 -- ---- entries
-
-abbrev pub node_at : Loaded → ℕ → Node
-node_at table number = slice_index_or table.nodes number unused_node
 
 abbrev pub pin_at : Loaded → ℕ → PinSlot
 pin_at table slot = slice_index_or table.pins slot absent_pin

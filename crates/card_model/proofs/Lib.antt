@@ -1,8 +1,12 @@
 pub mod Answering
+pub mod CasesLemmas
+pub mod ChainedLemmas
+pub mod Counted
 pub mod Lawful
+pub mod OtherFilesLemmas
+pub mod PendingLemmas
 mod Statuses
 mod Usual
-pub mod Counted
 mod Worked
 mod WorkedRuns
 mod WorkedToolkit

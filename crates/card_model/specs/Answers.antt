@@ -1,8 +1,8 @@
 -- What a card answers to a command, and what it is after it.
-use Rattle.std.specs.Prelude.{ℕ, ◌+◌, ◌==◌, ◌/◌, ◌||◌, Bool, true, false, if◌then◌else◌, List, [], ◌∷◌, ◌++◌, map, slice_set, take, Option, Some, None, unwrap_or, Result, Ok, Err}
+use Rattle.std.specs.Prelude.{ℕ, ◌+◌, ◌==◌, ◌/◌, ◌||◌, Bool, true, false, if◌then◌else◌, List, [], ◌∷◌, ◌++◌, map, slice_set, Option, Some, None, unwrap_or, Result, Ok, Err}
 use Rattle.file_model.specs.uicc_types.declared.answers.StatusWord.{StatusWord}
 use Rattle.file_model.specs.uicc_types.declared.answers.TheConstants.StatusWord.{DONE, END_OF_FILE, FILE_DEACTIVATED, WRONG_LENGTH}
-use Rattle.file_model.specs.apdu_form.Model.{Apdu, command_in}
+use Rattle.file_model.specs.apdu_form.Model.{Apdu, command_in, cut_to}
 use Rattle.file_model.specs.declared.rules.Verified.{Verified}
 use Rattle.file_model.specs.card_layout.Persistent.{Pin as HeldPin, Persistent}
 use Rattle.file_model.specs.declared.selections.Selection.{Selection}
@@ -156,11 +156,6 @@ carried_with false instruction card apdu = carried_out instruction card apdu
 abbrev pub settled : CardState → Result Answered StatusWord → Answered
 settled card (Err status) = refused card status
 settled card (Ok answered) = answered
-
--- Le bounds the data of an answer; without Le all of them are answered (ISO 7816-4, 5.1)
-abbrev pub cut_to : Option ℕ → List ℕ → List ℕ
-cut_to None body = body
-cut_to (Some expected) body = take expected body
 
 abbrev pub cut_answer : Option ℕ → Answered → Answered
 cut_answer expected answered = record answered { body = cut_to expected answered.body }

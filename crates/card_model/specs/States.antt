@@ -1,6 +1,5 @@
 -- The state of a card, and what a reset leaves of it.
-use Rattle.std.specs.Prelude.{◌≡◌, ◌≤◌, ℕ, ◌==◌, Bool, true, false, List, [], ◌∷◌, length, find, map, All, Option, Some, None, option_map, is_some, slice_index_or, IfSome, IsSomeAnd}
-use Rattle.std.specs.List.{enumerate_from}
+use Rattle.std.specs.Prelude.{◌≡◌, ◌≤◌, Bool, true, false, List, [], ◌∷◌, length, All, Option, Some, None, is_some, slice_index_or, IfSome, IsSomeAnd}
 use Rattle.file_model.specs.declared.rules.Verified.{Verified}
 use Rattle.file_model.specs.card_layout.Persistent.{Registration, Persistent}
 use Rattle.file_model.specs.Files.{descriptors_in}
@@ -8,7 +7,10 @@ use Rattle.file_model.specs.Laws.{IsSoundCard}
 use Rattle.file_model.specs.declared.selections.Selection.{Selection}
 use Rattle.file_model.specs.declared.selections.TheConstants.Selection.{AT_START}
 use Rattle.file_making.specs.Lawful.{AreSelected}
-use Rattle.toolkit_model.specs.Model.{AppletState, SessionState, fresh, fresh_session, IsOrderly}
+use Rattle.toolkit_model.specs.Model.{AppletState, SessionState, fresh_session, IsOrderly}
+pub use Rattle.toolkit_model.specs.Registry.{row_on}
+pub use Rattle.toolkit_model.specs.Commands.{woken_mind, woken_box}
+unfoldable pub use Rattle.toolkit_model.specs.Commands.{woken_boxes}
 
 -- What a card holds for good, and what it loses at a reset: what is selected on each of the logical channels 0 to 3 that
 -- is open (ETSI TS 102 221, 8.7), the verified keys, and the toolkit's session. An applet's box stands on its shelf, with
@@ -39,21 +41,6 @@ basic_channel_alone = Some AT_START ∷ None ∷ None ∷ None ∷ []
 
 abbrev pub nothing_verified : Verified
 nothing_verified = record { pin1 = false; pin2 = false; adm1 = false }
-
--- the applet that is registered on a shelf
-abbrev pub row_on : List Registration → ℕ → Option Registration
-row_on rows shelf = find (λ row. row.shelf == shelf) rows
-
--- a registered applet wakes with the bytes that are kept for it; a box without one stays as it is
-abbrev pub woken_mind : Option Registration → AppletState → AppletState
-woken_mind None mind = mind
-woken_mind (Some row) mind = fresh mind.kind row.kept
-
-abbrev pub woken_box : List Registration → ℕ × Option AppletState → Option AppletState
-woken_box rows box = option_map (woken_mind (row_on rows box.0)) box.1
-
-unfoldable pub woken_boxes : List Registration → List (Option AppletState) → List (Option AppletState)
-woken_boxes rows boxes = map (woken_box rows) (enumerate_from 0 boxes)
 
 -- a card that holds this, with these boxes, as a reset leaves it
 unfoldable pub woken : Persistent → List (Option AppletState) → CardState

@@ -8,7 +8,7 @@ use Rattle.file_model.specs.declared.rules.Verified.{Verified}
 use Rattle.file_model.specs.card_layout.Persistent.{Registration, Persistent}
 use Rattle.toolkit_model.specs.toolkit_commands.Envelopes.{envelope_of}
 use Rattle.file_model.specs.Chains.{refused_if, given, and_given, needs}
-use Rattle.file_model.specs.Outcomes.{has_data, has_no_data, has_le_alone}
+use Rattle.file_model.specs.Outcomes.{has_data, has_no_data, has_le_alone, has_no_parameters}
 use Rattle.file_model.specs.Records.{other_length}
 use Rattle.toolkit_model.specs.declared.faults.RowFault.{RowFault}
 use Rattle.toolkit_model.specs.declared.faults.RowFault.TheVariants.{BadData, NoBox, Narrow, Taken, MenuFull, Spent, NoRow, NotIdle}
@@ -44,15 +44,11 @@ with_rows persistent next_sequence rows = record persistent { rows = rows; next_
 abbrev pub states_passed : Persistent → ToolkitOutcome → List Persistent
 states_passed persistent outcome = map (with_rows persistent outcome.next_sequence) (passed_rows outcome.passed.log)
 
--- P1 and P2 of the commands of the handset
-abbrev pub has_zero_parameters : Apdu → Bool
-has_zero_parameters apdu = apdu.p1 == 0x00 && apdu.p2 == 0x00
-
 -- ---- TERMINAL PROFILE (11.2.1)
 
 unfoldable pub profile_taken : CardState → Apdu → Result ToolkitOutcome StatusWord
 profile_taken card apdu =
-    needs (has_zero_parameters apdu) WRONG_PARAMETERS (
+    needs (has_no_parameters apdu) WRONG_PARAMETERS (
     needs (has_data apdu) WRONG_LENGTH (
     Ok (coming_to card [] (profiled apdu.body (toolkit_of card)))))
 
@@ -65,7 +61,7 @@ is_length_of bytes expected = expected == 256 || expected == length bytes
 -- the bytes of the command that is to be fetched
 unfoldable pub command_fetched : CardState → Apdu → Result ToolkitOutcome StatusWord
 command_fetched card apdu =
-    needs (has_zero_parameters apdu) WRONG_PARAMETERS (
+    needs (has_no_parameters apdu) WRONG_PARAMETERS (
     needs (has_le_alone apdu) WRONG_LENGTH (
     given (unfetched card.session) CONDITIONS_NOT_SATISFIED (λ out.
     needs (is_length_of (bytes_of out) (unwrap_or apdu.expected 0)) (other_length (length (bytes_of out))) (
@@ -76,7 +72,7 @@ command_fetched card apdu =
 -- it has to answer the command that was fetched
 unfoldable pub response_taken : CardState → Apdu → Result ToolkitOutcome StatusWord
 response_taken card apdu =
-    needs (has_zero_parameters apdu) WRONG_PARAMETERS (
+    needs (has_no_parameters apdu) WRONG_PARAMETERS (
     needs (has_data apdu) WRONG_LENGTH (
     given (unanswered card.session) CONDITIONS_NOT_SATISFIED (λ out.
     given (reply_to out apdu.body) WRONG_DATA (λ reply.
@@ -87,7 +83,7 @@ response_taken card apdu =
 -- call control alone is answered with data
 unfoldable pub envelope_taken : CardState → Apdu → Result ToolkitOutcome StatusWord
 envelope_taken card apdu =
-    needs (has_zero_parameters apdu) WRONG_PARAMETERS (
+    needs (has_no_parameters apdu) WRONG_PARAMETERS (
     needs (has_data apdu) WRONG_LENGTH (
     given (envelope_of apdu.body) WRONG_DATA (λ envelope.
     refused_if (is_busy envelope (toolkit_of card)) TOOLKIT_BUSY (

@@ -69,7 +69,7 @@ woken_at rows boxes shelf =
     box_from rows 0 boxes shelf ∙ ap (λ (at : ℕ). option_map (woken_mind (row_on rows at)) (slice_index_or boxes shelf None)) same
 
 -- a box that woke has its kind
-woken_kind : (row : Option Registration) (mind : AppletState) (kind : ℕ) → mind.kind ≡ kind → (woken_mind row mind).kind ≡ kind
+pub woken_kind : (row : Option Registration) (mind : AppletState) (kind : ℕ) → mind.kind ≡ kind → (woken_mind row mind).kind ≡ kind
 woken_kind None mind kind is = is
 woken_kind (Some row) mind kind is = is
 

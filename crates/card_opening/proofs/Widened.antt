@@ -5,7 +5,8 @@ use Rattle.card_layout.specs.uicc_types.Patches.{patched, Torn}
 use Rattle.card_layout.specs.uicc_types.Told.{Becomes}
 use Rattle.card_layout.specs.declared.entries.Loaded.{Loaded}
 use Rattle.card_layout.specs.Laws.{after}
-use Rattle.card_layout.specs.Migration.{migrated, entries_end_low, no_upper_rows, length-no_upper_rows}
+use Rattle.card_layout.specs.Migration.{migrated, entries_end_low, no_upper_rows}
+use Rattle.card_layout.proofs.MigrationLemmas.{length-no_upper_rows}
 use Rattle.card_layout.specs.Persistent.{Persistent}
 use Rattle.card_layout.specs.Places.{data_end}
 use Rattle.card_layout.specs.Spelling.{version_part}

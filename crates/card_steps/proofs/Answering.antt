@@ -1,12 +1,13 @@
 -- From the commands to the answers: which instructions look at Le, and how Le cuts the data.
 use Rattle.std.proofs.Common.{◌≡◌, ℕ, ◌≤◌, Bool, false, List, [], length, Option, Some, None, Result, Ok, Err, refl, sym, ◌∙◌, ap, subst, arith}
 use Rattle.std.specs.Prelude.{IfSome, MatchResult}
-use Rattle.std.proofs.lemmas.List.{length-take, take_all}
+use Rattle.std.proofs.lemmas.List.{length-take}
 use Rattle.script_form.specs.uicc_types.declared.answers.StatusWord.{StatusWord}
 use Rattle.script_form.specs.uicc_types.declared.answers.TheConstants.StatusWord.{WRONG_LENGTH}
 use Rattle.card_core.specs.apdu_form.Model.{Apdu, command_in}
 use Rattle.card_core.specs.file_model.Chains.{given, and_given}
-use Rattle.card_core.specs.card_model.Answers.{Answered, refused, carried_with, cut_to, cut_answer, settled, tried, with_pending, answer_of}
+use Rattle.card_core.specs.card_model.Answers.{Answered, refused, carried_with, cut_answer, settled, tried, with_pending, answer_of}
+use Rattle.card_core.specs.apdu_form.Model.{cut_to}
 use Rattle.card_core.specs.card_model.Cases.{cut_result}
 use Rattle.card_core.specs.card_model.Chained.{Any}
 use Rattle.card_core.specs.card_model.Channels.{family}
@@ -14,6 +15,7 @@ use Rattle.card_core.specs.card_model.Instructions.{instruction_tried, has_toolk
 use Rattle.card_core.specs.card_model.Naming.{IsNamed, named_so, instruction_so}
 use Rattle.card_core.specs.card_model.States.{CardState}
 use Rattle.card_core.specs.card_model.declared.instructions.Instruction.{Instruction}
+use Rattle.card_core.proofs.Named.{cut_nothing}
 use Rattle.card_steps.specs.Le.{without_le, looks_at_le, asks_by_le}
 use Rattle.card_steps.proofs.Cutting.{carried_with_alike}
 
@@ -22,11 +24,6 @@ tells_of_le : (p1 : ℕ) (knows : Instruction → Bool) (class ins : ℕ) (instr
 tells_of_le p1 =
     named_so (λ instruction class ins. looks_at_le instruction p1 ≡ asks_by_le ins p1)
     (refl, (refl, (refl, (refl, (refl, (refl, (refl, (refl, (refl, (refl, (refl, (refl, (refl, (refl, (refl, (refl, (refl, (refl, (refl, (refl, (refl, (refl, (refl, (refl, (refl, tt)))))))))))))))))))))))))
-
--- no data stay none
-cut_none : (expected : Option ℕ) → cut_to expected [] ≡ []
-cut_none None = refl
-cut_none (Some most) = take_all most [] (omega arith)
 
 abbrev pub Keeps : Option ℕ → List ℕ → Type 0
 Keeps expected body = IfSome expected (λ most. length body ≤ most)
@@ -57,13 +54,13 @@ module _ (knows : Instruction → Bool) (card : CardState) (command : Apdu) wher
   module _ (none : asks_by_le command.ins command.p1 ≡ false) where
     settled_cut : (result : Result Answered StatusWord) → settled card (cut_result command.expected result) ≡ cut_answer command.expected (settled card (cut_result None result))
     unfolding and_given
-    settled_cut (Err status) = ap (λ (body : List ℕ). record (refused card status) { body = body }) (sym (cut_none command.expected))
+    settled_cut (Err status) = ap (λ (body : List ℕ). record (refused card status) { body = body }) (sym (cut_nothing command.expected))
     settled_cut (Ok answered) = refl
 
     by_found : (result : Result Instruction StatusWord) → MatchResult result (λ instruction. looks_at_le instruction command.p1 ≡ asks_by_le command.ins command.p1) Any
         → settled card (and_given result (carried command.expected command)) ≡ cut_answer command.expected (settled card (and_given result (carried None (without_le command))))
     unfolding and_given
-    by_found (Err status) tells = ap (λ (body : List ℕ). record (refused card status) { body = body }) (sym (cut_none command.expected))
+    by_found (Err status) tells = ap (λ (body : List ℕ). record (refused card status) { body = body }) (sym (cut_nothing command.expected))
     by_found (Ok instruction) tells =
         ap (λ (result : Result Answered StatusWord). settled card (cut_result command.expected result)) (carried_with_alike card command (has_toolkit knows) instruction (tells ∙ none))
         ∙ settled_cut (carried_with (has_toolkit knows) instruction card (without_le command))
@@ -81,12 +78,12 @@ module _ (knows : Instruction → Bool) (card : CardState) (command : Apdu) wher
   -- no answer has more data
   keeps : (result : Result Answered StatusWord) → Keeps command.expected (settled card (cut_result command.expected result)).body
   unfolding and_given
-  keeps (Err status) = subst (Keeps command.expected) (cut_none command.expected) (cut_keeps command.expected [])
+  keeps (Err status) = subst (Keeps command.expected) (cut_nothing command.expected) (cut_keeps command.expected [])
   keeps (Ok answered) = cut_keeps command.expected answered.body
 
   found_keeps : (result : Result Instruction StatusWord) → Keeps command.expected (settled card (and_given result (carried command.expected command))).body
   unfolding and_given
-  found_keeps (Err status) = subst (Keeps command.expected) (cut_none command.expected) (cut_keeps command.expected [])
+  found_keeps (Err status) = subst (Keeps command.expected) (cut_nothing command.expected) (cut_keeps command.expected [])
   found_keeps (Ok instruction) = keeps (carried_with (has_toolkit knows) instruction card command)
 
   pub answer_keeps : (bytes : List ℕ) → command_in bytes ≡ Some command → Keeps command.expected (answer_of knows card bytes).body

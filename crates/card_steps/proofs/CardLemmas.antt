@@ -9,7 +9,7 @@ use Rattle.card_core.specs.card_model.Answers.{answer, passed}
 use Rattle.card_core.specs.card_model.Runs.{Commands, IsLeft, MeetsNoPower, StepGives}
 use Rattle.card_core.specs.card_model.States.{CardState, Machine, powered, unpowered, restarted}
 use Rattle.card_steps.specs.Runs.{is_calm, machine_of}
-use Rattle.card_steps.specs.Standing.{card_stands, is_machine, machine_is}
+use Rattle.card_steps.proofs.StandingLemmas.{card_stands, is_machine, machine_is}
 use Rattle.card_steps.specs.Stepping.{IsBare, IsReply, Resets, Sends}
 use Rattle.card_steps.specs.declared.steps.ResetOutcome.TheVariants as restart
 use Rattle.script_form.specs.uicc_types.Counts.{Caused, Meter}

@@ -12,7 +12,7 @@ use Rattle.card_steps.proofs.LinkCounts.{IsShownAs, IsShownAsOne, command_shown,
 use Rattle.card_steps.proofs.StepLemmas.{idle_counted}
 use Rattle.card_steps.specs.Ends.{Comes, End, Meets, MeetsAnswer, MeetsCut, end_words, reply_for}
 use Rattle.card_steps.specs.Runs.{is_calm, machine_of}
-use Rattle.card_steps.specs.Standing.{machine_is}
+use Rattle.card_steps.proofs.StandingLemmas.{machine_is}
 use Rattle.card_steps.specs.Stepping.{IsBare, IsReply, Sends, seen}
 use Rattle.card_steps.specs.Shown.{item_of, shown_over, without_bytes}
 use Rattle.card_steps.specs.Stepped.{GivesOwnStep, LinkChangesNoStep}

@@ -1,14 +1,17 @@
+mod Answering
 mod CardLemmas
 mod Carried
+mod Cutting
 mod Delivered
 pub mod LinkCounts
-mod Shown
-pub mod StepLemmas
-pub mod Worked
-mod Written
-mod Cutting
-mod Answering
-mod Spelling
 mod Passing
+pub mod RunLaws
+mod Shown
+mod Spelling
+pub mod StandingLemmas
+pub mod StepLemmas
 mod Stepping
+pub mod TellLaws
+pub mod Worked
 mod WorkedLink
+mod Written

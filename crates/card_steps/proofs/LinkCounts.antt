@@ -1,13 +1,13 @@
 -- A link shows a failure of the card's memory, and a loss of power, as one, and keeps none.
 use Rattle.std.proofs.Common.{◌≡◌, ℕ, ◌+◌, ◌*◌, ◌≤◌, ◌<◌, Bool, true, false, List, [], ◌∷◌, length, Option, Some, None, refl, sym, ap, ◌∙◌, arith, mod-lt}
 use Rattle.std.proofs.lemmas.Bool.{eqb-true, false≢true, ne_eqb}
-use Rattle.std.proofs.lemmas.List.{take_all}
 use Rattle.std.specs.Prelude.{◌/◌, ◌%◌, ◌==◌, cond, count_by, if◌then◌else◌, ⊤}
-use Rattle.card_core.specs.apdu_form.Model.{Apdu, ne_of}
+use Rattle.card_core.specs.apdu_form.Model.{Apdu, ne_of, cut_to}
 use Rattle.card_core.specs.card_model.Counts.{IsCounted, is_cut, is_failure}
+use Rattle.card_core.proofs.Named.{cut_nothing}
 use Rattle.card_steps.specs.Stepping.{IsBare}
 use Rattle.card_steps.specs.Shown.{item_of, kept_over, shown_over}
-use Rattle.t0_link.specs.Carrying.{command_answer, followed, front_of, received, then_received, tpdu_of}
+use Rattle.t0_link.specs.Carrying.{command_answer, followed, received, then_received, tpdu_of}
 use Rattle.t0_link.specs.Linking.{Answers, Course, Linked, Passes, counting, course_of, fetched, given, kept_back, link_answer, status_alone}
 use Rattle.t0_link.specs.Tpdus.{transfer_in}
 use Rattle.t0_link.specs.declared.answers.TheConstants.{MORE_DATA, WRONG_LE}
@@ -177,12 +177,8 @@ kept_bare answer bare = by_data (length answer.body == 0) where
   by_data true = given_bare answer bare
   by_data false = by_status ((waiting_data answer).answer.status.0 / 256 == MORE_DATA)
 
-none_in : (expected : Option ℕ) → front_of expected [] ≡ []
-none_in None = refl
-none_in (Some most) = take_all most [] (omega arith)
-
 received_bare : (expected : Option ℕ) (linked : Linked) → IsBareLinked (followed linked) → IsBareLinked (received expected linked)
-received_bare expected linked bare = λ fails. ap (front_of expected) (bare fails) ∙ none_in expected
+received_bare expected linked bare = λ fails. ap (cut_to expected) (bare fails) ∙ cut_nothing expected
 
 -- the terminal is shown a failure of the card as one, without data
 pub record IsShownAs (shown other : TraceItem) : Type 0 where

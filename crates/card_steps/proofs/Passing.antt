@@ -15,7 +15,7 @@ use Rattle.t0_link.specs.declared.instructions.TheConstants.{GET_RESPONSE, STATU
 use Rattle.t0_link.specs.declared.tpdus.Transfer.TheVariants.{GetResponse, Outgoing, Incoming}
 use Rattle.t0_link.specs.Tpdus.{is_outgoing}
 use Rattle.t0_link.specs.Linking.{Course, Answers, Passes, status_alone}
-use Rattle.t0_link.specs.Carrying.{is_carried_by, command_answer, front_of, cut_answer_to}
+use Rattle.t0_link.specs.Carrying.{is_carried_by, command_answer, cut_answer_to}
 use Rattle.t0_link.specs.Passing.{IsPlain, GivesAnswer, passed_by, passed_apdu}
 use Rattle.t0_link.proofs.Passed.{carried_gives, no_data}
 use Rattle.card_core.specs.card_model.Answers.{Answered, cut_answer, answer_of}
@@ -25,6 +25,7 @@ use Rattle.card_core.specs.card_model.Laws.{IsKnownStatus, IsStatusOf, statuses,
 use Rattle.card_core.specs.card_model.States.{CardState, IsGood}
 use Rattle.card_core.specs.card_model.declared.instructions.Instruction.{Instruction}
 use Rattle.card_core.specs.card_laws.Lawful.{IsStatus, toolkit_statuses, IsLawfulWithApplets, AnswersAreLawful as AnswersWithAppletsAreLawful}
+use Rattle.card_core.proofs.Named.{cut_nothing}
 use Rattle.card_steps.specs.Le.{asks_by_le}
 use Rattle.card_steps.specs.Linked.{shown, HasOwnAnswer, GivesOwnAnswer, LinkChangesNoAnswer}
 use Rattle.card_steps.proofs.Answering.{answer_cut, answer_keeps}
@@ -76,10 +77,6 @@ front_bytes front rest are k d low = subst (λ (byte : ℕ). byte < 2 ^ 8) (get_
 -- an answer that Le doesn't cut
 uncut : (most : ℕ) (answered : Answered) → length answered.body ≤ most → cut_answer (Some most) answered ≡ answered
 uncut most answered few = ap (λ (body : List ℕ). record answered { body = body }) (take_all most answered.body few)
-
-none_in : (expected : Option ℕ) → front_of expected [] ≡ []
-none_in None = refl
-none_in (Some most) = take_all most [] (omega arith)
 
 -- what a terminal makes of an answer is the answer that is cut
 shown_cut : (expected : Option ℕ) (answered : Answered) → cut_answer_to expected (shown answered) ≡ shown (cut_answer expected answered)
@@ -157,7 +154,7 @@ module _ (knows : Instruction → Bool) (card : CardState) (good : IsGood card) 
         subst (λ (each : List ℕ). HasOwnAnswer own (answer_of knows card each) expected linked) (sym gives.0) (record {
           same = is.0;
           given = gives.1 (shown answered) is.1.0 is.1.1 ∙ ap (λ (answer : Answer). record { answer = answer; kept = None }) (shown_cut expected answered ∙ ap shown (sym is.0));
-          failed = gives.1 (status_alone MEMORY_PROBLEM) (omega arith) (eqb-false (0x6581 / 256) 0x61 refl) ∙ ap (λ (data' : List ℕ). record { answer = record { body = data'; status = MEMORY_PROBLEM }; kept = None }) (none_in expected);
+          failed = gives.1 (status_alone MEMORY_PROBLEM) (omega arith) (eqb-false (0x6581 / 256) 0x61 refl) ∙ ap (λ (data' : List ℕ). record { answer = record { body = data'; status = MEMORY_PROBLEM }; kept = None }) (cut_nothing expected);
         })
 
 pub changes_none : PlainAnswersAreLawful → AnswersWithAppletsAreLawful → LinkChangesNoAnswer

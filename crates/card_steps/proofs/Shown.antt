@@ -11,7 +11,7 @@ use Rattle.card_steps.proofs.CardLemmas.{bare_reply}
 use Rattle.card_steps.proofs.Delivered.{off_counted}
 use Rattle.card_steps.proofs.StepLemmas.{ToldFront, WithPlan, counted_after, idle_counted, in_one_line, none_waits, text_of_one, text_of_two, told_front, told_more, with_command}
 use Rattle.card_steps.specs.Ends.{End, MeetsAnswer, MeetsCut, moment_at, reply_for, with_plan_set, without_plan}
-use Rattle.card_steps.specs.RunLaws.{shows_one}
+use Rattle.card_steps.proofs.RunLaws.{shows_one}
 use Rattle.card_steps.specs.Runs.{item_text}
 use Rattle.card_steps.specs.Showing.{CutsOffStep, CutsOffTpdu, MayShow, Shows, ShowsAny, ShowsCourse, ShowsLast, ShowsTpdu}
 use Rattle.card_steps.specs.Stepping.{IsReply, seen}

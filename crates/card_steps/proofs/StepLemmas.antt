@@ -19,7 +19,7 @@ use Rattle.card_steps.specs.Runs.{is_calm, item_text, machine_of, text_of}
 use Rattle.card_steps.specs.Stepping.{BreaksOff, BreaksStep, EndsStep, GivesShowing, IsCutOff, Resets, Sends, TakesStep, moment, shown_of}
 use Rattle.card_steps.specs.declared.steps.StepEnd.{StepEnd}
 use Rattle.card_steps.specs.declared.steps.StepEnd.TheVariants.{SinkFailed, ResetFailed}
-use Rattle.card_steps.specs.Standing.{machine_stands}
+use Rattle.card_steps.proofs.StandingLemmas.{machine_stands}
 use Rattle.script_form.specs.uicc_types.Counts.{Meter, armed as plan_given, names_fault, raised}
 use Rattle.script_form.specs.uicc_types.Told.{Becomes, IsFront}
 use Rattle.script_form.specs.uicc_types.declared.plans.Plan.{Plan}

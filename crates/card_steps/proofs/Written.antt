@@ -10,7 +10,7 @@ use Rattle.card_core.specs.card_model.Counts.{IsCounted}
 use Rattle.card_core.specs.card_model.Runs.{armed_after}
 use Rattle.card_core.specs.card_model.States.{Machine}
 use Rattle.card_steps.specs.Runs.{item_text, machine_of}
-use Rattle.card_steps.specs.Standing.{machine_stands}
+use Rattle.card_steps.proofs.StandingLemmas.{machine_stands}
 use Rattle.script_form.specs.Traces.{trace_text}
 use Rattle.script_form.specs.declared.trace.TraceLine.TheVariants as line
 use Rattle.t0_link.specs.Linking.{Course}

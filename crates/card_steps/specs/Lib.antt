@@ -2,7 +2,6 @@ pub mod Ends
 pub mod Le
 pub mod Linked
 pub mod Moves
-pub mod RunLaws
 pub mod Runs
 pub mod Showing
 pub mod Shown
@@ -10,7 +9,6 @@ pub mod Standing
 pub mod Stepped
 pub mod Stepping
 pub mod Tallies
-pub mod TellLaws
 pub mod Tpdus
 pub use Rattle.card_core.specs.apdu_form
 pub use Rattle.card_core.specs.applet_trait

@@ -1,3 +1,4 @@
 pub mod Adapter
 pub mod Bench
 pub mod Faults
+pub mod Ranges

@@ -162,8 +162,9 @@ impl FileEeprom {
 }
 
 impl Eeprom for FileEeprom {
-    ghost use Rattle.std.specs.Prelude.{◌≡◌, ◌≢◌, ◌+◌, ◌≤◌, ◌<◌, ◌%◌, ◌↔◌, None, true, false, length};
+    ghost use Rattle.std.specs.Prelude.{◌≡◌, ◌≢◌, ◌+◌, ◌≤◌, ◌⊎◌, ◌↔◌, None, true, false, length};
     ghost use Rattle.eeprom_model.specs.Faults.{HasCause};
+    ghost use Rattle.eeprom_model.specs.Ranges.{IsPageWrite};
     ghost use Rattle.eeprom_model.specs.Adapter.{after_read, after_program, left_by, fails_to_read, is_cut_off, fails_to_program, given_plan};
 
     ghost byte_count = { λ device. device.size };
@@ -191,9 +192,9 @@ impl Eeprom for FileEeprom {
         ensures used { self.old.meter.powered ≡ true → self.new.is_fresh ≡ false }
         ensures left { self.old.meter.powered ≡ true → self.new ≡ left_by result (after_read self.old) }
         ensures never_cut { self.old.meter.powered ≡ true → result ≢ Err EepromFault.PowerLost }
-        ensures planned { self.old.meter.powered ≡ true → fails_to_read (after_read self.old) ≡ true
+        ensures fails { self.old.meter.powered ≡ true
+            → (fails_to_read (after_read self.old) ≡ true) ⊎ (self.old.has_file ≡ false)
             → result ≡ Err EepromFault.Failed }
-        ensures no_file { self.old.meter.powered ≡ true → self.old.has_file ≡ false → result ≡ Err EepromFault.Failed }
     {
         if !self.powered {
             return Err(EepromFault::PowerLost);
@@ -208,9 +209,7 @@ impl Eeprom for FileEeprom {
     }
 
     fn program(&mut self, at: usize, bytes: &[u8]) -> Result<(), EepromFault>
-        requires some { 0 < length bytes.now }
-        requires one_page { at % PAGE_LENGTH + length bytes.now ≤ PAGE_LENGTH }
-        requires inside { at + length bytes.now ≤ self.old.size }
+        requires { IsPageWrite self.old.size at (length bytes.now) }
         ensures size { self.new.size ≡ self.old.size }
         ensures cause { HasCause self.old.meter self.new.meter result }
         ensures off { self.old.meter.powered ≡ false →
@@ -219,11 +218,9 @@ impl Eeprom for FileEeprom {
         ensures left { self.old.meter.powered ≡ true → self.new ≡ left_by result (after_program self.old) }
         ensures cut { self.old.meter.powered ≡ true → (result ≡ Err EepromFault.PowerLost) ↔
             (is_cut_off (after_program self.old) ≡ true) }
-        ensures planned { self.old.meter.powered ≡ true → is_cut_off (after_program self.old) ≡ false
-            → fails_to_program (after_program self.old) ≡ true
+        ensures fails { self.old.meter.powered ≡ true → is_cut_off (after_program self.old) ≡ false
+            → (fails_to_program (after_program self.old) ≡ true) ⊎ (self.old.has_file ≡ false)
             → result ≡ Err EepromFault.Failed }
-        ensures no_file { self.old.meter.powered ≡ true → is_cut_off (after_program self.old) ≡ false
-            → self.old.has_file ≡ false → result ≡ Err EepromFault.Failed }
     {
         if !self.powered {
             return Err(EepromFault::PowerLost);

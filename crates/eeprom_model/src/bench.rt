@@ -1,12 +1,13 @@
 //! A device of the bench: a vector in which faults are planned.
-ghost use Rattle.std.specs.Prelude.{◌≡◌, refl, ◌+◌, ◌≤◌, ◌<◌, ◌%◌, IsTrue, Some, true, false, length, replicate, option_map, slice_range, IfOk, IfSome, OnOk, OnErr, IsErrOf};
+ghost use Rattle.std.specs.Prelude.{◌≡◌, refl, ◌+◌, ◌≤◌, IsTrue, Some, true, false, length, replicate, option_map, slice_range, IfOk, IfSome, OnOk, OnErr, IsErrOf};
 ghost use Rattle.uicc_types.specs.Counts.{names_fault};
 ghost use Rattle.uicc_types.specs.Patches.{patched, Torn};
 ghost use Rattle.uicc_types.specs.Told.{AreBytes, Becomes};
 ghost use Rattle.eeprom_model.specs.Faults.{HasCause};
+ghost use Rattle.eeprom_model.specs.Ranges.{IsPageWrite};
 ghost use Rattle.eeprom_model.specs.Bench.{new_bench, planned_for, cut_bytes, program_outcome, read_outcome, given_plan};
 
-use crate::{Eeprom, EepromFault, PAGE_LENGTH};
+use crate::{Eeprom, EepromFault};
 use std::alloc::Global;
 use std::marker::Model;
 use uicc_types::{CutAt, FailAt, OutOfMemory, Plan};
@@ -156,8 +157,7 @@ impl Eeprom for BenchEeprom {
         ensures off { self.old.meter.powered ≡ false →
             (result ≡ Err EepromFault.PowerLost) × (self.new ≡ self.old) }
         ensures used { self.old.meter.powered ≡ true → self.new.is_fresh ≡ false }
-        ensures answer { result ≡ (read_outcome self.old).answer }
-        ensures left { self.new ≡ (read_outcome self.old).left }
+        ensures outcome { read_outcome self.old ≡ record { answer = result; left = self.new } }
     {
         if !self.powered {
             return Err(EepromFault::PowerLost);
@@ -174,9 +174,7 @@ impl Eeprom for BenchEeprom {
 
     #[tactic(auto, unfolding(crate::specs::Bench::program_outcome))]
     fn program(&mut self, at: usize, bytes: &[u8]) -> Result<(), EepromFault>
-        requires some { 0 < length bytes.now }
-        requires one_page { at % PAGE_LENGTH + length bytes.now ≤ PAGE_LENGTH }
-        requires inside { at + length bytes.now ≤ length self.old.bytes }
+        requires { IsPageWrite (length self.old.bytes) at (length bytes.now) }
         ensures ok { OnOk result (self.new.bytes ≡ patched at bytes.now self.old.bytes) }
         ensures torn { OnErr result (Torn at (length bytes.now) self.old.bytes self.new.bytes) }
         ensures size { length self.new.bytes ≡ length self.old.bytes }
@@ -184,8 +182,7 @@ impl Eeprom for BenchEeprom {
         ensures off { self.old.meter.powered ≡ false →
             (result ≡ Err EepromFault.PowerLost) × (self.new ≡ self.old) }
         ensures used { self.old.meter.powered ≡ true → self.new.is_fresh ≡ false }
-        ensures answer { result ≡ (program_outcome at bytes.now self.old).answer }
-        ensures left { self.new ≡ (program_outcome at bytes.now self.old).left }
+        ensures outcome { program_outcome at bytes.now self.old ≡ record { answer = result; left = self.new } }
     {
         if !self.powered {
             return Err(EepromFault::PowerLost);

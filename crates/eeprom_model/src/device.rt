@@ -1,6 +1,7 @@
 //! What is asked of an EEPROM, and what can go wrong in it.
-ghost use Rattle.std.specs.Prelude.{◌≡◌, ◌+◌, ◌≤◌, ◌<◌, ◌%◌, ℕ, Bool, List, Option, false, true, length, option_map, slice_range, IfSome, OnOk, OnErr};
+ghost use Rattle.std.specs.Prelude.{◌≡◌, ◌+◌, ◌≤◌, ℕ, Bool, List, Option, false, true, length, option_map, slice_range, IfSome, OnOk, OnErr};
 ghost use Rattle.eeprom_model.specs.Faults.{HasCause};
+ghost use Rattle.eeprom_model.specs.Ranges.{IsPageWrite};
 ghost use Rattle.uicc_types.specs.Counts.{Meter, armed};
 ghost use Rattle.uicc_types.specs.Patches.{patched, Torn};
 ghost use Rattle.uicc_types.specs.Told.{AreBytes, Becomes};
@@ -55,9 +56,7 @@ pub trait Eeprom {
 
     /// Writes bytes into one page, at least one. After a fault their range holds any bytes, unless there was no power.
     fn program(&mut self, at: usize, bytes: &[u8]) -> Result<(), EepromFault>
-        requires some { 0 < length bytes.now }
-        requires one_page { at % PAGE_LENGTH + length bytes.now ≤ PAGE_LENGTH }
-        requires inside { at + length bytes.now ≤ byte_count self.old }
+        requires { IsPageWrite (byte_count self.old) at (length bytes.now) }
         ensures ok { OnOk result
             (contents self.new ≡ option_map (patched at bytes.now) (contents self.old)) }
         ensures torn { OnErr result

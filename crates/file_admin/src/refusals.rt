@@ -4,7 +4,6 @@ ghost use Rattle.std.specs.List.{list_any};
 ghost use Rattle.file_model.specs.card_layout.Decoding.{number_at};
 ghost use Rattle.file_model.specs.card_layout.Kinds.{transparent_kind};
 ghost use Rattle.file_model.specs.Files.{descriptor_of, descriptors_of, lies_in};
-ghost use Rattle.file_model.specs.LifeCycles.{has_no_parameters};
 ghost use Rattle.file_tree.specs.Tables.{IsCardTable, IsNumbered};
 ghost use Rattle.file_making.specs.Creating.{is_there, has_id, has_short, created_if_room, created};
 ghost use Rattle.file_making.specs.Deleting.{is_in_use, deleting, deleted};
@@ -20,14 +19,8 @@ use file_model::card_layout::kinds::{DEACTIVATED, DF, TRANSPARENT};
 use file_model::card_layout::sizes::{NODE_COUNT, SIZE_LIMIT};
 use file_model::card_layout::{Loaded, Node};
 use file_model::uicc_types::{FileId, StatusWord};
-use file_model::{Verified, has_data};
+use file_model::{Verified, has_data, has_no_parameters};
 use file_tree::{Channels, Descriptor, Wanted, first_file};
-
-fn has_no_parameters(command: &Command<'_>) -> bool
-    ensures { result ≡ has_no_parameters command.now }
-{
-    command.p1 == 0x00 && command.p2 == 0x00
-}
 
 // The number in two of the bytes.
 fn number_at(bytes: &[u8], at: usize) -> u16

@@ -1,5 +1,6 @@
 mod Addressing
 pub mod Giving
+mod Optional
 mod PinLists
 mod Ruling
 mod Stopping

@@ -1,6 +1,5 @@
 pub mod Chained
 pub mod Commands
 pub mod Ends
-pub mod Optional
 pub mod Targets
 pub mod Telling

@@ -21,12 +21,11 @@ use Rattle.file_model.specs.card_layout.NewFileLaws.{is_ef_shape}
 use Rattle.file_model.specs.declared.descriptors.Descriptor.{Descriptor}
 use Rattle.file_model.specs.declared.descriptors.Wanted.TheVariants.{Number}
 use Rattle.file_model.specs.declared.selections.Selection.{Selection}
-use Rattle.file_model.specs.Cases.{selection_of_df, selection_of_ef}
+use Rattle.file_model.proofs.Cases.{selection_of_df, selection_of_ef}
 use Rattle.file_model.specs.Chains.{refused_if, given}
 use Rattle.file_model.specs.Files.{record_width, record_count, descriptor_in, descriptors_in, is_df, is_ef, lies_in, file_found}
 use Rattle.file_model.specs.Laws.{IsSoundCard}
-use Rattle.file_model.specs.LifeCycles.{has_no_parameters}
-use Rattle.file_model.specs.Outcomes.{has_data, is_deactivated}
+use Rattle.file_model.specs.Outcomes.{has_no_parameters, has_data, is_deactivated}
 use Rattle.file_model.specs.Selections.{IsSelection, selection_of}
 use Rattle.layout_standing.specs.Fitting.{FitsAmong}
 use Rattle.layout_standing.specs.StandingLaws.{FileFits, FileMayGo}

@@ -8,7 +8,7 @@ use Rattle.std.proofs.lemmas.List.Folds.{list_any_at}
 use Rattle.file_model.specs.uicc_types.Choices.{mapped_Some, second_false}
 use Rattle.file_model.specs.uicc_types.Finding.{find-map, find_Some}
 use Rattle.file_model.specs.uicc_types.Numbered.{mapped_too}
-use Rattle.layout_standing.specs.Numbered.{beside, contained}
+use Rattle.layout_standing.proofs.Numbered.{beside, contained}
 use Rattle.file_model.specs.card_layout.Kinds.{df_kind}
 use Rattle.file_model.specs.card_layout.Decoding.{number_at}
 use Rattle.file_model.specs.card_layout.Persistent.{File, Persistent}

@@ -23,8 +23,7 @@ use Rattle.file_model.specs.card_layout.Soundness.{AreContents, IsSound, IsSound
 use Rattle.file_model.specs.card_layout.StateLaws.{file_with_number}
 use Rattle.file_model.specs.declared.descriptors.Descriptor.{Descriptor}
 use Rattle.file_model.specs.Files.{descriptor_in, descriptors_in}
-use Rattle.file_model.specs.LifeCycles.{has_no_parameters}
-use Rattle.file_model.specs.Outcomes.{has_data, is_deactivated, last_of}
+use Rattle.file_model.specs.Outcomes.{has_no_parameters, has_data, is_deactivated, last_of}
 use Rattle.file_model.proofs.Changed.{numbers_ascend}
 use Rattle.file_making.specs.declared.asked.NewFile.{NewFile}
 use Rattle.file_making.specs.declared.asked.NewFile.TheVariants.{Df, Ef}

@@ -4,7 +4,7 @@ use Rattle.std.specs.Prelude.{◌≢◌, ◌⊎◌, ◌-◌, ◌&&◌, nat_lt, n
 use Rattle.std.proofs.lemmas.Bool.{and_parts, both_ways, leb-true, ltb-false, cases_eq, cases_Bool}
 use Rattle.std.proofs.lemmas.List.{length-take, length-replicate}
 use Rattle.std.proofs.lemmas.List.Elements.{All-contains}
-use Rattle.layout_standing.specs.Numbered.{beside}
+use Rattle.layout_standing.proofs.Numbered.{beside}
 use Rattle.file_model.specs.card_layout.Kinds.{transparent_kind, has_records, is_ef_kind}
 use Rattle.file_model.specs.card_layout.Persistent.{Contents, Files, Bytes, Records, File, Persistent}
 use Rattle.file_model.specs.card_layout.Soundness.{mf, IsDf, IsEf, AreContents, AreApart, AreDistinct, IsInTree, IsSoundEf, IsSoundFile, IsSound}

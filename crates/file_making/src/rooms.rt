@@ -5,7 +5,6 @@ ghost use Rattle.file_model.specs.card_layout.Places.{data_end};
 ghost use Rattle.file_making.specs.Rooms.{IsSmallestRoom, room_at, free_number};
 ghost use Rattle.file_making.specs.Tables.{is_node_in_the_way};
 
-use crate::laws::rooms_are_smallest;
 use file_model::card_layout::places::{DATA, MEMORY_SIZE, UPPER_ROWS};
 use file_model::card_layout::sizes::NODE_COUNT;
 use file_model::card_layout::{Loaded, Node, kinds, states_are_of_entries};
@@ -62,7 +61,6 @@ pub fn room(loaded: &Loaded, size: u16) -> Option<u16>
     ensures value { (content : List ℕ) → result ≡ room_at (state_of loaded.now content) size }
 {
     states_are_of_entries();
-    rooms_are_smallest();
     let end = end_of_files(loaded.wide);
     let size = u32::from(size);
     let mut place = DATA as u32;

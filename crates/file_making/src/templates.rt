@@ -7,7 +7,6 @@ ghost use Rattle.file_model.specs.Fcp.{rule_object};
 ghost use Rattle.file_making.specs.Templates.{ef_kind_bytes, short_value, objects_of, template, may_rule, has_short_records, may_be_made, IsInRange, id_place, rule_told, size_place, shape_told, short_told, told, asked_in};
 
 use crate::asked::NewFile;
-use crate::laws::templates_are_read;
 use file_model::RuleReference;
 use file_model::card_layout::kinds::{self, CYCLIC, DF, LINEAR, TRANSPARENT};
 use file_model::card_layout::sizes::RECORD_LIMIT;
@@ -284,6 +283,5 @@ pub fn read_template(bytes: &[u8]) -> Option<NewFile>
     ensures only { (file : NewFile) → IsTrue (may_be_made file) → IsInRange file → bytes.now ≡ template file
         → result ≡ Some file }
 {
-    templates_are_read();
     asked_in(bytes)
 }

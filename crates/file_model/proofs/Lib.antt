@@ -1,13 +1,22 @@
 mod BinaryLaws
+pub mod Cases
+pub mod ChainedLemmas
 pub mod Changed
 mod Committed
+pub mod ConditionLemmas
 pub mod Entries
+pub mod GroupLemmas
 pub mod GuardLaws
 mod LifeLaws
 mod Lookups
+pub mod ObjectLemmas
 mod Optional
+pub mod PairLemmas
 mod Parts
 mod PinLaws
+pub mod ReadingConditions
+pub mod ReadingLaws
+pub mod ReadingPairs
 pub mod RecordLaws
 pub mod SelectLaws
 mod Selected
@@ -20,12 +29,5 @@ mod WorkedFiles
 mod WorkedLifeCycles
 mod WorkedPins
 mod WorkedRecords
-mod WorkedSelecting
-pub mod ObjectLemmas
-pub mod GroupLemmas
-pub mod ConditionLemmas
-pub mod PairLemmas
-pub mod ReadingLaws
-pub mod ReadingConditions
-pub mod ReadingPairs
 pub mod WorkedRules
+mod WorkedSelecting

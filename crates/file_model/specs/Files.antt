@@ -3,6 +3,7 @@
 use Rattle.std.specs.Prelude.{ℕ, ◌==◌, ◌/◌, not, ◌&&◌, Bool, if◌then◌else◌, List, [], length, map, find, Option, Some, None, option_map, slice_index_or}
 use Rattle.card_layout.specs.declared.entries.Node.{Node}
 use Rattle.card_layout.specs.declared.entries.Loaded.{Loaded}
+use Rattle.card_layout.specs.Blank.{unused_node}
 use Rattle.card_layout.specs.Kinds.{df_kind, has_records, is_ef_kind, activated}
 use Rattle.card_layout.specs.Persistent.{Rule, Contents, Files, Bytes, Records, File, Persistent}
 use Rattle.card_layout.specs.States.{used_nodes}
@@ -12,6 +13,10 @@ use Rattle.file_model.specs.declared.descriptors.Wanted.{Wanted}
 use Rattle.file_model.specs.declared.descriptors.Wanted.TheVariants.{Number, Named, Child, ChildDf, ChildEf, Short}
 
 -- ---- of a table of entries
+
+-- the entry of this number
+abbrev pub node_at : Loaded → ℕ → Node
+node_at table number = slice_index_or table.nodes number unused_node
 
 abbrev pub reference_of : Node → Option RuleReference
 reference_of node = if node.rule == 0 then None else Some (record { arr = node.arr; number = node.rule })

@@ -1,5 +1,5 @@
 -- DEACTIVATE FILE and ACTIVATE FILE (ETSI TS 102 221, 11.1.14 and 11.1.15).
-use Rattle.std.specs.Prelude.{ℕ, ◌==◌, ◌&&◌, Bool, if◌then◌else◌, List, [], ◌∷◌, None, Result, Ok}
+use Rattle.std.specs.Prelude.{ℕ, ◌==◌, if◌then◌else◌, List, [], ◌∷◌, None, Result, Ok}
 use Rattle.card_layout.specs.uicc_types.declared.answers.StatusWord.{StatusWord}
 use Rattle.card_layout.specs.uicc_types.declared.answers.TheConstants.StatusWord.{DONE, WRONG_PARAMETERS, WRONG_LENGTH, SECURITY_NOT_SATISFIED}
 use Rattle.apdu_form.specs.Model.{Apdu}
@@ -14,10 +14,7 @@ use Rattle.file_model.specs.declared.selections.Selection.{Selection}
 use Rattle.file_model.specs.Chains.{and_given, needs}
 use Rattle.file_model.specs.Files.{descriptors_in}
 use Rattle.file_model.specs.Access.{may}
-use Rattle.file_model.specs.Outcomes.{FileOutcome, has_no_data, addressed}
-
-abbrev pub has_no_parameters : Apdu → Bool
-has_no_parameters apdu = apdu.p1 == 0x00 && apdu.p2 == 0x00
+use Rattle.file_model.specs.Outcomes.{FileOutcome, has_no_data, has_no_parameters, addressed}
 
 -- nothing is committed where the file has this life cycle status already
 unfoldable pub bringing : Persistent → Selection → ℕ → Descriptor → FileOutcome

@@ -43,6 +43,10 @@ settled_pin verified (Ok outcome) = outcome
 
 -- ---- what a command may have beside its header
 
+-- P1 and P2 are 00
+abbrev pub has_no_parameters : Apdu → Bool
+has_no_parameters apdu = apdu.p1 == 0x00 && apdu.p2 == 0x00
+
 -- no data; a Le may be there
 abbrev pub has_no_data : Apdu → Bool
 has_no_data apdu = length apdu.body == 0

@@ -20,7 +20,7 @@ pub use card_layout;
 pub use card_layout::{store_form, uicc_types};
 pub use commands::{ContentsCommand, FileCommand, PinCommand};
 pub use descriptors::{Descriptor, RuleReference, Wanted};
-pub use fields::{has_data, has_le_alone, has_no_data};
+pub use fields::{has_data, has_le_alone, has_no_data, has_no_parameters};
 pub use laws::{
     commands_on_files_are_lawful, files_are_found, pin_commands_are_lawful, pins_are_guarded,
     records_are_read,

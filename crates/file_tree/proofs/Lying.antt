@@ -11,7 +11,7 @@ use Rattle.file_model.specs.declared.descriptors.Descriptor.{Descriptor}
 use Rattle.file_model.specs.declared.descriptors.Wanted.TheVariants.{Number}
 use Rattle.file_model.specs.Files.{descriptor_in, descriptors_in, is_df, is_ef, lies_in, file_found}
 use Rattle.file_model.specs.Selections.{IsSelection, selection_of}
-use Rattle.file_model.specs.Cases.{selection_of_df, selection_of_ef}
+use Rattle.file_model.proofs.Cases.{selection_of_df, selection_of_ef}
 use Rattle.file_tree.specs.Tables.{MayBeSelected, HaveShortIds}
 
 abbrev IsOfDf : Option Descriptor → Type 0

@@ -10,6 +10,7 @@ use Rattle.file_model.specs.declared.descriptors.Descriptor.{Descriptor}
 use Rattle.file_model.specs.declared.descriptors.Wanted.{Wanted}
 use Rattle.file_model.specs.declared.descriptors.Wanted.TheVariants.{Number}
 use Rattle.file_model.specs.Files.{descriptor_of, is_ef, is_wanted, file_found}
+pub use Rattle.file_model.specs.Files.{node_at}
 use Rattle.file_model.specs.Selections.{IsSelection, selection_of}
 
 -- Its entries are those of a memory that stands for a state.
@@ -50,10 +51,6 @@ HaveShortIds files = All (λ file. file.short ≤ 30) files
 -- no entry from the first place up to the second has the identifier
 abbrev pub HasNoneBetween : List Node → ℕ → ℕ → ℕ → Type 0
 HasNoneBetween nodes id from to = (place : ℕ) → from ≤ place → place < to → (slice_index_or nodes place unused_node).id.0 ≢ id
-
--- the entry of this number
-abbrev pub node_at : Loaded → ℕ → Node
-node_at table number = slice_index_or table.nodes number unused_node
 
 -- what is found at the first of these places at which there is a file
 abbrev pub first_found : List Descriptor → List Wanted → Option Descriptor

@@ -3,6 +3,7 @@ use Rattle.std.specs.Prelude.{ℕ, ◌+◌, ◌*◌, ◌%◌, List, [], ◌∷�
 use Rattle.toolkit_commands.specs.comprehension_tlv.Model.{Object}
 use Rattle.toolkit_commands.specs.comprehension_tlv.Writing.{tagged, spellings}
 use Rattle.toolkit_commands.specs.Table.{required, text_string, timer_value}
+use Rattle.toolkit_commands.specs.Responses.{result_object}
 use Rattle.toolkit_commands.specs.declared.commands.Details.{Details}
 use Rattle.toolkit_commands.specs.declared.devices.TheConstants.{KEYPAD, DISPLAY, CARD, TERMINAL}
 use Rattle.toolkit_commands.specs.declared.qualifiers.TheConstants.{IN_SECONDS}
@@ -24,9 +25,6 @@ abbrev pub timer_object : ℕ → Object
 timer_object timer = required TIMER_IDENTIFIER (timer ∷ [])
 
 -- ---- terminal responses
-
-abbrev pub result_object : ℕ → Object
-result_object general = required RESULT (general ∷ [])
 
 abbrev pub performed : Object → List Object
 performed object = result_object PERFORMED ∷ object ∷ []

@@ -14,7 +14,7 @@ use Rattle.card_layout.specs.declared.installation.Installed.{Installed}
 use Rattle.layout_section.specs.Adding.{Adds, Changes, IsFound, file_numbered, filled, with_record, Rewrites}
 use Rattle.layout_section.specs.Adding.{IsKind}
 use Rattle.card_layout.specs.Installations.{registered, IsInstalled, ReadsInstallation}
-use Rattle.layout_section.specs.Installing.{may_take, shows_item, wants_wide_card}
+use Rattle.layout_section.specs.Installing.{may_take, has_item, wants_wide_card}
 use Rattle.layout_section.specs.Describing.{has_room_for_row}
 use Rattle.layout_section.proofs.Shelving.{code_bit}
 
@@ -160,8 +160,8 @@ module _ (files : List File) (pins : List Pin) (rows : List Registration) (next 
   may_is : IsKind kind → is_new_row rows row ≡ may_take rows shelf priority installed
   may_is known =
       kind_step (nat_le shelf 31) (nat_le 1 kind) (nat_le kind 7) (nat_le 1 priority) (not (list_any (λ other. other.shelf == shelf) rows)) (not (is_call_control row && list_any is_call_control rows))
-      (not (shows_item installed && nat_le 16 (count_by has_text rows))) (le-leb 1 kind known.0) (le-leb kind 7 known.1)
-      ∙ ap (λ b. nat_le shelf 31 && nat_le 1 priority && not (list_any (λ other. other.shelf == shelf) rows) && not (b && list_any is_call_control rows) && not (shows_item installed && nat_le 16 (count_by has_text rows))) (code_bit installed.events)
+      (not (has_item installed && nat_le 16 (count_by has_text rows))) (le-leb 1 kind known.0) (le-leb kind 7 known.1)
+      ∙ ap (λ b. nat_le shelf 31 && nat_le 1 priority && not (list_any (λ other. other.shelf == shelf) rows) && not (b && list_any is_call_control rows) && not (has_item installed && nat_le 16 (count_by has_text rows))) (code_bit installed.events)
 
   room_for : rows_fit rows (byte_total_of files) ≡ true → rows_fit (row ∷ rows) (byte_total_of files) ≡ has_room_for_row here shelf installed
   room_for fit = room_step (fits_wide (byte_total_of files)) (wants_wide_card shelf installed) (list_any needs_wide rows) fit

@@ -18,16 +18,15 @@ use Rattle.card_layout.specs.Places.{data_place, data_end, row_count, kept_limit
 use Rattle.card_layout.specs.Persistent.{Persistent}
 use Rattle.card_layout.specs.Spelling.{node_spelled, pin_spelled, row_spelled}
 use Rattle.card_layout.specs.Decoding.{is_wide, number_at, node_of, node_bytes, row_bytes, node_at, row_at}
-use Rattle.card_layout.specs.Checks.{Check, checks, first_failed, header_checks, pin_checks, row_checks, node_checks, pin_check, row_check, node_check, is_pin, is_row, is_node, is_flag, key_of_slot, is_registration, has_known_numbers, has_short_parts, has_own_sequence, has_sequence_of, leaves_call_control, leaves_texts, is_call_control, has_row_text, is_mf, has_place_in_tree, is_ef, has_own_short, is_life_cycle, has_own_bytes, lies_among_files, shares_no_byte, is_apart, has_right_records, has_whole_records}
+use Rattle.card_layout.specs.Checks.{Check, checks, first_failed, header_checks, pin_checks, row_checks, node_checks, pin_check, row_check, node_check, is_pin, is_row, is_node, is_flag, key_of_slot, is_registration, has_known_numbers, has_short_parts, has_own_sequence, has_sequence_of, leaves_call_control, leaves_texts, is_call_control, has_row_text, is_mf, has_place_in_tree, is_ef, has_own_short, is_life_cycle, has_own_bytes, lies_among_files, shares_no_byte, is_apart, has_right_records, has_whole_records, shows_item}
 use Rattle.card_layout.specs.Sections.{byte_total_of}
 use Rattle.layout_section.specs.declared.section.SpelledCard.{SpelledCard}
 use Rattle.layout_section.specs.Filing.{all_bytes, size_total, IsEfBehind, HasRecords}
-use Rattle.layout_section.specs.RowTables.{shows}
 use Rattle.layout_section.specs.Laying.{first_bytes, SpellsCard, IsWritten}
 use Rattle.layout_section.proofs.Filed.{ends_before, total_is}
 use Rattle.layout_section.proofs.Reading.{no_ranges, row_flag, node_flag, pin_flag, text_count_there}
-use Rattle.card_layout.specs.ReadingBack.{node_back, pin_back, kept_count}
-use Rattle.card_layout.specs.RowPlaces.{below_32}
+use Rattle.card_layout.proofs.ReadingBackLemmas.{node_back, pin_back, kept_count}
+use Rattle.card_layout.proofs.RowPlacesLemmas.{below_32}
 use Rattle.layout_section.proofs.Tables.{first_byte, wide_there, next_there, node_bytes_there, node_none, nodes_before, pin_bytes_there, row_bytes_there, row_read, rows_before, narrow_parts}
 
 -- ---- checks that are all met
@@ -157,22 +156,22 @@ module _ (mark : ℕ) (state : Persistent) (card : SpelledCard) (content : List 
       (λ there. false_from_ne_true (is_call_control (row j)) (λ other. spells.rows.are.calls j k less inside (and_from (row j).used (is_call_control (row j)) there other) (and_from (row k).used (is_call_control (row k)) used call)))
       (λ none. ap is_call_control none) (unused_or j (omega arith)))))
       (λ no_call. and_left (is_call_control (row k)) (list_any is_call_control (take k spells.rows.rows)) no_call) (cases_Bool (is_call_control (row k)))) in
-      let same_texts : count_by has_row_text (take k spells.rows.rows) ≡ count_by shows (take k spells.rows.rows) =
-      count_same has_row_text shows (take k spells.rows.rows)
+      let same_texts : count_by has_row_text (take k spells.rows.rows) ≡ count_by shows_item (take k spells.rows.rows) =
+      count_same has_row_text shows_item (take k spells.rows.rows)
       (λ j d h.
       let less : j < k = omega arith in
       let at : get_or (take k spells.rows.rows) j d ≡ row j = get_or_default (take k spells.rows.rows) j d unused_row h ∙ taken_row k j less in
       ap has_row_text at
-      ∙ ⊎_elim {C = has_row_text (row j) ≡ shows (row j)} (λ there. sym (ap (λ b. b && has_row_text (row j)) there)) (λ none. ap has_row_text none ∙ sym (ap shows none)) (unused_or j (omega arith))
-      ∙ sym (ap shows at)) in
+      ∙ ⊎_elim {C = has_row_text (row j) ≡ shows_item (row j)} (λ there. sym (ap (λ b. b && has_row_text (row j)) there)) (λ none. ap has_row_text none ∙ sym (ap shows_item none)) (unused_or j (omega arith))
+      ∙ sym (ap shows_item at)) in
       let texts : leaves_texts (take k spells.rows.rows) (row k) ≡ true =
       not_from_false (has_row_text (row k) && nat_le 16 (count_by has_row_text (take k spells.rows.rows)))
       (⊎_elim {C = (has_row_text (row k) && nat_le 16 (count_by has_row_text (take k spells.rows.rows))) ≡ false}
       (λ text.
-      let counted : count_by shows (take (k + 1) spells.rows.rows) ≡ count_by shows (take k spells.rows.rows) + 1 =
-      count_by_more_yes shows spells.rows.rows k unused_row (omega (arith, spells.rows.are.long)) (and_from (row k).used (has_row_text (row k)) used text) in
+      let counted : count_by shows_item (take (k + 1) spells.rows.rows) ≡ count_by shows_item (take k spells.rows.rows) + 1 =
+      count_by_more_yes shows_item spells.rows.rows k unused_row (omega (arith, spells.rows.are.long)) (and_from (row k).used (has_row_text (row k)) used text) in
       and_right (has_row_text (row k)) (nat_le 16 (count_by has_row_text (take k spells.rows.rows)))
-      (lt-leb 16 (count_by has_row_text (take k spells.rows.rows)) (omega (arith, same_texts, counted, sum_by-take-le (λ (r : Row). let n : ℕ = cond (shows r) 1 0 in n) spells.rows.rows (k + 1), spells.rows.are.texts))))
+      (lt-leb 16 (count_by has_row_text (take k spells.rows.rows)) (omega (arith, same_texts, counted, sum_by-take-le (λ (r : Row). let n : ℕ = cond (shows_item r) 1 0 in n) spells.rows.rows (k + 1), spells.rows.are.texts))))
       (λ no_text. and_left (has_row_text (row k)) (nat_le 16 (count_by has_row_text (take k spells.rows.rows))) no_text) (cases_Bool (has_row_text (row k)))) in
       and_from (has_known_numbers state.next_sequence (row k) && has_short_parts card.wide (row_spelled (row k)) && has_own_sequence (take k spells.rows.rows) (row k) && leaves_call_control (take k spells.rows.rows) (row k)) (leaves_texts (take k spells.rows.rows) (row k))
       (and_from (has_known_numbers state.next_sequence (row k) && has_short_parts card.wide (row_spelled (row k)) && has_own_sequence (take k spells.rows.rows) (row k)) (leaves_call_control (take k spells.rows.rows) (row k))

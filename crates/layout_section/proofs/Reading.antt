@@ -9,7 +9,7 @@ use Rattle.card_layout.specs.Blank.{unused_node}
 use Rattle.card_layout.specs.Ranges.{HasNodeRanges}
 use Rattle.card_layout.specs.Spelling.{node_spelled, pin_spelled, row_spelled}
 use Rattle.card_layout.specs.Decoding.{node_in}
-use Rattle.card_layout.specs.ReadingBack.{node_back}
+use Rattle.card_layout.proofs.ReadingBackLemmas.{node_back}
 
 pub no_ranges : HasNodeRanges unused_node
 no_ranges = record { id = omega arith; arr = omega arith; place = omega arith; size = omega arith }

@@ -16,8 +16,9 @@ use Rattle.card_layout.specs.States.{registration_of, used_rows}
 use Rattle.card_layout.specs.Sections.{is_call_control, has_text, needs_wide, with_row}
 use Rattle.card_layout.specs.Checks as Checked
 use Rattle.card_layout.specs.declared.installation.Installed.{Installed}
-use Rattle.layout_section.specs.Installing.{answers_calls, shows_item, may_take}
-use Rattle.layout_section.specs.RowTables.{is_used, controls, shows, wants_wide, IsNewRow, AreRowsOf}
+use Rattle.layout_section.specs.Installing.{answers_calls, has_item, may_take}
+use Rattle.layout_section.specs.RowTables.{is_used, controls, wants_wide, IsNewRow, AreRowsOf}
+use Rattle.card_layout.specs.Checks.{shows_item}
 use Rattle.layout_section.proofs.Present.{list_any-passing, count_by-passing, list_any-unnumbered, count_by-unnumbered, IsOrdered, one_more, is_taken}
 
 abbrev pub rows_in : List Row → List Registration
@@ -37,9 +38,9 @@ rows_control rows =
     ∙ same_any (λ entry. entry.1.used && is_call_control (registration_of entry.0 entry.1)) (λ entry. controls entry.1) (λ entry. ap (λ b. entry.1.used && b) (code_bit entry.1.events)) (enumerate_from 0 rows)
     ∙ list_any-unnumbered controls 0 rows
 
-pub rows_show : (rows : List Row) → count_by has_text (rows_in rows) ≡ count_by shows rows
+pub rows_show : (rows : List Row) → count_by has_text (rows_in rows) ≡ count_by shows_item rows
 rows_show rows =
-    count_by-passing (λ entry. entry.1.used) (λ entry. registration_of entry.0 entry.1) has_text (enumerate_from 0 rows) ∙ count_by-unnumbered shows 0 rows
+    count_by-passing (λ entry. entry.1.used) (λ entry. registration_of entry.0 entry.1) has_text (enumerate_from 0 rows) ∙ count_by-unnumbered shows_item 0 rows
 
 pub rows_want_wide : (rows : List Row) → list_any needs_wide (rows_in rows) ≡ list_any (λ entry. wants_wide entry.0 entry.1) (enumerate_from 0 rows)
 rows_want_wide rows = list_any-passing (λ entry. entry.1.used) (λ entry. registration_of entry.0 entry.1) needs_wide (enumerate_from 0 rows)
@@ -66,7 +67,7 @@ no_rows rows is = record {
   each = λ k low used. absurd (cc (sym used ∙ unused k low));
   blank = λ k low used. there k low;
   calls = λ j k order low calls calls'. absurd (cc (sym calls' ∙ ap controls (there k low)));
-  texts = omega (arith, ap (count_by shows) is);
+  texts = omega (arith, ap (count_by shows_item) is);
   apart = λ j k order low used used' same. absurd (cc (sym used' ∙ unused k low));
 } where
   there : (k : ℕ) → k < 32 → get_or rows k unused_row ≡ unused_row
@@ -81,7 +82,7 @@ weight flag = cond flag 1 0
 weaker : (next : ℕ) (row : Row) → IsNewRow next row → IsNewRow (next + 1) row
 weaker next row is = record { kind = is.kind; priority = is.priority; sequence = omega (arith, is.sequence); events = is.events; text = is.text; kept = is.kept }
 
-pub row_kept : (rows : List Row) (next shelf : ℕ) (row : Row) → (controls row && list_any controls rows) ≡ false → (shows row && nat_le 16 (count_by shows rows)) ≡ false → length rows ≡ 32 → shelf < 32 → (get_or rows shelf unused_row).used ≡ false → row.used ≡ true → row.sequence ≡ next
+pub row_kept : (rows : List Row) (next shelf : ℕ) (row : Row) → (controls row && list_any controls rows) ≡ false → (shows_item row && nat_le 16 (count_by shows_item rows)) ≡ false → length rows ≡ 32 → shelf < 32 → (get_or rows shelf unused_row).used ≡ false → row.used ≡ true → row.sequence ≡ next
     → IsNewRow (next + 1) row → AreRowsOf rows next → AreRowsOf (set rows shelf row) (next + 1)
 row_kept rows next shelf row one_calls few_texts long low free used sequence new are = record {
   long = length-set rows shelf row ∙ long;
@@ -103,13 +104,13 @@ row_kept rows next shelf row one_calls few_texts long low free used sequence new
       (λ at_k. alone j (omega arith) (sym (ap controls (here k at_k)) ∙ call_k) (sym (ap controls (elsewhere j not_j)) ∙ call_j))
       (λ not_k. are.calls j k order below (sym (ap controls (elsewhere j not_j)) ∙ call_j) (sym (ap controls (elsewhere k not_k)) ∙ call_k)) (cases_eq k shelf)) (cases_eq j shelf);
   texts =
-      let counted = sum_by-set (λ row. weight (shows row)) rows shelf row unused_row (omega arith) in
-      let before : shows (get_or rows shelf unused_row) ≡ false = ap (λ b. b && Checked.has_row_text (get_or rows shelf unused_row)) free in
-      ⊎_elim {C = count_by shows (set rows shelf row) ≤ 16}
+      let counted = sum_by-set (λ row. weight (shows_item row)) rows shelf row unused_row (omega arith) in
+      let before : shows_item (get_or rows shelf unused_row) ≡ false = ap (λ b. b && Checked.has_row_text (get_or rows shelf unused_row)) free in
+      ⊎_elim {C = count_by shows_item (set rows shelf row) ≤ 16}
       (λ shown.
-      let few : count_by shows rows < 16 = leb-false 16 (count_by shows rows) (sym (ap (λ b. b && nat_le 16 (count_by shows rows)) shown) ∙ few_texts) in
+      let few : count_by shows_item rows < 16 = leb-false 16 (count_by shows_item rows) (sym (ap (λ b. b && nat_le 16 (count_by shows_item rows)) shown) ∙ few_texts) in
       omega (arith, counted, ap weight before, ap weight shown))
-      (λ hidden. omega (arith, counted, ap weight before, ap weight hidden, are.texts)) (cases_Bool (shows row));
+      (λ hidden. omega (arith, counted, ap weight before, ap weight hidden, are.texts)) (cases_Bool (shows_item row));
   apart = λ j k order below used_j used_k same.
       ⊎_elim {C = ⊥}
       (λ at_j. let other : k ≢ shelf = λ e. omega arith in
@@ -135,13 +136,13 @@ rows_in_none rows is = ap rows_in is
 -- what may stand beside the others, on the table
 pub may_parts : (rows : List Row) (shelf priority : ℕ) (installed : Installed) → may_take (rows_in rows) shelf priority installed ≡ true
     → (shelf < 32) × (1 ≤ priority) × (list_any (λ row. row.shelf == shelf) (rows_in rows) ≡ false) × ((answers_calls installed && list_any controls rows) ≡ false)
-    × ((shows_item installed && nat_le 16 (count_by shows rows)) ≡ false)
+    × ((has_item installed && nat_le 16 (count_by shows_item rows)) ≡ false)
 may_parts rows shelf priority installed may =
     let low = nat_le shelf 31 in
     let some = nat_le 1 priority in
     let free = not (list_any (λ row. row.shelf == shelf) (rows_in rows)) in
     let calls = not (answers_calls installed && list_any is_call_control (rows_in rows)) in
-    let texts = not (shows_item installed && nat_le 16 (count_by has_text (rows_in rows))) in
+    let texts = not (has_item installed && nat_le 16 (count_by has_text (rows_in rows))) in
     let first = and_parts (low && some && free && calls) texts may in
     let second = and_parts (low && some && free) calls first.0 in
     let third = and_parts (low && some) free second.0 in
@@ -151,7 +152,7 @@ may_parts rows shelf priority installed may =
       leb-true 1 priority fourth.1,
       not-true (list_any (λ row. row.shelf == shelf) (rows_in rows)) third.1,
       ap (λ b. answers_calls installed && b) (sym (rows_control rows)) ∙ not-true (answers_calls installed && list_any is_call_control (rows_in rows)) second.1,
-      ap (λ n. shows_item installed && nat_le 16 n) (sym (rows_show rows)) ∙ not-true (shows_item installed && nat_le 16 (count_by has_text (rows_in rows))) first.1,
+      ap (λ n. has_item installed && nat_le 16 n) (sym (rows_show rows)) ∙ not-true (has_item installed && nat_le 16 (count_by has_text (rows_in rows))) first.1,
     )
 
 pub kept_short : (rows : List Row) (next : ℕ) → AreRowsOf rows next → (k : ℕ) (d : Row) → k < length rows → length (get_or rows k d).kept ≤ 64

@@ -27,7 +27,7 @@ use Rattle.layout_section.specs.Laying.{first_bytes, SpellsCard, IsWritten}
 use Rattle.layout_section.proofs.Shelving.{rows_want_wide}
 use Rattle.uicc_types.specs.Ranges.{length-range, get_or-range}
 use Rattle.layout_section.proofs.Reading.{node_in_back, node_in_none}
-use Rattle.card_layout.specs.ReadingBack.{pin_back, row_back}
+use Rattle.card_layout.proofs.ReadingBackLemmas.{pin_back, row_back}
 
 -- a part of a part
 pub part_again : (bytes : List ℕ) (from count k n : ℕ) → from + count ≤ length bytes → k + n ≤ count → bytes_at (bytes_at bytes from count) k n ≡ bytes_at bytes (from + k) n

@@ -12,8 +12,8 @@ abbrev pub answers_calls : Installed → Bool
 answers_calls installed = bit_at installed.events call_control_bit == 1
 
 -- it has an item in the menu
-abbrev pub shows_item : Installed → Bool
-shows_item installed = not (length installed.text == 0)
+abbrev pub has_item : Installed → Bool
+has_item installed = not (length installed.text == 0)
 
 -- only a wide card can hold it on this shelf
 abbrev pub wants_wide_card : ℕ → Installed → Bool
@@ -24,4 +24,4 @@ abbrev pub may_take : List Registration → ℕ → ℕ → Installed → Bool
 may_take rows shelf priority installed =
     nat_le shelf (ROW_COUNT - 1) && nat_le 1 priority && not (list_any (λ row. row.shelf == shelf) rows)
     && not (answers_calls installed && list_any is_call_control rows)
-    && not (shows_item installed && nat_le MENU_LIMIT (count_by has_text rows))
+    && not (has_item installed && nat_le MENU_LIMIT (count_by has_text rows))

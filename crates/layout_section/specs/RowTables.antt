@@ -5,7 +5,7 @@ use Rattle.card_layout.specs.declared.sizes.TheConstants.{ROW_COUNT, LOWER_ROW_C
 use Rattle.card_layout.specs.declared.entries.Row.{Row}
 use Rattle.card_layout.specs.Blank.{unused_row}
 use Rattle.card_layout.specs.States.{registration_of, used_rows}
-use Rattle.card_layout.specs.Checks.{is_call_control, has_row_text}
+use Rattle.card_layout.specs.Checks.{is_call_control, shows_item}
 use Rattle.card_layout.specs.Decoding.{bytes_at}
 use Rattle.card_layout.specs.Spelling.{row_spelled}
 use Rattle.layout_section.specs.Adding.{RowList}
@@ -16,9 +16,6 @@ is_used row = row.used
 
 abbrev pub controls : Row → Bool
 controls row = row.used && is_call_control row
-
-abbrev pub shows : Row → Bool
-shows row = row.used && has_row_text row
 
 -- a row that only a wide card can hold on this shelf
 abbrev pub wants_wide : ℕ → Row → Bool
@@ -46,7 +43,7 @@ pub record AreRowsOf (rows : List Row) (next : ℕ) : Type 0 where
   pub blank : (k : ℕ) → k < ROW_COUNT → (slice_index_or rows k unused_row).used ≡ false → slice_index_or rows k unused_row ≡ unused_row
   pub calls : (j k : ℕ) → j < k → k < ROW_COUNT → controls (slice_index_or rows j unused_row) ≡ true
       → controls (slice_index_or rows k unused_row) ≡ true → ⊥
-  pub texts : count_by shows rows ≤ MENU_LIMIT
+  pub texts : count_by shows_item rows ≤ MENU_LIMIT
   pub apart : (j k : ℕ) → j < k → k < ROW_COUNT → (slice_index_or rows j unused_row).used ≡ true
       → (slice_index_or rows k unused_row).used ≡ true
       → (slice_index_or rows j unused_row).sequence ≡ (slice_index_or rows k unused_row).sequence → ⊥

@@ -4,11 +4,12 @@ ghost use Rattle.std.specs.List.{list_any, enumerate_from};
 ghost use Rattle.card_layout.specs.Sections.{has_text, is_call_control, needs_wide, with_row};
 ghost use Rattle.layout_section.specs.Adding.{IsKind};
 ghost use Rattle.card_layout.specs.Installations.{HasParts, registered};
-ghost use Rattle.layout_section.specs.Installing.{answers_calls, shows_item, may_take};
+ghost use Rattle.layout_section.specs.Installing.{answers_calls, has_item, may_take};
 ghost use Rattle.card_layout.specs.Blank.{unused_row};
 ghost use Rattle.card_layout.specs.Decoding.{bytes_at};
 ghost use Rattle.card_layout.specs.Spelling.{row_spelled};
-ghost use Rattle.layout_section.specs.RowTables.{controls, shows, wants_wide, IsKeptApart, SpellsRows};
+ghost use Rattle.layout_section.specs.RowTables.{controls, wants_wide, IsKeptApart, SpellsRows};
+ghost use Rattle.card_layout.specs.Checks.{shows_item};
 
 use crate::bytes::put;
 use card_layout::events::has_call_control;
@@ -51,7 +52,7 @@ fn controls_calls(row: &Row) -> bool
 }
 
 fn shows_text(row: &Row) -> bool
-    ensures { result ≡ shows row.now }
+    ensures { result ≡ shows_item row.now }
 {
     row.used && row.text.as_slice().len() != 0
 }
@@ -79,7 +80,7 @@ fn some_wide_row(rows: &[Row]) -> bool
 
 fn shown_texts(rows: &[Row]) -> usize
     requires { length rows.now < 64 }
-    ensures { result ≡ count_by shows rows.now }
+    ensures { result ≡ count_by shows_item rows.now }
 {
     rows.iter().filter(|row| shows_text(row)).count()
 }
@@ -91,7 +92,7 @@ fn installs_control(installed: &Installed) -> bool
 }
 
 fn installs_text(installed: &Installed) -> bool
-    ensures { result ≡ shows_item installed.now }
+    ensures { result ≡ has_item installed.now }
 {
     installed.text.as_slice().len() != 0
 }

@@ -31,10 +31,11 @@ use Rattle.layout_standing.specs.SoundnessLaws.{StandingIsSound, SoundStands}
 use Rattle.layout_standing.specs.Cards.{HasNode, HasPin, HasRow, file_if, registration_if}
 use Rattle.card_layout.specs.Changing.{with_file_at, with_row_on, with_file_changed, with_life, with_row_changed, with_codes, with_code_committed, without_code_committed, with_kept_committed}
 use Rattle.card_layout.specs.SortedCodes.{of_sorted}
-use Rattle.layout_standing.specs.Bare.{bare_node, bare_node_ranges, bare_node_flag, bare_node_life, bare_row, bare_row_ranges, bare_row_flag, bare_row_events}
+use Rattle.layout_standing.specs.Bare.{bare_node, bare_row}
+use Rattle.layout_standing.proofs.BareLemmas.{bare_node_ranges, bare_node_flag, bare_node_life, bare_row_ranges, bare_row_flag, bare_row_events}
 use Rattle.layout_standing.specs.Changes.{with_node, with_row}
 use Rattle.layout_standing.specs.ChangeLaws.{ChangesFile, ChangesRow, ChangesKeptBytes, ChangesBytesApart}
-use Rattle.layout_standing.specs.Numbered.{is_shown}
+use Rattle.layout_standing.proofs.Numbered.{is_shown}
 use Rattle.layout_standing.specs.StandingLaws.{NoOtherHasCallControl}
 use Rattle.layout_standing.proofs.Seen.{row_seen, row_flag, row_events}
 use Rattle.layout_standing.proofs.OneFile.{file_there, ef_of}

@@ -25,13 +25,15 @@ use Rattle.card_layout.specs.Fields.{node_fields, AreWholeFields, merged_node, n
 use Rattle.card_layout.specs.Sections.{refilled, with_contents}
 use Rattle.card_layout.specs.Laws.{after, KeepsBytesBeside, ChangesBytesAround, ChangesOneNode, KeepsTable}
 use Rattle.layout_standing.specs.Cards.{IsCard, Holds, HasNode, LiesAmongFiles}
-use Rattle.layout_standing.specs.Bare.{bare_node, bare_node_ranges, bare_node_head}
+use Rattle.layout_standing.specs.Bare.{bare_node}
+use Rattle.layout_standing.proofs.BareLemmas.{bare_node_ranges, bare_node_head}
 use Rattle.layout_standing.specs.Changes.{with_node}
 use Rattle.layout_standing.specs.ChangeLaws.{oldest}
 use Rattle.card_layout.specs.uicc_types.Numbered.{all_unmapped, same_mapped}
-use Rattle.layout_standing.specs.Numbered.{IsShown, all_shown, shown-reset, with_one}
+use Rattle.layout_standing.proofs.Numbered.{IsShown, all_shown, with_one, shown-reset}
 use Rattle.card_layout.specs.EntryLaws.{number_of_file}
-use Rattle.layout_standing.specs.Files.{same_file, file_with, ef_of, LieApart, used, file, all_lie_well, all_efs, lies_where, all_apart, same_files, entry_there}
+use Rattle.layout_standing.specs.Files.{file_with, ef_of, LieApart}
+use Rattle.layout_standing.proofs.FilesLemmas.{used, file, all_lie_well, all_efs, lies_where, all_apart, same_files, same_file, entry_there}
 use Rattle.card_layout.specs.uicc_types.Ranges.{one_behind}
 use Rattle.card_layout.specs.RecordLaws.{record_written}
 use Rattle.card_layout.specs.RowPlaces.{data_end_inside}

@@ -8,8 +8,8 @@ use Rattle.card_layout.specs.Places.{memory_size, pin_place, row_place, node_pla
 use Rattle.card_layout.specs.Decoding.{bytes_at, is_wide, node_bytes, pin_bytes, row_bytes}
 use Rattle.card_layout.specs.Checks.{is_version}
 use Rattle.card_layout.specs.Laws.{KeepsBytesBeside}
-use Rattle.card_layout.specs.RowPlaces.{row_below_kept}
-use Rattle.card_layout.specs.RowPlaces.{below_32}
+use Rattle.card_layout.proofs.RowPlacesLemmas.{row_below_kept}
+use Rattle.card_layout.proofs.RowPlacesLemmas.{below_32}
 use Rattle.layout_standing.specs.Forms.{IsPinForm, IsRowForm, IsNodeForm, IsWellFormed}
 
 -- ---- places

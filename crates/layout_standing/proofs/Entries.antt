@@ -22,13 +22,14 @@ use Rattle.layout_standing.specs.Forms.{HasRightHead, IsWellFormed}
 use Rattle.layout_standing.specs.SoundnessLaws.{StandingIsSound, SoundStands}
 use Rattle.layout_standing.specs.Cards.{Holds, HasOwnKeys, HasNode, HasPin, HasRow, pin_if, LiesAmongFiles, LiesWhere, file_if, registration_if}
 use Rattle.card_layout.specs.Changing.{with_file_at, with_row_on, with_pin_in, with_pin_for}
-use Rattle.layout_standing.specs.Bare.{bare_row, bare_row_ranges, bare_row_kept}
+use Rattle.layout_standing.specs.Bare.{bare_row}
+use Rattle.layout_standing.proofs.BareLemmas.{bare_row_ranges, bare_row_kept}
 use Rattle.layout_standing.specs.Changes.{with_node, with_slot, with_row}
 use Rattle.layout_standing.specs.ChangeLaws.{ChangesFile, AddsFile, RereadsFile, ChangesPin, AddsPin, RereadsPin, ChangesRow, AddsRow, InstallsRow, RereadsRow, ChangesKeptBytes, ChangesBytesApart, ChangesNextSequence, kept_pieces}
 use Rattle.layout_standing.specs.Standing.{StandsForNoOther}
 use Rattle.layout_standing.specs.Writing.{IsFileChange, IsPinChange, IsRowChange, IsWholeFile, IsWholePin, IsWholeRow}
-use Rattle.card_layout.specs.RowPlaces.{below_32}
-use Rattle.card_layout.specs.RowPlaces.{row_below_kept}
+use Rattle.card_layout.proofs.RowPlacesLemmas.{below_32}
+use Rattle.card_layout.proofs.RowPlacesLemmas.{row_below_kept}
 use Rattle.layout_standing.proofs.Elsewhere.{now_long, formed_low, formed_apart}
 use Rattle.layout_standing.proofs.Seen.{node_seen, pin_seen, row_seen, pin_key, row_flag, row_keeps, row_events}
 use Rattle.layout_standing.proofs.Parts.{events_uncut, node_formed, own_key_there, pin_formed, row_formed}

@@ -20,10 +20,11 @@ use Rattle.card_layout.specs.Laws.{after, KeepsBytesBeside, ChangesOneNode}
 use Rattle.layout_standing.specs.Cards.{IsCard, Holds, HasNode, LiesAmongFiles, LiesWhere, file_if}
 use Rattle.card_layout.specs.Changing.{placed, with_file_at}
 use Rattle.layout_standing.specs.Changes.{with_node}
-use Rattle.layout_standing.specs.Numbered.{entry_if, seen-set}
+use Rattle.layout_standing.proofs.Numbered.{entry_if, seen-set}
 use Rattle.card_layout.specs.EntryLaws.{number_of_file}
 use Rattle.card_layout.specs.RowPlaces.{data_end_inside}
-use Rattle.layout_standing.specs.Files.{same_file, used, node_count, all_lie_well, lies_where, entry_there, same_files}
+use Rattle.layout_standing.proofs.FilesLemmas.{used, node_count, all_lie_well, lies_where, same_files}
+use Rattle.layout_standing.proofs.FilesLemmas.{same_file, entry_there}
 
 -- an EF among the bytes of the files keeps its bytes if a piece is before or behind those
 pub beside_files : (law : KeepsBytesBeside) (wide : Bool) (content bytes : List ℕ) (place : ℕ) (node : Node) → length content ≡ memory_size → place + length bytes ≤ memory_size

@@ -12,7 +12,7 @@ use Rattle.card_layout.specs.Persistent.{Rule, File, Pin, Registration, Persiste
 use Rattle.card_layout.specs.Soundness.{IsDf, IsEf, mf, IsInTree, IsSoundFile, AreDistinct, IsSoundPin, slot_of_key, AreEventCodes, IsSoundRow, AreDifferent, IsSound}
 use Rattle.layout_standing.specs.Cards.{pin_if}
 use Rattle.card_layout.specs.Changing.{placed, with_file_at, with_row_on, with_pin_in}
-use Rattle.card_layout.specs.EntryLaws.{key_among, slot_back}
+use Rattle.card_layout.proofs.EntryLemmas.{key_among, slot_back}
 use Rattle.layout_standing.specs.Fitting.{MayStandBeside, FitsAmong, IsFileAnew, ShareNoCallControl, FitsOnShelf, IsRowAnew}
 use Rattle.layout_standing.specs.Writing.{IsWholePin}
 use Rattle.layout_standing.proofs.Placed.{all_others, all_placed, other_placed, this_placed, sum_without, sum_more, sum_same, pair_of, same_element, all_from, pairs_without, pairs_placed}

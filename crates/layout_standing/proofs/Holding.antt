@@ -24,7 +24,8 @@ use Rattle.card_layout.specs.RowPlaces.{data_end_inside}
 use Rattle.layout_standing.specs.Forms.{IsWellFormed}
 use Rattle.layout_standing.specs.SoundnessLaws.{StandingIsSound, SoundStands}
 use Rattle.layout_standing.specs.Cards.{IsCard, Holds, HasNode, IsFreeRange}
-use Rattle.layout_standing.specs.Bare.{bare_node, bare_node_ranges, bare_node_head}
+use Rattle.layout_standing.specs.Bare.{bare_node}
+use Rattle.layout_standing.proofs.BareLemmas.{bare_node_ranges, bare_node_head}
 use Rattle.layout_standing.specs.Changes.{with_node}
 use Rattle.layout_standing.specs.ChangeLaws.{WritesBytes, WritesRecord, WritesNewestRecord, KeepsState, oldest}
 use Rattle.layout_standing.specs.Forms.{HasRightHead}

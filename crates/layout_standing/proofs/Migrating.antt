@@ -23,15 +23,17 @@ use Rattle.card_layout.specs.Persistent.{File, Persistent}
 use Rattle.card_layout.specs.States.{file_bytes, file_of, df_file, ef_file, used_nodes, files_of, pins_of, rows_of, state_of}
 use Rattle.card_layout.specs.Soundness.{IsEf, IsSoundFile, IsSoundRow, IsSound}
 use Rattle.card_layout.specs.Standing.{state_in, Stands}
-use Rattle.card_layout.specs.Migration.{ends_low, migrated, entry_ends_low, entries_end_low, no_upper_rows, length-no_upper_rows, get_or-no_upper_rows}
+use Rattle.card_layout.specs.Migration.{ends_low, migrated, entry_ends_low, entries_end_low, no_upper_rows}
+use Rattle.card_layout.proofs.MigrationLemmas.{length-no_upper_rows, get_or-no_upper_rows}
 use Rattle.card_layout.specs.Laws.{after, KeepsBytesBeside, ChangesBytesAround, ChangesVersion}
 use Rattle.layout_standing.specs.Forms.{IsPinForm, IsRowForm, IsNodeForm, IsWellFormed}
 use Rattle.layout_standing.specs.SoundnessLaws.{StandingIsSound, SoundStands}
 use Rattle.layout_standing.specs.Cards.{IsCard, HasNode}
-use Rattle.layout_standing.specs.Files.{same_file}
+use Rattle.layout_standing.proofs.FilesLemmas.{same_file}
 use Rattle.layout_standing.specs.StandingLaws.{FreeBytesDontCount}
 use Rattle.layout_standing.specs.Migrating.{LowEndsAreSeen, OthersStay, UpperRowsAreFree, WideVersionStands}
-use Rattle.card_layout.specs.RowPlaces.{row_below_kept, data_end_inside, below_32}
+use Rattle.card_layout.specs.RowPlaces.{data_end_inside}
+use Rattle.card_layout.proofs.RowPlacesLemmas.{row_below_kept, below_32}
 use Rattle.layout_standing.proofs.Elsewhere.{same_mark}
 use Rattle.layout_standing.proofs.OneFile.{all_used, lies}
 use Rattle.layout_standing.proofs.Carried.{state_is, sound, card, formed, wide_is}

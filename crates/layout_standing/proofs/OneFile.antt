@@ -22,7 +22,7 @@ use Rattle.card_layout.specs.States.{file_bytes, record_count, records_of, from_
 use Rattle.card_layout.specs.Sections.{refilled, with_contents}
 use Rattle.card_layout.specs.Changing.{with_file_changed}
 use Rattle.layout_standing.specs.Cards.{IsCard, HasNode}
-use Rattle.layout_standing.specs.Numbered.{is_shown}
+use Rattle.layout_standing.proofs.Numbered.{is_shown}
 use Rattle.card_layout.specs.EntryLaws.{number_of_file}
 use Rattle.card_layout.specs.RowPlaces.{data_end_inside}
 use Rattle.layout_standing.proofs.Refilled.{contents_sound}

@@ -21,10 +21,11 @@ use Rattle.card_layout.specs.Checks.{key_of_slot}
 use Rattle.card_layout.specs.Ranges.{HasNodeRanges, HasPinRanges, HasRowRanges}
 use Rattle.card_layout.specs.Fields.{node_fields, pin_fields, row_fields, is_uncut, AreWholeFields, merged_node, node_there, shown_node}
 use Rattle.card_layout.specs.Laws.{after, KeepsBytesBeside, ChangesBytesAround, ChangesOneNode, RowsAreReadBack}
-use Rattle.card_layout.specs.ReadingBack.{length-node_spelled, length-pin_spelled, length-row_spelled, kept_count}
-use Rattle.card_layout.specs.RowPlaces.{row_below_kept}
-use Rattle.layout_standing.specs.Shown.{shown_node_there}
-use Rattle.card_layout.specs.RowPlaces.{below_32}
+use Rattle.card_layout.specs.ReadingBack.{length-node_spelled, length-pin_spelled, length-row_spelled}
+use Rattle.card_layout.proofs.ReadingBackLemmas.{kept_count}
+use Rattle.card_layout.proofs.RowPlacesLemmas.{row_below_kept}
+use Rattle.layout_standing.proofs.Shown.{shown_node_there}
+use Rattle.card_layout.proofs.RowPlacesLemmas.{below_32}
 use Rattle.layout_standing.specs.Forms.{HasRightHead, IsPinForm, IsRowForm, IsNodeForm, IsWellFormed}
 use Rattle.layout_standing.proofs.Bytes.{one, some, whole}
 use Rattle.layout_standing.proofs.Elsewhere.{row_where, formed_still}

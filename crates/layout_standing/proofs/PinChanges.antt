@@ -21,11 +21,11 @@ use Rattle.card_layout.specs.Fields.{pin_fields, AreWholeFields, merged_pin, pin
 use Rattle.card_layout.specs.Laws.{after, KeepsBytesBeside, ChangesOnePin}
 use Rattle.layout_standing.specs.Cards.{IsCard, Holds, HasPin, HasOwnKeys, pin_if}
 use Rattle.card_layout.specs.Changing.{with_pin_in, with_pin_for}
-use Rattle.layout_standing.specs.Shown.{shown_pin_there}
+use Rattle.layout_standing.proofs.Shown.{shown_pin_there}
 use Rattle.layout_standing.specs.Changes.{with_slot}
 use Rattle.layout_standing.proofs.PinPlaces.{pins_anew}
 use Rattle.card_layout.specs.uicc_types.Numbered.{mapped_too}
-use Rattle.layout_standing.specs.Numbered.{got_numbered, contained}
+use Rattle.layout_standing.proofs.Numbered.{got_numbered, contained}
 use Rattle.layout_standing.proofs.RowChanges.{files_stay}
 use Rattle.layout_standing.proofs.FileChanges.{beside_files}
 

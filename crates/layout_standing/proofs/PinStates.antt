@@ -4,7 +4,7 @@ use Rattle.std.specs.Prelude.{All, AllPairs, Contains, slice_index}
 use Rattle.card_layout.specs.declared.entries.PinSlot.{PinSlot}
 use Rattle.card_layout.specs.Decoding.{pin_bytes, pin_at}
 use Rattle.card_layout.specs.Soundness.{IsSoundPin, slot_of_key}
-use Rattle.card_layout.specs.EntryLaws.{key_among, slot_back}
+use Rattle.card_layout.proofs.EntryLemmas.{key_among, slot_back}
 use Rattle.card_layout.specs.Checks.{key_of_slot}
 use Rattle.layout_standing.specs.Forms.{IsPinForm}
 use Rattle.layout_standing.proofs.Ranges.{all_kept, kept_all, pairs_kept}

@@ -14,7 +14,7 @@ use Rattle.card_layout.specs.Persistent.{Bytes, Records}
 use Rattle.card_layout.specs.States.{file_bytes, contents_of, records_of, record_count, from_head}
 use Rattle.layout_standing.specs.Cards.{IsCard, HasNode}
 use Rattle.layout_standing.specs.ChangeLaws.{place_in_ring}
-use Rattle.layout_standing.specs.Files.{lies_where}
+use Rattle.layout_standing.proofs.FilesLemmas.{lies_where}
 use Rattle.card_layout.specs.uicc_types.Ranges.{length-range, one_behind}
 use Rattle.card_layout.specs.RowPlaces.{data_end_inside}
 use Rattle.layout_standing.proofs.Records.{length-from_head}

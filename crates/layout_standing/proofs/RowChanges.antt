@@ -26,12 +26,12 @@ use Rattle.card_layout.specs.Fields.{row_fields, AreWholeFields, merged_row, sho
 use Rattle.card_layout.specs.Laws.{after, KeepsBytesBeside, ChangesOneRow, ChangesOneLongRow, ChangesSequence}
 use Rattle.layout_standing.specs.Cards.{IsCard, Holds, HasRow, LiesAmongFiles, registration_if}
 use Rattle.card_layout.specs.Changing.{placed, with_row_on}
-use Rattle.layout_standing.specs.Shown.{row_when_used}
-use Rattle.card_layout.specs.RowPlaces.{row_place_low, row_place_high, below_32}
+use Rattle.layout_standing.proofs.Shown.{row_when_used}
+use Rattle.card_layout.proofs.RowPlacesLemmas.{row_place_low, row_place_high, below_32}
 use Rattle.layout_standing.specs.Changes.{with_row}
 use Rattle.layout_standing.specs.ChangeLaws.{kept_pieces}
-use Rattle.layout_standing.specs.Numbered.{entry_if, seen-set, got_numbered}
-use Rattle.layout_standing.specs.Files.{used, all_lie_well, same_files}
+use Rattle.layout_standing.proofs.Numbered.{entry_if, seen-set, got_numbered}
+use Rattle.layout_standing.proofs.FilesLemmas.{used, all_lie_well, same_files}
 use Rattle.layout_standing.proofs.FileChanges.{beside_files}
 
 -- ---- where rows stand

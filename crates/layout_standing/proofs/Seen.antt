@@ -11,9 +11,9 @@ use Rattle.card_layout.specs.Places.{row_count}
 use Rattle.card_layout.specs.Decoding.{number_at, is_wide, node_of, pin_of, row_of, row_bytes, kept_bytes, node_at, pin_at, row_at, table_of}
 use Rattle.card_layout.specs.Checks.{row_there}
 use Rattle.card_layout.specs.Fields.{node_there, pin_there}
-use Rattle.layout_standing.specs.Shown.{shown_node_there, shown_pin_there, row_when_used}
+use Rattle.layout_standing.proofs.Shown.{shown_node_there, shown_pin_there, row_when_used}
 use Rattle.layout_standing.specs.Cards.{HasNode, HasPin, HasRow}
-use Rattle.layout_standing.specs.Numbered.{got_numbered}
+use Rattle.layout_standing.proofs.Numbered.{got_numbered}
 
 pub got_first : {X : Type 0} (f : ℕ → X) (count k : ℕ) (x : X) → slice_get (map f (range_with_len 0 count)) k ≡ Some x → (k < count) × (f k ≡ x)
 got_first f count k x there =

@@ -8,8 +8,6 @@ pub mod Forms
 pub mod Holding
 pub mod Known
 pub mod Migrating
-pub mod Numbered
-pub mod Shown
 pub mod SoundnessLaws
 pub mod Standing
 pub mod StandingLaws

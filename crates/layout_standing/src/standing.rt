@@ -6,8 +6,7 @@ ghost use Rattle.layout_standing.specs.Stores.{AgreeingStands, WrittenStands, On
 
 use crate::{
     commits_change_one_file, commits_change_one_pin, commits_change_one_row,
-    commits_change_what_a_file_holds, files_are_read, sound_stands, standing_files_hold,
-    standing_is_sound, standing_keys_are_own,
+    commits_change_what_a_file_holds, files_are_read,
 };
 use card_layout::{
     commits_change_one_entry, entries_are_read_back, event_bits_are_codes,
@@ -27,10 +26,6 @@ pub fn cards_are_known()
     ensures texts { TextsOfTable }
     ensures free { RangesAreFree }
 {
-    standing_is_sound();
-    sound_stands();
-    standing_files_hold();
-    standing_keys_are_own();
     states_are_of_entries();
 }
 
@@ -42,8 +37,6 @@ pub fn files_stand()
     ensures life { LifeCycleStands }
     ensures reread { RereadFileStands }
 {
-    standing_is_sound();
-    sound_stands();
     pieces_change_their_bytes();
     commits_change_one_entry();
     commits_change_one_file();
@@ -55,8 +48,6 @@ pub fn pins_stand()
     ensures added { AddedPinStands }
     ensures reread { RereadPinStands }
 {
-    standing_is_sound();
-    sound_stands();
     pieces_change_their_bytes();
     commits_change_one_pin();
 }
@@ -73,8 +64,6 @@ pub fn rows_stand()
     ensures installed { InstalledRowStands }
     ensures sequence { NextSequenceStands }
 {
-    standing_is_sound();
-    sound_stands();
     entries_are_read_back();
     event_bits_are_codes();
     pieces_change_their_bytes();
@@ -87,8 +76,6 @@ pub fn what_files_hold_is_read()
     ensures record { RecordIsRead }
     ensures ring { RingIsRead }
 {
-    standing_is_sound();
-    sound_stands();
     files_are_read();
 }
 
@@ -100,8 +87,6 @@ pub fn what_files_hold_stands()
     ensures newest { NewestRecordStands }
     ensures free { FreeBytesDontCount }
 {
-    standing_is_sound();
-    sound_stands();
     pieces_change_their_bytes();
     commits_change_one_entry();
     commits_change_what_a_file_holds();
@@ -116,7 +101,6 @@ pub fn stores_stand()
     ensures prepared { PreparedStands }
     ensures torn { TornStands }
 {
-    standing_is_sound();
     what_files_hold_stands();
 }
 
@@ -128,8 +112,6 @@ pub fn migration_stands()
     ensures free { UpperRowsAreFree }
     ensures wide { WideVersionStands }
 {
-    standing_is_sound();
-    sound_stands();
     pieces_change_their_bytes();
     commits_change_one_entry();
     what_files_hold_stands();

@@ -3,7 +3,7 @@ use Rattle.std.proofs.Common.{◌≡◌, List, [], ◌∷◌, ◌++◌, Some, re
 use Rattle.std.proofs.lemmas.List.{append-nil}
 use Rattle.card_steps.specs.card_model.Runs.{IsRun, StepEnds, StepGives}
 use Rattle.card_steps.specs.card_model.States.{Machine}
-use Rattle.card_steps.specs.RunLaws.{run_ends, run_of, run_one, run_then}
+use Rattle.card_steps.proofs.RunLaws.{run_ends, run_of, run_one, run_then}
 use Rattle.card_steps.specs.Stepping.{BreaksOff, Moment}
 use Rattle.card_steps.specs.declared.steps.StepEnd.TheVariants.{SinkFailed, ResetFailed}
 use Rattle.handset_model.specs.Legal.{Seen, Shown, seen}

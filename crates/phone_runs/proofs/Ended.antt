@@ -5,7 +5,7 @@ use Rattle.std.specs.Prelude.{MatchBool}
 use Rattle.card_steps.specs.card_model.Answers.{answer}
 use Rattle.card_steps.specs.card_model.Runs.{Commands, MeetsNoPower}
 use Rattle.card_steps.specs.card_model.States.{Machine}
-use Rattle.card_steps.specs.RunLaws.{text_of-append}
+use Rattle.card_steps.proofs.RunLaws.{text_of-append}
 use Rattle.card_steps.specs.Runs.{item_text, text_of}
 use Rattle.card_steps.specs.Stepping.{BreaksOff, IsCutOff, Moment, exchanged}
 use Rattle.card_steps.specs.declared.steps.Reply.{Reply}

@@ -21,7 +21,8 @@ use Rattle.handset_model.specs.declared.steps.PhoneStep.TheVariants as step
 use Rattle.handset_model.specs.script_form.declared.handset.HandsetLine.{HandsetLine}
 use Rattle.handset_model.specs.script_form.declared.handset.HandsetLine.TheVariants.{UserOk, UserEnd, UserBack, UserNone, UserType, UserPick, UserPress, UserIdle, UserDial, NetPlace, NetPoll, Time, Reset}
 use Rattle.handset_model.specs.script_form.declared.handset.Note.{Note}
-use Rattle.terminal_side.specs.Kept.{Kept, clock_kept, kept, then_done, with_next}
+use Rattle.terminal_side.specs.Kept.{Kept, kept, then_done, with_next}
+use Rattle.terminal_side.proofs.KeptLemmas.{clock_kept}
 use Rattle.handset_model.specs.toolkit_commands.declared.commands.Proactive.{Proactive}
 use Rattle.handset_model.specs.toolkit_commands.declared.commands.Proactive.TheVariants.{DisplayText, SelectItem}
 use Rattle.handset_model.specs.uicc_types.declared.answers.Answer.{Answer}

@@ -1,7 +1,7 @@
 -- What a run of a handset is by the rules of the handset, and by those of the card.
 use Rattle.std.proofs.Common.{◌≡◌, List, [], ◌∷◌, ◌++◌, refl, sym, ap, ◌∙◌, inl, reverse}
 use Rattle.std.proofs.lemmas.List.{append-nil, reverse-append}
-use Rattle.card_steps.specs.RunLaws.{run_of}
+use Rattle.card_steps.proofs.RunLaws.{run_of}
 use Rattle.handset_model.specs.History.{Said, Sent, Answered, Noted, Restarted, PowerCut, FoundOff}
 use Rattle.handset_model.specs.Legal.{IsOf, IsOrderly, lines_of}
 use Rattle.phone_runs.specs.Laws.{RunsAreBegun, RunsAreLegal, RunsAreOfTheCard}

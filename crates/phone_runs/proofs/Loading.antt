@@ -5,7 +5,7 @@ use Rattle.std.specs.List.{flat_map}
 use Rattle.card_steps.specs.card_core.Parts.{CardParts}
 use Rattle.card_steps.specs.card_model.Counts.{IsCounted}
 use Rattle.card_steps.specs.card_model.Runs.{plan_given, armed_after}
-use Rattle.card_steps.specs.Standing.{machine_minds, machine_stands}
+use Rattle.card_steps.proofs.StandingLemmas.{machine_minds, machine_stands}
 use Rattle.card_steps.specs.Stepping.{Moment, moment}
 use Rattle.card_steps.specs.declared.steps.StepEnd.TheVariants.{ResetFailed}
 use Rattle.handset_model.specs.History.{Said, Sent, Answered, Noted, Restarted, PowerCut, FoundOff}

@@ -7,7 +7,7 @@ use Rattle.card_steps.specs.card_model.Laws.{CountsJoin, PlansAreSetInOrder}
 use Rattle.card_steps.specs.card_model.Runs.{plan_given, armed_after, joined, waiting_after}
 use Rattle.card_steps.specs.card_model.States.{Machine}
 use Rattle.card_steps.specs.Ends.{End, moment_at}
-use Rattle.card_steps.specs.RunLaws.{calm_before, calm_behind, run_one, run_then}
+use Rattle.card_steps.proofs.RunLaws.{calm_before, calm_behind, run_one, run_then}
 use Rattle.card_steps.specs.Runs.{GoesOn, ends_calm, text_of}
 use Rattle.card_steps.specs.Stepping.{BreaksOff, BreaksStep, EndsStep, GivesStep, Moment, TakesShowing, exchanged, restarted_by, seen as seen_of}
 use Rattle.card_steps.specs.declared.steps.Reply.{Reply}

@@ -1,7 +1,7 @@
 -- Lines and a card determine what is counted in the trace of a long run.
 use Rattle.std.proofs.Common.{◌≡◌, true, List, Some, sym, ap, ◌∙◌, map}
 use Rattle.card_steps.specs.card_model.States.{Machine}
-use Rattle.card_steps.specs.RunLaws.{run_of}
+use Rattle.card_steps.proofs.RunLaws.{run_of}
 use Rattle.card_steps.specs.Stepping.{Moment}
 use Rattle.phone_runs.specs.LoadLaws.{IsCalmLoad, LoadRunsAreOne}
 use Rattle.phone_runs.specs.LoadRuns.{all_heard, entry_line}

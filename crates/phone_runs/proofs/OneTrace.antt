@@ -8,7 +8,7 @@ use Rattle.handset_model.specs.uicc_types.Members.{back_of, front_of}
 use Rattle.card_steps.specs.card_model.Counts.{is_cut, is_failure}
 use Rattle.card_steps.specs.card_model.Runs.{Commands, IsRun, MeetsNoPower, StepGives}
 use Rattle.card_steps.specs.card_model.States.{Machine}
-use Rattle.card_steps.specs.RunLaws.{run_of, run_one}
+use Rattle.card_steps.proofs.RunLaws.{run_of, run_one}
 use Rattle.card_steps.specs.Runs.{GoesOn}
 use Rattle.handset_model.specs.History.{Said, Sent, Answered, Noted, Restarted, PowerCut, FoundOff}
 use Rattle.handset_model.specs.Legal.{IsAsked, IsOrderly, TraceEntry, Seen, Shown, entries_of, seen}

@@ -14,7 +14,7 @@ use Rattle.card_sections.specs.declared.behind.PlayEnd.TheVariants.{Finished, Ba
 use Rattle.card_sections.specs.declared.script_reader.ScriptReader.{ScriptReader}
 use Rattle.card_steps.proofs.StepLemmas.{told_more}
 use Rattle.card_steps.specs.Ends.{End, moment_at}
-use Rattle.card_steps.specs.RunLaws.{shows_one, shows_then}
+use Rattle.card_steps.proofs.RunLaws.{shows_one, shows_then}
 use Rattle.card_steps.specs.Runs.{text_of}
 use Rattle.card_steps.specs.Showing.{CutsOffStep, MayBreakOff, MayShowAll, ShowsLast, ShowsStep, ShowsStepEnd}
 use Rattle.card_steps.specs.Stepping.{Moment, exchanged, restarted_by}

@@ -6,6 +6,7 @@ pub mod Exchanges
 pub mod FixedRows
 pub mod HandsetServing
 pub mod Laws
+pub mod LineTallies
 pub mod Lines
 pub mod LoadLaws
 pub mod LoadLines

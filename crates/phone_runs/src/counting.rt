@@ -11,10 +11,7 @@ ghost use Rattle.handset_model.specs.script_form.declared.handset.HandsetLine.{H
 ghost use Rattle.handset_model.specs.uicc_types.Counts.{Rose};
 
 use crate::load_lines::LoadLines;
-use crate::{
-    CountingSink, Counts, PhoneMove, Places, counts_are_those_of_the_lines, play_on_phone,
-    start_phone,
-};
+use crate::{CountingSink, Counts, PhoneMove, Places, play_on_phone, start_phone};
 use card_steps::applet_trait::Applet;
 use card_steps::store_form::Store;
 use card_steps::{CardEnd, Carrier, StepEnd};
@@ -36,7 +33,6 @@ pub fn count_lines<S: Store, B: Applet>(
     ensures kept { card.old.parts.meter.faults ≤ card.new.parts.meter.faults }
     ensures failed { IsErr result → Rose card.old.parts.meter.faults card.new.parts.meter.faults }
 {
-    counts_are_those_of_the_lines();
     let mut carrier = Carrier::Direct;
     let mut places = Places::new();
     let mut phone = Phone::new();

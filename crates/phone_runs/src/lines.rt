@@ -4,13 +4,13 @@ ghost use Rattle.handset_model.specs.byte_streams.Reading.{IsWithin};
 ghost use Rattle.card_sections.specs.Behind.{GivesRead, IsReading};
 ghost use Rattle.card_sections.specs.Reading.{reading};
 ghost use Rattle.card_steps.specs.Ends.{moment_at};
-ghost use Rattle.card_steps.specs.Tallies.{Tallies, tally};
+ghost use Rattle.card_steps.specs.Tallies.{tally};
+ghost use Rattle.phone_runs.specs.LineTallies.{TalliesLines};
 ghost use Rattle.phone_runs.specs.Lines.{EndsAmid, GivesServed, IsBetweenLines, IsLineFurther, IsServing};
 ghost use Rattle.phone_runs.specs.Effects.{may_be_heard};
 ghost use Rattle.phone_runs.specs.Runs.{Beginning};
 ghost use Rattle.phone_runs.specs.Showing.{LineShows, Outset, ServesShowing};
 ghost use Rattle.handset_model.specs.script_form.declared.lines.ScriptLine.{ScriptLine as AnyLine};
-ghost use Rattle.handset_model.specs.uicc_types.Counts.{CountsFailure, Rose};
 
 use crate::effects::{PhoneEffect, effect_on_phone};
 use crate::playing::play_on_phone;
@@ -53,12 +53,8 @@ pub fn serve_line<S: Store, B: Applet, R: Source, W: Sink>(
     ensures further { OnOk result (IsLineFurther script.old script.new phone.new) }
     ensures within { (text : List ℕ) → IsWithin text (reading script.old) (R.left source.old)
         → IsWithin text (reading script.new) (R.left source.new) }
-    ensures failed { result ≡ Err PlayEnd.ResetFailed
-        → Rose card.old.parts.meter.faults card.new.parts.meter.faults }
-    ensures tallies { Tallies (tally W.Sink card.old trace.old) (tally W.Sink card.new trace.new)
-        (result ≡ Err PlayEnd.SinkFailed) }
-    ensures source_cause { CountsFailure (R.faults source.old) (R.faults source.new)
-        (result ≡ Err PlayEnd.ReadFailed) }
+    ensures tallies { TalliesLines (tally W.Sink card.old trace.old) (tally W.Sink card.new trace.new)
+        (R.faults source.old) (R.faults source.new) (λ end. result ≡ Err end) }
 {
     match read_behind(script, source, line) {
         Err(end) => Err(end),

@@ -25,6 +25,11 @@ pub record IsCarriedOut (outcome : PinOutcome) (before : List Pin) (status : Sta
   pub verified_is : verified ≡ outcome.verified
   pub pins_are : after ≡ last_of before outcome.passed
 
+-- carried out, with a commit for each change that it passes
+pub record IsSettled (outcome : PinOutcome) (old new : Memory) (status : StatusWord) (verified : Verified) : Type 0 where
+  pub carried_out : IsCarriedOut outcome (pins_of old.table) status verified (pins_of new.table)
+  pub commits : new.commits ≡ raised_by (length outcome.passed) old.commits
+
 -- refused with this status: no data are answered, and the same keys are verified as before
 pub record IsPinRefused (status : StatusWord) (answer : Answer) (old new : Verified) : Type 0 where
   pub body : answer.body ≡ []

@@ -1,11 +1,10 @@
 //! VERIFY PIN, CHANGE PIN, DISABLE PIN, ENABLE PIN and UNBLOCK PIN.
-ghost use Rattle.std.specs.Prelude.{◌≡◌, ◌≤◌, [], length, Err, IfErr, IfOk, IsOk, OnOk, OnErr};
-ghost use Rattle.file_model.specs.uicc_types.Counts.{raised_by};
+ghost use Rattle.std.specs.Prelude.{◌≡◌, ◌≤◌, [], Err, IfErr, IfOk, IsOk, OnOk, OnErr};
 ghost use Rattle.file_model.specs.card_layout.Memory.{IsMounted, memory};
 ghost use Rattle.file_model.specs.card_layout.States.{pins_of};
 ghost use Rattle.file_model.specs.Commands.{pin_outcome, pin_settled};
 ghost use Rattle.card_memory.specs.Model.{PerformsPin};
-ghost use Rattle.pin_rules.specs.Outcomes.{IsCarriedOut, LeavesOneLess, IsPinRefused, IsPinCutShort, IsTried, ChangesPins, AnswersPins, pin_by_byte, settled_by_byte};
+ghost use Rattle.pin_rules.specs.Outcomes.{IsSettled, LeavesOneLess, IsPinRefused, IsPinCutShort, IsTried, ChangesPins, AnswersPins, pin_by_byte, settled_by_byte};
 ghost use Rattle.pin_rules.specs.Trials.{IsTrial, OnlyTells, comes_to};
 
 use crate::marks::{marked, tries_left};
@@ -67,11 +66,8 @@ pub fn named_pin_command<S: Store>(
     out: &mut Answer,
 ) -> Result<(), StoreFault>
     requires mounted { IsMounted (memory S.Store store.old loaded.old) }
-    ensures comes { OnOk result (IsCarriedOut (pin_settled pin (pins_of loaded.old) verified.old command.now)
-        (pins_of loaded.old) out.new.status verified.new (pins_of loaded.new)) }
-    ensures commits { OnOk result (S.Store.commits store.new
-        ≡ raised_by (length (pin_settled pin (pins_of loaded.old) verified.old command.now).passed)
-        (S.Store.commits store.old)) }
+    ensures comes { OnOk result (IsSettled (pin_settled pin (pins_of loaded.old) verified.old command.now)
+        (memory S.Store store.old loaded.old) (memory S.Store store.new loaded.new) out.new.status verified.new) }
     ensures performs { PerformsPin result (memory S.Store store.old loaded.old) (memory S.Store store.new loaded.new)
         out.new verified.new (λ state. pin_settled pin state.pins verified.old command.now) }
     ensures guessed { OnOk result (LeavesOneLess pin command.now out.new.status
@@ -115,11 +111,8 @@ pub fn pin_command<S: Store>(
     out: &mut Answer,
 ) -> Result<(), StoreFault>
     requires mounted { IsMounted (memory S.Store store.old loaded.old) }
-    ensures comes { OnOk result (IsCarriedOut (settled_by_byte (pins_of loaded.old) verified.old command.now)
-        (pins_of loaded.old) out.new.status verified.new (pins_of loaded.new)) }
-    ensures commits { OnOk result (S.Store.commits store.new
-        ≡ raised_by (length (settled_by_byte (pins_of loaded.old) verified.old command.now).passed)
-        (S.Store.commits store.old)) }
+    ensures comes { OnOk result (IsSettled (settled_by_byte (pins_of loaded.old) verified.old command.now)
+        (memory S.Store store.old loaded.old) (memory S.Store store.new loaded.new) out.new.status verified.new) }
     ensures performs { PerformsPin result (memory S.Store store.old loaded.old) (memory S.Store store.new loaded.new)
         out.new verified.new (λ state. settled_by_byte state.pins verified.old command.now) }
     ensures guessed { OnOk result (LeavesOneLess (pin_by_byte command.now.ins) command.now out.new.status

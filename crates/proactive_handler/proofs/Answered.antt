@@ -15,10 +15,12 @@ use Rattle.toolkit_model.specs.Driving.{driven}
 use Rattle.toolkit_model.proofs.Asks.{run_late}
 use Rattle.proactive_handler.specs.Runs.{StopsAt}
 use Rattle.proactive_handler.specs.Steps.{toolkit, Scene, IsDone, MovesTo}
-use Rattle.proactive_handler.specs.Joining.{first_stops, then_moves}
+use Rattle.proactive_handler.proofs.Joining.{first_stops, then_moves}
 use Rattle.proactive_handler.specs.Boxes.{IsSameBox}
-use Rattle.proactive_handler.specs.Reached.{HasNoTurn, StopsBehind, TurnsTo, then_turns, first_turns, since_turns, noted_turns}
-use Rattle.proactive_handler.specs.Moved.{HasRowsOf, still_done, since_moves, noted_moves}
+use Rattle.proactive_handler.specs.Reached.{HasNoTurn, StopsBehind, TurnsTo}
+use Rattle.proactive_handler.proofs.ReachedLemmas.{then_turns, since_turns, noted_turns, first_turns}
+use Rattle.proactive_handler.specs.Moved.{HasRowsOf}
+use Rattle.proactive_handler.proofs.MovedLemmas.{still_done, since_moves, noted_moves}
 use Rattle.proactive_handler.proofs.Serving.{IsAwaited, gone}
 
 answered_is : (out : Outstanding) (reply : Reply) (state : ToolkitState) (owner : Option ℕ) → out.owner ≡ owner → answered out reply state ≡ noting (Responded out reply ∷ []) (resumed owner reply (with_nothing_out state))

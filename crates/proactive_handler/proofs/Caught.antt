@@ -19,9 +19,11 @@ use Rattle.proactive_handler.specs.Runs.{StopsAt}
 use Rattle.proactive_handler.specs.Boxes.{IsSameBox, AreForOthers}
 use Rattle.proactive_handler.specs.Serving.{IsSessionServed}
 use Rattle.proactive_handler.specs.Steps.{toolkit, Scene, IsDone, MovesTo}
-use Rattle.proactive_handler.specs.Joining.{first_stops, both_done, then_moves}
-use Rattle.proactive_handler.specs.Reached.{HasNoTurn, StopsBehind, TurnsTo, both_leave, then_turns, first_turns, since_turns}
-use Rattle.proactive_handler.specs.Moved.{HasRowsOf, still_done, since_moves}
+use Rattle.proactive_handler.proofs.Joining.{first_stops, both_done, then_moves}
+use Rattle.proactive_handler.specs.Reached.{HasNoTurn, StopsBehind, TurnsTo}
+use Rattle.proactive_handler.proofs.ReachedLemmas.{both_leave, then_turns, since_turns, first_turns}
+use Rattle.proactive_handler.specs.Moved.{HasRowsOf}
+use Rattle.proactive_handler.proofs.MovedLemmas.{still_done, since_moves}
 use Rattle.proactive_handler.proofs.Serving.{IsFound, found_first, taken_served}
 
 -- ---- the first whose applet is idle was taken out

@@ -24,8 +24,9 @@ use Rattle.proactive_handler.specs.declared.endings.Next.{Next}
 use Rattle.proactive_handler.specs.declared.endings.Next.TheVariants.{Told as TellsNext, Sent as SendsNext}
 use Rattle.proactive_handler.specs.declared.endings.Reply.TheVariants.{Refused as WasRefused}
 use Rattle.proactive_handler.specs.Acts.{timer_told, Told, Idle, Sent, next_of, after, TellsTimer, Stage, stage, works_at, with_these_rows, IsCarriedOut, Carries}
-use Rattle.proactive_handler.specs.Counting.{Counts, counts_none}
-use Rattle.proactive_handler.specs.Moved.{has_rows, stands_still}
+use Rattle.proactive_handler.specs.Counting.{Counts}
+use Rattle.proactive_handler.proofs.CountingLemmas.{counts_none}
+use Rattle.proactive_handler.proofs.MovedLemmas.{has_rows, stands_still}
 
 -- ---- what is told
 

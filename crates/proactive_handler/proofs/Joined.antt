@@ -34,9 +34,11 @@ use Rattle.toolkit_model.specs.Commands.{answer_in, last_answer}
 use Rattle.proactive_handler.specs.declared.endings.Ending.{Ending}
 use Rattle.proactive_handler.specs.Acts.{After, Told, Sent, next_of, Stage, works_at, with_these_rows, IsCarriedOut, IsActStopped}
 use Rattle.proactive_handler.specs.Runs.{answer_of, Ended, with_each_rows, StopsAt, IsRun, IsCut, RunsTo}
-use Rattle.proactive_handler.specs.Counting.{Counts, counts_none, counts_then}
-use Rattle.proactive_handler.specs.Joining.{stands_then, stops_later}
-use Rattle.proactive_handler.specs.Moved.{last_is_or, HasRowsOf, stands_still}
+use Rattle.proactive_handler.specs.Counting.{Counts}
+use Rattle.proactive_handler.proofs.CountingLemmas.{counts_none, counts_then}
+use Rattle.proactive_handler.proofs.Joining.{stands_then, stops_later}
+use Rattle.proactive_handler.specs.Moved.{HasRowsOf}
+use Rattle.proactive_handler.proofs.MovedLemmas.{last_is_or, stands_still}
 
 -- ---- what an act that commits nothing leaves
 

@@ -21,7 +21,7 @@ use Rattle.proactive_handler.specs.Counting.{Counts}
 use Rattle.proactive_handler.specs.Runs.{run_of, Ended, StopsAt, IsRun, IsCut}
 use Rattle.proactive_handler.specs.Steps.{toolkit, Scene, scene, IsDone}
 use Rattle.proactive_handler.proofs.Joined.{rests}
-use Rattle.proactive_handler.specs.Joining.{last_append}
+use Rattle.proactive_handler.proofs.Joining.{last_append}
 
 -- ---- the rows after a run are those of its last commit
 

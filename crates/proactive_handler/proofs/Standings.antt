@@ -21,8 +21,10 @@ use Rattle.toolkit_model.specs.Passing.{passed_rows}
 use Rattle.toolkit_model.specs.Running.{Setting, Works, Carried, carried, commits, committed, answers, admitted}
 use Rattle.proactive_handler.specs.declared.endings.Next.{Next}
 use Rattle.proactive_handler.specs.Acts.{Told, next_of, Stage, stage, works_at, with_these_rows, IsCarriedOut, IsActStopped, Carries}
-use Rattle.proactive_handler.specs.Moved.{HasRowsOf, has_rows, stands_still}
-use Rattle.proactive_handler.specs.Counting.{Counts, counts_none, counts_one}
+use Rattle.proactive_handler.specs.Moved.{HasRowsOf}
+use Rattle.proactive_handler.proofs.MovedLemmas.{has_rows, stands_still}
+use Rattle.proactive_handler.specs.Counting.{Counts}
+use Rattle.proactive_handler.proofs.CountingLemmas.{counts_none, counts_one}
 
 -- ---- a change of the rows
 

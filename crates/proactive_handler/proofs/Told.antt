@@ -22,9 +22,11 @@ use Rattle.proactive_handler.specs.Steps.{Scene, toolkit, IsDone, MovesTo}
 use Rattle.card_memory.specs.card_layout.Memory.{held}
 use Rattle.card_memory.specs.card_layout.States.{rows_of}
 use Rattle.proactive_handler.specs.Runs.{StopsAt}
-use Rattle.proactive_handler.specs.Joining.{first_stops, second_stops, both_done}
-use Rattle.proactive_handler.specs.Reached.{Tells, StopsBehind, TurnsTo, noted_turns, first_reached, second_reached, both_leave, HasNoTurn}
-use Rattle.proactive_handler.specs.Moved.{HasRowsOf, still_done, noted_moves, answer_both}
+use Rattle.proactive_handler.proofs.Joining.{first_stops, second_stops, both_done}
+use Rattle.proactive_handler.specs.Reached.{Tells, StopsBehind, TurnsTo, HasNoTurn}
+use Rattle.proactive_handler.proofs.ReachedLemmas.{noted_turns, first_reached, second_reached, both_leave}
+use Rattle.proactive_handler.specs.Moved.{HasRowsOf}
+use Rattle.proactive_handler.proofs.MovedLemmas.{still_done, noted_moves, answer_both}
 
 module _ (code : ℕ) (body : List ℕ) (shelf : ℕ) (state : ToolkitState) where
   abbrev pub noted_first : Bool → List Happening

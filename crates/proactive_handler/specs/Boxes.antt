@@ -1,5 +1,4 @@
 -- The boxes of applets on their shelves, as a contract sees them: by their minds.
-use Rattle.std.proofs.Common.{◌∙◌}
 use Rattle.std.specs.Prelude.{◌≡◌, ◌≢◌, ℕ, List, map, All, slice_index_or, Option, None, option_map}
 use Rattle.toolkit_model.specs.applet_trait.Minds.{AppletState}
 use Rattle.card_memory.specs.card_layout.declared.entries.Loaded.{Loaded}
@@ -22,7 +21,3 @@ AreForOthers shelf triggers = All (λ trigger. trigger.shelf ≢ shelf) triggers
 -- on each shelf without a row the applet is as it was
 abbrev pub LeavesOthers : Loaded → List (Option AppletState) → List (Option AppletState) → Type 0
 LeavesOthers table old new = (shelf : ℕ) → (HasRowOn table shelf → ⊥) → mind_on new shelf ≡ mind_on old shelf
-
--- one thing after the other, where rows stay
-pub others_then : (middle new : Loaded) (first then last : List (Option AppletState)) → ((shelf : ℕ) → HasRowOn middle shelf → HasRowOn new shelf) → LeavesOthers middle first then → LeavesOthers new then last → LeavesOthers new first last
-others_then middle new first then last stay before after = λ shelf none. after shelf none ∙ before shelf (λ has. none (stay shelf has))

@@ -1,14 +1,11 @@
 pub mod Acts
 pub mod Boxes
 pub mod Counting
-pub mod Joining
-pub mod Late
 pub mod Moved
 pub mod Reached
 pub mod Rows
 pub mod Runs
 pub mod Scenes
-pub mod Served
 pub mod Serving
 pub mod Steps
 pub use Rattle.applet_registry.specs as applet_registry

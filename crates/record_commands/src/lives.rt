@@ -4,7 +4,7 @@ ghost use Rattle.file_model.specs.card_layout.Kinds.{activated, deactivated};
 ghost use Rattle.file_model.specs.Files.{descriptors_of};
 ghost use Rattle.file_model.specs.Selections.{IsSelection};
 ghost use Rattle.file_model.specs.Outcomes.{settled_file};
-ghost use Rattle.file_model.specs.LifeCycles.{has_no_parameters, life_file, life_in, life_changed, file_deactivated, file_activated};
+ghost use Rattle.file_model.specs.LifeCycles.{life_file, life_in, life_changed, file_deactivated, file_activated};
 ghost use Rattle.card_memory.specs.Model.{Performs, StaysStill, HasEf};
 ghost use Rattle.file_tree.specs.Tables.{IsCardTable};
 ghost use Rattle.file_commands.specs.Commands.{IsInPlace};
@@ -20,7 +20,7 @@ use file_model::card_layout::Loaded;
 use file_model::card_layout::kinds::{ACTIVATED, DEACTIVATED};
 use file_model::store_form::{Store, StoreFault};
 use file_model::uicc_types::{Answer, StatusWord};
-use file_model::{Op, Verified, has_no_data};
+use file_model::{Op, Verified, has_no_data, has_no_parameters};
 use file_tree::{Descriptor, Selection};
 
 /// A change of the life cycle, with the operation that has to be allowed for it.
@@ -28,12 +28,6 @@ use file_tree::{Descriptor, Selection};
 struct Change {
     op: Op,
     life: u8,
-}
-
-fn has_parameters(command: &Command<'_>) -> bool
-    ensures { result ≡ has_no_parameters command.now }
-{
-    command.p1 == 0 && command.p2 == 0
 }
 
 // The current EF. Refused are, in this order, P1 and P2 that aren't 0, data, and where there is no current EF.
@@ -49,7 +43,7 @@ fn life_file(
     ensures ef { IfOk result (λ file. HasEf loaded.now file.number) }
     ensures usual { IfErr result (λ status. status.0 ≢ StatusWord.MEMORY_PROBLEM.0) }
 {
-    if !has_parameters(command) {
+    if !has_no_parameters(command) {
         return Err(StatusWord::WRONG_PARAMETERS);
     }
     if !has_no_data(command) {

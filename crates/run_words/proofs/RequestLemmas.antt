@@ -1,11 +1,11 @@
 -- What the words of a command and its options ask for.
-use Rattle.std.proofs.Common.{◌≡◌, ℕ, List, [], ◌∷◌, false, refl, sym, ap, ◌∙◌, subst}
+use Rattle.std.proofs.Common.{◌≡◌, ℕ, List, [], ◌∷◌, refl, sym, ap, ◌∙◌, subst}
 use Rattle.std.specs.Cmp.Lexicographic.{other_text}
 use Rattle.std.specs.Prelude.{codes, Option, Some, None, option_map}
 use Rattle.script_form.specs.Reads.{IsOnly, Reads}
 use Rattle.script_form.specs.Values.{IsNumber}
 use Rattle.run_words.specs.Model.{AreChosen, IsBipWord, IsCommand, IsLoadWord, IsNamed, IsNamedWith, IsRequest, length_of, transport_of}
-use Rattle.run_words.specs.OptionForms.{AreOptions, devices_of, without_options}
+use Rattle.run_words.specs.OptionForms.{AreOptions, devices_of}
 use Rattle.run_words.specs.declared.options.Options.{Options}
 use Rattle.run_words.specs.declared.requests.Devices.{Devices}
 use Rattle.run_words.specs.declared.requests.Mode.{Mode}
@@ -150,46 +150,3 @@ no_start first second options none asked r = let l = load_is first second option
 
 pub no_count : (first second : List ℕ) (options : List (List ℕ)) → ((count : ℕ) → IsNumber 0 MOST_LINES second count → ⊥) → (asked : Request) → IsRequest (load_words first second options) asked → ⊥
 no_count first second options none asked r = let l = load_is first second options asked r in none l.count l.loads.count_is
-
--- ---- `bip`
-
-abbrev bip_request : Request
-bip_request = record { mode = Bip; devices = record { image = None; pages = false } }
-
-abbrev bip_words : List (List ℕ) → List (List ℕ)
-bip_words others = codes "bip" ∷ others
-
-named_apart_from_bip : (name : List ℕ) (others behind : List (List ℕ)) (mode : Mode) → bip_words others ≡ name ∷ behind → IsNamed name mode → ⊥
-named_apart_from_bip name others behind Play parted n = other_text (codes "bip") (codes "play") refl (cc)
-named_apart_from_bip name others behind Open parted n = other_text (codes "bip") (codes "open") refl (cc)
-named_apart_from_bip name others behind (Phone transport) parted n = other_text (codes "bip") (codes "phone") refl (cc)
-named_apart_from_bip name others behind (Load start count) parted n = n
-named_apart_from_bip name others behind Bip parted n = n
-
--- a request of `bip`: no word is behind it
-record IsBipOf (others : List (List ℕ)) (mode : Mode) (devices : Devices) : Type 0 where
-  mode_is : mode ≡ Bip
-  none_behind : others ≡ []
-  devices_are : devices ≡ devices_of without_options
-
-bip_by : (others options : List (List ℕ)) (mode : Mode) (devices : Devices) → Asks (bip_words others) options mode devices → IsBipOf others mode devices
-bip_by others options Play devices a = absurd (named_apart_from_bip a.0.name others options Play a.0.begins a.0.named)
-bip_by others options Open devices a = absurd (named_apart_from_bip a.0.name others options Open a.0.begins a.0.named)
-bip_by others options (Phone transport) devices a = absurd (named_apart_from_bip a.0.name others options (Phone transport) a.0.begins a.0.named)
-bip_by others options (Load start count) devices a = absurd (let begins = a.0.begins in other_text (codes "bip") (codes "load") refl (cc))
-bip_by others options Bip devices a =
-    let alone = a.0.alone in
-    let chosen = subst (λ (l : List (List ℕ)). AreChosen 1 l Direct devices) a.0.no_options a.1 in
-    record { mode_is = refl; none_behind = cc; devices_are = chosen.devices_are ∙ ap devices_of chosen.named }
-
--- alone it is one, and with words behind it none
-pub bip_only : IsOnly (IsRequest (bip_words [])) bip_request
-bip_only = record {
-  so = record { options = []; begins = record { alone = refl; no_options = refl }; goes_on = record { options = without_options; named = refl; transport_is = refl; devices_are = refl } };
-  only = λ other r.
-      let is = bip_by [] r.options other.mode other.devices (r.begins, r.goes_on) in
-      same_request other Bip (devices_of without_options) is.mode_is is.devices_are;
-}
-
-pub bip_behind : (others : List (List ℕ)) (asked : Request) → IsRequest (bip_words others) asked → others ≡ []
-bip_behind others asked r = (bip_by others r.options asked.mode asked.devices (r.begins, r.goes_on)).none_behind

@@ -1,8 +1,9 @@
+pub mod Commands
+pub mod Digits
 pub mod Hexadecimal
 pub mod Numbers
 pub mod PathLemmas
-pub mod Spaces
-pub mod Commands
-pub mod Digits
+mod PathsLemmas
 pub mod Rules
+pub mod Spaces
 mod WorkedForms

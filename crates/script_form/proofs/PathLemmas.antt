@@ -3,7 +3,8 @@ use Rattle.std.proofs.Common.{◌≡◌, ℕ, ◌+◌, ◌*◌, ◌<◌, ◌≤�
 use Rattle.std.specs.Prelude.{All}
 use Rattle.std.proofs.lemmas.List.{append-nil, length-append}
 use Rattle.uicc_types.specs.declared.identifiers.FileId.{FileId}
-use Rattle.script_form.specs.Paths.{length-path, split_off}
+use Rattle.script_form.specs.Paths.{length-path}
+use Rattle.script_form.proofs.PathsLemmas.{split_off}
 use Rattle.script_form.specs.Reads.{IsOnly}
 use Rattle.script_form.specs.Values.{IsFree, SpellsPath, identifier_bytes, path_bytes}
 

@@ -32,9 +32,10 @@ use Rattle.toolkit_model.specs.Running.{mind_on, with_mind}
 use Rattle.toolkit_model.specs.Driving.{driven}
 use Rattle.toolkit_model.specs.Commands.{unregistering, deleted}
 use Rattle.proactive_handler.specs.Boxes.{kinds_of}
-use Rattle.proactive_handler.specs.Joining.{both_done, second_stops}
-use Rattle.proactive_handler.specs.Moved.{HasRowsOf, stands_still}
-use Rattle.proactive_handler.specs.Counting.{counts_one}
+use Rattle.proactive_handler.proofs.Joining.{both_done, second_stops}
+use Rattle.proactive_handler.specs.Moved.{HasRowsOf}
+use Rattle.proactive_handler.proofs.MovedLemmas.{stands_still}
+use Rattle.proactive_handler.proofs.CountingLemmas.{counts_one}
 use Rattle.proactive_handler.specs.Steps.{Scene, toolkit, IsDone, MovesTo}
 use Rattle.card_model.specs.Toolkit.{has_shelf, row_or_status}
 use Rattle.session_commands.specs.Deleting.{HasNoRow, HasLost}

@@ -7,7 +7,7 @@ use Rattle.file_model.specs.card_layout.States.{rows_of}
 use Rattle.toolkit_model.specs.Passing.{ToolkitState, Passed, before, passed_rows}
 use Rattle.proactive_handler.specs.Runs.{StopsAt}
 use Rattle.proactive_handler.specs.Steps.{Scene, toolkit, IsDone, MovesTo}
-use Rattle.proactive_handler.specs.Joining.{first_stops, second_stops}
+use Rattle.proactive_handler.proofs.Joining.{first_stops, second_stops}
 
 module _ (first : Passed) (next : ToolkitState → Passed) (old mid : Scene) where
   -- a fault stopped the step

@@ -11,7 +11,7 @@ use Rattle.toolkit_model.specs.Orderly.{asks, IsSuspended}
 use Rattle.toolkit_model.specs.Driving.{is_idle}
 use Rattle.toolkit_model.proofs.Ready.{idle_all}
 use Rattle.proactive_handler.specs.Serving.{IsSessionServed}
-use Rattle.proactive_handler.specs.Served.{served_still}
+use Rattle.proactive_handler.proofs.Served.{served_still}
 
 abbrev pub IsUsed : Option Row → Type 0
 IsUsed entry = IsSomeAnd entry (λ row. row.used ≡ true)

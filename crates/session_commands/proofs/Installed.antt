@@ -24,8 +24,9 @@ use Rattle.toolkit_model.specs.Driving.{driven}
 use Rattle.toolkit_model.specs.Commands.{registering, installed}
 use Rattle.toolkit_model.specs.Installing.{kind_on}
 use Rattle.proactive_handler.specs.Boxes.{kinds_of}
-use Rattle.proactive_handler.specs.Moved.{kinds_stay}
-use Rattle.proactive_handler.specs.Counting.{Counts, counts_one, counts_then}
+use Rattle.proactive_handler.proofs.MovedLemmas.{kinds_stay}
+use Rattle.proactive_handler.specs.Counting.{Counts}
+use Rattle.proactive_handler.proofs.CountingLemmas.{counts_one, counts_then}
 use Rattle.proactive_handler.specs.Steps.{Scene, toolkit, MovesTo}
 use Rattle.card_model.specs.Toolkit.{ToolkitOutcome, with_rows}
 use Rattle.session_commands.specs.Carrying.{state_at, last_state, HasCome, IsToolkitCutShort, Comes}

@@ -1,6 +1,7 @@
 mod Admitted
 mod Besides
 mod Boxed
+pub mod CardsLemmas
 mod Carried
 mod Coming
 mod Deleted

@@ -9,7 +9,7 @@ use Rattle.toolkit_model.specs.toolkit_commands.declared.commands.Details.{Detai
 use Rattle.toolkit_model.specs.toolkit_commands.declared.responses.Response.{Response}
 use Rattle.toolkit_model.specs.Sessions.{Outstanding, SessionState}
 use Rattle.toolkit_model.specs.Passing.{ToolkitState}
-use Rattle.proactive_handler.specs.Counting.{counts_none}
+use Rattle.proactive_handler.proofs.CountingLemmas.{counts_none}
 use Rattle.proactive_handler.specs.Steps.{Scene}
 use Rattle.toolkit_model.specs.Commands.{unfetched, unanswered, pending, bytes_of, as_fetched, fetched}
 use Rattle.card_model.specs.States.{CardState}

@@ -13,16 +13,16 @@ use Rattle.toolkit_model.specs.toolkit_commands.Envelopes.{envelope_of}
 use Rattle.toolkit_model.specs.toolkit_commands.Responses.{response_of}
 use Rattle.toolkit_model.specs.toolkit_commands.Table.{details_of}
 use Rattle.file_model.specs.Chains.{refused_if, given, and_given}
-use Rattle.file_model.specs.Outcomes.{has_data, has_no_data, has_le_alone}
+use Rattle.file_model.specs.Outcomes.{has_data, has_no_data, has_le_alone, has_no_parameters}
 use Rattle.file_model.specs.Records.{other_length}
-use Rattle.file_model.specs.Chained.{past_unless, past_given}
+use Rattle.file_model.proofs.ChainedLemmas.{past_unless, past_given}
 use Rattle.toolkit_model.specs.Sessions.{Outstanding}
 use Rattle.toolkit_model.specs.Orderly.{asks}
 use Rattle.toolkit_model.specs.Driving.{is_idle}
 use Rattle.toolkit_model.specs.Registry.{installed_row, deleted_row}
 use Rattle.toolkit_model.specs.Commands.{profiled, enveloped, is_busy, call_data, unfetched, unanswered, pending, bytes_of, fetched, responded, installed, deleted}
 use Rattle.card_model.specs.States.{CardState}
-use Rattle.card_model.specs.Toolkit.{ToolkitOutcome, toolkit_of, coming_to, has_zero_parameters, has_shelf, row_or_status, kind_in, profile_taken, command_fetched, response_taken, envelope_taken, applet_installed, applet_deleted}
+use Rattle.card_model.specs.Toolkit.{ToolkitOutcome, toolkit_of, coming_to, has_shelf, row_or_status, kind_in, profile_taken, command_fetched, response_taken, envelope_taken, applet_installed, applet_deleted}
 use Rattle.session_commands.specs.Trying.{data_tried, fetch_tried, response_given, response_tried, envelope_given, envelope_tried, install_tried, delete_tried}
 
 -- ---- chains
@@ -39,11 +39,11 @@ goes_then tried f x is = ap (λ r. and_given r f) is
 
 -- the parameters and the data, and then the rest
 data_then : {Y : Type 0} (apdu : Apdu) (f : Unit → Result Y StatusWord)
-    → and_given (data_tried apdu) f ≡ refused_if (not (has_zero_parameters apdu)) WRONG_PARAMETERS (refused_if (not (has_data apdu)) WRONG_LENGTH (f tt))
+    → and_given (data_tried apdu) f ≡ refused_if (not (has_no_parameters apdu)) WRONG_PARAMETERS (refused_if (not (has_data apdu)) WRONG_LENGTH (f tt))
 unfolding data_tried and_given
 data_then apdu f =
-    past_unless (not (has_zero_parameters apdu)) WRONG_PARAMETERS (refused_if (not (has_data apdu)) WRONG_LENGTH (Ok tt)) f
-    ∙ ap (refused_if (not (has_zero_parameters apdu)) WRONG_PARAMETERS) (past_unless (not (has_data apdu)) WRONG_LENGTH (Ok tt) f)
+    past_unless (not (has_no_parameters apdu)) WRONG_PARAMETERS (refused_if (not (has_data apdu)) WRONG_LENGTH (Ok tt)) f
+    ∙ ap (refused_if (not (has_no_parameters apdu)) WRONG_PARAMETERS) (past_unless (not (has_data apdu)) WRONG_LENGTH (Ok tt) f)
 
 profile_is : (card : CardState) (apdu : Apdu) → profile_taken card apdu ≡ and_given (data_tried apdu) (λ done. Ok (coming_to card [] (profiled apdu.body (toolkit_of card))))
 unfolding profile_taken
@@ -80,7 +80,7 @@ fetch_is : (card : CardState) (apdu : Apdu) → command_fetched card apdu ≡ an
 unfolding command_fetched fetch_tried
 fetch_is card apdu =
     fetch_alike (λ count. unwrap_or apdu.expected 0 == 256 || unwrap_or apdu.expected 0 == count) (λ out. coming_to card (bytes_of out) (fetched out (toolkit_of card)))
-    (not (has_zero_parameters apdu)) (not (has_le_alone apdu)) (unfetched card.session)
+    (not (has_no_parameters apdu)) (not (has_le_alone apdu)) (unfetched card.session)
 
 pub fetch_refused : (card : CardState) (apdu : Apdu) (status : StatusWord) → fetch_tried (pending card.session) apdu ≡ Err status → command_fetched card apdu ≡ Err status
 fetch_refused card apdu status is =
@@ -102,7 +102,7 @@ none_refused false false status wanted done is = cc is
 -- what passes the tests is there
 pub fetch_there : (pending : Option ℕ) (apdu : Apdu) (done : Unit) → fetch_tried pending apdu ≡ Ok done → is_some pending ≡ true
 unfolding fetch_tried
-fetch_there None apdu done is = none_refused (not (has_zero_parameters apdu)) (not (has_le_alone apdu)) WRONG_LENGTH (λ count. unwrap_or apdu.expected 0 == 256 || unwrap_or apdu.expected 0 == count) done is
+fetch_there None apdu done is = none_refused (not (has_no_parameters apdu)) (not (has_le_alone apdu)) WRONG_LENGTH (λ count. unwrap_or apdu.expected 0 == 256 || unwrap_or apdu.expected 0 == count) done is
 fetch_there (Some count) apdu done is = refl
 
 -- ---- TERMINAL RESPONSE

@@ -18,10 +18,10 @@ use Rattle.toolkit_model.specs.Orderly.{owned, asks}
 use Rattle.toolkit_model.specs.Passing.{ToolkitState, Passed, in_turn, before}
 use Rattle.toolkit_model.specs.Driving.{is_idle, with_session, driven}
 use Rattle.toolkit_model.specs.Commands.{with_profile, profiled, polled, triggered_by, late_places, is_call, suspended_by, is_busy, is_reported_once, forgetting, reported, triggered, enveloped, last_answer}
-use Rattle.proactive_handler.specs.Served.{served_still}
+use Rattle.proactive_handler.proofs.Served.{served_still}
 use Rattle.proactive_handler.specs.Serving.{IsSessionServed, HasPlaces, triggered_one}
 use Rattle.proactive_handler.specs.Steps.{Scene, toolkit, MovesTo}
-use Rattle.proactive_handler.specs.Moved.{since_moves}
+use Rattle.proactive_handler.proofs.MovedLemmas.{since_moves}
 use Rattle.session_commands.specs.Trying.{reported_in}
 
 -- another result that is a fault too

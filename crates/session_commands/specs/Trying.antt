@@ -7,7 +7,7 @@ use Rattle.file_model.specs.apdu_form.Model.{Apdu}
 use Rattle.file_model.specs.declared.rules.Verified.{Verified}
 use Rattle.file_model.specs.card_layout.declared.entries.Row.{Row}
 use Rattle.file_model.specs.card_layout.declared.entries.Loaded.{Loaded}
-use Rattle.file_model.specs.card_layout.Checks.{has_row_text}
+use Rattle.file_model.specs.card_layout.Checks.{shows_item}
 use Rattle.file_model.specs.card_layout.Persistent.{Registration, Persistent}
 use Rattle.file_model.specs.card_layout.States.{registration_of}
 use Rattle.toolkit_model.specs.toolkit_commands.declared.commands.Details.{Details}
@@ -17,13 +17,13 @@ use Rattle.toolkit_model.specs.toolkit_commands.declared.responses.Response.{Res
 use Rattle.toolkit_model.specs.toolkit_commands.Envelopes.{envelope_of}
 use Rattle.toolkit_model.specs.toolkit_commands.Responses.{response_of}
 use Rattle.file_model.specs.Chains.{given, and_given, needs}
-use Rattle.file_model.specs.Outcomes.{has_data, has_no_data, has_le_alone}
+use Rattle.file_model.specs.Outcomes.{has_data, has_no_data, has_le_alone, has_no_parameters}
 use Rattle.file_model.specs.Records.{other_length}
 use Rattle.toolkit_model.specs.Sessions.{Sent, SessionState}
 use Rattle.toolkit_model.specs.Commands.{late_places, is_call, is_reported_once, forgetting, call_data_of}
 use Rattle.toolkit_model.specs.Driving.{is_idle}
 use Rattle.toolkit_model.specs.Registry.{installed_row, deleted_row}
-use Rattle.card_model.specs.Toolkit.{has_zero_parameters, has_shelf, row_or_status}
+use Rattle.card_model.specs.Toolkit.{has_shelf, row_or_status}
 
 -- what was found by value, without where it lies
 abbrev pub seen : {T U : Type 0} → (T → U) → Result T StatusWord → Result U StatusWord
@@ -35,14 +35,14 @@ seen view (Err status) = Err status
 -- P1 and P2 are 00, and there are data
 unfoldable pub data_tried : Apdu → Result Unit StatusWord
 data_tried apdu =
-    needs (has_zero_parameters apdu) WRONG_PARAMETERS (
+    needs (has_no_parameters apdu) WRONG_PARAMETERS (
     needs (has_data apdu) WRONG_LENGTH (
     Ok tt))
 
 -- FETCH of a command of so many bytes, if there is one
 unfoldable pub fetch_tried : Option ℕ → Apdu → Result Unit StatusWord
 fetch_tried pending apdu =
-    needs (has_zero_parameters apdu) WRONG_PARAMETERS (
+    needs (has_no_parameters apdu) WRONG_PARAMETERS (
     needs (has_le_alone apdu) WRONG_LENGTH (
     given pending CONDITIONS_NOT_SATISFIED (λ count.
     needs (unwrap_or apdu.expected 0 == 256 || unwrap_or apdu.expected 0 == count) (other_length count) (
@@ -82,7 +82,7 @@ data_for envelope answer = if is_call envelope then call_data_of answer else []
 
 -- the row of this shelf has an item in the menu
 abbrev pub has_item_on : Loaded → ℕ → Bool
-has_item_on table shelf = option_map_or (λ row. row.used && has_row_text row) (slice_get table.rows shelf) false
+has_item_on table shelf = option_map_or shows_item (slice_get table.rows shelf) false
 
 -- ---- INSTALL and DELETE
 

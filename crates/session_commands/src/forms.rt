@@ -2,22 +2,16 @@
 ghost use Rattle.std.specs.Prelude.{◌≡◌, ◌≢◌, ◌≤◌, ◌==◌, ◌||◌, length, unwrap_or, IfOk, IfErr};
 ghost use Rattle.toolkit_model.specs.toolkit_commands.Replies.{replied};
 ghost use Rattle.toolkit_model.specs.toolkit_commands.Reports.{reported, bytes_in};
-ghost use Rattle.card_model.specs.Toolkit.{has_zero_parameters, row_status};
+ghost use Rattle.card_model.specs.Toolkit.{row_status};
 ghost use Rattle.session_commands.specs.Trying.{seen, data_tried, fetch_tried, response_given, response_tried, envelope_given, envelope_tried};
 
 use file_model::apdu_form::Command;
 use file_model::uicc_types::StatusWord;
-use file_model::{has_data, has_le_alone};
+use file_model::{has_data, has_le_alone, has_no_parameters};
 use proactive_handler::applet_registry::RowFault;
 use toolkit_model::toolkit_commands::{
     Details, EnvelopeRef, ResponseRef, read_envelope_in_place, read_response_in_place,
 };
-
-fn has_zero_parameters(command: &Command<'_>) -> bool
-    ensures { result ≡ has_zero_parameters command.now }
-{
-    command.p1 == 0 && command.p2 == 0
-}
 
 /// P1 and P2 are 00, and there are data.
 #[tactic(auto, unfolding(crate::specs::Trying::data_tried, file_model::specs::Chains::refused_if))]
@@ -25,7 +19,7 @@ pub(crate) fn try_data(command: &Command<'_>) -> Result<(), StatusWord>
     ensures value { result ≡ data_tried command.now }
     ensures usual { IfErr result (λ status. status.0 ≢ StatusWord.MEMORY_PROBLEM.0) }
 {
-    if !has_zero_parameters(command) {
+    if !has_no_parameters(command) {
         Err(StatusWord::WRONG_PARAMETERS)
     } else if !has_data(command) {
         Err(StatusWord::WRONG_LENGTH)
@@ -50,7 +44,7 @@ pub(crate) fn try_fetch(pending: Option<u8>, command: &Command<'_>) -> Result<()
     ensures value { result ≡ fetch_tried pending command.now }
     ensures usual { IfErr result (λ status. status.0 ≢ StatusWord.MEMORY_PROBLEM.0) }
 {
-    if !has_zero_parameters(command) {
+    if !has_no_parameters(command) {
         return Err(StatusWord::WRONG_PARAMETERS);
     }
     if !has_le_alone(command) {

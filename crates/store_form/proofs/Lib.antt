@@ -1,1 +1,2 @@
 mod SpanLemmas
+pub mod SparedLemmas

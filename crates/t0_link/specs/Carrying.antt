@@ -1,7 +1,7 @@
 -- A command over the link: the terminal sends it as a TPDU, and fetches its data.
-use Rattle.std.specs.Prelude.{ℕ, ◌/◌, ◌%◌, ◌==◌, ◌&&◌, ◌||◌, Bool, true, false, if◌then◌else◌, List, ◌∷◌, length, take, Option, Some, None, is_some, unwrap_or}
+use Rattle.std.specs.Prelude.{ℕ, ◌/◌, ◌%◌, ◌==◌, ◌&&◌, ◌||◌, Bool, true, false, if◌then◌else◌, List, ◌∷◌, length, Option, Some, None, is_some, unwrap_or}
 use Rattle.uicc_types.specs.declared.answers.Answer.{Answer}
-use Rattle.apdu_form.specs.Model.{Apdu, command_in}
+use Rattle.apdu_form.specs.Model.{Apdu, command_in, cut_to}
 use Rattle.t0_link.specs.declared.answers.TheConstants.{MORE_DATA}
 use Rattle.t0_link.specs.declared.instructions.TheConstants.{STATUS}
 use Rattle.t0_link.specs.declared.tpdus.Transfer.{Transfer}
@@ -41,13 +41,8 @@ tpdu_of command = command.class ∷ command.ins ∷ command.p1 ∷ command.p2 �
 
 -- ---- what the terminal makes of the link's answer
 
--- the first bytes, at most so many as are expected
-abbrev pub front_of : Option ℕ → List ℕ → List ℕ
-front_of None bytes = bytes
-front_of (Some expected) bytes = take expected bytes
-
 abbrev pub cut_answer_to : Option ℕ → Answer → Answer
-cut_answer_to expected answer = record answer { body = front_of expected answer.body }
+cut_answer_to expected answer = record answer { body = cut_to expected answer.body }
 
 -- it follows 61XX with GET RESPONSE for XX
 abbrev pub followed : Linked → Linked

@@ -1,7 +1,7 @@
 //! The link's own answers, and how much of an answer a terminal takes.
 ghost use Rattle.std.specs.Prelude.{◌≡◌, ◌≤◌, length};
-ghost use Rattle.apdu_form.specs.Model.{ne_of};
-ghost use Rattle.t0_link.specs.Carrying.{cut_answer_to, front_of};
+ghost use Rattle.apdu_form.specs.Model.{ne_of, cut_to};
+ghost use Rattle.t0_link.specs.Carrying.{cut_answer_to};
 ghost use Rattle.t0_link.specs.Linking.{announced, counting, fetched, kept_of, status_alone};
 
 use uicc_types::{Answer, AnswerData, Full, StatusWord};
@@ -28,7 +28,7 @@ fn count_of(p3: u8) -> usize
 
 // The first bytes, at most so many as are expected.
 fn front(bytes: &[u8], expected: Option<u16>) -> &[u8]
-    ensures value { result.now ≡ front_of expected bytes.now }
+    ensures value { result.now ≡ cut_to expected bytes.now }
     ensures shorter { length result.now ≤ length bytes.now }
 {
     match expected {

@@ -1,7 +1,6 @@
 -- What a handset keeps, and how each call moves it. It keeps what is known by looking back at what happened, and what is
 -- asked next.
 use Rattle.std.specs.Prelude.{ℕ, suc, ◌+◌, ◌-◌, ◌<◌, ◌^◌, min, true, false, ◌||◌, List, [], ◌∷◌, replicate, slice_set, Option, Some, None, Bool, Result as Outcome, ◌==◌, if◌then◌else◌}
-use Rattle.std.proofs.Common.{refl, ◌≡◌}
 use Rattle.toolkit_commands.specs.uicc_types.declared.answers.Answer.{Answer}
 use Rattle.handset_model.specs.script_form.declared.handset.HandsetLine.{HandsetLine}
 use Rattle.toolkit_commands.specs.declared.commands.Details.{Details}
@@ -168,8 +167,3 @@ with_next h = then_done (asked h) h
 pub record IsInTime (known : Known) : Type 0 where
   pub clock : known.clock < 2 ^ 63
   pub moment : known.moment < 2 ^ 63
-
--- the clock that is kept is the sum of all spans of time so far
-pub clock_kept : (h : List Happened) → (kept h).known.clock ≡ clock h
-unfolding kept known
-clock_kept h = refl

@@ -3,9 +3,14 @@ use Rattle.std.specs.Prelude.{ℕ, Bool, false, ◌&&◌, List, [], ◌∷◌, O
 use Rattle.comprehension_tlv.specs.Model.{Object}
 use Rattle.comprehension_tlv.specs.Reading.{first_value, objects_of}
 use Rattle.comprehension_tlv.specs.declared.faults.TlvFault.{TlvFault}
+use Rattle.toolkit_commands.specs.Table.{required}
 use Rattle.toolkit_commands.specs.declared.commands.Details.{Details}
 use Rattle.toolkit_commands.specs.declared.responses.Response.{Response}
 use Rattle.toolkit_commands.specs.declared.tags.TheConstants.{COMMAND_DETAILS, RESULT, TEXT_STRING, ITEM_IDENTIFIER}
+
+-- a general result without additional information (8.12)
+abbrev pub result_object : ℕ → Object
+result_object general = required RESULT (general ∷ [])
 
 -- the first item identifier of one byte, or 0
 abbrev pub one_or : List ℕ → ℕ → ℕ

@@ -23,7 +23,7 @@ use Rattle.toolkit_model.specs.Passing.{ToolkitState, Passed}
 use Rattle.toolkit_model.specs.Registry.{is_on, row_on, without_row, with_code, without_code, registers, deregisters}
 use Rattle.toolkit_model.specs.Running.{Setting, Works, Carried, Ran, is_admitted, admitted, is_held_by, carried, changing, taking, going_on, run_on, most_acts, setting_of, works_of, mind_on, with_mind, run_of_mind, run_of_row}
 use Rattle.toolkit_model.specs.Driving.{settled}
-use Rattle.toolkit_model.specs.Commands.{fetched, resumed, with_nothing_out, answered, registering, unregistering, awake, woken_mind, woken}
+use Rattle.toolkit_model.specs.Commands.{fetched, resumed, with_nothing_out, answered, registering, unregistering, woken_mind, woken_box, woken, woken_boxes}
 use Rattle.toolkit_model.specs.Kinds.{AreOfKinds, IsOfKinds, KindsStay, WakesKeepKinds}
 use Rattle.toolkit_model.specs.Owing.{is_wake}
 use Rattle.toolkit_model.proofs.Runs.{changed_map}
@@ -225,19 +225,19 @@ kinds_stay laws same commands state is accepted = (commands_move laws (keeping_k
 
 -- ---- all wake
 
-awake_same : (row : Option Registration) (mind : AppletState) → (awake row mind).kind ≡ mind.kind
-awake_same None mind = refl
-awake_same (Some row) mind = refl
+mind_same : (row : Option Registration) (mind : AppletState) → (woken_mind row mind).kind ≡ mind.kind
+mind_same None mind = refl
+mind_same (Some row) mind = refl
 
-woken_one : (row : Option Registration) (mind : Option AppletState) → option_map (λ (each : AppletState). each.kind) (option_map (awake row) mind) ≡ option_map (λ each. each.kind) mind
+woken_one : (row : Option Registration) (mind : Option AppletState) → option_map (λ (each : AppletState). each.kind) (option_map (woken_mind row) mind) ≡ option_map (λ each. each.kind) mind
 woken_one row None = refl
-woken_one row (Some mind) = ap (λ (kind : ℕ). let some : Option ℕ = Some kind in some) (awake_same row mind)
+woken_one row (Some mind) = ap (λ (kind : ℕ). let some : Option ℕ = Some kind in some) (mind_same row mind)
 
-woken_same : (rows : List Registration) (from : ℕ) (minds : List (Option AppletState)) → kinds_of (map (woken_mind rows) (enumerate_from from minds)) ≡ kinds_of minds
+woken_same : (rows : List Registration) (from : ℕ) (minds : List (Option AppletState)) → kinds_of (map (woken_box rows) (enumerate_from from minds)) ≡ kinds_of minds
 woken_same rows from [] = refl
 woken_same rows from (mind ∷ others) = λ i. woken_one (row_on rows from) mind i ∷ woken_same rows (from + 1) others i
 
 pub wakes_keep_kinds : WakesKeepKinds
-unfolding woken
+unfolding woken woken_boxes
 wakes_keep_kinds rows minds are =
     untagged rows (woken rows minds).minds (subst (λ (kinds : List (Option ℕ)). All (IsTagged kinds) (tags_of rows)) (sym (woken_same rows 0 minds)) (tagged rows minds are))

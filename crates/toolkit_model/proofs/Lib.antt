@@ -1,25 +1,26 @@
-mod Worked
-mod WorkedRuns
-pub mod Consulted
-pub mod WorkedProfiles
-pub mod Ordered
-pub mod Runs
-pub mod Logs
-pub mod Ready
-pub mod Late
-pub mod Settled
 pub mod Asks
-pub mod Others
-pub mod Stepping
-pub mod Ends
-pub mod Moving
-pub mod Orderlies
-pub mod Fetches
-pub mod Replies
 pub mod Begins
+pub mod Consulted
+pub mod Ends
 pub mod EventLaws
+pub mod Fetches
+pub mod FreeTimers
 pub mod Inserted
 pub mod Kinded
+pub mod Late
+pub mod Logs
+pub mod Moving
+pub mod Ordered
+pub mod Orderlies
+pub mod Others
+pub mod Ready
+pub mod Replies
+pub mod Runs
+pub mod Settled
 pub mod Sounds
-pub mod FreeTimers
+pub mod Stepping
+pub mod StepsLemmas
+mod Worked
+pub mod WorkedProfiles
+mod WorkedRuns
 pub mod WorkedTimers

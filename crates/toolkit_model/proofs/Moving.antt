@@ -23,7 +23,8 @@ use Rattle.toolkit_model.specs.Registry.{item_of}
 use Rattle.toolkit_model.specs.Passing.{ToolkitState, Passed, unmoved, before, in_turn}
 use Rattle.toolkit_model.specs.Driving.{is_idle, with_session, given_one, driven}
 use Rattle.toolkit_model.specs.Commands.{told, with_profile, profiled, polled, selected, holders, triggered_by, late_places, is_busy, is_reported_once, forgetting, reported, triggered, enveloped, unfetched, fetched, unanswered, answered, responded, registering, installed, unregistering, deleted, woken}
-use Rattle.toolkit_model.specs.Steps.{AreRows, apart_of, Command, Profile, Status, Report, Fetch, Respond, Install, Delete, Wake, IsAccepted, moved, AreAccepted, moved_by}
+use Rattle.toolkit_model.specs.Steps.{AreRows, Command, Profile, Status, Report, Fetch, Respond, Install, Delete, Wake, IsAccepted, moved, AreAccepted, moved_by}
+use Rattle.toolkit_model.proofs.StepsLemmas.{apart_of}
 use Rattle.toolkit_model.proofs.Ordered.{order_is_exact}
 use Rattle.toolkit_model.proofs.Ready.{IsReady}
 use Rattle.toolkit_model.proofs.Settled.{WaitsBehind}

@@ -28,7 +28,7 @@ use Rattle.toolkit_model.specs.Passing.{ToolkitState}
 use Rattle.toolkit_model.specs.Registry.{is_on, row_on, without_row}
 use Rattle.toolkit_model.specs.Running.{run_of_row, with_mind, sending, putting_out}
 use Rattle.toolkit_model.specs.Driving.{is_idle, with_session}
-use Rattle.toolkit_model.specs.Commands.{with_profile, forgetting, if_fetched, unfetched, unanswered, fetched, resumed, with_nothing_out, answered, registering, unregistering, awake, woken_mind, woken_minds, woken}
+use Rattle.toolkit_model.specs.Commands.{with_profile, forgetting, if_fetched, unfetched, unanswered, fetched, resumed, with_nothing_out, answered, registering, unregistering, woken_mind, woken_box, woken_boxes, woken}
 use Rattle.toolkit_model.specs.Steps.{AreRows, HasMind, HaveMinds}
 use Rattle.toolkit_model.proofs.Runs.{ArePlaced}
 use Rattle.toolkit_model.proofs.Logs.{AnyNumber, SendsProper, IsSendableTo}
@@ -389,13 +389,13 @@ mapped_some : {X Y : Type 0} (f : X → Y) (found : Option X) → is_some found 
 mapped_some f None is = is
 mapped_some f (Some x) is = refl
 
-woken_has : (rows : List Registration) (from : ℕ) (minds : List (Option AppletState)) (shelf : ℕ) → HasMind minds shelf → HasMind (map (woken_mind rows) (enumerate_from from minds)) shelf
+woken_has : (rows : List Registration) (from : ℕ) (minds : List (Option AppletState)) (shelf : ℕ) → HasMind minds shelf → HasMind (map (woken_box rows) (enumerate_from from minds)) shelf
 woken_has rows from [] shelf has = has
-woken_has rows from (mind ∷ others) zero has = mapped_some (awake (row_on rows from)) mind has
+woken_has rows from (mind ∷ others) zero has = mapped_some (woken_mind (row_on rows from)) mind has
 woken_has rows from (mind ∷ others) (suc shelf) has = woken_has rows (from + 1) others shelf has
 
 pub woken_ready : (rows : List Registration) (minds : List (Option AppletState)) → AreRows rows → HaveMinds rows minds → IsReady (woken rows minds)
-unfolding woken
+unfolding woken woken_boxes
 woken_ready rows minds are have = record {
   underway = record {
     apart = subst (AllPairs (λ a b. a.shelf ≢ b.shelf)) (sym asks_fresh) (pairs_nil (λ a b. a.shelf ≢ b.shelf));
@@ -409,6 +409,6 @@ woken_ready rows minds are have = record {
     no_profile = λ none. (refl, refl);
   };
   rows_are = are;
-  minds = All-map (HasMind (woken_minds rows minds)) (λ row. row.shelf) rows
-      (All-weaker (λ row. HasMind minds row.shelf) (λ row. HasMind (woken_minds rows minds) row.shelf) (λ row has. woken_has rows 0 minds row.shelf has) rows have);
+  minds = All-map (HasMind (woken_boxes rows minds)) (λ row. row.shelf) rows
+      (All-weaker (λ row. HasMind minds row.shelf) (λ row. HasMind (woken_boxes rows minds) row.shelf) (λ row has. woken_has rows 0 minds row.shelf has) rows have);
 }

@@ -34,7 +34,7 @@ use Rattle.toolkit_model.specs.Passing.{ToolkitState, Happening, Committed, Pass
 use Rattle.toolkit_model.specs.Registry.{faulty_if, is_on, is_taken, is_menu_full, last_sequence, is_answered, is_registered, without_row, with_changed, with_code, without_code, with_kept, registers, deregisters}
 use Rattle.toolkit_model.specs.Running.{Setting, Works, Carried, Ran, is_admitted, admitted, is_held_by, carried, changing, taking, committed, going_on, run_on, most_acts, setting_of, works_of, mind_on, run_of_mind, run_of_row}
 use Rattle.toolkit_model.specs.Driving.{running, settled}
-use Rattle.toolkit_model.specs.Commands.{fetched, resumed, with_nothing_out, answered, registering, unregistering, woken_mind, woken}
+use Rattle.toolkit_model.specs.Commands.{fetched, resumed, with_nothing_out, answered, registering, unregistering, woken_box, woken, woken_boxes}
 use Rattle.toolkit_model.specs.Steps.{AreRows, Install, IsAccepted, moved}
 use Rattle.toolkit_model.specs.Kinds.{AreOfKinds, IsOfKinds}
 use Rattle.toolkit_model.specs.OrderlySessions.{IsInOrder}
@@ -383,7 +383,7 @@ module _ (wide : Bool) (next : ℕ) where
         commits = All-cons Sound (without_row state.rows shelf) [] rows (All-nil Sound);
       }
 
-  woken_count : (rows : List Registration) (from : ℕ) (minds : List (Option AppletState)) → length (map (woken_mind rows) (enumerate_from from minds)) ≡ length minds
+  woken_count : (rows : List Registration) (from : ℕ) (minds : List (Option AppletState)) → length (map (woken_box rows) (enumerate_from from minds)) ≡ length minds
   woken_count rows from [] = refl
   woken_count rows from (mind ∷ others) = omega (arith, woken_count rows (from + 1) others)
 
@@ -403,7 +403,7 @@ module _ (wide : Bool) (next : ℕ) where
   stands_of rows minds sound = λ k d low. kind_if (mind_on minds (get_or rows k d).shelf) (get_or rows k d).kind (sound.applets k d low)
 
   woken_stands : (rows : List Registration) (minds : List (Option AppletState)) → IsSoundToolkit wide next rows minds → Stands (woken rows minds)
-  unfolding woken
+  unfolding woken woken_boxes
   woken_stands rows minds sound = record {
     rows = hold_of wide next rows sound.rows_are;
     shelves = woken_count rows 0 minds ∙ sound.shelves;

@@ -200,17 +200,17 @@ deleted shelf state = before (unregistering shelf state) driven
 
 -- ---- after a reset
 
--- an applet that is registered begins anew
-abbrev pub awake : Option Registration → AppletState → AppletState
-awake None mind = mind
-awake (Some row) mind = fresh mind.kind row.kept
+-- a registered applet wakes with the bytes that are kept for it; a box without one stays as it is
+abbrev pub woken_mind : Option Registration → AppletState → AppletState
+woken_mind None mind = mind
+woken_mind (Some row) mind = fresh mind.kind row.kept
 
-abbrev pub woken_mind : List Registration → ℕ × Option AppletState → Option AppletState
-woken_mind rows placed = option_map (awake (row_on rows placed.0)) placed.1
+abbrev pub woken_box : List Registration → ℕ × Option AppletState → Option AppletState
+woken_box rows box = option_map (woken_mind (row_on rows box.0)) box.1
 
--- the applets that are registered, with what is kept for them
-abbrev pub woken_minds : List Registration → List (Option AppletState) → List (Option AppletState)
-woken_minds rows minds = map (woken_mind rows) (enumerate_from 0 minds)
+-- each box on its shelf, after a reset
+unfoldable pub woken_boxes : List Registration → List (Option AppletState) → List (Option AppletState)
+woken_boxes rows boxes = map (woken_box rows) (enumerate_from 0 boxes)
 
 unfoldable pub woken : List Registration → List (Option AppletState) → ToolkitState
-woken rows minds = record { rows = rows; session = fresh_session; minds = woken_minds rows minds }
+woken rows minds = record { rows = rows; session = fresh_session; minds = woken_boxes rows minds }

@@ -18,7 +18,6 @@ pub mod Running
 pub mod Sessions
 pub mod Sound
 pub mod Steps
-pub mod TimerLaws
 pub mod Timers
 pub mod Turns
 pub use Rattle.applet_trait.specs as applet_trait

@@ -1,6 +1,5 @@
 -- The commands that move a card's toolkit, and when each is accepted.
 use Rattle.std.specs.Prelude.{◌≡◌, ◌≢◌, ℕ, ◌≤◌, ◌<◌, true, false, List, [], ◌∷◌, length, All, AllPairs, count_by, Option, Some, is_some}
-use Rattle.std.proofs.Common.{arith}
 use Rattle.card_layout.specs.Persistent.{Registration}
 use Rattle.card_layout.specs.Sections.{with_row, has_text}
 use Rattle.toolkit_commands.specs.declared.envelopes.Envelope.{Envelope}
@@ -21,9 +20,6 @@ pub record AreRows (rows : List Registration) : Type 0 where
   pub sequences : AllPairs (λ a b. a.sequence ≢ b.sequence) rows
   pub texts : All (λ row. length row.text ≤ 10) rows
   pub few_texts : count_by has_text rows ≤ 16
-
-pub apart_of : (rows : List Registration) → AreRows rows → AllPairs (λ a b. a.shelf ≢ b.shelf) rows
-apart_of rows are i j d less low same = omega (arith, are.shelves i j d less low, same)
 
 -- A command of the handset, with what was read of it, or a wake over rows and applets as they were left: after a reset, and
 -- after a failure of the memory or the power.

@@ -1,21 +1,15 @@
 -- How the outstanding command is kept: by its bytes (ETSI TS 102 223, 6.6).
 use Rattle.std.specs.Prelude.{◌≡◌, ℕ, List, Option, option_map}
 use Rattle.toolkit_model.specs.uicc_types.declared.identifiers.Shelf.{Shelf}
-use Rattle.toolkit_model.specs.toolkit_commands.declared.commands.Proactive.{Proactive}
 use Rattle.toolkit_model.specs.toolkit_commands.declared.commands.Details.{Details}
 use Rattle.toolkit_model.specs.toolkit_commands.Table.{spelled, details_of}
-use Rattle.toolkit_model.specs.toolkit_commands.Reading.{proactive_of}
-use Rattle.kept_triggers.specs.Commands.{read_command}
+use Rattle.kept_triggers.specs.Commands.{command_of}
 
 -- the number of a shelf, where there is one
 abbrev pub shelf_of : Option Shelf → Option ℕ
 shelf_of shelf = option_map (λ s. s.0) shelf
 
--- the command that the bytes are read as
-abbrev pub command_in : List ℕ → Proactive
-command_in bytes = read_command (proactive_of bytes)
-
 -- the bytes are those of a command, and the details are its own
 pub record IsSpelled (details : Details) (bytes : List ℕ) : Type 0 where
-  pub bytes_are : bytes ≡ spelled (command_in bytes) details.number
-  pub details_are : details ≡ details_of (command_in bytes) details.number
+  pub bytes_are : bytes ≡ spelled (command_of bytes) details.number
+  pub details_are : details ≡ details_of (command_of bytes) details.number

@@ -4,7 +4,8 @@ ghost use Rattle.std.specs.List.{list_any};
 ghost use Rattle.toolkit_model.specs.toolkit_commands.Table.{details_of as details_of_command};
 ghost use Rattle.toolkit_model.specs.Orderly.{CanBeSent, sent_by};
 ghost use Rattle.toolkit_model.specs.Commands.{bytes_of, as_fetched};
-ghost use Rattle.toolkit_session.specs.Spelled.{IsSpelled, command_in, shelf_of};
+ghost use Rattle.kept_triggers.specs.Commands.{command_of};
+ghost use Rattle.toolkit_session.specs.Spelled.{IsSpelled, shelf_of};
 
 use std::marker::Model;
 use toolkit_model::toolkit_commands::{Details, Proactive, details_of, spell};
@@ -21,11 +22,12 @@ pub(crate) struct Outstanding {
 
 impl Model for Outstanding {
     ghost use Rattle.toolkit_model.specs.Sessions.{Outstanding as OutstandingState};
-    ghost use Rattle.toolkit_session.specs.Spelled.{IsSpelled, shelf_of, command_in};
+    ghost use Rattle.kept_triggers.specs.Commands.{command_of};
+    ghost use Rattle.toolkit_session.specs.Spelled.{IsSpelled, shelf_of};
 
     ghost Value = { OutstandingState };
 
-    ghost view = { λ s. record { owner = shelf_of s.owner; command = command_in s.bytes; number = s.details.number; is_fetched = s.is_fetched } };
+    ghost view = { λ s. record { owner = shelf_of s.owner; command = command_of s.bytes; number = s.details.number; is_fetched = s.is_fetched } };
 
     ghost invariant = { λ s. IsSpelled s.details s.bytes };
 }
@@ -53,7 +55,7 @@ impl Outstanding {
         requires { IsSpelled details bytes }
         ensures { result ≡ record {
           owner = shelf_of owner;
-          command = command_in bytes;
+          command = command_of bytes;
           number = details.number;
           is_fetched = false;
         } }

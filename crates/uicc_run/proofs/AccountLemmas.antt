@@ -2,7 +2,7 @@
 use Rattle.std.proofs.Common.{◌≡◌, List, [], ◌∷◌, ◌++◌, Option, refl, sym, ap, ◌∙◌, append_assoc, subst}
 use Rattle.std.proofs.lemmas.List.{append-nil}
 use Rattle.card_core.specs.card_model.States.{Machine}
-use Rattle.card_steps.specs.RunLaws.{run_one, run_then}
+use Rattle.card_steps.proofs.RunLaws.{run_one, run_then}
 use Rattle.card_steps.specs.Runs.{GoesOn}
 use Rattle.card_steps.specs.Tpdus.{CourseGives, steps_of}
 use Rattle.card_steps.specs.t0_link.Linking.{Answers, Course, Passes, link_answer}

@@ -10,11 +10,11 @@ use Rattle.card_core.specs.Parts.{CardParts}
 use Rattle.card_core.specs.card_layout.Migration.{ends_low, migrated}
 use Rattle.card_core.specs.card_layout.Persistent.{Persistent, Registration}
 use Rattle.card_core.specs.card_model.States.{CardState, HasBox, IsGood, Machine, row_on, woken, woken_boxes, woken_mind}
-use Rattle.card_core.specs.card_model.Woken.{woken_at}
+use Rattle.card_core.specs.card_model.Woken.{woken_at, woken_kind}
 use Rattle.phone_runs.specs.card_sections.Cast.{kind_of_box}
 use Rattle.card_steps.specs.Ends.{End, moment_at}
 use Rattle.card_steps.specs.Runs.{machine_of}
-use Rattle.card_steps.specs.Standing.{machine_is}
+use Rattle.card_steps.proofs.StandingLemmas.{machine_is}
 use Rattle.card_steps.specs.Stepping.{Moment, moment}
 use Rattle.update_journal.specs.uicc_types.declared.identifiers.Shelf.{Shelf}
 use Rattle.update_journal.specs.uicc_types.declared.plans.TheConstants.Plan.{NONE}
@@ -22,13 +22,9 @@ use Rattle.card_core.proofs.Restarts.{had_box}
 use Rattle.uicc_run.specs.Runs.{HasKindsOf, first_machine}
 
 -- waking keeps the kinds of the boxes
-kind_woken : (row : Option Registration) (mind : AppletState) → (woken_mind row mind).kind ≡ mind.kind
-kind_woken None mind = refl
-kind_woken (Some row) mind = refl
-
 kind_in : (row : Option Registration) (box : Option AppletState) → option_map (λ (mind : AppletState). mind.kind) (option_map (woken_mind row) box) ≡ option_map (λ (mind : AppletState). mind.kind) box
 kind_in row None = refl
-kind_in row (Some mind) = ap Some (kind_woken row mind)
+kind_in row (Some mind) = ap Some (woken_kind row mind mind.kind refl)
 
 woken_kinds : (rows : List Registration) (boxes : List (Option AppletState)) (shelf : ℕ) → kind_of_box (woken_boxes rows boxes) shelf ≡ kind_of_box boxes shelf
 woken_kinds rows boxes shelf = ap (option_map (λ (mind : AppletState). mind.kind)) (woken_at rows boxes shelf) ∙ kind_in (row_on rows shelf) (slice_index_or boxes shelf None)

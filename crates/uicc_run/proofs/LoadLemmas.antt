@@ -25,7 +25,7 @@ use Rattle.phone_runs.specs.card_sections.RowLaws.{IsOfItsBox, rows_have_boxes}
 use Rattle.phone_runs.specs.card_sections.Script.{then_on, with_lines}
 use Rattle.phone_runs.specs.card_sections.SectionLaws.{splits, with_lines-append}
 use Rattle.phone_runs.specs.card_sections.declared.faults.ScriptFault.TheVariants as script
-use Rattle.card_steps.specs.Standing.{is_machine}
+use Rattle.card_steps.proofs.StandingLemmas.{is_machine}
 use Rattle.card_steps.specs.Stepping.{Moment, moment}
 use Rattle.phone_runs.specs.handset_model.Legal.{IsLegal}
 use Rattle.phone_runs.specs.LoadLines.{made_lines}

@@ -41,7 +41,7 @@ use Rattle.uicc_run.specs.Steps.{may_stand}
 use Rattle.uicc_run.specs.Unplanned.{IsUnplanned}
 use Rattle.uicc_run.specs.declared.endings.Ending.{Ending}
 use Rattle.uicc_run.specs.declared.endings.Ending.TheVariants.{EepromFailed, FormatFailed, NoMemory}
-use Rattle.card_steps.specs.Standing.{is_machine}
+use Rattle.card_steps.proofs.StandingLemmas.{is_machine}
 use Rattle.update_journal.specs.uicc_types.Counts.{Caused, Meter}
 use Rattle.update_journal.specs.uicc_types.declared.plans.TheConstants.Plan.{NONE}
 

@@ -12,9 +12,9 @@ use Rattle.phone_runs.specs.card_sections.Reading.{IsBadHere, IsTooMuchHere}
 use Rattle.phone_runs.specs.card_sections.Script.{Each, with_line, with_lines}
 use Rattle.phone_runs.specs.card_sections.SectionLaws.{splits}
 use Rattle.card_steps.specs.script_form.Forms.{IsLine}
-use Rattle.card_steps.specs.script_form.Reads.{IsOnly}
 use Rattle.card_steps.specs.script_form.declared.lines.ScriptLine.{ScriptLine}
 use Rattle.card_steps.specs.script_form.declared.lines.ScriptLine.TheVariants.{Start}
+use Rattle.bip_runs.proofs.Readings.{Agree}
 
 -- the boxes of the applets, and which lines may stand behind `start`
 pub record Rules : Type 0 where
@@ -44,25 +44,6 @@ abbrev pub Walks : Rules → (List ℕ → ScriptLine → Type 0) → Stage → 
 Walks rules R from [] to = from ≡ to
 Walks rules R from (None ∷ more) to = ⊥
 Walks rules R from (Some bytes ∷ more) to = Goes rules R from bytes (λ middle. Walks rules R middle more to)
-
-abbrev pub Only : List ℕ → ScriptLine → Type 0
-Only bytes line = IsOnly (IsLine bytes) line
-
--- what two readings of a line have in common
-abbrev pub Agree : (List ℕ → ScriptLine → Type 0) → (List ℕ → ScriptLine → Type 0) → Type 0
-Agree R S = (bytes : List ℕ) (line other : ScriptLine) → R bytes line → S bytes other → line ≡ other
-
-pub only_first : Agree Only IsLine
-only_first bytes line other only says = sym (only.only other says)
-
-pub only_last : Agree IsLine Only
-only_last bytes line other says only = only.only line says
-
-pub only_says : (bytes : List ℕ) (line : ScriptLine) → Only bytes line → IsLine bytes line
-only_says bytes line only = only.so
-
-pub says_itself : (bytes : List ℕ) (line : ScriptLine) → IsLine bytes line → IsLine bytes line
-says_itself bytes line says = says
 
 -- ---- from lists of lines
 

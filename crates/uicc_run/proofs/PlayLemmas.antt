@@ -17,7 +17,7 @@ use Rattle.card_steps.specs.script_form.Forms.{IsLine}
 use Rattle.card_steps.specs.script_form.Reads.{IsOnly}
 use Rattle.card_steps.specs.script_form.declared.lines.ScriptLine.{ScriptLine}
 use Rattle.card_steps.specs.script_form.declared.lines.ScriptLine.TheVariants.{Start}
-use Rattle.card_steps.specs.RunLaws.{calm_before, calm_behind, run_ends, run_of}
+use Rattle.card_steps.proofs.RunLaws.{calm_before, calm_behind, run_ends, run_of}
 use Rattle.card_steps.specs.Runs.{GoesOn, ends_calm, text_of}
 use Rattle.card_steps.specs.Stepping.{BreaksOff, BreaksStep, EndsStep, Moment, TakesStep}
 use Rattle.card_steps.specs.Tpdus.{BreaksOffTpdu, BreaksTpdu, TakesTpdu, steps_of}

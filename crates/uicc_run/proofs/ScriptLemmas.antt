@@ -37,7 +37,8 @@ use Rattle.uicc_run.specs.declared.endings.Ending.TheVariants.{Usage, NoMemory, 
 use Rattle.uicc_run.proofs.BoxLemmas.{IsBoxed, have_boxes}
 use Rattle.uicc_run.proofs.CardLemmas.{boxes_there}
 use Rattle.uicc_run.proofs.OpenLemmas.{none_stays, some_of}
-use Rattle.uicc_run.proofs.PlaceLemmas.{Before, Behind, Only, Rules, Stage, Stops, Walks, one_card, one_stop, only_first, only_last, only_says, passes_stop, says_itself, walks_section, walks_whole, whole_no_stop}
+use Rattle.bip_runs.proofs.Readings.{Only, only_first, only_last, only_says, says_itself}
+use Rattle.uicc_run.proofs.PlaceLemmas.{Before, Behind, Rules, Stage, Stops, Walks, one_card, one_stop, passes_stop, walks_section, walks_whole, whole_no_stop}
 
 abbrev rules_of : Given → Rules
 rules_of given = record { cast = given.boxes; may = may_stand given.is_served }

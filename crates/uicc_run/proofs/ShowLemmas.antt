@@ -18,7 +18,7 @@ use Rattle.phone_runs.specs.card_sections.Script.{AreRead}
 use Rattle.phone_runs.specs.card_sections.declared.behind.PlayEnd.{PlayEnd}
 use Rattle.phone_runs.specs.card_sections.declared.behind.PlayEnd.TheVariants.{Finished, BadLine, ReadFailed, SinkFailed, ResetFailed}
 use Rattle.phone_runs.specs.card_sections.declared.script_reader.ScriptReader.{ScriptReader}
-use Rattle.card_steps.specs.RunLaws.{shows_one, shows_then, text_of-append}
+use Rattle.card_steps.proofs.RunLaws.{shows_one, shows_then, text_of-append}
 use Rattle.card_steps.specs.Runs.{text_of}
 use Rattle.card_steps.specs.Showing.{CourseShows, CutsOffStep, CutsOffTpdu, MayBreakOff, MayBreakOffTpdu, MayShow, MayShowAll, ShowsLast, ShowsStep, ShowsTpdu}
 use Rattle.card_steps.specs.Stepping.{Moment}

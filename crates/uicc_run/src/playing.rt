@@ -5,7 +5,8 @@ ghost use Rattle.phone_runs.specs.card_sections.Behind.{GivesRead, IsReading, Li
 ghost use Rattle.phone_runs.specs.card_sections.Reading.{reading, room_of};
 ghost use Rattle.card_steps.specs.Ends.{moment_at};
 ghost use Rattle.card_steps.specs.Moves.{step_of};
-ghost use Rattle.card_steps.specs.Tallies.{Tallies, tally};
+ghost use Rattle.card_steps.specs.Tallies.{tally};
+ghost use Rattle.phone_runs.specs.LineTallies.{TalliesLines};
 ghost use Rattle.phone_runs.specs.Lines.{IsBetweenLines, IsServing, PhoneComesTo};
 ghost use Rattle.phone_runs.specs.Runs.{Beginning};
 ghost use Rattle.phone_runs.specs.Showing.{Outset, PhoneShowsTo, ServesShowing};
@@ -15,7 +16,7 @@ ghost use Rattle.uicc_run.specs.Playing.{CardComesTo, Given, GivesPlayed, IsPlay
 ghost use Rattle.uicc_run.specs.Showing.{GivesShown, IsShowing, LinesShow};
 ghost use Rattle.uicc_run.specs.Steps.{may_follow, may_stand};
 ghost use Rattle.card_steps.specs.script_form.declared.lines.ScriptLine.{ScriptLine as AnyLine};
-ghost use Rattle.update_journal.specs.uicc_types.Counts.{CountsFailure, Meter, Rose, raised};
+ghost use Rattle.update_journal.specs.uicc_types.Counts.{Meter, raised};
 
 use crate::effects::{Effect, effect_of};
 use crate::listeners::Listener;
@@ -64,10 +65,8 @@ pub(crate) fn play_lines<S: Store, B: Applet, R: Source, W: Sink>(
         → LinesReadTo (may_stand (is_handset listener)) opening text (R.left source.new) result }
     ensures within { (text : List ℕ) → IsWithin text (reading script.old) (R.left source.old)
         → IsWithin text (reading script.new) (R.left source.new) }
-    ensures failed { result ≡ PlayEnd.ResetFailed → Rose card.old.parts.meter.faults card.new.parts.meter.faults }
-    ensures source_cause { CountsFailure (R.faults source.old) (R.faults source.new) (result ≡ PlayEnd.ReadFailed) }
-    ensures tallies { Tallies (tally W.Sink card.old trace.old) (tally W.Sink card.new trace.new)
-        (result ≡ PlayEnd.SinkFailed) }
+    ensures tallies { TalliesLines (tally W.Sink card.old trace.old) (tally W.Sink card.new trace.new)
+        (R.faults source.old) (R.faults source.new) (λ end. result ≡ end) }
 {
     let mut line = ScriptLine::Passed;
     let mut link = Link::new();
@@ -124,9 +123,8 @@ fn play_line<S: Store, B: Applet, R: Source, W: Sink>(
         → IsWithin text (reading script.new) (R.left source.new) }
     ensures failed { result ≡ Err PlayEnd.ResetFailed
         → card.new.parts.meter.faults ≡ raised card.old.parts.meter.faults }
-    ensures source_cause { CountsFailure (R.faults source.old) (R.faults source.new) (result ≡ Err PlayEnd.ReadFailed) }
-    ensures tallies { Tallies (tally W.Sink card.old trace.old) (tally W.Sink card.new trace.new)
-        (result ≡ Err PlayEnd.SinkFailed) }
+    ensures tallies { TalliesLines (tally W.Sink card.old trace.old) (tally W.Sink card.new trace.new)
+        (R.faults source.old) (R.faults source.new) (λ end. result ≡ Err end) }
     ensures nearer { OnOk result (room_of script.new < room_of script.old) }
 {
     runs_are_counted();

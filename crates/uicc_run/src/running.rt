@@ -10,7 +10,8 @@ ghost use Rattle.phone_runs.specs.layout_section.Laying.{KeepsFirstOr};
 ghost use Rattle.phone_runs.specs.card_sections.Behind.{IsReading, LinesReadTo};
 ghost use Rattle.phone_runs.specs.card_sections.Reading.{AtStart, reading};
 ghost use Rattle.card_steps.specs.Ends.{moment_at};
-ghost use Rattle.card_steps.specs.Tallies.{Tallies, tally};
+ghost use Rattle.card_steps.specs.Tallies.{tally};
+ghost use Rattle.phone_runs.specs.LineTallies.{TalliesLines};
 ghost use Rattle.phone_runs.specs.Showing.{Outset, PhoneShowsTo, StartsShowing};
 ghost use Rattle.card_steps.specs.script_form.declared.lines.ScriptLine.{ScriptLine as AnyLine};
 ghost use Rattle.uicc_run.specs.Causes.{EndsFor, FitsRun, FitsStore, KeepsMemory, KeepsOpened, KeepsCardThere, KeepsStoreForm, LoadsUntold, ReadsUntold, RefusesAtFirst};
@@ -28,7 +29,7 @@ ghost use Rattle.uicc_run.specs.Steps.{may_stand};
 ghost use Rattle.uicc_run.specs.Stores.{memory_in, size_of};
 ghost use Rattle.uicc_run.specs.Terminals.{AskForBip, ServesBip};
 ghost use Rattle.uicc_run.specs.Unplanned.{IsQuiet};
-ghost use Rattle.update_journal.specs.uicc_types.Counts.{CountsFailure, Meter, Rose};
+ghost use Rattle.update_journal.specs.uicc_types.Counts.{Meter, Rose};
 ghost use Rattle.update_journal.specs.uicc_types.Told.{Becomes};
 
 use crate::endings::{Ending, last_line, status_of};
@@ -381,10 +382,8 @@ fn carry_on<S: Store, B: Applet, R: Source, W: Sink>(
         → LinesReadTo (may_stand (is_handset listener)) opening text (R.left script.new) result }
     ensures within { (text : List ℕ) → IsWithin text (reading reader.old) (R.left script.old)
         → IsWithin text (reading reader.new) (R.left script.new) }
-    ensures failed { result ≡ PlayEnd.ResetFailed → Rose card.old.parts.meter.faults card.new.parts.meter.faults }
-    ensures source_cause { CountsFailure (R.faults script.old) (R.faults script.new) (result ≡ PlayEnd.ReadFailed) }
-    ensures tallies { Tallies (tally W.Sink card.old trace.old) (tally W.Sink card.new trace.new)
-        (result ≡ PlayEnd.SinkFailed) }
+    ensures tallies { TalliesLines (tally W.Sink card.old trace.old) (tally W.Sink card.new trace.new)
+        (R.faults script.old) (R.faults script.new) (λ end. result ≡ end) }
 {
     phone_runs_are_lawful();
     let mut phone = Phone::new();

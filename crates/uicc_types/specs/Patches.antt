@@ -58,16 +58,6 @@ patched-patched at next front back image is fits =
     let whole : at + length (front ++ back) ≤ length image = omega arith in
     same_bytes _ _ (length-patched next back (patched at front image) second ∙ kept ∙ sym (length-patched at (front ++ back) image whole)) (λ k h. grind (arith, places, patched_before, patched_inside, patched_after))
 
--- what was torn in a range is mended by bytes put over it
-pub patched-Torn : (at : ℕ) (bytes old new : List ℕ) → at + length bytes ≤ length old → Torn at (length bytes) old new → patched at bytes new ≡ patched at bytes old
-patched-Torn at bytes old new fits torn =
-    let long : length new ≡ length old = torn.same_length in
-    let fits' : at + length bytes ≤ length new = omega arith in
-    same_bytes _ _ (length-patched at bytes new fits' ∙ long ∙ sym (length-patched at bytes old fits)) (λ k h. grind (arith, torn.before k, torn.after k, patched_before, patched_inside, patched_after))
-
-pub Torn_same : (at count : ℕ) (image : List ℕ) → Torn at count image image
-Torn_same at count image = record { same_length = refl; before = λ k h. refl; after = λ k h. refl }
-
 pub Torn_patched : (at count : ℕ) (bytes image : List ℕ) → length bytes ≡ count → at + length bytes ≤ length image → Torn at count image (patched at bytes image)
 Torn_patched at count bytes image long fits = record {
   same_length = length-patched at bytes image fits;

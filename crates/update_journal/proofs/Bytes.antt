@@ -5,7 +5,7 @@ use Rattle.std.proofs.Common.{arith}
 use Rattle.std.proofs.lemmas.List.Elements.{All-append, All-cons, All-drop, All-nil, All-replicate, All-take}
 use Rattle.uicc_types.specs.Told.{AreBytes}
 use Rattle.store_form.specs.Pieces.{Piece, applied}
-use Rattle.store_form.specs.Spared.{All-applied}
+use Rattle.store_form.proofs.SparedLemmas.{All-applied}
 use Rattle.update_journal.specs.Entries.{first_piece, first_pieces, are_well_formed, if_well_formed, pieces_in}
 use Rattle.update_journal.specs.Journal.{is_open, pending, hidden, stable_of}
 

@@ -7,9 +7,11 @@ use Rattle.std.proofs.lemmas.Grind.{same_number_lists}
 use Rattle.uicc_types.specs.Patches.{patched, patched_inside, Torn, Torn_patched, Torn_wider}
 use Rattle.store_form.specs.Pieces.{Piece, applied, IsUsable, IsWithinBounds}
 use Rattle.update_journal.specs.Entries.{entries, pieces_in}
-use Rattle.update_journal.specs.Hidden.{length-hidden, hidden_below, hidden_own, hidden_above, hidden-Torn, hidden-patched, hidden-applied}
+use Rattle.update_journal.specs.Hidden.{length-hidden, hidden_own}
+use Rattle.update_journal.proofs.HiddenLemmas.{hidden_below, hidden_above, hidden-Torn, hidden-patched, hidden-applied}
 use Rattle.update_journal.specs.Journal.{is_open, pending, hidden, stable_of}
-use Rattle.store_form.specs.Spared.{AreUsable, Rewritten, Rewritten_applied, applied-Rewritten, applied-applied, Spare_own}
+use Rattle.store_form.specs.Spared.{AreUsable, Rewritten, Rewritten_applied}
+use Rattle.store_form.proofs.SparedLemmas.{applied-Rewritten, applied-applied, Spare_own}
 use Rattle.update_journal.proofs.Spelling.{pieces_back, length-entries}
 
 abbrev pub area : List ℕ → List ℕ

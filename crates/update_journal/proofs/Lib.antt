@@ -1,4 +1,5 @@
 mod Bytes
+mod HiddenLemmas
 mod Images
 pub mod Parts
 mod Reading

@@ -1,5 +1,6 @@
 //! Calls of the device, with the faults of a store, and writes of any length.
-ghost use Rattle.std.specs.Prelude.{◌≡◌, ◌+◌, ◌≤◌, ◌<◌, ◌%◌, false, length, option_map, slice_range, IfSome, OnOk, OnErr};
+ghost use Rattle.std.specs.Prelude.{◌≡◌, ◌+◌, ◌≤◌, ◌<◌, false, length, option_map, slice_range, IfSome, OnOk, OnErr};
+ghost use Rattle.eeprom_model.specs.Ranges.{IsPageWrite};
 ghost use Rattle.store_form.specs.Faults.{HasCause};
 ghost use Rattle.uicc_types.specs.Patches.{patched, Torn};
 ghost use Rattle.uicc_types.specs.Told.{Becomes};
@@ -27,9 +28,7 @@ pub fn read<E: Eeprom>(device: &mut E, at: usize, out: &mut [u8]) -> Result<(), 
 
 /// Writes bytes into one page, at least one.
 pub fn program<E: Eeprom>(device: &mut E, at: usize, bytes: &[u8]) -> Result<(), StoreFault>
-    requires some { 0 < length bytes.now }
-    requires one_page { at % PAGE_LENGTH + length bytes.now ≤ PAGE_LENGTH }
-    requires inside { at + length bytes.now ≤ E.byte_count device.old }
+    requires { IsPageWrite (E.byte_count device.old) at (length bytes.now) }
     ensures ok { OnOk result
         (E.contents device.new ≡ option_map (patched at bytes.now) (E.contents device.old)) }
     ensures torn { OnErr result

@@ -2,7 +2,7 @@ use Rattle.std.proofs.Common.{Ok, Err, ◌∙◌, rules}
 use Rattle.card_steps.proofs.Shown.{command_cut_off, exchange_shows}
 use Rattle.card_steps.proofs.StepLemmas.{breaks_command, exchanges_at, faults_behind, idle_counted, with_plan}
 use Rattle.card_steps.specs.Stepping.{seen}
-use Rattle.card_steps.specs.TellLaws.{tells_front, tells_whole}
+use Rattle.card_steps.proofs.TellLaws.{tells_front, tells_whole}
 use Rattle.card_steps.proofs.steps.exchange.Goals as goal
 
 pub returns-in-Ok-write_reply-clause-gives : goal.returns-in-Ok-write_reply-clause-gives

@@ -1,4 +1,4 @@
-use Rattle.card_steps.specs.TellLaws.{tells_front, tells_whole}
+use Rattle.card_steps.proofs.TellLaws.{tells_front, tells_whole}
 use Rattle.card_steps.proofs.steps.write_reply.Goals as goal
 
 pub returns-in-Cut-clause-err : goal.returns-in-Cut-clause-err

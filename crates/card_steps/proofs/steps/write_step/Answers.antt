@@ -1,4 +1,4 @@
-use Rattle.card_steps.specs.TellLaws.{tells_front, tells_whole}
+use Rattle.card_steps.proofs.TellLaws.{tells_front, tells_whole}
 use Rattle.card_steps.proofs.steps.write_step.Goals as goal
 
 pub returns-in-Ok-clause-tells : goal.returns-in-Ok-clause-tells

@@ -2,7 +2,7 @@ use Rattle.std.proofs.Common.{◌∙◌, rules}
 use Rattle.card_steps.proofs.Shown.{reply_cut_off, tpdu_cut_off, tpdu_shows}
 use Rattle.card_steps.proofs.StepLemmas.{idle_counted}
 use Rattle.card_steps.proofs.Written.{breaks_reply, breaks_tpdu, takes}
-use Rattle.card_steps.specs.TellLaws.{tells_front, tells_whole}
+use Rattle.card_steps.proofs.TellLaws.{tells_front, tells_whole}
 use Rattle.card_steps.proofs.tpdus.take_tpdu.Goals as goal
 use Rattle.t0_link.specs.Linking.{link_answer}
 

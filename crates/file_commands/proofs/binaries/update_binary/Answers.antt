@@ -1,4 +1,4 @@
-use Rattle.file_commands.specs.Optional.{same_ok}
+use Rattle.file_commands.proofs.Optional.{same_ok}
 use Rattle.file_commands.proofs.binaries.update_binary.Goals as goal
 
 pub returns-clause-refused : goal.returns-clause-refused

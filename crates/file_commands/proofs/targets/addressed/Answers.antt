@@ -7,7 +7,7 @@ use Rattle.file_model.specs.Files.{descriptors_of}
 use Rattle.file_model.specs.Selections.{IsSelection}
 use Rattle.file_model.specs.Outcomes.{pointer_before, worked_on}
 use Rattle.file_tree.specs.Tables.{IsNumbered}
-use Rattle.file_commands.specs.Optional.{if_found}
+use Rattle.file_commands.proofs.Optional.{if_found}
 use Rattle.file_commands.proofs.Addressing.{lawful_by_short}
 use Rattle.file_commands.proofs.targets.addressed.Goals as goal
 

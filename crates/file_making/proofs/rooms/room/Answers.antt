@@ -5,6 +5,7 @@ use Rattle.file_model.specs.card_layout.Places.{data_end}
 use Rattle.file_model.specs.card_layout.States.{state_of}
 use Rattle.file_making.specs.Rooms.{IsSmallestRoom, room_at}
 use Rattle.file_making.specs.Tables.{is_node_in_the_way}
+use Rattle.file_making.proofs.SmallestRooms.{rooms_are_one, rooms_are_smallest}
 use Rattle.file_making.proofs.Ways.{none_in_the_way, way_clear, too_late}
 use Rattle.file_making.proofs.rooms.room.Goals as goal
 
@@ -42,7 +43,7 @@ returns-then-behind-place-clause-smallest c = λ content. found c content
 pub returns-then-behind-place-clause-value : goal.returns-then-behind-place-clause-value
 returns-then-behind-place-clause-value c = λ content.
     let state = state_of c.args.loaded.now content in
-    c.rooms_are_smallest.ensures.one state c.args.size (Some c.loop-place.place) (room_at state c.args.size) (found c content) (c.rooms_are_smallest.ensures.smallest state c.args.size)
+    rooms_are_one state c.args.size (Some c.loop-place.place) (room_at state c.args.size) (found c content) (rooms_are_smallest state c.args.size)
 
 pub returns-clause-smallest : goal.returns-clause-smallest
 returns-clause-smallest c = λ content. none c content
@@ -50,4 +51,4 @@ returns-clause-smallest c = λ content. none c content
 pub returns-clause-value : goal.returns-clause-value
 returns-clause-value c = λ content.
     let state = state_of c.args.loaded.now content in
-    c.rooms_are_smallest.ensures.one state c.args.size None (room_at state c.args.size) (none c content) (c.rooms_are_smallest.ensures.smallest state c.args.size)
+    rooms_are_one state c.args.size None (room_at state c.args.size) (none c content) (rooms_are_smallest state c.args.size)

@@ -1,8 +1,9 @@
+use Rattle.layout_standing.proofs.Whole.{standing_sound}
 use Rattle.layout_standing.proofs.Stores.{agreeing_stands, written_stands, one_of_both_stands, prepared_stands, torn_stands}
 use Rattle.layout_standing.proofs.standing.stores_stand.Goals as goal
 
 pub returns-clause-known : goal.returns-clause-known
-returns-clause-known c = agreeing_stands c.standing_is_sound.ensures.sound
+returns-clause-known c = agreeing_stands standing_sound
 
 pub returns-clause-written : goal.returns-clause-written
 returns-clause-written c = written_stands

@@ -2,6 +2,7 @@ use Rattle.std.proofs.Common.{ℕ, List, Some, sym, subst}
 use Rattle.card_steps.specs.Ends.{moment_at}
 use Rattle.phone_runs.specs.LoadLines.{made_lines}
 use Rattle.phone_runs.specs.Playing.{Begins}
+use Rattle.phone_runs.proofs.CountLemmas.{counts_are_those}
 use Rattle.phone_runs.proofs.Loading.{counts_run, fails_at_start, starts_loading}
 use Rattle.phone_runs.proofs.counting.count_lines.Goals as goal
 
@@ -13,7 +14,7 @@ returns-in-Ok-serve_all-clause-counts g c = λ given none began.
     record {
       taken = Some c.serve_all.new.sink;
       waiting = c.serve_all.new.card.waiting;
-      gives = counts_run c.counts_are_those_of_the_lines.ensures made given c.serve_all.new.phone c.serve_all.new.card.parts c.serve_all.new.sink c.serve_all.new.card.waiting c.counts.result none c.counts.ensures
+      gives = counts_run counts_are_those made given c.serve_all.new.phone c.serve_all.new.card.parts c.serve_all.new.sink c.serve_all.new.card.waiting c.counts.result none c.counts.ensures
           (c.in-Ok-serve_all.ensures.served made given loading);
     }
 

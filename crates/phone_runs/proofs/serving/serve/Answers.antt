@@ -1,7 +1,7 @@
 use Rattle.std.proofs.Common.{rules}
-use Rattle.card_steps.specs.Standing.{machine_stands}
+use Rattle.card_steps.proofs.StandingLemmas.{machine_stands}
 use Rattle.card_steps.specs.Ends.{moment_at}
-use Rattle.card_steps.specs.TellLaws.{tells_front, tells_whole}
+use Rattle.card_steps.proofs.TellLaws.{tells_front, tells_whole}
 use Rattle.phone_runs.proofs.Serves.{asks_note, asks_reset, asks_send, none_further, none_rests, none_same, note_ends, note_further, note_more, reset_ends, reset_further, reset_more, sent_ends, sent_further, sent_more}
 use Rattle.phone_runs.proofs.ShowSteps.{none_shows, note_shows, note_shows_end, reset_shows, reset_shows_end, sent_shows, sent_shows_end}
 use Rattle.phone_runs.proofs.serving.serve.Goals as goal

@@ -25,11 +25,11 @@ returns-in_err-out-clause-still g c = λ none.
 
 pub returns-clause-comes : goal.returns-clause-comes
 returns-clause-comes g c =
-    subst (λ (o : PinOutcome). IsCarriedOut o (pins_of c.args.loaded.now) c.in_ok-out.field-0 c.carry_out.new.verified (pins_of c.carry_out.new.loaded)) (sym (settled c.args.pin (pins_of c.args.loaded.now) c.args.verified.now c.args.command.now c.trial_of-tried.result (c.trial_of-tried.ensures.means c.args.verified.now))) c.in_ok-out.ensures.tried.comes
-
-pub returns-clause-commits : goal.returns-clause-commits
-returns-clause-commits g c =
-    subst (λ (o : PinOutcome). g.S.Store.commits c.carry_out.new.store ≡ raised_by (length o.passed) (g.S.Store.commits c.args.store.now)) (sym (settled c.args.pin (pins_of c.args.loaded.now) c.args.verified.now c.args.command.now c.trial_of-tried.result (c.trial_of-tried.ensures.means c.args.verified.now))) c.in_ok-out.ensures.tried.stands.commits
+    let is = sym (settled c.args.pin (pins_of c.args.loaded.now) c.args.verified.now c.args.command.now c.trial_of-tried.result (c.trial_of-tried.ensures.means c.args.verified.now)) in
+    record {
+      carried_out = subst (λ (o : PinOutcome). IsCarriedOut o (pins_of c.args.loaded.now) c.in_ok-out.field-0 c.carry_out.new.verified (pins_of c.carry_out.new.loaded)) is c.in_ok-out.ensures.tried.comes;
+      commits = subst (λ (o : PinOutcome). g.S.Store.commits c.carry_out.new.store ≡ raised_by (length o.passed) (g.S.Store.commits c.args.store.now)) is c.in_ok-out.ensures.tried.stands.commits;
+    }
 
 pub returns-clause-performs : goal.returns-clause-performs
 returns-clause-performs g c =

@@ -11,7 +11,7 @@ use Rattle.proactive_handler.specs.Acts.{Told, setting_of, stage, next_of, comma
 use Rattle.proactive_handler.specs.Runs.{ended_by}
 use Rattle.proactive_handler.specs.declared.endings.Next.{Next}
 use Rattle.proactive_handler.proofs.Joined.{told_of, sent_of, as_sent, tells_told, sends_sent, each_sent, stepped, ended, can_be_sent, stopped_at, went_on, cut_later, woke, cut_runs}
-use Rattle.proactive_handler.specs.Moved.{has_rows}
+use Rattle.proactive_handler.proofs.MovedLemmas.{has_rows}
 use Rattle.card_memory.specs.card_layout.Memory.{memory}
 use Rattle.proactive_handler.proofs.acting.+run_on.Goals as goal
 

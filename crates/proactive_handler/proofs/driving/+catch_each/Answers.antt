@@ -5,8 +5,8 @@ use Rattle.kept_triggers.specs.Frames.{kept}
 use Rattle.proactive_handler.specs.Boxes.{AreForOthers}
 use Rattle.toolkit_model.specs.applet_trait.Minds.{minds_of}
 use Rattle.proactive_handler.specs.Steps.{scene, IsDone, toolkit}
-use Rattle.proactive_handler.specs.Scenes.{scene_then, scene_since}
-use Rattle.proactive_handler.specs.Moved.{has_rows}
+use Rattle.proactive_handler.proofs.ScenesLemmas.{scene_then, scene_since}
+use Rattle.proactive_handler.proofs.MovedLemmas.{has_rows}
 use Rattle.proactive_handler.proofs.Caught.{caught_row, caught_idle, caught_served, caught_apart, zero_done, none_done, one_stops, more_moves, one_leaves, more_leaves}
 use Rattle.toolkit_model.specs.applet_trait.declared.stimuli.Stimulus.TheVariants.{Event}
 use Rattle.toolkit_model.specs.Passing.{ToolkitState}

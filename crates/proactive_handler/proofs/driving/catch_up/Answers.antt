@@ -1,7 +1,7 @@
 use Rattle.std.proofs.Common.{arith, refl}
 use Rattle.toolkit_model.specs.applet_trait.Minds.{minds_of}
 use Rattle.proactive_handler.specs.Steps.{scene}
-use Rattle.proactive_handler.specs.Moved.{has_rows}
+use Rattle.proactive_handler.proofs.MovedLemmas.{has_rows}
 use Rattle.proactive_handler.proofs.Caught.{zero_done}
 use Rattle.card_memory.specs.card_layout.Memory.{memory}
 use Rattle.proactive_handler.proofs.driving.catch_up.Goals as goal

@@ -4,7 +4,7 @@ use Rattle.toolkit_model.specs.Sessions.{SessionState}
 use Rattle.toolkit_model.specs.applet_trait.Minds.{minds_of}
 use Rattle.proactive_handler.specs.Serving.{IsSessionServed}
 use Rattle.proactive_handler.specs.Steps.{toolkit, scene}
-use Rattle.proactive_handler.specs.Moved.{has_rows}
+use Rattle.proactive_handler.proofs.MovedLemmas.{has_rows}
 use Rattle.proactive_handler.proofs.Caught.{driven_stops, driven_done, driven_leaves, driven_left}
 use Rattle.proactive_handler.proofs.Serving.{settled_served}
 use Rattle.card_memory.specs.card_layout.Memory.{memory}

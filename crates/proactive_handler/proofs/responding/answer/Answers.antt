@@ -3,7 +3,7 @@ use Rattle.toolkit_model.specs.toolkit_commands.Replies.{replied}
 use Rattle.toolkit_model.specs.applet_trait.Minds.{minds_of}
 use Rattle.proactive_handler.specs.Serving.{IsSessionServed}
 use Rattle.proactive_handler.specs.Steps.{scene}
-use Rattle.proactive_handler.specs.Moved.{has_rows}
+use Rattle.proactive_handler.proofs.MovedLemmas.{has_rows}
 use Rattle.proactive_handler.proofs.Serving.{awaited, gone_served, owner_row, owner_idle}
 use Rattle.proactive_handler.proofs.Answered.{of_awaited, awaited_of, owner_done, owner_stops, own_done, own_left, owner_left, owner_leaves}
 use Rattle.card_memory.specs.card_layout.Memory.{memory}

@@ -1,7 +1,7 @@
 use Rattle.toolkit_model.specs.toolkit_commands.Replies.{replied}
 use Rattle.proactive_handler.specs.Boxes.{AreForOthers}
 use Rattle.toolkit_model.specs.applet_trait.Minds.{minds_of}
-use Rattle.proactive_handler.specs.Scenes.{scene_then}
+use Rattle.proactive_handler.proofs.ScenesLemmas.{scene_then}
 use Rattle.proactive_handler.specs.Steps.{scene, toolkit}
 use Rattle.proactive_handler.proofs.Serving.{awaited}
 use Rattle.proactive_handler.proofs.Answered.{of_awaited, awaited_of, answered_late, responded_stops, responded_moves, responded_leaves, responded_turns}

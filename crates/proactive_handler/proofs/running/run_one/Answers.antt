@@ -8,7 +8,7 @@ use Rattle.card_memory.specs.Model.{HasRowOn}
 use Rattle.proactive_handler.specs.Boxes.{kinds_of}
 use Rattle.proactive_handler.specs.Steps.{Scene, toolkit, scene}
 use Rattle.proactive_handler.specs.Reached.{Tells}
-use Rattle.proactive_handler.specs.Moved.{on_done, mind_there, none_there, put_back, same_kinds, has_rows, still_done}
+use Rattle.proactive_handler.proofs.MovedLemmas.{on_done, mind_there, none_there, put_back, same_kinds, has_rows, still_done}
 use Rattle.proactive_handler.proofs.Places.{run_served}
 use Rattle.proactive_handler.proofs.Ran.{none_runs}
 use Rattle.card_memory.specs.card_layout.Memory.{memory}

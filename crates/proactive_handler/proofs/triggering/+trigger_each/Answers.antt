@@ -4,9 +4,10 @@ use Rattle.card_memory.specs.card_layout.Memory.{memory}
 use Rattle.toolkit_model.specs.Passing.{in_turn}
 use Rattle.toolkit_model.specs.applet_trait.Minds.{minds_of}
 use Rattle.proactive_handler.specs.Serving.{triggered_one}
-use Rattle.proactive_handler.specs.Scenes.{IsInService, scene_then, scene_done, scene_fault}
+use Rattle.proactive_handler.specs.Scenes.{IsInService}
+use Rattle.proactive_handler.proofs.ScenesLemmas.{scene_then, scene_done, scene_fault}
 use Rattle.proactive_handler.specs.Steps.{scene}
-use Rattle.proactive_handler.specs.Moved.{has_rows}
+use Rattle.proactive_handler.proofs.MovedLemmas.{has_rows}
 use Rattle.proactive_handler.proofs.Told.{stopped_tells, turn_stops, turns_stop, turns_done, turns_answer, nobody_done, nobody_answers, none_of, rows_later, apart_later, first_apart, room_later, not_first, not_later}
 use Rattle.proactive_handler.proofs.Told.{turn_leaves, turns_leave, turns_left, nobody_leaves}
 use Rattle.proactive_handler.proofs.triggering.+trigger_each.Goals as goal

@@ -10,7 +10,7 @@ use Rattle.toolkit_model.specs.applet_trait.Minds.{minds_of}
 use Rattle.proactive_handler.specs.Serving.{IsSessionServed, HasPlaces}
 use Rattle.proactive_handler.specs.Steps.{toolkit, scene, Moves}
 use Rattle.proactive_handler.specs.Reached.{TurnsOnly}
-use Rattle.proactive_handler.specs.Moved.{has_rows, on_done}
+use Rattle.proactive_handler.proofs.MovedLemmas.{on_done, has_rows}
 use Rattle.proactive_handler.proofs.Places.{run_places, kept_places}
 use Rattle.proactive_handler.proofs.Serving.{late_served}
 use Rattle.proactive_handler.proofs.Told.{idle_moves, idle_answers, missed, busy_done, busy_answers}

@@ -7,7 +7,7 @@ use Rattle.toolkit_model.specs.Sessions.{LateTrigger}
 use Rattle.toolkit_model.specs.Commands.{triggered, last_answer}
 use Rattle.proactive_handler.specs.Boxes.{AreForOthers}
 use Rattle.toolkit_model.specs.applet_trait.Minds.{minds_of}
-use Rattle.proactive_handler.specs.Scenes.{scene_since}
+use Rattle.proactive_handler.proofs.ScenesLemmas.{scene_since}
 use Rattle.proactive_handler.specs.Steps.{scene, toolkit}
 use Rattle.session_commands.proofs.Told.{report_late, report_served, report_places, report_moves, report_answers}
 use Rattle.session_commands.proofs.envelopes.report.Goals as goal

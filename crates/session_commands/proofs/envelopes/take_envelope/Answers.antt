@@ -6,7 +6,7 @@ use Rattle.file_model.specs.card_layout.Memory.{memory}
 use Rattle.toolkit_model.specs.Commands.{enveloped, call_data}
 use Rattle.toolkit_model.specs.Steps.{Report}
 use Rattle.toolkit_model.specs.applet_trait.Minds.{minds_of}
-use Rattle.proactive_handler.specs.Scenes.{scene_done}
+use Rattle.proactive_handler.proofs.ScenesLemmas.{scene_done}
 use Rattle.proactive_handler.specs.Steps.{scene, toolkit}
 use Rattle.card_model.specs.Toolkit.{toolkit_of, envelope_taken}
 use Rattle.session_commands.specs.Trying.{seen}

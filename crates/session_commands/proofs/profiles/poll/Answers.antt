@@ -3,7 +3,7 @@ use Rattle.file_model.specs.card_layout.Memory.{memory}
 use Rattle.toolkit_model.specs.Commands.{polled}
 use Rattle.toolkit_model.specs.Steps.{Status}
 use Rattle.toolkit_model.specs.applet_trait.Minds.{minds_of}
-use Rattle.proactive_handler.specs.Moved.{on_done}
+use Rattle.proactive_handler.proofs.MovedLemmas.{on_done}
 use Rattle.proactive_handler.specs.Steps.{scene, toolkit}
 use Rattle.session_commands.proofs.Carried.{tells_here, card_comes, order_after}
 use Rattle.session_commands.proofs.profiles.poll.Goals as goal

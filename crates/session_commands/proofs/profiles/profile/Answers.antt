@@ -6,7 +6,7 @@ use Rattle.toolkit_model.specs.Sessions.{LateTrigger, SessionState}
 use Rattle.toolkit_model.specs.Commands.{profiled}
 use Rattle.proactive_handler.specs.Boxes.{AreForOthers}
 use Rattle.toolkit_model.specs.applet_trait.Minds.{minds_of}
-use Rattle.proactive_handler.specs.Scenes.{scene_since, scene_done, scene_fault}
+use Rattle.proactive_handler.proofs.ScenesLemmas.{scene_since, scene_done, scene_fault}
 use Rattle.proactive_handler.specs.Steps.{scene, toolkit}
 use Rattle.session_commands.proofs.Told.{as_err, profile_served, profile_moves}
 use Rattle.session_commands.proofs.profiles.profile.Goals as goal

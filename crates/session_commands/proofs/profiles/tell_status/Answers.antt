@@ -4,7 +4,7 @@ use Rattle.file_model.specs.store_form.declared.store.StoreFault.TheVariants.{Fa
 use Rattle.file_model.specs.card_layout.Memory.{memory}
 use Rattle.toolkit_model.specs.Commands.{polled}
 use Rattle.toolkit_model.specs.applet_trait.Minds.{minds_of}
-use Rattle.proactive_handler.specs.Scenes.{scene_done, scene_fault}
+use Rattle.proactive_handler.proofs.ScenesLemmas.{scene_done, scene_fault}
 use Rattle.proactive_handler.specs.Steps.{scene, toolkit}
 use Rattle.session_commands.proofs.Resting.{in_service}
 use Rattle.session_commands.proofs.Told.{as_err, poll_moves}

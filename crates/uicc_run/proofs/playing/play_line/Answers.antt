@@ -1,7 +1,7 @@
 use Rattle.std.proofs.Common.{false}
 use Rattle.phone_runs.specs.card_sections.BehindLaws.{bad_behind, ends_reading, reads_on, reads_to_end}
 use Rattle.card_steps.specs.Moves.{step_of}
-use Rattle.card_steps.specs.Standing.{machine_minds, machine_stands}
+use Rattle.card_steps.proofs.StandingLemmas.{machine_minds, machine_stands}
 use Rattle.uicc_run.proofs.CardLemmas.{machine_kinds}
 use Rattle.uicc_run.specs.Steps.{may_follow, may_stand}
 use Rattle.uicc_run.specs.Accounts.{Takes, Transfers}

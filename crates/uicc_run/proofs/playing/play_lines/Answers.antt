@@ -39,10 +39,10 @@ loop-script-preserved-in_default g c =
           subst (λ s. IsReading (may_stand s) opening text c.play_line.new.script (g.R.Source.left c.play_line.new.source)) (sym for_card)
           (c.in_default.ensures.reads text opening (subst (λ s. IsReading (may_stand s) opening text c.loop-script.script (g.R.Source.left c.loop-script.source)) for_card (c.loop-script.invariant.reads text opening reading)));
       within = λ text within. c.play_line.ensures.within text (c.loop-script.invariant.within text within);
-      kept = let before = c.loop-script.invariant.kept in let now = c.play_line.ensures.tallies.kept in omega arith;
-      source_kept = let before = c.loop-script.invariant.source_kept in let now = c.play_line.ensures.source_cause.kept in omega arith;
-      sink_kept = let before = c.loop-script.invariant.sink_kept in let now = c.play_line.ensures.tallies.sink.kept in omega arith;
-      tells = c.play_line.ensures.tallies.tells ∙ c.loop-script.invariant.tells;
+      kept = let before = c.loop-script.invariant.kept in let now = c.play_line.ensures.tallies.steps.kept in omega arith;
+      source_kept = let before = c.loop-script.invariant.source_kept in let now = c.play_line.ensures.tallies.source_cause.kept in omega arith;
+      sink_kept = let before = c.loop-script.invariant.sink_kept in let now = c.play_line.ensures.tallies.steps.sink.kept in omega arith;
+      tells = c.play_line.ensures.tallies.steps.tells ∙ c.loop-script.invariant.tells;
     }
 
 -- ---- a handset
@@ -71,8 +71,8 @@ loop-script-preserved g c =
           subst (λ s. IsReading (may_stand s) opening text c.serve_line.new.script (g.R.Source.left c.serve_line.new.source)) (sym for_handset)
           (c.in_default-serve_line.ensures.reads text opening (subst (λ s. IsReading (may_stand s) opening text c.loop-script.script (g.R.Source.left c.loop-script.source)) for_handset (c.loop-script.invariant.reads text opening reading)));
       within = λ text within. c.serve_line.ensures.within text (c.loop-script.invariant.within text within);
-      kept = let before = c.loop-script.invariant.kept in let now = c.serve_line.ensures.tallies.kept in omega arith;
-      source_kept = let before = c.loop-script.invariant.source_kept in let now = c.serve_line.ensures.source_cause.kept in omega arith;
-      sink_kept = let before = c.loop-script.invariant.sink_kept in let now = c.serve_line.ensures.tallies.sink.kept in omega arith;
-      tells = c.serve_line.ensures.tallies.tells ∙ c.loop-script.invariant.tells;
+      kept = let before = c.loop-script.invariant.kept in let now = c.serve_line.ensures.tallies.steps.kept in omega arith;
+      source_kept = let before = c.loop-script.invariant.source_kept in let now = c.serve_line.ensures.tallies.source_cause.kept in omega arith;
+      sink_kept = let before = c.loop-script.invariant.sink_kept in let now = c.serve_line.ensures.tallies.steps.sink.kept in omega arith;
+      tells = c.serve_line.ensures.tallies.steps.tells ∙ c.loop-script.invariant.tells;
     }

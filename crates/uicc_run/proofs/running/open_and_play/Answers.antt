@@ -54,12 +54,12 @@ returns-in-Err-clause-quiet g c = λ unopened. record { silent = refl; unplanned
 pub returns-in-Ok-clause-ends : goal.returns-in-Ok-clause-ends
 returns-in-Ok-clause-ends g c =
     let opened = c.in-Ok.ensures.opened.calm in
-    ends_played c.carry_on-end.result _ _ _ _ c.carry_on-end.ensures.source_cause c.carry_on-end.ensures.tallies.sink
+    ends_played c.carry_on-end.result _ _ _ _ c.carry_on-end.ensures.tallies.source_cause c.carry_on-end.ensures.tallies.steps.sink
     (λ reset. rose_as (g.S.Store.meter c.args.store) c.new-card.result.parts.meter c.carry_on-end.new.card.parts.meter _
     (ap (λ (p : CardParts). p.meter.faults) c.new-card.ensures.parts ∙ opened.no_fault (λ none. none))
     (c.close-store.ensures.meter ∙ ap (λ (p : CardParts). p.meter) c.into_parts-card.ensures.parts)
-    (c.carry_on-end.ensures.failed reset))
-    c.carry_on-end.ensures.tallies.tells
+    (c.carry_on-end.ensures.tallies.reset reset))
+    c.carry_on-end.ensures.tallies.steps.tells
 
 pub returns-in-Ok-clause-shows : goal.returns-in-Ok-clause-shows
 returns-in-Ok-clause-shows g c = λ given described first served at told counted.

@@ -1,7 +1,7 @@
 use Rattle.std.proofs.Common.{false, refl, sym, ◌∙◌, ap, rules}
-use Rattle.file_model.specs.apdu_form.Model.{Apdu}
+use Rattle.file_model.specs.apdu_form.Model.{Apdu, cut_to}
 use Rattle.file_model.specs.uicc_types.declared.answers.TheConstants.StatusWord.{WRONG_LENGTH}
-use Rattle.card_model.specs.Answers.{cut_to, tried}
+use Rattle.card_model.specs.Answers.{tried}
 use Rattle.card_model.specs.Instructions.{is_known}
 use Rattle.card_core.specs.Acting.{in_bytes}
 use Rattle.card_core.specs.Cards.{parts_of, card_with}

@@ -101,7 +101,7 @@ returns-in-Ok-clause-acts g c =
     pins_act {X = Unit} (Ok c.in-Ok.field-0) c.args.apdu.now (parts_of g.S.Store g.B.Applet c.args.self.now) _ c.named_pin_command.new.out c.args.command
     (λ state told.
     pins_answer c.args.command (parts_of g.S.Store g.B.Applet c.args.self.now) _ state c.args.apdu.now c.named_pin_command.new.out told c.named_pin_command.ensures.ends.empty
-    (subst (λ (table : Loaded). IsCarriedOut (pin_settled c.args.command (pins_of table) c.args.self.now.verified c.args.apdu.now) (pins_of table) c.named_pin_command.new.out.status c.named_pin_command.new.verified (pins_of c.named_pin_command.new.loaded)) c.deref_mut.ensures.value c.in-Ok.ensures.comes)
+    (subst (λ (table : Loaded). IsCarriedOut (pin_settled c.args.command (pins_of table) c.args.self.now.verified c.args.apdu.now) (pins_of table) c.named_pin_command.new.out.status c.named_pin_command.new.verified (pins_of c.named_pin_command.new.loaded)) c.deref_mut.ensures.value c.in-Ok.ensures.comes.carried_out)
     (c.named_pin_command.ensures.ends.others ∙ ap (λ (table : Loaded). record table { pins = c.named_pin_command.new.loaded.pins }) c.deref_mut.ensures.value) refl refl refl)
     (λ status refused.
     let gives = c.in-Ok.ensures.refused status (ap (λ (table : Loaded). pin_outcome c.args.command (pins_of table) c.args.self.now.verified c.args.apdu.now) c.deref_mut.ensures.value ∙ refused) in

@@ -1,11 +1,9 @@
 -- Sessions whose applets can run, after what runs none of them.
-use Rattle.std.proofs.Common.{◌≡◌, refl, sym, ap, ◌∙◌, subst, List, [], ◌++◌, Option}
+use Rattle.std.proofs.Common.{◌≡◌, sym, ap, ◌∙◌, subst, List, ◌++◌, Option}
 use Rattle.std.specs.Prelude.{◌≢◌, All, AllPairs}
-use Rattle.std.proofs.lemmas.List.Elements.{All-nil}
-use Rattle.card_memory.specs.uicc_types.Pairs.{pairs_nil}
 use Rattle.card_memory.specs.card_layout.declared.entries.Loaded.{Loaded}
 use Rattle.card_memory.specs.Model.{HasRowOn}
-use Rattle.toolkit_model.specs.Sessions.{Outstanding, Sent, LateTrigger, SessionState, fresh_session}
+use Rattle.toolkit_model.specs.Sessions.{Outstanding, Sent, LateTrigger, SessionState}
 use Rattle.toolkit_model.specs.Orderly.{owned, asks}
 use Rattle.proactive_handler.specs.Serving.{IsSessionServed}
 
@@ -19,16 +17,4 @@ served_still table old new out waiting late served = record {
   apart = subst (AllPairs (λ (a b : Sent). a.shelf ≢ b.shelf)) (sym (same_asks old new out waiting)) served.apart;
   askers = subst (All (λ (sent : Sent). HasRowOn table sent.shelf)) (sym (same_asks old new out waiting)) served.askers;
   late = subst (All (λ (trigger : LateTrigger). HasRowOn table trigger.shelf)) (sym late) served.late;
-}
-
-fresh_asks : asks fresh_session ≡ []
-unfolding asks
-fresh_asks = refl
-
--- a reset
-pub fresh_served : (table : Loaded) → IsSessionServed table fresh_session
-fresh_served table = record {
-  apart = subst (AllPairs (λ (a b : Sent). a.shelf ≢ b.shelf)) (sym fresh_asks) (pairs_nil (λ a b. a.shelf ≢ b.shelf));
-  askers = subst (All (λ (sent : Sent). HasRowOn table sent.shelf)) (sym fresh_asks) (All-nil (λ sent. HasRowOn table sent.shelf));
-  late = All-nil (λ trigger. HasRowOn table trigger.shelf);
 }

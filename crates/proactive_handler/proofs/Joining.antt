@@ -11,7 +11,8 @@ use Rattle.card_memory.specs.card_layout.Persistent.{Registration, Persistent}
 use Rattle.card_memory.specs.card_layout.States.{rows_of}
 use Rattle.toolkit_model.specs.Passing.{ToolkitState, Happening, Passed, noting, before, rows_in, passed_rows}
 use Rattle.proactive_handler.specs.Acts.{with_these_rows}
-use Rattle.proactive_handler.specs.Counting.{Counts, counts_then}
+use Rattle.proactive_handler.specs.Counting.{Counts}
+use Rattle.proactive_handler.proofs.CountingLemmas.{counts_then}
 use Rattle.proactive_handler.specs.Runs.{StopsAt}
 use Rattle.proactive_handler.specs.Steps.{Scene, toolkit, IsDone, MovesTo}
 

@@ -65,8 +65,6 @@ run_ends (one ∷ first) step old middle new items last run ends = inl (record {
   seen = ap (λ shown. shown ++ last) run.seen ∙ append_assoc run.front run.back last;
 })
 
--- ---- the same of what may be shown, where nothing is known of the card but its power
-
 shows_same : (on between after : Bool) (more : List Step) (none items : List TraceItem) → none ≡ [] → between ≡ on → MayShowAll between more items after → MayShowAll on more (none ++ items) after
 shows_same on between after more none items nothing same may =
     subst (λ b. MayShowAll b more (none ++ items) after) same (subst (λ shown. MayShowAll between more (shown ++ items) after) (sym nothing) may)
@@ -84,8 +82,6 @@ shows_then (step ∷ first) more on between after items others may rest = record
 
 pub shows_one : (on after : Bool) (step : Step) (items : List TraceItem) → MayShow on step items after → MayShowAll on (step ∷ []) items after
 shows_one on after step items may = record { front = items; between = after; back = []; first = may; rest = (refl, refl); seen = sym (append-nil items) }
-
--- ---- texts
 
 -- the text of one trace behind another
 pub text_of-append : (shown more : List TraceItem) → text_of (shown ++ more) ≡ text_of shown ++ text_of more

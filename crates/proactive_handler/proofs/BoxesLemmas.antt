@@ -1,0 +1,11 @@
+-- One step after the other leaves the boxes of others alone.
+use Rattle.std.proofs.Common.{◌∙◌}
+use Rattle.std.specs.Prelude.{ℕ, List, Option}
+use Rattle.toolkit_model.specs.applet_trait.Minds.{AppletState}
+use Rattle.card_memory.specs.card_layout.declared.entries.Loaded.{Loaded}
+use Rattle.card_memory.specs.Model.{HasRowOn}
+use Rattle.proactive_handler.specs.Boxes.{LeavesOthers}
+
+-- one thing after the other, where rows stay
+pub others_then : (middle new : Loaded) (first then last : List (Option AppletState)) → ((shelf : ℕ) → HasRowOn middle shelf → HasRowOn new shelf) → LeavesOthers middle first then → LeavesOthers new then last → LeavesOthers new first last
+others_then middle new first then last stay before after = λ shelf none. after shelf none ∙ before shelf (λ has. none (stay shelf has))
