@@ -2,7 +2,7 @@
 ghost use Rattle.std.specs.Prelude.{◌≡◌, ◌<◌, IfSome, Some};
 ghost use Rattle.toolkit_model.specs.card_layout.Events.{bit_of};
 
-use toolkit_model::uicc_types::events::{
+use toolkit_model::events::{
     CALL_CONNECTED, CALL_CONTROL, CALL_DISCONNECTED, CHANNEL_STATUS, DATA_AVAILABLE, IDLE_SCREEN,
     LANGUAGE_SELECTION, LOCATION_STATUS, MT_CALL, PROFILE_DOWNLOAD, STATUS_COMMAND, USER_ACTIVITY,
 };

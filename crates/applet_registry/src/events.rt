@@ -4,11 +4,10 @@ ghost use Rattle.toolkit_model.specs.card_layout.States.{rows_of};
 ghost use Rattle.toolkit_model.specs.Registry.{row_on, is_registered, registers, deregisters, with_code, without_code};
 
 use crate::rows::{is_answered, row_on};
-use toolkit_model::RowFault;
-use toolkit_model::card_layout::events::{has_event, is_event};
-use toolkit_model::card_layout::{Loaded, event_bits_are_codes, states_are_of_entries};
-use toolkit_model::uicc_types::Shelf;
-use toolkit_model::uicc_types::events::CALL_CONTROL;
+use card_layout::events::{has_event, is_event};
+use card_layout::{Loaded, event_bits_are_codes, states_are_of_entries};
+use toolkit_model::events::CALL_CONTROL;
+use toolkit_model::{RowFault, Shelf};
 
 fn is_registered(loaded: &Loaded, shelf: Shelf, code: u8) -> bool
     ensures { result ≡ is_registered (rows_of loaded.now) shelf.0 code }

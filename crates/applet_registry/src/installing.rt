@@ -8,10 +8,9 @@ ghost use Rattle.toolkit_model.specs.Registry.{is_taken, is_menu_full, installed
 ghost use Rattle.applet_registry.specs.Rows.{IsAdmitted, registration_for, allowed};
 
 use crate::rows::{answers_calls, has_text, is_answered, row_on, text_count};
-use toolkit_model::RowFault;
-use toolkit_model::card_layout::sizes::{KEPT_WIDTH, LOWER_ROW_COUNT, MENU_LIMIT};
-use toolkit_model::card_layout::{Installed, Loaded, Row, read_installation};
-use toolkit_model::uicc_types::Shelf;
+use card_layout::sizes::{KEPT_WIDTH, LOWER_ROW_COUNT, MENU_LIMIT};
+use card_layout::{Installed, Loaded, Row, read_installation};
+use toolkit_model::{RowFault, Shelf};
 
 // Whether only a wide card can hold this row, and this one isn't wide.
 fn is_too_narrow(loaded: &Loaded, shelf: Shelf, row: &Row) -> bool

@@ -6,10 +6,9 @@ ghost use Rattle.toolkit_model.specs.Registry.{item_of, menu_of};
 ghost use Rattle.toolkit_model.specs.toolkit_commands.declared.items.Item.{Item as AnItem};
 
 use crate::rows::shows_item;
-use toolkit_model::card_layout::sizes::{MENU_LIMIT, ROW_COUNT};
-use toolkit_model::card_layout::{Loaded, Row};
-use toolkit_model::toolkit_commands::{Item, Items};
-use toolkit_model::uicc_types::Full;
+use card_layout::sizes::{MENU_LIMIT, ROW_COUNT};
+use card_layout::{Loaded, Row};
+use toolkit_model::{Full, Item, Items};
 
 /// The menu: an item for each row with a text, by ascending shelves. Its identifier is the shelf plus 1.
 pub fn menu(loaded: &Loaded) -> Items

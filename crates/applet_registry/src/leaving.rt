@@ -4,7 +4,7 @@ ghost use Rattle.std.specs.List.{position_from};
 ghost use Rattle.applet_registry.specs.Indexes.{left_by};
 
 use crate::Shelves;
-use toolkit_model::uicc_types::Shelf;
+use toolkit_model::Shelf;
 
 /// The place of a shelf among others.
 fn place_among(shelves: &[Shelf], shelf: Shelf) -> Option<usize>

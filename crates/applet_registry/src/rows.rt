@@ -7,10 +7,10 @@ ghost use Rattle.toolkit_model.specs.card_layout.States.{registration_of, rows_o
 ghost use Rattle.toolkit_model.specs.Registry.{row_on, is_answered};
 ghost use Rattle.applet_registry.specs.Rows.{answers_calls, answers_beside, shows_item};
 
-use toolkit_model::card_layout::events::has_event;
-use toolkit_model::card_layout::{Loaded, Row, states_are_of_entries};
-use toolkit_model::uicc_types::Shelf;
-use toolkit_model::uicc_types::events::CALL_CONTROL;
+use card_layout::events::has_event;
+use card_layout::{Loaded, Row, states_are_of_entries};
+use toolkit_model::Shelf;
+use toolkit_model::events::CALL_CONTROL;
 
 /// The row of this shelf, if an applet is registered there.
 pub fn row_on(loaded: &Loaded, shelf: Shelf) -> Option<&Row>

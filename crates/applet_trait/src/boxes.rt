@@ -1,7 +1,7 @@
 //! An applet in a box, as the card has them.
 
 use crate::{Act, Applet, Stimulus};
-use toolkit_commands::uicc_types::Kept;
+use toolkit_commands::Kept;
 
 impl Applet for Box<dyn Applet> {
     ghost mind = { λ boxed. (Applet-box boxed).mind boxed.value };

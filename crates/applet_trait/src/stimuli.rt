@@ -1,7 +1,6 @@
 //! What an applet is told, and what it does.
 
-use toolkit_commands::Proactive;
-use toolkit_commands::uicc_types::Octets;
+use toolkit_commands::{Octets, Proactive};
 
 /// What happened to an applet.
 #[derive(Debug, Drop)]

@@ -11,12 +11,10 @@ use crate::codes::{
     CLOSE_CHANNEL, DEFAULT_BEARER, GET_CHANNEL_STATUS, OPEN_CHANNEL, RECEIVE_DATA, SEND_DATA,
     SEND_NOW,
 };
-use toolkit_commands::comprehension_tlv::{find, read_template};
 use toolkit_commands::devices::{CARD, TERMINAL};
 use toolkit_commands::qualifiers::NONE;
 use toolkit_commands::tags::{COMMAND_DETAILS, DEVICE_IDENTITIES, PROACTIVE_COMMAND};
-use toolkit_commands::uicc_types::Octets;
-use toolkit_commands::{Details, ProactiveFault};
+use toolkit_commands::{Details, Octets, ProactiveFault, find, read_template};
 
 /// The list of objects in the template of a command.
 #[tactic(auto, unfolding(toolkit_commands::specs::Steps::template_in))]

@@ -9,17 +9,15 @@ use crate::codes::{
     BEARER_DESCRIPTION, BUFFER_SIZE, CHANNEL_DATA, CHANNEL_DATA_LENGTH, CHANNEL_STATUS,
     DEFAULT_BEARER, LINK_DROPPED, LINK_UP, NOTHING_MORE, PROTOCOL_ERROR,
 };
-use toolkit_commands::comprehension_tlv::TlvWriter;
 use toolkit_commands::devices::{CARD, TERMINAL};
+use toolkit_commands::events::{CHANNEL_STATUS as STATUS_EVENT, DATA_AVAILABLE};
 use toolkit_commands::results::{
     DATA_NOT_UNDERSTOOD, PERFORMED, TYPE_NOT_UNDERSTOOD, UNABLE_TO_PROCESS, VALUES_MISSING,
 };
 use toolkit_commands::tags::{
     COMMAND_DETAILS, DEVICE_IDENTITIES, EVENT_DOWNLOAD, EVENT_LIST, RESULT,
 };
-use toolkit_commands::uicc_types::events::{CHANNEL_STATUS as STATUS_EVENT, DATA_AVAILABLE};
-use toolkit_commands::uicc_types::{Full, Octets};
-use toolkit_commands::{Details, ProactiveFault};
+use toolkit_commands::{Details, Full, Octets, ProactiveFault, TlvWriter};
 
 /// Adds an object of less than 128 bytes.
 #[tactic(auto, using(toolkit_commands::proofs::Sizes::short_tagged))]

@@ -11,9 +11,8 @@ use crate::codes::{LINK_IS_DOWN, NOT_VALID, PARTLY_PERFORMED};
 use crate::responses::{
     bytes_available, link_lost, put_bytes, put_count, put_error, put_result, put_unable,
 };
-use toolkit_commands::comprehension_tlv::TlvWriter;
 use toolkit_commands::results::PERFORMED;
-use toolkit_commands::uicc_types::Octets;
+use toolkit_commands::{Octets, TlvWriter};
 
 /// CLOSE CHANNEL.
 pub fn close(channel: &mut Channel, objects: &mut TlvWriter)

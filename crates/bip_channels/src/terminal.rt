@@ -17,10 +17,8 @@ use crate::serving::{close, cut, echo, receive, send};
 use crate::{BipCommand, read_bip};
 use std::alloc::Global;
 use std::marker::Model;
-use toolkit_commands::comprehension_tlv::TlvWriter;
 use toolkit_commands::results::PERFORMED;
-use toolkit_commands::uicc_types::{Octets, OutOfMemory};
-use toolkit_commands::{Details, ProactiveFault, found_details};
+use toolkit_commands::{Details, Octets, OutOfMemory, ProactiveFault, TlvWriter, found_details};
 
 /// How many channels there can be.
 const CHANNELS: usize = 7;

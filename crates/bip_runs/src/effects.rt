@@ -2,8 +2,7 @@
 ghost use Rattle.std.specs.Prelude.{◌≡◌};
 ghost use Rattle.bip_runs.specs.Parts.{part_for, part_of};
 
-use script_form::ScriptLine;
-use script_form::uicc_types::Octets;
+use script_form::{Octets, ScriptLine};
 
 /// What happens to the terminal.
 #[derive(Clone, Copy, Debug)]

@@ -10,9 +10,7 @@ ghost use Rattle.script_form.specs.uicc_types.Counts.{CountsFailure};
 
 use crate::effects::Happening;
 use bip_channels::Bip;
-use script_form::byte_streams::{Failed, Sink};
-use script_form::uicc_types::Octets;
-use script_form::{TraceLine, write_command, write_trace};
+use script_form::{Failed, Octets, Sink, TraceLine, write_command, write_trace};
 
 /// Has this happen to the terminal, and writes what is shown of it. A command is written before it is carried out.
 pub fn happen<W: Sink>(what: Happening<'_>, bip: &mut Bip, trace: &mut W) -> Result<(), Failed>

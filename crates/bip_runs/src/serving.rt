@@ -13,9 +13,7 @@ use crate::effects::{Effect, Place, effect_of};
 use crate::happening::happen;
 use bip_channels::{Bip, each_channel_tells};
 use card_sections::{PlayEnd, ScriptFault, ScriptReader};
-use script_form::ScriptLine;
-use script_form::byte_streams::{Failed, Sink, Source};
-use script_form::uicc_types::OutOfMemory;
+use script_form::{Failed, OutOfMemory, ScriptLine, Sink, Source};
 use std::alloc::Global;
 
 /// Has a new terminal carry out a script: `start`, and behind it proactive commands and what the network does. Shows each command,

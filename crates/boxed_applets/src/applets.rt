@@ -2,7 +2,7 @@
 
 use crate::{Barrier, Clock, Greeter, Menu, Notebook, Table, Watcher};
 use applet_trait::{Act, Applet, Stimulus};
-use card_layout::uicc_types::Kept;
+use toolkit_commands::Kept;
 
 /// An applet of one of the seven kinds. Its mind is that of the applet in it.
 #[derive(Drop)]

@@ -10,9 +10,8 @@ use crate::states::State;
 use applet_trait::numbers::MINUTES;
 use applet_trait::texts::TICK;
 use applet_trait::{Act, Applet, Stimulus};
-use card_layout::uicc_types::Kept;
-use card_layout::uicc_types::events::{PROFILE_DOWNLOAD, TIMER_EXPIRATION};
-use toolkit_commands::TimeValue;
+use toolkit_commands::events::{PROFILE_DOWNLOAD, TIMER_EXPIRATION};
+use toolkit_commands::{Kept, TimeValue};
 
 #[derive(Clone, Copy)]
 enum Phase {

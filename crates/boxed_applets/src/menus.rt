@@ -8,9 +8,9 @@ use crate::states::State;
 use applet_trait::numbers::{GENERAL_BEEP, LAST_GOOD, TEXT, TONE};
 use applet_trait::texts::{CHOICE_TITLE, TEXT_ITEM, TONE_ITEM};
 use applet_trait::{Act, Applet, Stimulus};
-use card_layout::uicc_types::events::MENU_SELECTION;
-use card_layout::uicc_types::{Full, Kept, ShortText};
-use toolkit_commands::{Item, Items};
+use card_layout::ShortText;
+use toolkit_commands::events::MENU_SELECTION;
+use toolkit_commands::{Full, Item, Items, Kept};
 
 #[derive(Clone, Copy)]
 enum Phase {

@@ -3,7 +3,7 @@ ghost use Rattle.std.specs.Prelude.{◌≡◌, ◌≤◌, ◌<◌, ◌+◌, ◌+
 ghost use Rattle.applet_trait.specs.Tables.{halves, is_digit_half, number_of, is_barred};
 ghost use Rattle.boxed_applets.specs.Numbers.{digit_of, digits_of, digits_up_to, has_two_digits};
 
-use card_layout::uicc_types::ByteList;
+use toolkit_commands::ByteList;
 
 /// The digits of an address, two a byte.
 type Number = ByteList<508>;

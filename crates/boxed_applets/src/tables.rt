@@ -16,7 +16,7 @@ use applet_trait::actions::{
     TELL_INFORMATION,
 };
 use applet_trait::{Act, Applet, Stimulus};
-use card_layout::uicc_types::Kept;
+use toolkit_commands::Kept;
 
 #[derive(Clone, Copy)]
 enum Phase {

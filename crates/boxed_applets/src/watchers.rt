@@ -11,9 +11,8 @@ use crate::states::State;
 use applet_trait::numbers::{LOCATION_INFORMATION, MOST_KEPT};
 use applet_trait::texts::{ACTIVE, IDLE, LOST, MOVED};
 use applet_trait::{Act, Applet, Stimulus};
-use card_layout::uicc_types::Kept;
-use card_layout::uicc_types::events::{IDLE_SCREEN, LOCATION_STATUS, USER_ACTIVITY};
-use toolkit_commands::comprehension_tlv::find;
+use toolkit_commands::events::{IDLE_SCREEN, LOCATION_STATUS, USER_ACTIVITY};
+use toolkit_commands::{Kept, find};
 
 #[derive(Clone, Copy)]
 enum Phase {

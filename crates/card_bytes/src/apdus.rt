@@ -1,7 +1,6 @@
 //! Command and answer APDUs.
 
-use file_model::apdu_form::{Command, WrongLength, read_command, write_answer};
-use file_model::uicc_types::{Answer, StatusWord};
+use file_model::{Answer, Command, StatusWord, WrongLength, read_command, write_answer};
 use std::alloc::{AllocError, Global};
 use unit_tables::{Failure, bytes, double_byte, joined_bytes, show_bytes};
 

@@ -5,7 +5,7 @@ use boxed_applets::{
     Barrier, Clock, Greeter, Menu, Notebook, ProgramApplet, Table, Watcher, applet_of, make_applets,
 };
 use std::alloc::Global;
-use toolkit_model::applet_trait::Applet;
+use toolkit_model::Applet;
 use unit_tables::{Failure, byte_list, small_number};
 
 /// `KEPT`: wakes the applet with the bytes that it keeps, and tells its kind.

@@ -1,7 +1,7 @@
 //! The terminal's channels of the bearer independent protocol, which stay from row to row.
 
 use bip_channels::Bip;
-use file_model::uicc_types::Octets;
+use file_model::Octets;
 use std::alloc::{AllocError, Global};
 use unit_tables::{Failure, joined_bytes, number, show_bytes, small_number};
 

@@ -4,7 +4,7 @@ ghost use Rattle.toolkit_model.specs.toolkit_commands.Table.{HasWritableTime};
 
 use crate::spelled::show_proactive;
 use std::alloc::{AllocError, Global};
-use toolkit_model::toolkit_commands::{
+use toolkit_commands::{
     Details, Envelope, Proactive, ProactiveFault, TooLong, details_of, found_details,
     lengths_of_commands, read_envelope, read_proactive, read_response, spell,
 };

@@ -2,15 +2,14 @@
 ghost use Rattle.std.specs.Prelude.{◌≤◌, ◌<◌, IfOk};
 
 use crate::writes::show_added;
-use file_model::card_layout::sizes::{
+use card_layout::sizes::{
     KEPT_WIDTH, NODE_COUNT, NODE_WIDTH, PIN_COUNT, PIN_WIDTH, ROW_COUNT, ROW_WIDTH,
 };
-use file_model::card_layout::{
+use card_layout::{
     Loaded, Node, PinSlot, Row, SectionFault, kept_write, node_write, pin_write, row_write,
     sequence_write, version_write,
 };
-use file_model::store_form::Writes;
-use file_model::uicc_types::{FileId, Full, Pin8, Shelf};
+use file_model::{FileId, Full, Pin8, Shelf, Writes};
 use std::alloc::Global;
 use unit_tables::{Failure, byte, byte_list, bytes, double_byte, number, small_number};
 

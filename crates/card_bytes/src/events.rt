@@ -1,6 +1,6 @@
 //! The events of a row, as bits.
 
-use file_model::card_layout::events::{events_of, has_event, is_event, with_event, without_event};
+use card_layout::events::{events_of, has_event, is_event, with_event, without_event};
 use unit_tables::{Failure, byte, double_byte};
 
 /// `event CODE` and one of: `of a row`, whether a row may have it; `alone`, its bit; `with BITS`, `without BITS`, `among BITS`.

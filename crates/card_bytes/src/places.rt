@@ -1,9 +1,9 @@
 //! Where entries stand, and the kinds and identifiers of files.
 
-use file_model::card_layout::kinds::{has_records, is_ef, is_free_id};
-use file_model::card_layout::places::{place_of_kept, place_of_node, place_of_pin, place_of_row};
-use file_model::card_layout::sizes::{NODE_COUNT, PIN_COUNT, ROW_COUNT};
-use file_model::uicc_types::{FileId, Shelf};
+use card_layout::kinds::{has_records, is_ef, is_free_id};
+use card_layout::places::{place_of_kept, place_of_node, place_of_pin, place_of_row};
+use card_layout::sizes::{NODE_COUNT, PIN_COUNT, ROW_COUNT};
+use file_model::{FileId, Shelf};
 use unit_tables::{Failure, byte, double_byte, small_number};
 
 /// `place ENTRY NUMBER`: where the entry stands.

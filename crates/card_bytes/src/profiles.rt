@@ -1,9 +1,9 @@
 //! Terminal profiles.
 
-use file_model::uicc_types::{Octets, ShortText};
+use file_model::{Octets, ShortText};
 use std::alloc::Global;
+use toolkit_commands::{Items, Proactive, TimeValue};
 use toolkit_model::Profile;
-use toolkit_model::toolkit_commands::{Items, Proactive, TimeValue};
 use unit_tables::{Failure, List, joined_bytes};
 
 /// `profile BYTES`: the commands and the events that it allows. `profile` alone is that of no terminal.

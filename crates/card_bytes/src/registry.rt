@@ -7,10 +7,10 @@ ghost use Rattle.toolkit_model.specs.Registry.{row_on};
 
 use crate::spelled::show_items;
 use applet_registry::{RowFault, delete, deregister, install, menu, register};
-use file_model::card_layout::events::{with_event, without_event};
-use file_model::card_layout::sizes::{MENU_LIMIT, ROW_COUNT};
-use file_model::card_layout::{Loaded, Row, states_are_of_entries};
-use file_model::uicc_types::{Kept, Shelf, ShortText};
+use card_layout::events::{with_event, without_event};
+use card_layout::sizes::{MENU_LIMIT, ROW_COUNT};
+use card_layout::{Loaded, Row, states_are_of_entries};
+use file_model::{Kept, Shelf, ShortText};
 use std::alloc::{AllocError, Global};
 use unit_tables::{
     Failure, List, byte, joined_bytes, number, optional, show_bytes, show_text, small_number,

@@ -3,8 +3,8 @@ ghost use Rattle.std.specs.Prelude.{IfOk, IfSome};
 ghost use Rattle.layout_section.specs.Adding.{IsKind};
 
 use crate::entries::pin;
-use file_model::card_layout::{SectionFault, Shape};
-use file_model::uicc_types::{FileId, Shelf};
+use card_layout::{SectionFault, Shape};
+use file_model::{FileId, Shelf};
 use layout_section::Section;
 use std::alloc::Global;
 use unit_tables::{

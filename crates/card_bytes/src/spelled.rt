@@ -1,8 +1,8 @@
 //! How commands of the card are shown, and what is read of an APDU's data: responses and envelopes.
 
-use file_model::uicc_types::ShortText;
+use file_model::ShortText;
 use std::alloc::AllocError;
-use toolkit_model::toolkit_commands::{Items, Proactive, TimeValue};
+use toolkit_commands::{Items, Proactive, TimeValue};
 use unit_tables::{List, show_bytes, show_text};
 
 /// Shows a command with all that it has.

@@ -1,6 +1,6 @@
 //! The timers of a card, which stay from row to row.
 
-use file_model::uicc_types::Shelf;
+use file_model::Shelf;
 use std::alloc::AllocError;
 use toolkit_model::Timers;
 use unit_tables::{Failure, small_number};

@@ -1,8 +1,8 @@
 //! Comprehension-TLV objects and templates.
 
-use file_model::uicc_types::Full;
+use comprehension_tlv::{TlvFault, TlvWriter, Walk, find, read_template, walk};
+use file_model::Full;
 use std::alloc::{AllocError, Global};
-use toolkit_model::comprehension_tlv::{TlvFault, TlvWriter, Walk, find, read_template, walk};
 use unit_tables::{Failure, List, byte, bytes, double_byte, joined_bytes, show_bytes};
 
 fn show_fault(fault: TlvFault, shown: &mut String) -> Result<(), AllocError> {

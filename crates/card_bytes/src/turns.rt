@@ -2,7 +2,7 @@
 
 use crate::spelled::show_proactive;
 use std::alloc::{AllocError, Global};
-use toolkit_model::applet_trait::{Act, Stimulus};
+use toolkit_model::{Act, Stimulus};
 use unit_tables::{Failure, byte, byte_list, show_bytes, small_number};
 
 /// The stimulus of these words.

@@ -1,7 +1,6 @@
 //! The writes of a commit, which stay from row to row.
 
-use file_model::store_form::Writes;
-use file_model::uicc_types::Full;
+use file_model::{Full, Writes};
 use std::alloc::Global;
 use unit_tables::{Failure, bytes, number, show_bytes};
 

@@ -3,14 +3,10 @@ ghost use Rattle.std.specs.Prelude.{◌≡◌};
 ghost use Rattle.file_model.specs.uicc_types.Counts.{armed};
 
 use crate::registered::Registered;
-use file_model::Verified;
-use file_model::card_layout::Loaded;
-use file_model::store_form::Store;
-use file_model::uicc_types::{Plan, Shelf};
+use file_model::{Loaded, Plan, Shelf, Store, Verified};
 use file_tree::Channels;
-use proactive_handler::applet_registry::Index;
-use proactive_handler::toolkit_session::Session;
-use toolkit_model::applet_trait::Applet;
+use proactive_handler::{Index, Session};
+use toolkit_model::Applet;
 
 /// A card over a store, with the boxes of its applets on their shelves. It takes no memory once it is opened.
 #[derive(Drop)]

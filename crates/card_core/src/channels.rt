@@ -8,8 +8,7 @@ ghost use Rattle.file_making.specs.Lawful.{AreSelected};
 ghost use Rattle.card_core.specs.Commands.{channels_managed};
 
 use file_admin::channel_of;
-use file_model::apdu_form::Command;
-use file_model::uicc_types::StatusWord;
+use file_model::{Command, StatusWord};
 use file_tree::Channels;
 
 // Le asks for one byte, or for all that there are.

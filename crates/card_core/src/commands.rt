@@ -32,17 +32,16 @@ use card_model::{Instruction, ToolkitCommand};
 use file_admin::{channel_of, create_file, delete_file, resize_file};
 use file_commands::{read_binary, select, status, update_binary};
 use file_making::TreeCommand;
-use file_model::apdu_form::{Command, WrongLength, read_command};
-use file_model::card_layout::{Loaded, states_are_of_entries};
-use file_model::store_form::{Store, StoreFault};
-use file_model::uicc_types::{Answer, AnswerData, StatusWord};
-use file_model::{ContentsCommand, FileCommand, PinCommand, Selection, Verified};
+use file_model::{
+    Answer, AnswerData, Command, ContentsCommand, FileCommand, Loaded, PinCommand, Selection,
+    StatusWord, Store, StoreFault, Verified, WrongLength, read_command, states_are_of_entries,
+};
 use file_tree::Channels;
 use pin_rules::named_pin_command;
-use proactive_handler::card_memory::tables_tell_states;
+use proactive_handler::tables_tell_states;
 use record_commands::{activate, deactivate, increase, read_record, search_record, update_record};
 use session_commands::poll;
-use toolkit_model::applet_trait::Applet;
+use toolkit_model::Applet;
 
 // A command on what a file holds, which its access rule may forbid, over what is selected on its channel.
 #[tactic(auto, using(file_commands::specs::Chained::stays_still), unfolding(file_model::specs::Commands::contents_outcome, file_model::specs::Commands::file_addressed))]

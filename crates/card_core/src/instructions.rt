@@ -15,7 +15,7 @@ use file_model::ContentsCommand::{
 };
 use file_model::FileCommand::{Contents, Select, Status};
 use file_model::PinCommand::{Change, Disable, Enable, Unblock, Verify};
-use file_model::uicc_types::StatusWord;
+use file_model::StatusWord;
 use file_tree::Channels;
 
 /// A command by its class, without the channel; one that is basic is taken on the basic channel alone.

@@ -4,8 +4,7 @@ ghost use Rattle.file_model.specs.card_layout.States.{pins_of};
 ghost use Rattle.file_model.specs.card_layout.Used.{HasOwnKeys};
 ghost use Rattle.file_model.specs.Access.{keys_seen};
 
-use file_model::Verified;
-use file_model::card_layout::{Loaded, PinSlot};
+use file_model::{Loaded, PinSlot, Verified};
 
 // Whether the condition of a slot's key is satisfied: there is a PIN, which is verified or disabled.
 fn is_met(slot: &PinSlot, is_verified: bool) -> bool

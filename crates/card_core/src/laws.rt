@@ -2,9 +2,7 @@
 ghost use Rattle.card_core.specs.Laws.{TheMfIsThere, TablesHaveRows, KeysAreOwn};
 
 use file_model::files_are_found;
-use proactive_handler::layout_standing::{
-    cards_are_known, standing_is_sound, standing_keys_are_own,
-};
+use proactive_handler::{cards_are_known, standing_is_sound, standing_keys_are_own};
 
 /// In the table of each card the MF is there to be selected.
 pub fn the_mf_is_there()

@@ -1,7 +1,7 @@
 //! The card: it is opened over a store, takes commands, answers them and is reset. What it does is what the abstract card does,
 //! whatever power it loses and however its memory fails.
 //!
-//! It passes on the crates whose words it speaks, so that who stands on it need not list them.
+//! It passes on the words of other crates that it speaks in, so that who stands on it need not list those crates.
 #![tactic(auto)]
 
 mod cards;
@@ -18,15 +18,11 @@ mod sessions;
 mod toolkit;
 mod transmitting;
 
-pub use card_laws;
-pub use card_model;
-pub use card_opening;
+pub use card_laws::{answers_with_applets_are_lawful, runs_are_one};
+pub use card_model::{answers_are_lawful, plans_are_set_in_order, runs_are_counted};
 pub use card_opening::OpenFault;
 pub use cards::{Card, CardOver};
 pub use faults::{CardFault, ResetFault};
-pub use file_making;
-pub use file_model;
-pub use file_model::{apdu_form, card_layout, store_form};
-pub use layout_mount;
-pub use toolkit_model;
-pub use toolkit_model::{applet_trait, toolkit_commands};
+pub use file_model::sizes::ROW_COUNT;
+pub use file_model::{MEMORY_SIZE, Store};
+pub use toolkit_model::{Act, Applet, Proactive, Stimulus};

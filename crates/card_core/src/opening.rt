@@ -16,14 +16,12 @@ use crate::registered::Registered;
 use crate::resetting::NOTHING_VERIFIED;
 use crate::sessions::fresh_session;
 use card_opening::{OpenFault, start, wake_boxes};
-use file_model::card_layout::Loaded;
-use file_model::card_layout::sizes::ROW_COUNT;
-use file_model::store_form::Store;
+use file_model::sizes::ROW_COUNT;
+use file_model::{Loaded, Store};
 use file_tree::Channels;
-use proactive_handler::applet_registry::Index;
-use proactive_handler::card_memory::tables_tell_states;
+use proactive_handler::{Index, tables_tell_states};
 use std::alloc::Global;
-use toolkit_model::applet_trait::Applet;
+use toolkit_model::Applet;
 
 // Adds an empty shelf.
 fn add_shelf<B: Drop>(boxes: &mut Vec<Option<B>>) -> Result<(), OpenFault>

@@ -4,9 +4,8 @@ ghost use Rattle.file_model.specs.card_layout.declared.sizes.TheConstants.{ROW_C
 ghost use Rattle.file_model.specs.card_layout.Blank.{unused_row};
 ghost use Rattle.card_core.specs.Registered.{IsUsedOrBlank};
 
-use file_model::card_layout::sizes::ROW_COUNT;
-use file_model::card_layout::{Loaded, Row};
-use file_model::uicc_types::{ByteList, Full};
+use file_model::sizes::ROW_COUNT;
+use file_model::{ByteList, Full, Loaded, Row};
 use std::array;
 
 /// The rows of a table and its next sequence number.

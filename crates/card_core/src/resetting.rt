@@ -12,14 +12,10 @@ use crate::laws::{tables_have_rows, the_mf_is_there};
 use crate::toolkit::drop_leaving;
 use crate::{CardOver, ResetFault};
 use card_model::restarts_are_good;
-use file_model::Verified;
-use file_model::card_layout::Loaded;
-use file_model::store_form::{Store, StoreFault};
-use file_model::uicc_types::Shelf;
+use file_model::{Loaded, Shelf, Store, StoreFault, Verified};
 use file_tree::Channels;
-use proactive_handler::applet_registry::Index;
-use proactive_handler::card_memory::tables_tell_states;
-use toolkit_model::applet_trait::Applet;
+use proactive_handler::{Index, tables_tell_states};
+use toolkit_model::Applet;
 
 /// No key is verified.
 pub(crate) const NOTHING_VERIFIED: Verified = Verified {

@@ -3,10 +3,9 @@ ghost use Rattle.std.specs.Prelude.{◌≡◌, ◌≢◌, IfOk};
 ghost use Rattle.card_model.specs.Answers.{told_pending};
 ghost use Rattle.toolkit_model.specs.Model.{fresh_session};
 
-use file_model::uicc_types::{OutOfMemory, StatusWord};
+use file_model::{OutOfMemory, StatusWord};
 use frame_store::FrameStore;
-use proactive_handler::kept_triggers::{Late, Waiting};
-use proactive_handler::toolkit_session::Session;
+use proactive_handler::{Late, Session, Waiting};
 use std::alloc::Global;
 
 /// A session as it is after a reset. All the memory that it ever needs is taken here.

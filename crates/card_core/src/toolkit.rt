@@ -16,15 +16,10 @@ ghost use Rattle.card_core.specs.Serving.{KeepsToolkit};
 use crate::keys::keys_seen;
 use crate::laws::keys_are_own;
 use card_model::ToolkitCommand;
-use file_model::Verified;
-use file_model::apdu_form::Command;
-use file_model::card_layout::Loaded;
-use file_model::store_form::{Store, StoreFault};
-use file_model::uicc_types::{Answer, Shelf, StatusWord};
-use proactive_handler::applet_registry::Index;
-use proactive_handler::toolkit_session::Session;
+use file_model::{Answer, Command, Loaded, Shelf, StatusWord, Store, StoreFault, Verified};
+use proactive_handler::{Index, Session};
 use session_commands::{delete, fetch, install, take_envelope, take_profile, take_response};
-use toolkit_model::applet_trait::Applet;
+use toolkit_model::Applet;
 
 /// A command of the toolkit, over a card's memory and its boxes. The keys are looked at where one is needed.
 #[tactic(auto, unfolding(card_model::specs::Toolkit::toolkit_outcome))]
@@ -90,7 +85,7 @@ pub(crate) fn leaving(command: ToolkitCommand, apdu: &Command<'_>) -> Option<She
 fn has_row(loaded: &Loaded, shelf: Shelf) -> bool
     ensures { result ≡ is_some (row_on (rows_of loaded.now) shelf.0) }
 {
-    proactive_handler::applet_registry::delete(loaded, shelf, true).is_ok()
+    proactive_handler::delete(loaded, shelf, true).is_ok()
 }
 
 // The box on a shelf is dropped, if there is such a shelf.

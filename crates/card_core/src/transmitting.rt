@@ -4,9 +4,8 @@ ghost use Rattle.file_model.specs.uicc_types.Told.{AreBytes};
 
 use crate::{CardFault, CardOver};
 use card_laws::cards_stay_good;
-use file_model::store_form::{Store, StoreFault};
-use file_model::uicc_types::{Answer, StatusWord};
-use toolkit_model::applet_trait::Applet;
+use file_model::{Answer, StatusWord, Store, StoreFault};
+use toolkit_model::Applet;
 
 // Does nothing. What a slice of bytes has are bytes.
 fn are_bytes(slice: &[u8])

@@ -8,7 +8,7 @@ ghost use Rattle.card_laws.specs.Taking.{CarriedCommandsAreTaken};
 ghost use Rattle.card_laws.specs.Throughout.{LawsHoldThroughout, LawsHoldThroughoutRuns};
 
 use crate::toolkit_laws::{cards_go_on, toolkit_laws_hold_of_cards, toolkit_laws_hold_of_runs};
-use card_model::file_making::commands_on_trees_are_lawful;
+use card_model::commands_on_trees_are_lawful;
 use file_model::{commands_on_files_are_lawful, pin_commands_are_lawful};
 use toolkit_model::{responses_reach_who_asked, sessions_stay_in_order};
 

@@ -1,7 +1,7 @@
 //! How a card lies in the 65,536 bytes of a store: its files, PINs and registered applets, in both versions of the
 //! layout, and the writes that change one entry of it.
 //!
-//! It passes on the crates whose words it speaks, so that who stands on it need not list them.
+//! It passes on the words of other crates that it speaks in, so that who stands on it need not list those crates.
 #![tactic(auto)]
 
 mod entries;
@@ -30,6 +30,9 @@ pub use new_files::{may_be_rule, may_be_shape, new_df, new_ef, size_for};
 pub use ranges::{node_ranges, pin_ranges, row_ranges};
 pub use shapes::Shape;
 pub use spelling::{EntryBytes, spell_node, spell_pin, spell_row};
-pub use store_form;
-pub use uicc_types;
+pub use store_form::{MOST_BYTES, OWN_END, OWN_START, Store, StoreFault, Writes};
+pub use uicc_types::{
+    Answer, AnswerData, ByteList, CutAt, FailAt, FileId, Full, Kept, Octets, OutOfMemory, Pin8,
+    Plan, Shelf, ShortText, StatusWord, keys,
+};
 pub use writers::{kept_write, node_write, pin_write, row_write, sequence_write, version_write};

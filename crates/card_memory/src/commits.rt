@@ -7,8 +7,8 @@ ghost use Rattle.file_model.specs.card_layout.Persistent.{Persistent};
 ghost use Rattle.card_memory.specs.Commits.{Commits};
 ghost use Rattle.file_model.specs.card_layout.Memory.{Committed, IsMounted, memory};
 
-use file_model::card_layout::Loaded;
-use file_model::store_form::{Store, StoreFault, Writes};
+use card_layout::Loaded;
+use file_model::{Store, StoreFault, Writes};
 use layout_standing::stores_stand;
 
 /// Commits these pieces. What is known of each card of this table once they are written into its bytes is then known of the

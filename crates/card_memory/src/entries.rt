@@ -5,7 +5,7 @@ ghost use Rattle.file_model.specs.card_layout.Used.{HasNode};
 ghost use Rattle.layout_standing.specs.ChangeLaws.{place_in_ring};
 ghost use Rattle.card_memory.specs.Entries.{IsThere, node_at, with_head_moved};
 
-use file_model::card_layout::{Loaded, Node};
+use card_layout::{Loaded, Node};
 use file_model::files_are_found;
 
 /// The entry of a file that is there.

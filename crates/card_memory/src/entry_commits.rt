@@ -9,10 +9,9 @@ ghost use Rattle.layout_standing.specs.Changes.{with_node};
 ghost use Rattle.card_memory.specs.PreparedCommits.{CommitsOver};
 ghost use Rattle.card_memory.specs.Ranges.{IsStoreReady, CommitsChange};
 
-use file_model::card_layout::sizes::{NODE_COUNT, NODE_WIDTH};
-use file_model::card_layout::{Loaded, Node, node_write};
-use file_model::store_form::{Store, StoreFault, Writes};
-use file_model::uicc_types::Full;
+use card_layout::sizes::{NODE_COUNT, NODE_WIDTH};
+use card_layout::{Loaded, Node, node_write};
+use file_model::{Full, Store, StoreFault, Writes};
 use layout_standing::stores_stand;
 
 // Commits the bytes of an entry from `from` up to but without `to`.

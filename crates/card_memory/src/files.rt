@@ -10,11 +10,9 @@ ghost use Rattle.file_model.specs.card_layout.Memory.{Committed, IsMounted, memo
 use crate::commits::commit;
 use crate::entries::{node_of, with_head_moved};
 use crate::pieces::{bytes_piece, node_piece};
-use file_model::card_layout::sizes::NODE_COUNT;
-use file_model::card_layout::{Loaded, Node, node_write};
-use file_model::files_are_found;
-use file_model::store_form::{Store, StoreFault, Writes};
-use file_model::uicc_types::Full;
+use card_layout::sizes::NODE_COUNT;
+use card_layout::{Loaded, Node, node_write};
+use file_model::{Full, Store, StoreFault, Writes, files_are_found};
 use layout_standing::{cards_are_known, files_stand, standing_files_hold, what_files_hold_stands};
 
 /// Commits bytes of a transparent file, from an offset on (ETSI TS 102 221, 11.1.4). At most 640 can be committed.

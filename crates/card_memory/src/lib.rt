@@ -2,7 +2,7 @@
 //! after a fault for that or for the state before. For files that come or grow, free bytes are prepared first, which commits
 //! nothing. Of the crates above, those that make, delete and resize files alone name places in the memory.
 //!
-//! It passes on the crates whose words it speaks, so that who stands on it need not list them.
+//! It passes on the words of other crates that it speaks in, so that who stands on it need not list those crates.
 #![tactic(auto)]
 
 mod commits;
@@ -18,11 +18,14 @@ mod reading;
 mod rows;
 mod stops;
 
+pub use card_layout::{Loaded, states_are_of_entries};
 pub use entry_commits::commit_node;
-pub use file_model::{card_layout, store_form, uicc_types};
+pub use file_model::{Octets, Shelf, Store, StoreFault};
 pub use files::{write_bytes, write_life, write_newest_record, write_record};
 pub use laws::{contents_are_whole, tables_tell_states};
-pub use layout_standing;
+pub use layout_standing::{
+    cards_are_known, standing_is_sound, standing_keys_are_own, stores_stand,
+};
 pub use pins::{PinChange, change_pin};
 pub use preparing::{prepare_blank, prepare_moved};
 pub use reading::{read_bytes, read_record};

@@ -2,12 +2,9 @@
 ghost use Rattle.std.specs.Prelude.{◌≡◌, ◌≤◌, ◌<◌, [], ◌∷◌, length};
 ghost use Rattle.file_model.specs.card_layout.Spelling.{node_part, pin_part, row_part};
 
-use file_model::card_layout::sizes::{
-    NODE_COUNT, NODE_WIDTH, PIN_COUNT, PIN_WIDTH, ROW_COUNT, ROW_WIDTH,
-};
-use file_model::card_layout::{Node, PinSlot, Row, node_write, pin_write, row_write};
-use file_model::store_form::{MOST_BYTES, Writes};
-use file_model::uicc_types::{Full, Shelf};
+use card_layout::sizes::{NODE_COUNT, NODE_WIDTH, PIN_COUNT, PIN_WIDTH, ROW_COUNT, ROW_WIDTH};
+use card_layout::{Node, PinSlot, Row, node_write, pin_write, row_write};
+use file_model::{Full, MOST_BYTES, Shelf, Writes};
 
 /// Makes these bytes at this place the first piece.
 pub fn bytes_piece(at: u16, bytes: &[u8], writes: &mut Writes)

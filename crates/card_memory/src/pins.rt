@@ -9,10 +9,9 @@ ghost use Rattle.file_model.specs.card_layout.Memory.{Committed, IsMounted, memo
 
 use crate::commits::commit;
 use crate::pieces::pin_piece;
-use file_model::card_layout::sizes::{PIN_COUNT, TRIES, UNBLOCK_TRIES};
-use file_model::card_layout::{Loaded, PinSlot, pin_ranges};
-use file_model::store_form::{Store, StoreFault, Writes};
-use file_model::uicc_types::Pin8;
+use card_layout::sizes::{PIN_COUNT, TRIES, UNBLOCK_TRIES};
+use card_layout::{Loaded, PinSlot, pin_ranges};
+use file_model::{Pin8, Store, StoreFault, Writes};
 use layout_standing::{cards_are_known, pins_stand};
 
 /// What a commit sets of a PIN (ETSI TS 102 221, 9.5).

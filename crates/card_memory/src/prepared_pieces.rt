@@ -4,7 +4,7 @@ ghost use Rattle.file_model.specs.uicc_types.Patches.{IsApart};
 ghost use Rattle.card_memory.specs.Prepared.{filled, copied};
 ghost use Rattle.card_memory.specs.Ranges.{IsStoreReady, IsAmongFiles, PreparesRange};
 
-use file_model::store_form::{Store, StoreFault};
+use file_model::{Store, StoreFault};
 
 // A page of the memory has so many bytes.
 const PAGE: usize = 64;

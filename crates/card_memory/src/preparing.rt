@@ -8,8 +8,8 @@ ghost use Rattle.card_memory.specs.Prepared.{IsTransparentFile, filled, copied, 
 ghost use Rattle.card_memory.specs.Ranges.{IsAmongFiles};
 
 use crate::prepared_pieces::{copy, fill};
-use file_model::card_layout::{Loaded, Node};
-use file_model::store_form::{Store, StoreFault};
+use card_layout::{Loaded, Node};
+use file_model::{Store, StoreFault};
 use layout_standing::{cards_are_known, stores_stand};
 
 /// Prepares free bytes: they are FF then.

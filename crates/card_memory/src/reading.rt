@@ -5,9 +5,8 @@ ghost use Rattle.card_memory.specs.Entries.{HasBytes, HasRecord};
 ghost use Rattle.file_model.specs.card_layout.Memory.{IsMounted, Reads, held_by, memory};
 
 use crate::entries::{node_of, place_of_record};
-use file_model::card_layout::Loaded;
-use file_model::files_are_found;
-use file_model::store_form::{Store, StoreFault};
+use card_layout::Loaded;
+use file_model::{Store, StoreFault, files_are_found};
 use layout_standing::{
     cards_are_known, standing_files_hold, stores_stand, what_files_hold_is_read,
 };

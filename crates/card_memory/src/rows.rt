@@ -18,13 +18,10 @@ ghost use Rattle.file_model.specs.card_layout.Memory.{Committed, IsMounted, held
 
 use crate::commits::commit;
 use crate::pieces::row_piece;
-use file_model::card_layout::events::{with_event, without_event};
-use file_model::card_layout::sizes::{KEPT_WIDTH, ROW_COUNT};
-use file_model::card_layout::{
-    Loaded, Row, kept_write, row_ranges, sequence_write, states_are_of_entries,
-};
-use file_model::store_form::{Store, StoreFault, Writes};
-use file_model::uicc_types::{Full, Kept, Shelf};
+use card_layout::events::{with_event, without_event};
+use card_layout::sizes::{KEPT_WIDTH, ROW_COUNT};
+use card_layout::{Loaded, Row, kept_write, row_ranges, sequence_write, states_are_of_entries};
+use file_model::{Full, Kept, Shelf, Store, StoreFault, Writes};
 use layout_standing::{cards_are_known, rows_stand, states_stay_sound};
 
 // The row on this shelf.

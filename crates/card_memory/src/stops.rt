@@ -1,7 +1,6 @@
 //! Why a command ends before it is carried out.
 
-use file_model::store_form::StoreFault;
-use file_model::uicc_types::StatusWord;
+use file_model::{StatusWord, StoreFault};
 
 /// Why a command ends before it is carried out.
 #[derive(Clone, Copy, Debug, PartialEq, Eq)]

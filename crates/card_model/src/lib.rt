@@ -1,14 +1,13 @@
 //! The abstract card: its state, its one list of instructions, what it answers to a command, and how it moves in a run of
 //! commands, resets, losses of power and memory failures. Definitions, and laws that hold of them.
 //!
-//! It passes on the crates whose words it speaks, so that who stands on it need not list them.
+//! It passes on the words of other crates that it speaks in, so that who stands on it need not list those crates.
 #![tactic(auto)]
 
 mod instructions;
 mod laws;
 
-pub use file_making;
-pub use file_model;
+pub use file_making::commands_on_trees_are_lawful;
 pub use instructions::{Instruction, ToolkitCommand};
 pub use laws::{answers_are_lawful, plans_are_set_in_order, restarts_are_good, runs_are_counted};
-pub use toolkit_model::applet_trait;
+pub use toolkit_model::Applet;

@@ -8,7 +8,7 @@ ghost use Rattle.card_model.specs.applet_trait.Minds.{minds_of};
 
 use card_layout::sizes::ROW_COUNT;
 use card_layout::{Loaded, Row, states_are_of_entries};
-use card_model::applet_trait::Applet;
+use card_model::Applet;
 
 // Whether the applet of a row has no box of its kind. A box is asked for its kind also where no applet is registered, so that
 // the kind is known.

@@ -1,6 +1,6 @@
 //! Why a card is not opened.
 
-use card_layout::store_form::StoreFault;
+use card_layout::StoreFault;
 use layout_mount::MountFault;
 use thiserror::Error;
 

@@ -13,9 +13,7 @@ ghost use Rattle.card_layout.specs.store_form.Faults.{with_commit};
 
 use card_layout::kinds::is_ef;
 use card_layout::places::UPPER_ROWS;
-use card_layout::store_form::{Store, StoreFault, Writes};
-use card_layout::uicc_types::Full;
-use card_layout::{Loaded, Node, version_write};
+use card_layout::{Full, Loaded, Node, Store, StoreFault, Writes, version_write};
 use layout_standing::{migration_stands, stores_stand};
 
 // Whether the bytes of a file lie below those that a wide card has behind its files.

@@ -8,9 +8,8 @@ ghost use Rattle.card_model.specs.applet_trait.Minds.{minds_of};
 ghost use Rattle.card_opening.specs.Starts.{MayRestart, RestartsMemory};
 
 use crate::boxes::{first_without_box, wake_boxes};
-use card_layout::Loaded;
-use card_layout::store_form::{Store, StoreFault};
-use card_model::applet_trait::Applet;
+use card_layout::{Loaded, Store, StoreFault};
+use card_model::Applet;
 use layout_mount::{MountFault, mount};
 use layout_standing::cards_are_known;
 

@@ -10,9 +10,8 @@ ghost use Rattle.card_opening.specs.Starts.{Opens, Refuses, IsKept};
 use crate::OpenFault;
 use crate::boxes::first_without_box;
 use crate::migrating::migrate;
-use card_layout::Loaded;
-use card_layout::store_form::Store;
-use card_model::applet_trait::Applet;
+use card_layout::{Loaded, Store};
+use card_model::Applet;
 use layout_mount::mount;
 use layout_standing::{cards_are_known, migration_stands, standing_is_sound};
 

@@ -10,8 +10,7 @@ ghost use Rattle.card_layout.specs.uicc_types.Counts.{CountsFailure};
 
 use crate::faults::ScriptFault;
 use crate::script_reader::ScriptReader;
-use script_form::ScriptLine;
-use script_form::byte_streams::Source;
+use script_form::{ScriptLine, Source};
 
 /// Why a run ends after `start`.
 #[derive(Clone, Copy, Debug, PartialEq, Eq)]

@@ -3,8 +3,7 @@ ghost use Rattle.std.specs.Prelude.{◌≡◌, ◌+◌, ◌≤◌, ◌<◌, List
 ghost use Rattle.script_form.specs.byte_streams.declared.limits.TheConstants.{MOST_BYTES};
 
 use crate::faults::ScriptFault;
-use script_form::byte_streams::{LineReader, NextLine, Source};
-use script_form::{LineFault, ScriptLine, read_line_into};
+use script_form::{LineFault, LineReader, NextLine, ScriptLine, Source, read_line_into};
 
 /// Hands out what the lines of a script say, one after the other. It takes at most 16,777,217 bytes.
 #[derive(Drop)]

@@ -12,11 +12,9 @@ ghost use Rattle.card_layout.specs.uicc_types.Counts.{CountsFailure};
 use crate::faults::ScriptFault;
 use crate::script_reader::ScriptReader;
 use applet_trait::Applet;
-use card_layout::uicc_types::Shelf;
-use card_layout::{SectionFault, Shape};
+use card_layout::{SectionFault, Shape, Shelf};
 use layout_section::Section;
-use script_form::ScriptLine;
-use script_form::byte_streams::Source;
+use script_form::{ScriptLine, Source};
 
 /// Reads the lines up to `start`, and adds what they describe to the card, whose applets are these. Without a card, as where
 /// one that is there is opened, they are empty or comments.

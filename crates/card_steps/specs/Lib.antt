@@ -18,6 +18,5 @@ pub use Rattle.card_core.specs.card_layout
 pub use Rattle.card_core.specs.card_model
 pub use Rattle.card_core.specs.file_model
 pub use Rattle.script_form.specs as script_form
-pub use Rattle.card_core.specs.store_form
 pub use Rattle.t0_link.specs as t0_link
 pub use Rattle.card_core.specs.toolkit_model

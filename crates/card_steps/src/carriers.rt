@@ -8,9 +8,8 @@ ghost use Rattle.script_form.specs.uicc_types.Told.{AreBytes};
 use crate::ends::CardEnd;
 use crate::link_changes_no_step;
 use crate::steps::Reply;
-use card_core::applet_trait::Applet;
-use card_core::store_form::Store;
-use script_form::uicc_types::Answer;
+use card_core::{Applet, Store};
+use script_form::Answer;
 use t0_link::{Endpoint, Link, LinkFault, is_carried};
 
 /// How a terminal's commands come to the card.

@@ -7,11 +7,8 @@ ghost use Rattle.card_steps.specs.Stepping.{seen};
 ghost use Rattle.script_form.specs.uicc_types.Counts.{CountsFailure, names_fault as is_named};
 
 use crate::steps::ResetOutcome;
-use card_core::applet_trait::Applet;
-use card_core::card_model::runs_are_counted;
-use card_core::store_form::Store;
-use card_core::{CardFault, CardOver, ResetFault};
-use script_form::uicc_types::{Answer, Plan};
+use card_core::{Applet, CardFault, CardOver, ResetFault, Store, runs_are_counted};
+use script_form::{Answer, Plan};
 use std::marker::Model;
 use t0_link::{Endpoint, LinkFault};
 

@@ -3,8 +3,7 @@ ghost use Rattle.card_steps.specs.Le.{OthersDontLookAtLe, AnswersAreCutToLe, Bar
 ghost use Rattle.card_steps.specs.Linked.{LinkChangesNoAnswer};
 ghost use Rattle.card_steps.specs.Stepped.{LinkChangesNoStep, CountsSeeNoBytes};
 
-use card_core::card_laws::answers_with_applets_are_lawful;
-use card_core::card_model::answers_are_lawful;
+use card_core::{answers_are_lawful, answers_with_applets_are_lawful};
 
 /// No command but READ BINARY, READ RECORD, FETCH and MANAGE CHANNEL with P1 00 looks at Le: Le cuts the data of its answer, and does
 /// no more. No answer has more data than Le lets it have.

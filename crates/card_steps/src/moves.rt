@@ -1,6 +1,6 @@
 //! What is done to a card.
 
-use script_form::uicc_types::Plan;
+use script_form::Plan;
 
 /// One step of a run.
 #[derive(Clone, Copy, Debug)]

@@ -18,12 +18,8 @@ ghost use Rattle.script_form.specs.uicc_types.declared.runs.Step.TheVariants as 
 use crate::carriers::Carrier;
 use crate::ends::CardEnd;
 use crate::moves::Move;
-use card_core::applet_trait::Applet;
-use card_core::card_model::runs_are_counted;
-use card_core::store_form::Store;
-use script_form::byte_streams::{Failed, Sink};
-use script_form::uicc_types::Answer;
-use script_form::{TraceLine, write_answer, write_command, write_trace};
+use card_core::{Applet, Store, runs_are_counted};
+use script_form::{Answer, Failed, Sink, TraceLine, write_answer, write_command, write_trace};
 
 /// Why a step is the last.
 #[derive(Clone, Copy, Debug, PartialEq, Eq)]

@@ -15,12 +15,8 @@ ghost use Rattle.script_form.specs.uicc_types.declared.byte_lists.TheConstants.{
 use crate::carriers::reply_of;
 use crate::ends::CardEnd;
 use crate::steps::{Reply, write_reply};
-use card_core::applet_trait::Applet;
-use card_core::card_model::runs_are_counted;
-use card_core::store_form::Store;
-use script_form::byte_streams::{Failed, Sink};
-use script_form::uicc_types::Answer;
-use script_form::write_command;
+use card_core::{Applet, Store, runs_are_counted};
+use script_form::{Answer, Failed, Sink, write_command};
 use t0_link::{Link, is_passed};
 
 // Sets the plan that waits, where an APDU is passed, and answers whether the device was given one.

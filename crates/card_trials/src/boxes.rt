@@ -4,10 +4,7 @@ ghost use Rattle.std.specs.Prelude.{◌≤◌, length, IfOk};
 use boxed_applets::{ProgramApplet, applet_of};
 use std::alloc::{AllocError, Global};
 use std::cell::Cell;
-use uicc_run::applet_trait::{Act, Applet, Stimulus};
-use uicc_run::byte_streams::{Failed, ListSink, Sink};
-use uicc_run::card_layout::sizes::ROW_COUNT;
-use uicc_run::uicc_types::Kept;
+use uicc_run::{Act, Applet, Failed, Kept, ListSink, ROW_COUNT, Sink, Stimulus};
 
 const MOST: usize = 64;
 

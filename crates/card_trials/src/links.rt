@@ -3,21 +3,14 @@ ghost use Rattle.std.specs.Prelude.{◌≡◌, ◌≤◌, length};
 ghost use Rattle.uicc_run.specs.handset_model.History.{span_of};
 ghost use Rattle.uicc_run.specs.handset_model.Legal.{IsBounded};
 
+use phone_runs::{PhoneMove, Places, play_on_phone, start_phone};
 use std::alloc::Global;
 use std::test::Fail;
-use uicc_run::applet_trait::Applet;
-use uicc_run::byte_streams::{ListSink, Sink};
-use uicc_run::card_core::{CardOver, OpenFault};
-use uicc_run::card_steps::{CardEnd, Carrier};
-use uicc_run::eeprom_model::BenchEeprom;
-use uicc_run::layout_section::{Section, format};
-use uicc_run::phone_runs::{PhoneMove, Places, play_on_phone, start_phone};
-use uicc_run::script_form::{HandsetLine, Note};
-use uicc_run::store_form::Store;
-use uicc_run::t0_link::{Endpoint, Link, LinkFault, is_carried};
-use uicc_run::terminal_side::{Next, Phone};
-use uicc_run::uicc_types::{Answer, ApduBytes, Octets, Plan, StatusWord};
-use uicc_run::update_journal::Journal;
+use t0_link::{Endpoint, Link, LinkFault, is_carried};
+use uicc_run::{
+    Answer, ApduBytes, Applet, BenchEeprom, CardEnd, CardOver, Carrier, HandsetLine, Journal,
+    ListSink, Next, Note, Octets, OpenFault, Phone, Plan, Section, Sink, StatusWord, Store, format,
+};
 
 const SIZE: usize = 65_536;
 

@@ -4,8 +4,7 @@ use crate::boxes::{Notes, Noting, boxes};
 use crate::runs::words_of;
 use std::rt::HostRuntime;
 use std::test::Fail;
-use uicc_run::answer;
-use uicc_run::byte_streams::{ListSink, SliceSource};
+use uicc_run::{ListSink, SliceSource, answer};
 
 /// The words of a command line, whether the sink fails in its first call, what is shown first, and the status.
 type Page = (&'static str, &'static [u32], &'static str, u8);

@@ -3,13 +3,10 @@ ghost use Rattle.std.specs.Prelude.{◌≡◌, ◌≤◌, length};
 
 use std::alloc::Global;
 use std::test::Fail;
-use uicc_run::applet_trait::Applet;
-use uicc_run::card_core::{CardOver, OpenFault, ResetFault};
-use uicc_run::eeprom_model::BenchEeprom;
-use uicc_run::layout_section::{Section, format};
-use uicc_run::store_form::Store;
-use uicc_run::uicc_types::{Answer, Plan, StatusWord};
-use uicc_run::update_journal::Journal;
+use uicc_run::{
+    Answer, Applet, BenchEeprom, CardOver, Journal, OpenFault, Plan, ResetFault, Section,
+    StatusWord, Store, format,
+};
 
 const SIZE: usize = 65_536;
 

@@ -6,12 +6,9 @@ use crate::boxes::{Noting, NotingSink};
 use boxed_applets::make_applets;
 use std::alloc::{AllocError, Global};
 use std::test::Fail;
-use uicc_run::byte_streams::{ListSink, SliceSource};
-use uicc_run::card_layout::places::MEMORY_SIZE;
-use uicc_run::card_layout::sizes::ROW_COUNT;
-use uicc_run::eeprom_model::{BenchEeprom, Eeprom};
-use uicc_run::run_words::devices;
-use uicc_run::{device_size, run};
+use uicc_run::{
+    BenchEeprom, Eeprom, ListSink, MEMORY_SIZE, ROW_COUNT, SliceSource, device_size, devices, run,
+};
 
 /// A script, and the trace that it is to have.
 #[derive(Drop)]

@@ -6,10 +6,8 @@ ghost use Rattle.uicc_run.specs.applet_trait.Turns.{act};
 
 use boxed_applets::{ProgramApplet, applet_of};
 use std::rt::HostRuntime;
-use uicc_run::applet_trait::{Act, Applet, Stimulus};
-use uicc_run::toolkit_commands::Proactive;
-use uicc_run::uicc_types::events::PROFILE_DOWNLOAD;
-use uicc_run::uicc_types::{Kept, Octets};
+use uicc_run::events::PROFILE_DOWNLOAD;
+use uicc_run::{Act, Applet, Kept, Octets, Proactive, Stimulus};
 
 /// The kind of the applet in a place, and what it does at a stimulus once it woke.
 fn turn_of<B: Applet>(place: &mut Option<B>, kept: &Kept, stimulus: &Stimulus) -> Option<(u8, Act)>

@@ -8,9 +8,8 @@ ghost use Rattle.card_memory.specs.Prepared.{filled, Prepares};
 ghost use Rattle.file_admin.specs.Written.{IsWrittenOver};
 
 use card_memory::{commit_node, prepare_blank};
-use file_model::card_layout::sizes::NODE_COUNT;
-use file_model::card_layout::{Loaded, Node};
-use file_model::store_form::{Store, StoreFault};
+use file_model::sizes::NODE_COUNT;
+use file_model::{Loaded, Node, Store, StoreFault};
 
 // Prepares the bytes of an entry. A DF has none.
 fn prepare_bytes<S: Store>(store: &mut S, loaded: &Loaded, node: &Node) -> Result<(), StoreFault>

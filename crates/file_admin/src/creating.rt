@@ -13,13 +13,11 @@ ghost use Rattle.file_admin.specs.Outcomes.{PerformsTree, AnswersTree, CommitsTr
 use crate::adding::add;
 use crate::channels::{channel_of, df_on, selection_of};
 use crate::refusals::try_creation;
-use card_memory::layout_standing::{cards_are_known, stores_stand};
+use card_memory::{cards_are_known, stores_stand};
 use file_making::{NewFile, new_entry, selections_stay, written_files_stand};
-use file_model::apdu_form::Command;
-use file_model::card_layout::Loaded;
-use file_model::store_form::{Store, StoreFault};
-use file_model::uicc_types::{Answer, StatusWord};
-use file_model::{Verified, files_are_found};
+use file_model::{
+    Answer, Command, Loaded, StatusWord, Store, StoreFault, Verified, files_are_found,
+};
 use file_tree::Channels;
 
 // Makes this file in the current DF of the channel where there is room for it, and answers the status.

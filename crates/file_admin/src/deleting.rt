@@ -11,14 +11,11 @@ ghost use Rattle.file_admin.specs.Outcomes.{PerformsTree, AnswersTree, CommitsTr
 use crate::channels::{channel_of, leave};
 use crate::entries::entry_of;
 use crate::refusals::try_deletion;
-use card_memory::commit_node;
-use card_memory::layout_standing::{cards_are_known, stores_stand};
+use card_memory::{cards_are_known, commit_node, stores_stand};
 use file_making::{selections_stay, written_files_stand};
-use file_model::apdu_form::Command;
-use file_model::card_layout::{Loaded, Node};
-use file_model::store_form::{Store, StoreFault};
-use file_model::uicc_types::{Answer, StatusWord};
-use file_model::{Verified, files_are_found};
+use file_model::{
+    Answer, Command, Loaded, Node, StatusWord, Store, StoreFault, Verified, files_are_found,
+};
 use file_tree::{Channels, Descriptor};
 
 // Deletes this file, and answers the status.

@@ -4,9 +4,8 @@ ghost use Rattle.file_model.specs.card_layout.Used.{HasNode};
 ghost use Rattle.file_model.specs.Files.{descriptor_of, descriptors_of};
 ghost use Rattle.file_tree.specs.Tables.{IsNumbered};
 
-use file_model::card_layout::sizes::NODE_COUNT;
-use file_model::card_layout::{Loaded, Node};
-use file_model::files_are_found;
+use file_model::sizes::NODE_COUNT;
+use file_model::{Loaded, Node, files_are_found};
 use file_tree::Descriptor;
 
 /// The entry of this file.

@@ -7,10 +7,8 @@ ghost use Rattle.card_memory.specs.layout_standing.Known.{IsBesideNodes};
 ghost use Rattle.card_memory.specs.Prepared.{IsTransparentFile, moved};
 ghost use Rattle.file_admin.specs.Written.{IsWrittenOver};
 
-use card_memory::layout_standing::cards_are_known;
-use card_memory::{commit_node, prepare_moved};
-use file_model::card_layout::{Loaded, Node};
-use file_model::store_form::{Store, StoreFault};
+use card_memory::{cards_are_known, commit_node, prepare_moved};
+use file_model::{Loaded, Node, Store, StoreFault};
 
 /// Moves a transparent file to this place, where it has more bytes: those that it holds, and FF behind them. After a fault the
 /// table is as it was.

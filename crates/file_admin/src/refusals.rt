@@ -14,12 +14,11 @@ ghost use Rattle.file_admin.specs.Outcomes.{WithFilesOf};
 
 use crate::channels::{df_on, is_current};
 use file_making::{NewFile, read_template};
-use file_model::apdu_form::Command;
-use file_model::card_layout::kinds::{DEACTIVATED, DF, TRANSPARENT};
-use file_model::card_layout::sizes::{NODE_COUNT, SIZE_LIMIT};
-use file_model::card_layout::{Loaded, Node};
-use file_model::uicc_types::{FileId, StatusWord};
-use file_model::{Verified, has_data, has_no_parameters};
+use file_model::kinds::{DEACTIVATED, DF, TRANSPARENT};
+use file_model::sizes::{NODE_COUNT, SIZE_LIMIT};
+use file_model::{
+    Command, FileId, Loaded, Node, StatusWord, Verified, has_data, has_no_parameters,
+};
 use file_tree::{Channels, Descriptor, Wanted, first_file};
 
 // The number in two of the bytes.

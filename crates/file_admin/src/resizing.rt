@@ -14,14 +14,12 @@ use crate::channels::channel_of;
 use crate::entries::entry_of;
 use crate::growing::grow;
 use crate::refusals::{size_asked, try_resizing};
-use card_memory::commit_node;
-use card_memory::layout_standing::{cards_are_known, stores_stand};
+use card_memory::{cards_are_known, commit_node, stores_stand};
 use file_making::{room, rooms_are_smallest, selections_stay, written_files_stand};
-use file_model::apdu_form::Command;
-use file_model::card_layout::{Loaded, Node, node_ranges};
-use file_model::store_form::{Store, StoreFault};
-use file_model::uicc_types::{Answer, StatusWord};
-use file_model::{Verified, files_are_found};
+use file_model::{
+    Answer, Command, Loaded, Node, StatusWord, Store, StoreFault, Verified, files_are_found,
+    node_ranges,
+};
 use file_tree::{Channels, Descriptor};
 
 // Gives a transparent file fewer bytes, and answers the status.

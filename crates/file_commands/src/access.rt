@@ -9,10 +9,8 @@ ghost use Rattle.file_model.specs.card_layout.Memory.{IsMounted, Reads, held_by,
 
 use crate::laws::is_card_table;
 use card_memory::{contents_are_whole, read_record, tables_tell_states};
-use file_model::card_layout::Loaded;
-use file_model::card_layout::kinds::LINEAR;
-use file_model::store_form::{Store, StoreFault};
-use file_model::{Op, Verified, allowed};
+use file_model::kinds::LINEAR;
+use file_model::{Loaded, Op, Store, StoreFault, Verified, allowed};
 use file_tree::{Descriptor, RuleReference, nearest_ef};
 
 /// Whether this may be done with the file where these keys' conditions are satisfied: by the record of the nearest EF_ARR that

@@ -16,11 +16,10 @@ use crate::settling::settle;
 use crate::targets::{binary_file, offset_in, pointer_in, worked_on};
 use crate::telling::append;
 use card_memory::{contents_are_whole, read_bytes, tables_tell_states, write_bytes};
-use file_model::apdu_form::Command;
-use file_model::card_layout::Loaded;
-use file_model::store_form::{Store, StoreFault};
-use file_model::uicc_types::{Answer, AnswerData, StatusWord};
-use file_model::{Op, Verified, has_data, has_le_alone};
+use file_model::{
+    Answer, AnswerData, Command, Loaded, Op, StatusWord, Store, StoreFault, Verified, has_data,
+    has_le_alone,
+};
 use file_tree::{Descriptor, Selection};
 
 // Has so many bytes of the file from this offset on, or those that there are, in an answer that is empty before.

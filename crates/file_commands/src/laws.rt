@@ -2,8 +2,7 @@
 ghost use Rattle.file_tree.specs.Tables.{IsCardTable};
 ghost use Rattle.file_model.specs.card_layout.Memory.{IsMounted, memory};
 
-use file_model::card_layout::Loaded;
-use file_model::store_form::Store;
+use file_model::{Loaded, Store};
 
 /// The table of a mounted card is that of a card.
 pub fn is_card_table<S: Store>(store: &S, loaded: &Loaded)

@@ -19,12 +19,11 @@ use crate::settling::settle;
 use crate::targets::is_deactivated;
 use crate::telling::put_parameters;
 use card_memory::tables_tell_states;
-use file_model::apdu_form::Command;
-use file_model::card_layout::Loaded;
-use file_model::card_layout::kinds::DF;
-use file_model::store_form::{Store, StoreFault};
-use file_model::uicc_types::{Answer, AnswerData, FileId, StatusWord};
-use file_model::{Verified, has_no_data};
+use file_model::kinds::DF;
+use file_model::{
+    Answer, AnswerData, Command, FileId, Loaded, StatusWord, Store, StoreFault, Verified,
+    has_no_data,
+};
 use file_tree::{
     Descriptor, Selection, Wanted, above, chosen_by_identifier, chosen_by_path,
     files_may_be_selected, first_file, short_identifiers_fit,

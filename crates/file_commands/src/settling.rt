@@ -8,7 +8,7 @@ ghost use Rattle.file_model.specs.card_layout.Memory.{Memory};
 ghost use Rattle.card_memory.specs.Performing.{IsOutcome};
 ghost use Rattle.file_commands.specs.Targets.{EndsLawfully, Gives, IsAnswer, IsRefused, Tells};
 
-use file_model::uicc_types::{Answer, StatusWord};
+use file_model::{Answer, StatusWord};
 use file_tree::Selection;
 
 /// Ends a command that was carried out, with its answer in `out` and this selection, or refused with this status.

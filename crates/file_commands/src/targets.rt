@@ -7,10 +7,8 @@ ghost use Rattle.file_model.specs.Binaries.{has_short, has_binary_parameters, sh
 ghost use Rattle.file_tree.specs.Tables.{IsCardTable, IsNumbered};
 ghost use Rattle.file_commands.specs.Commands.{IsBinaryTarget};
 
-use file_model::apdu_form::Command;
-use file_model::card_layout::Loaded;
-use file_model::card_layout::kinds::{DEACTIVATED, TRANSPARENT};
-use file_model::uicc_types::StatusWord;
+use file_model::kinds::{DEACTIVATED, TRANSPARENT};
+use file_model::{Command, Loaded, StatusWord};
 use file_tree::{Descriptor, Selection, Wanted, current_ef, first_file};
 
 fn has_short(command: &Command<'_>) -> bool

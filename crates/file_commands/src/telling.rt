@@ -7,9 +7,8 @@ ghost use Rattle.file_model.specs.Files.{is_df};
 ghost use Rattle.file_model.specs.Fcp.{kind_bytes, rule_object, enabled_bits, pin_object, df_objects, ef_objects, fcp};
 ghost use Rattle.file_commands.specs.Telling.{key_objects, file_objects, pin_told};
 
-use file_model::card_layout::kinds::{self, DF};
-use file_model::card_layout::{Loaded, PinSlot};
-use file_model::uicc_types::{AnswerData, Full};
+use file_model::kinds::{self, DF};
+use file_model::{AnswerData, Full, Loaded, PinSlot};
 use file_tree::{Descriptor, RuleReference};
 
 /// Puts bytes at the end, for which there is room.

@@ -1,8 +1,7 @@
 //! What CREATE FILE asks for (ETSI TS 102 222, 6.3).
 
-use file_model::RuleReference;
-use file_model::card_layout::Shape;
-use file_model::uicc_types::FileId;
+use card_layout::Shape;
+use file_model::{FileId, RuleReference};
 
 /// A file that is to be made in the current DF.
 #[derive(Clone, Copy, Debug)]

@@ -7,8 +7,8 @@ ghost use Rattle.file_making.specs.Entries.{node_made};
 
 use crate::asked::NewFile;
 use crate::rooms::{free_number, room};
-use file_model::card_layout::sizes::NODE_COUNT;
-use file_model::card_layout::{Loaded, Node, new_df, new_ef, size_for};
+use card_layout::sizes::NODE_COUNT;
+use card_layout::{Loaded, Node, new_df, new_ef, size_for};
 
 /// An entry, and the number of its file.
 #[derive(Clone, Copy, Debug)]

@@ -5,9 +5,9 @@ ghost use Rattle.file_model.specs.card_layout.Places.{data_end};
 ghost use Rattle.file_making.specs.Rooms.{IsSmallestRoom, room_at, free_number};
 ghost use Rattle.file_making.specs.Tables.{is_node_in_the_way};
 
-use file_model::card_layout::places::{DATA, MEMORY_SIZE, UPPER_ROWS};
-use file_model::card_layout::sizes::NODE_COUNT;
-use file_model::card_layout::{Loaded, Node, kinds, states_are_of_entries};
+use card_layout::places::{DATA, MEMORY_SIZE, UPPER_ROWS};
+use card_layout::sizes::NODE_COUNT;
+use card_layout::{Loaded, Node, kinds, states_are_of_entries};
 
 // Whether this is the entry of an EF with one of the `size` bytes from `place` on.
 fn is_in_the_way(node: &Node, place: u32, size: u32) -> bool

@@ -7,11 +7,10 @@ ghost use Rattle.file_model.specs.Fcp.{rule_object};
 ghost use Rattle.file_making.specs.Templates.{ef_kind_bytes, short_value, objects_of, template, may_rule, has_short_records, may_be_made, IsInRange, id_place, rule_told, size_place, shape_told, short_told, told, asked_in};
 
 use crate::asked::NewFile;
-use file_model::RuleReference;
-use file_model::card_layout::kinds::{self, CYCLIC, DF, LINEAR, TRANSPARENT};
-use file_model::card_layout::sizes::RECORD_LIMIT;
-use file_model::card_layout::{Shape, may_be_shape, size_for};
-use file_model::uicc_types::{ByteList, FileId, Full};
+use card_layout::kinds::{self, CYCLIC, DF, LINEAR, TRANSPARENT};
+use card_layout::sizes::RECORD_LIMIT;
+use card_layout::{Shape, may_be_shape, size_for};
+use file_model::{ByteList, FileId, Full, RuleReference};
 
 // How many bytes there is room for; a template has at most 25.
 const ROOM: usize = 32;

@@ -5,7 +5,7 @@ ghost use Rattle.file_model.specs.Needs.{Says, IsGroup, hold_by, joined, neutral
 
 use crate::Verified;
 use crate::objects::object_at;
-use card_layout::uicc_types::keys;
+use card_layout::keys;
 
 /// How many of the conditions in a group have to hold.
 #[derive(Clone, Copy)]

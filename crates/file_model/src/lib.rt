@@ -2,7 +2,7 @@
 //! command does, and what it is refused for; and what the access rules in a record of an EF_ARR allow (9.2.4; ISO 7816-4, 5.4.3).
 //! Definitions, laws that hold of them, and the test of a rule.
 //!
-//! It passes on the crates whose words it speaks, so that who stands on it need not list them.
+//! It passes on the words of other crates that it speaks in, so that who stands on it need not list those crates.
 #![tactic(auto)]
 
 mod commands;
@@ -15,9 +15,13 @@ mod rule_records;
 mod rules;
 mod selections;
 
-pub use apdu_form;
-pub use card_layout;
-pub use card_layout::{store_form, uicc_types};
+pub use apdu_form::{Command, WrongLength, read_command, write_answer};
+pub use card_layout::places::MEMORY_SIZE;
+pub use card_layout::{
+    Answer, AnswerData, ByteList, FileId, Full, Kept, Loaded, MOST_BYTES, Node, Octets,
+    OutOfMemory, Pin8, PinSlot, Plan, Row, Shelf, ShortText, StatusWord, Store, StoreFault, Writes,
+    keys, kinds, node_ranges, sizes, states_are_of_entries,
+};
 pub use commands::{ContentsCommand, FileCommand, PinCommand};
 pub use descriptors::{Descriptor, RuleReference, Wanted};
 pub use fields::{has_data, has_le_alone, has_no_data, has_no_parameters};

@@ -4,9 +4,8 @@ ghost use Rattle.file_model.specs.card_layout.Kinds.{has_records};
 ghost use Rattle.layout_standing.specs.Holding.{HasFullRecords};
 ghost use Rattle.file_model.specs.Files.{descriptor_of, reference_of};
 
-use file_model::card_layout::Node;
-use file_model::card_layout::kinds::{self, ACTIVATED, DF};
-use file_model::{Descriptor, RuleReference};
+use file_model::kinds::{self, ACTIVATED, DF};
+use file_model::{Descriptor, Node, RuleReference};
 
 fn reference_of(node: &Node) -> Option<RuleReference>
     ensures { result ≡ reference_of node.now }

@@ -3,8 +3,7 @@ ghost use Rattle.file_model.specs.Files.{descriptors_of};
 ghost use Rattle.file_model.specs.Selections.{IsSelection};
 ghost use Rattle.file_tree.specs.Tables.{IsCardTable, HaveParentsFirst, MayBeSelected, HaveShortIds};
 
-use file_model::card_layout::Loaded;
-use file_model::{Selection, files_are_found};
+use file_model::{Loaded, Selection, files_are_found};
 use layout_standing::standing_is_sound;
 
 /// Each file but the MF lies in a DF with a smaller number.

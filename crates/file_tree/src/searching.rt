@@ -4,11 +4,9 @@ ghost use Rattle.file_model.specs.Files.{descriptor_of, descriptors_of, is_wante
 ghost use Rattle.file_tree.specs.Tables.{AsksForId, AsksForNumber, AsksForShort, HasNoneBetween, IsCardTable, IsNumbered, is_there_and_wanted, node_at};
 
 use crate::describing::descriptor_of;
-use file_model::card_layout::kinds::{self, DF};
-use file_model::card_layout::sizes::NODE_COUNT;
-use file_model::card_layout::{Loaded, Node};
-use file_model::uicc_types::FileId;
-use file_model::{Descriptor, Wanted, files_are_found};
+use file_model::kinds::{self, DF};
+use file_model::sizes::NODE_COUNT;
+use file_model::{Descriptor, FileId, Loaded, Node, Wanted, files_are_found};
 use layout_standing::standing_files_hold;
 
 #[tactic(auto, unfolding(file_model::specs::Files::descriptor_of))]

@@ -1,6 +1,6 @@
 //! What a handset sends to the card, before it is spelled in bytes.
 
-use script_form::uicc_types::ByteList;
+use script_form::ByteList;
 use toolkit_commands::{Details, TimeValue};
 
 /// A text that a user typed: at most 30 bytes.

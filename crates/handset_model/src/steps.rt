@@ -1,7 +1,6 @@
 //! What a handset asks of who runs it.
 
-use script_form::Note;
-use script_form::uicc_types::ApduBytes;
+use script_form::{ApduBytes, Note};
 
 /// One thing to do for the handset.
 #[derive(Debug, Drop)]

@@ -6,7 +6,7 @@ ghost use Rattle.kept_triggers.specs.Frames.{kept};
 
 use frame_store::FrameStore;
 use std::marker::Model;
-use toolkit_commands::uicc_types::{ByteList, Full, Octets, Shelf};
+use toolkit_commands::{ByteList, Full, Octets, Shelf};
 
 /// An event for the applet of a shelf: its code, and its body.
 #[derive(Debug, Drop)]

@@ -10,8 +10,9 @@ ghost use Rattle.kept_triggers.specs.Commands.{IsCommandFrame, command_of, sent}
 
 use frame_store::FrameStore;
 use std::marker::Model;
-use toolkit_commands::uicc_types::{ByteList, Full, Octets, Shelf};
-use toolkit_commands::{Details, Proactive, read_proactive, renumber, spell};
+use toolkit_commands::{
+    ByteList, Details, Full, Octets, Proactive, Shelf, read_proactive, renumber, spell,
+};
 
 /// Commands in the order in which they were sent, at most 32, each spelled with the number 1.
 #[derive(Drop)]

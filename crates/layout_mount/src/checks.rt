@@ -12,8 +12,7 @@ use card_layout::sizes::{
     KEPT_LIMIT, KEPT_WIDTH, MENU_LIMIT, NODE_WIDTH, PIN_WIDTH, RECORD_LIMIT, ROW_WIDTH, TEXT_LIMIT,
     TRIES, UNBLOCK_TRIES,
 };
-use card_layout::uicc_types::FileId;
-use card_layout::{Node, PinSlot, Row};
+use card_layout::{FileId, Node, PinSlot, Row};
 
 /// Whether a PIN slot with these bytes has no key, or its own with tries that are left.
 pub fn pin_passes(key: u8, bytes: &[u8], pin: &PinSlot) -> bool

@@ -12,8 +12,7 @@ use card_layout::sizes::{
     KEPT_WIDTH, LOWER_ROW_COUNT, NODE_COUNT, NODE_WIDTH, PIN_COUNT, PIN_WIDTH, ROW_COUNT,
     ROW_STRIDE, ROW_WIDTH,
 };
-use card_layout::store_form::{Store, StoreFault};
-use card_layout::uicc_types::Shelf;
+use card_layout::{Shelf, Store, StoreFault};
 use std::marker::Model;
 
 // How many bytes there are from the PIN slots to the files, and from the upper rows on.

@@ -10,13 +10,12 @@ ghost use Rattle.layout_mount.specs.Loads.{FindsFirst, PassesCheck};
 use crate::checks::{node_passes, pin_passes, row_passes};
 use crate::image::Image;
 use crate::reading::{read_node, read_pin, read_row};
+use card_layout::keys::{ADM_1, PIN_1, PIN_2};
 use card_layout::places::{
     NARROW_VERSION, STORE_MARK, VERSION, WIDE_VERSION, place_of_node, place_of_pin, place_of_row,
 };
 use card_layout::sizes::{LOWER_ROW_COUNT, NODE_COUNT, PIN_COUNT, ROW_COUNT};
-use card_layout::uicc_types::Shelf;
-use card_layout::uicc_types::keys::{ADM_1, PIN_1, PIN_2};
-use card_layout::{Loaded, Node, PinSlot, Row};
+use card_layout::{Loaded, Node, PinSlot, Row, Shelf};
 
 fn has_mark(image: &Image) -> bool
     ensures { result ≡ has_card_mark image.now }

@@ -7,8 +7,7 @@ ghost use Rattle.layout_mount.specs.Mounted.{Mounts, FindsNoCard, OnlyReads, unr
 
 use crate::image::Image;
 use crate::loading::load;
-use card_layout::Loaded;
-use card_layout::store_form::{Store, StoreFault};
+use card_layout::{Loaded, Store, StoreFault};
 use thiserror::Error;
 
 /// Why no table was loaded.

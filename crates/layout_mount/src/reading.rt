@@ -3,8 +3,7 @@ ghost use Rattle.std.specs.Prelude.{◌≡◌, ◌+◌, ◌≤◌, ◌<◌, ◌+
 ghost use Rattle.card_layout.specs.Decoding.{number_at, node_of, pin_of, row_of};
 
 use card_layout::sizes::{KEPT_WIDTH, NODE_WIDTH, PIN_WIDTH, ROW_WIDTH};
-use card_layout::uicc_types::{ByteList, FileId, Kept, Pin8, ShortText};
-use card_layout::{Node, PinSlot, Row};
+use card_layout::{ByteList, FileId, Kept, Node, Pin8, PinSlot, Row, ShortText};
 
 /// The number of two bytes that stands here.
 pub fn read_number(bytes: &[u8], at: usize) -> u16

@@ -11,7 +11,7 @@ use crate::Section;
 use crate::rows::SpelledRows;
 use crate::section::SpelledCard;
 use card_layout::places::{DATA, KEPT_APART, NODES, PINS, ROWS, UPPER_ROWS};
-use card_layout::store_form::{Store, StoreFault, Writes};
+use card_layout::{Store, StoreFault, Writes};
 use uicc_types::Full;
 
 // Writes a part of a card behind its first bytes.

@@ -3,8 +3,7 @@
 use crate::answers::{Answer, Shown};
 use crate::devices::listed;
 use crate::words::{RowFault, Words, number_of};
-use card_layout::uicc_types::{FileId, OutOfMemory, Pin8, Shelf};
-use card_layout::{Loaded, PinSlot, SectionFault, Shape};
+use card_layout::{FileId, Loaded, OutOfMemory, Pin8, PinSlot, SectionFault, Shape, Shelf};
 use layout_mount::MountFault;
 use layout_section::Section;
 use std::alloc::Global;

@@ -1,10 +1,10 @@
 //! A device that notes its calls.
 ghost use Rattle.std.specs.Prelude.{◌≡◌};
 
-use card_layout::uicc_types::Plan;
+use card_layout::Plan;
 use std::alloc::Global;
 use std::marker::Model;
-use update_journal::eeprom_model::{Eeprom, EepromFault};
+use update_journal::{Eeprom, EepromFault};
 
 /// What a device was asked for.
 #[derive(Drop)]

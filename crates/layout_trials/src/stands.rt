@@ -14,8 +14,7 @@ use std::cell::Cell;
 use std::fs::File;
 use std::rt::Files;
 use std::{fs, io, mem};
-use update_journal::Journal;
-use update_journal::eeprom_model::{BenchEeprom, Eeprom, FileEeprom, SwitchedEeprom, open_image};
+use update_journal::{BenchEeprom, Eeprom, FileEeprom, Journal, SwitchedEeprom, open_image};
 
 /// A device of the bench, which notes its calls.
 type Bench = Counting<BenchEeprom>;

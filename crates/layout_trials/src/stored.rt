@@ -3,9 +3,7 @@ ghost use Rattle.std.specs.Prelude.{◌≡◌};
 
 use crate::words::{Piece, RowFault};
 use crate::writing::{SIZE, is_usable, writes_of};
-use card_layout::Loaded;
-use card_layout::store_form::{OWN_END, OWN_START, Store};
-use card_layout::uicc_types::Plan;
+use card_layout::{Loaded, OWN_END, OWN_START, Plan, Store};
 use layout_mount::{MountFault, mount};
 use layout_section::{Section, format};
 use std::alloc::Global;

@@ -5,7 +5,7 @@ use crate::cards::Card;
 use crate::stored::Stored;
 use crate::words::{Piece, RowFault, Words};
 use crate::writing::SIZE;
-use card_layout::store_form::Store;
+use card_layout::Store;
 use layout_mount::MountFault;
 use std::alloc::{AllocError, Global};
 

@@ -6,12 +6,10 @@ use crate::stored::Stored;
 use crate::stores::{image_of, put_all};
 use crate::words::{Piece, RowFault, Words};
 use crate::writing::SIZE;
-use card_layout::store_form::Store;
-use card_layout::uicc_types::{CutAt, FailAt, Plan};
+use card_layout::{CutAt, FailAt, Plan, Store};
 use page_store::{DEVICE_SIZE, PageStore};
 use std::alloc::Global;
-use update_journal::Journal;
-use update_journal::eeprom_model::BenchEeprom;
+use update_journal::{BenchEeprom, Journal};
 
 /// What a commit does to the bytes that are read.
 #[derive(Drop)]

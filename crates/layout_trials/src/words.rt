@@ -1,11 +1,10 @@
 //! The words of a row, and what they say.
 ghost use Rattle.std.specs.Prelude.{◌≤◌, IfOk};
 
-use card_layout::store_form::StoreFault;
-use card_layout::uicc_types::{CutAt, FailAt, OutOfMemory, Plan};
+use card_layout::{CutAt, FailAt, OutOfMemory, Plan, StoreFault};
 use std::alloc::{AllocError, Global};
 use std::str::SplitWhitespace;
-use update_journal::eeprom_model::{EepromFault, PAGE_LENGTH};
+use update_journal::{EepromFault, PAGE_LENGTH};
 
 /// Why a row isn't carried out.
 #[derive(Drop)]

@@ -3,8 +3,7 @@ ghost use Rattle.std.specs.Prelude.{◌≡◌, ◌<◌, true, length, All, IfOk,
 ghost use Rattle.card_layout.specs.store_form.Pieces.{IsUsable, IsUsablePiece};
 
 use crate::words::{Piece, RowFault};
-use card_layout::store_form::{OWN_END, OWN_START, Writes};
-use card_layout::uicc_types::Full;
+use card_layout::{Full, OWN_END, OWN_START, Writes};
 
 /// The stores of the trials have so many bytes.
 pub const SIZE: usize = 65_536;

@@ -11,9 +11,9 @@ ghost use Rattle.page_store.specs.Tables.{IsKept, IsPool};
 use crate::moves::move_pages;
 use crate::places::{CONTENT_SIZE, DEVICE_SIZE, FIRST_MAPPED, MAP, PAGES};
 use crate::tables::{EntryBytes, Table};
-use update_journal::eeprom_model::PAGE_LENGTH;
-use update_journal::store_form::{MOST_BYTES, MOST_PIECES, OWN_START, Store, StoreFault, Writes};
-use update_journal::uicc_types::Full;
+use update_journal::{
+    Full, MOST_BYTES, MOST_PIECES, OWN_START, PAGE_LENGTH, Store, StoreFault, Writes,
+};
 
 // Adds a piece that has room.
 fn add(inner: &mut Writes, place: u16, bytes: &[u8])

@@ -9,8 +9,7 @@ ghost use Rattle.page_store.specs.Tables.{moved, IsKept, IsPool};
 use crate::overlays::{is_touched, put_pieces};
 use crate::places::{CONTENT_SIZE, DEVICE_SIZE, FIRST_MAPPED, FREE, PAGES};
 use crate::tables::Table;
-use update_journal::eeprom_model::PAGE_LENGTH;
-use update_journal::store_form::{Store, StoreFault, Writes};
+use update_journal::{PAGE_LENGTH, Store, StoreFault, Writes};
 
 // Writes a page, with what the pieces have in it, where it has been free longest.
 fn move_page<S: Store>(

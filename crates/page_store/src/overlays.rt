@@ -5,8 +5,7 @@ ghost use Rattle.update_journal.specs.store_form.Pieces.{applied, IsUsablePiece,
 ghost use Rattle.page_store.specs.Commits.{touches, is_touched, done_count, bytes_of_page};
 
 use crate::places::{CONTENT_SIZE, PAGES};
-use update_journal::eeprom_model::PAGE_LENGTH;
-use update_journal::store_form::Writes;
+use update_journal::{PAGE_LENGTH, Writes};
 
 // Whether some of these bytes lie in the page.
 fn lies_in(page: usize, place: u16, bytes: &[u8]) -> bool

@@ -12,7 +12,7 @@ use crate::places::{CONTENT_SIZE, DEVICE_SIZE, MAP, MAP_END, PAGES};
 use crate::tables::Table;
 use crate::{inner, steps};
 use std::mem;
-use update_journal::store_form::{Store, StoreFault, Writes};
+use update_journal::{Store, StoreFault, Writes};
 
 /// What is known of the map.
 #[derive(Debug, Drop)]

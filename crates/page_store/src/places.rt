@@ -1,6 +1,5 @@
 //! Where everything lies on the device, by pages.
-use update_journal::eeprom_model::PAGE_LENGTH;
-use update_journal::store_form::OWN_END;
+use update_journal::{OWN_END, PAGE_LENGTH};
 
 /// The device has so many pages.
 pub const PAGE_COUNT: usize = 1_120;

@@ -7,8 +7,7 @@ ghost use Rattle.page_store.specs.Tables.{IsKept};
 
 use crate::places::{CONTENT_SIZE, DEVICE_SIZE};
 use crate::tables::Table;
-use update_journal::eeprom_model::PAGE_LENGTH;
-use update_journal::store_form::{Store, StoreFault};
+use update_journal::{PAGE_LENGTH, Store, StoreFault};
 
 // Reads a range of the content that lies in one page.
 fn read_part<S: Store>(

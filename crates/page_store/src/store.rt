@@ -9,10 +9,7 @@ use crate::paged;
 use crate::paged::Known;
 use crate::places::DEVICE_SIZE;
 use std::marker::Model;
-use update_journal::Journal;
-use update_journal::eeprom_model::Eeprom;
-use update_journal::store_form::{Store, StoreFault, Writes};
-use update_journal::uicc_types::Plan;
+use update_journal::{Eeprom, Journal, Plan, Store, StoreFault, Writes};
 
 /// A store of 65,536 bytes on a device of 71,680, over a journal in its first pages. What a contract sees of it is its
 /// device, what it knows of the map, and the count of its commits.

@@ -10,8 +10,7 @@ use crate::places::{
 };
 use arrayvec::ArrayVec;
 use std::marker::Model;
-use update_journal::eeprom_model::PAGE_LENGTH;
-use update_journal::uicc_types::{ByteList, Full};
+use update_journal::{ByteList, Full, PAGE_LENGTH};
 
 /// The page in which each mapped page lies, and the free pages, the one that has been free longest first.
 #[derive(Debug, Drop)]

@@ -19,10 +19,6 @@ pub mod Serving
 pub mod Showing
 pub mod Traces
 pub mod Walks
-pub use Rattle.handset_model.specs.byte_streams
 pub use Rattle.card_sections.specs as card_sections
 pub use Rattle.handset_model.specs as handset_model
 pub use Rattle.layout_section.specs as layout_section
-pub use Rattle.handset_model.specs.script_form
-pub use Rattle.terminal_side.specs as terminal_side
-pub use Rattle.handset_model.specs.uicc_types

@@ -12,9 +12,7 @@ ghost use Rattle.handset_model.specs.uicc_types.Counts.{Rose};
 
 use crate::load_lines::LoadLines;
 use crate::{CountingSink, Counts, PhoneMove, Places, play_on_phone, start_phone};
-use card_steps::applet_trait::Applet;
-use card_steps::store_form::Store;
-use card_steps::{CardEnd, Carrier, StepEnd};
+use card_steps::{Applet, CardEnd, Carrier, StepEnd, Store};
 use terminal_side::Phone;
 
 /// The memory failed in a reset.

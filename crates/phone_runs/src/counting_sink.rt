@@ -9,7 +9,7 @@ ghost use Rattle.handset_model.specs.uicc_types.Told.{Becomes};
 use crate::counts::Counts;
 use crate::told_text::{Part, ToldText};
 use crate::walk::Walk;
-use handset_model::byte_streams::{Failed, Sink};
+use handset_model::{Failed, Sink};
 use std::marker::Model;
 
 /// Counts the lines of a trace as they are put, in parts of any size. It never fails, and it takes no memory.

@@ -5,8 +5,7 @@ ghost use Rattle.phone_runs.specs.declared.effects.TheConstants.{LONGEST_SPAN};
 ghost use Rattle.handset_model.specs.script_form.Bounds.{IsBounded};
 
 use crate::playing::PhoneMove;
-use handset_model::script_form::ScriptLine;
-use handset_model::uicc_types::Plan;
+use handset_model::{Plan, ScriptLine};
 
 /// The most seconds that a line of a script lets pass.
 pub const LONGEST_SPAN: u32 = 999_999_999;

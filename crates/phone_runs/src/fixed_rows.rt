@@ -3,8 +3,7 @@ ghost use Rattle.std.specs.Prelude.{◌≡◌, ◌≤◌, length, slice_get};
 ghost use Rattle.handset_model.specs.script_form.declared.lines.ScriptLine.TheVariants as line;
 ghost use Rattle.phone_runs.specs.FixedRows.{fixed_rows};
 
-use handset_model::script_form::ScriptLine;
-use handset_model::uicc_types::Octets;
+use handset_model::{Octets, ScriptLine};
 
 /// The line that registers the applet at this place, counted from 0, if there is one.
 pub fn fixed_row(place: u32) -> Option<ScriptLine>

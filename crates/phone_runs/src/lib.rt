@@ -1,7 +1,7 @@
 //! A handset that serves a card: what it sends goes to the card, and what the card answers goes back to it, until it rests; the
 //! lines of a script, carried out so; a long run, whose lines are made from a number; and what is counted in a trace.
 //!
-//! It passes on the crates whose words it speaks, so that who stands on it need not list them.
+//! It passes on the words of other crates that it speaks in, so that who stands on it need not list those crates.
 #![tactic(auto)]
 
 mod count_laws;
@@ -22,7 +22,7 @@ mod serving;
 mod told_text;
 mod walk;
 
-pub use card_sections;
+pub use card_sections::{PlayEnd, ScriptFault, ScriptReader, kind_on, read_behind, read_section};
 pub use count_laws::counts_are_those_of_the_lines;
 pub use counting::{MemoryFailed, count_lines};
 pub use counting_sink::CountingSink;
@@ -33,14 +33,16 @@ pub use fetching::{
 };
 pub use fixed_rows::fixed_row;
 pub use handset_laws::handsets_are_served;
-pub use handset_model;
-pub use handset_model::{byte_streams, script_form, uicc_types};
+pub use handset_model::{
+    Answer, ByteList, Failed, FileId, Full, InputSource, LineReader, ListSink, NextLine,
+    OutputSink, Sink, SliceSource, Source, StatusWord,
+};
 pub use laws::{phone_runs_are_lawful, phone_runs_are_one};
-pub use layout_section;
+pub use layout_section::{Section, format};
 pub use lines::{end_of, serve_line};
 pub use load_laws::loads_are_one;
 pub use load_lines::{LoadLines, line_of};
 pub use playing::{PhoneMove, play_on_phone, start_phone};
 pub use rows::describe_rows;
 pub use serving::{Places, settle};
-pub use terminal_side;
+pub use terminal_side::{Next, Phone};

@@ -16,11 +16,8 @@ use crate::effects::{PhoneEffect, effect_on_phone};
 use crate::playing::play_on_phone;
 use crate::serving::Places;
 use card_sections::{PlayEnd, ScriptReader, read_behind};
-use card_steps::applet_trait::Applet;
-use card_steps::store_form::Store;
-use card_steps::{CardEnd, Carrier, StepEnd};
-use handset_model::byte_streams::{Sink, Source};
-use handset_model::script_form::ScriptLine;
+use card_steps::{Applet, CardEnd, Carrier, StepEnd, Store};
+use handset_model::{ScriptLine, Sink, Source};
 use terminal_side::Phone;
 
 /// Reads the next line behind `start` into `line`, and carries it out, as soon as its end was read. What the handset sends goes to the

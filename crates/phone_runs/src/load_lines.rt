@@ -5,8 +5,7 @@ ghost use Rattle.handset_model.specs.Legal.{IsBounded};
 ghost use Rattle.phone_runs.specs.LoadLines.{AreTaken, line_for, made_lines, place_for};
 ghost use Rattle.phone_runs.specs.declared.load_lines.TheConstants.{LONGEST_SPAN};
 
-use handset_model::script_form::HandsetLine;
-use handset_model::uicc_types::Octets;
+use handset_model::{HandsetLine, Octets};
 use rand_core::utils::NextWord;
 use rand_pcg::Pcg32;
 use std::marker::Model;

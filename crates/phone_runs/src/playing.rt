@@ -13,13 +13,8 @@ ghost use Rattle.terminal_side.specs.Kept.{unstarted};
 ghost use Rattle.handset_model.specs.uicc_types.Counts.{Rose};
 
 use crate::serving::{Places, settle};
-use card_steps::applet_trait::Applet;
-use card_steps::card_model::plans_are_set_in_order;
-use card_steps::store_form::Store;
-use card_steps::{CardEnd, Carrier, StepEnd};
-use handset_model::byte_streams::Sink;
-use handset_model::script_form::HandsetLine;
-use handset_model::uicc_types::Plan;
+use card_steps::{Applet, CardEnd, Carrier, StepEnd, Store, plans_are_set_in_order};
+use handset_model::{HandsetLine, Plan, Sink};
 use terminal_side::Phone;
 
 /// What a line is for the handset.

@@ -4,7 +4,7 @@ ghost use Rattle.phone_runs.specs.Rows.{GivesRows};
 
 use crate::fixed_rows::fixed_row;
 use card_sections::describe;
-use card_steps::applet_trait::Applet;
+use card_steps::Applet;
 use layout_section::Section;
 
 /// Adds the rows of the card, one after the other, to a section, where the applets are these. It answers the number, counted from

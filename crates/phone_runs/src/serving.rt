@@ -11,14 +11,11 @@ ghost use Rattle.phone_runs.specs.Showing.{IsShowing, Outset, ShowsFurther, Show
 ghost use Rattle.terminal_side.specs.Kept.{kept};
 ghost use Rattle.handset_model.specs.uicc_types.Counts.{Rose, raised};
 
-use card_steps::applet_trait::Applet;
-use card_steps::card_model::{plans_are_set_in_order, runs_are_counted};
-use card_steps::store_form::Store;
-use card_steps::{CardEnd, Carrier, Reply, Restarted, StepEnd, exchange, restart};
-use handset_model::byte_streams::{Failed, Sink};
-use handset_model::lines_end;
-use handset_model::script_form::{Note, write_note};
-use handset_model::uicc_types::{Answer, ApduBytes};
+use card_steps::{
+    Applet, CardEnd, Carrier, Reply, Restarted, StepEnd, Store, exchange, plans_are_set_in_order,
+    restart, runs_are_counted,
+};
+use handset_model::{Answer, ApduBytes, Failed, Note, Sink, lines_end, write_note};
 use terminal_side::{Next, Phone};
 
 /// The places of what goes between a handset and its card, which are used again for each command.

@@ -4,7 +4,7 @@ ghost use Rattle.phone_runs.specs.CountedLines.{IsWholeLine};
 ghost use Rattle.phone_runs.specs.Walks.{counts_with, more as one_more, start, step, with_instruction};
 
 use crate::counts::Counts;
-use handset_model::uicc_types::{ByteList, Full};
+use handset_model::{ByteList, Full};
 use memchr::memchr;
 
 /// The most bytes that a line's kind is known by.

@@ -11,11 +11,9 @@ use crate::marks::{marked, tries_left};
 use crate::presenting::{present_pin, present_unblock};
 use crate::trials::{Trial, trial_of};
 use card_memory::tables_tell_states;
-use file_model::apdu_form::Command;
-use file_model::card_layout::Loaded;
-use file_model::store_form::{Store, StoreFault};
-use file_model::uicc_types::{Answer, StatusWord};
-use file_model::{PinCommand, Verified, pins_are_guarded};
+use file_model::{
+    Answer, Command, Loaded, PinCommand, StatusWord, Store, StoreFault, Verified, pins_are_guarded,
+};
 
 // Does what a command does where nothing refuses it, and answers the status that it ends with.
 fn carry_out<S: Store>(

@@ -2,9 +2,8 @@
 ghost use Rattle.std.specs.Prelude.{◌≡◌, ◌≢◌};
 ghost use Rattle.file_model.specs.Pins.{marked, tries_left};
 
-use file_model::Verified;
-use file_model::uicc_types::StatusWord;
-use file_model::uicc_types::keys::{ADM_1, PIN_1, PIN_2};
+use file_model::keys::{ADM_1, PIN_1, PIN_2};
+use file_model::{StatusWord, Verified};
 
 /// The marks with this truth for one key's.
 pub fn marked(verified: Verified, key: u8, truth: bool) -> Verified

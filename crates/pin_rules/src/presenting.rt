@@ -9,12 +9,8 @@ ghost use Rattle.pin_rules.specs.Trials.{IsHeld, GivesTries, pin_trial, unblock_
 use crate::comparing::is_value;
 use crate::marks::{marked, tries_left};
 use crate::slots::Held;
-use card_memory::layout_standing::cards_are_known;
-use card_memory::{PinChange, change_pin, tables_tell_states};
-use file_model::Verified;
-use file_model::card_layout::Loaded;
-use file_model::store_form::{Store, StoreFault};
-use file_model::uicc_types::{Pin8, StatusWord};
+use card_memory::{PinChange, cards_are_known, change_pin, tables_tell_states};
+use file_model::{Loaded, Pin8, StatusWord, Store, StoreFault, Verified};
 
 /// Presents a value against a PIN that has a try. A wrong one takes the key's mark away; a right one brings this change, which
 /// gives all tries again, and these marks.

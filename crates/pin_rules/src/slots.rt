@@ -5,7 +5,7 @@ ghost use Rattle.file_model.specs.card_layout.States.{pins_of, pin_state};
 ghost use Rattle.file_model.specs.Pins.{pin_found};
 ghost use Rattle.pin_rules.specs.Trials.{IsHeld};
 
-use file_model::card_layout::{Loaded, PinSlot};
+use file_model::{Loaded, PinSlot};
 
 /// A PIN, and the slot that holds it.
 #[derive(Clone, Copy, Debug)]

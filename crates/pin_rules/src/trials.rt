@@ -10,12 +10,9 @@ ghost use Rattle.pin_rules.specs.Trials.{IsHeld, IsTrial, Means, tested_with};
 
 use crate::slots::{Held, find_pin};
 use card_memory::PinChange;
-use file_model::PinCommand;
-use file_model::apdu_form::Command;
-use file_model::card_layout::Loaded;
-use file_model::card_layout::sizes::TRIES;
-use file_model::uicc_types::keys::{ADM_1, PIN_1, PIN_2};
-use file_model::uicc_types::{Pin8, StatusWord};
+use file_model::keys::{ADM_1, PIN_1, PIN_2};
+use file_model::sizes::TRIES;
+use file_model::{Command, Loaded, Pin8, PinCommand, StatusWord};
 
 /// What a PIN command does where nothing refuses it.
 #[derive(Clone, Copy, Debug)]

@@ -8,7 +8,7 @@ pub mod Indexing
 mod Joined
 pub mod Joining
 mod Kept
-pub mod Late
+pub mod LateLemmas
 mod Listed
 pub mod MovedLemmas
 mod Places

@@ -16,7 +16,7 @@ use Rattle.toolkit_model.specs.Running.{sending, mind_on, run_of_mind, run_of_ro
 use Rattle.toolkit_model.specs.Driving.{is_idle}
 use Rattle.toolkit_model.proofs.Asks.{sending_idle}
 use Rattle.toolkit_model.proofs.Late.{late_asks}
-use Rattle.proactive_handler.proofs.Late.{sending_late}
+use Rattle.proactive_handler.proofs.LateLemmas.{sending_late}
 use Rattle.proactive_handler.specs.Serving.{IsSessionServed, HasPlaces}
 use Rattle.proactive_handler.proofs.Serving.{ran_served, rows_keep}
 

@@ -14,13 +14,8 @@ use crate::carrying::carry_out;
 use crate::endings::{Ending, Next};
 use crate::settings::Setting;
 use applet_registry::Index;
-use card_memory::card_layout::{Loaded, states_are_of_entries};
-use card_memory::store_form::{Store, StoreFault};
-use card_memory::tables_tell_states;
-use card_memory::uicc_types::Shelf;
-use toolkit_model::Timers;
-use toolkit_model::applet_trait::{Act, Applet, Stimulus};
-use toolkit_model::toolkit_commands::lengths_of_commands;
+use card_memory::{Loaded, Shelf, Store, StoreFault, states_are_of_entries, tables_tell_states};
+use toolkit_model::{Act, Applet, Stimulus, Timers, lengths_of_commands};
 
 /// How many acts a run has, at most.
 const MOST_ACTS: u8 = 32;

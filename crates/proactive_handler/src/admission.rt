@@ -8,9 +8,8 @@ ghost use Rattle.toolkit_model.specs.Running.{is_cards_own, is_held_by, is_withi
 ghost use Rattle.proactive_handler.specs.Acts.{setting_of};
 
 use crate::settings::Setting;
-use card_memory::uicc_types::Shelf;
-use toolkit_model::Timers;
-use toolkit_model::toolkit_commands::{Proactive, lengths_of_commands, spell};
+use card_memory::Shelf;
+use toolkit_model::{Proactive, Timers, lengths_of_commands, spell};
 
 /// The modes of a REFRESH that an applet may ask for: initialization of the application, and a reset of the card (ETSI TS 102
 /// 223, 8.6).

@@ -11,11 +11,8 @@ use crate::endings::{Next, Reply};
 use crate::messages::{free_timer, send, take_timer};
 use crate::settings::Setting;
 use applet_registry::Index;
-use card_memory::card_layout::Loaded;
-use card_memory::store_form::{Store, StoreFault};
-use card_memory::tables_tell_states;
-use toolkit_model::Timers;
-use toolkit_model::applet_trait::Act;
+use card_memory::{Loaded, Store, StoreFault, tables_tell_states};
+use toolkit_model::{Act, Timers};
 
 /// Carries out an act of the applet whose run is here, and says what comes after it. A fault stops its one commit, if it has one.
 pub(crate) fn carry_out<S: Store>(

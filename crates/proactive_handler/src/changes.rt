@@ -17,11 +17,8 @@ use crate::laws::rows_are_listed;
 use applet_registry::{
     Index, changes_are_followed, commits_are_those_of_sessions, registrations_are_followed,
 };
-use card_memory::card_layout::{Loaded, states_are_of_entries};
-use card_memory::store_form::{Store, StoreFault};
-use card_memory::tables_tell_states;
-use card_memory::uicc_types::Shelf;
-use toolkit_model::applet_trait::numbers::MOST_KEPT;
+use card_memory::{Loaded, Shelf, Store, StoreFault, states_are_of_entries, tables_tell_states};
+use toolkit_model::MOST_KEPT;
 
 /// Keeps these bytes for the row of a shelf, which is one commit, also where they are those that it kept. More than 32 are
 /// refused.

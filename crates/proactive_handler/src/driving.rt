@@ -11,11 +11,9 @@ ghost use Rattle.proactive_handler.specs.Scenes.{IsInService, KeepsScene};
 use crate::laws::rows_are_listed;
 use crate::running::run_alone;
 use applet_registry::Index;
-use card_memory::card_layout::Loaded;
-use card_memory::store_form::{Store, StoreFault};
-use card_memory::tables_tell_states;
+use card_memory::{Loaded, Store, StoreFault, tables_tell_states};
 use kept_triggers::{Late, Trigger};
-use toolkit_model::applet_trait::{Applet, Stimulus};
+use toolkit_model::{Applet, Stimulus};
 use toolkit_session::Session;
 
 // So many late triggers at most, the first whose applet is idle each time.

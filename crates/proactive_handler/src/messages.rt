@@ -12,9 +12,8 @@ ghost use Rattle.proactive_handler.specs.Acts.{setting_of, stimulus_of, timer_to
 use crate::admission::{is_admitted, is_held_by};
 use crate::endings::{Next, Reply};
 use crate::settings::Setting;
-use card_memory::uicc_types::Shelf;
-use toolkit_model::Timers;
-use toolkit_model::toolkit_commands::Proactive;
+use card_memory::Shelf;
+use toolkit_model::{Proactive, Timers};
 
 /// Sends a command to the handset, where it is admitted; where it isn't, the applet is told so. Each part of a time value is at
 /// most 99.

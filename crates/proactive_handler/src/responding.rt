@@ -12,12 +12,8 @@ ghost use Rattle.proactive_handler.specs.Scenes.{IsInService, KeepsScene};
 use crate::driving::drive;
 use crate::running::run_alone;
 use applet_registry::Index;
-use card_memory::card_layout::Loaded;
-use card_memory::store_form::{Store, StoreFault};
-use card_memory::tables_tell_states;
-use card_memory::uicc_types::Octets;
-use toolkit_model::applet_trait::{Applet, Stimulus};
-use toolkit_model::toolkit_commands::ResponseRef;
+use card_memory::{Loaded, Octets, Store, StoreFault, tables_tell_states};
+use toolkit_model::{Applet, ResponseRef, Stimulus};
 use toolkit_session::Session;
 
 // Nothing is outstanding any more, and the applet that sent the command goes on with the response.

@@ -22,12 +22,9 @@ use crate::acting::run_row;
 use crate::endings::Ending;
 use crate::settings::Setting;
 use applet_registry::Index;
-use card_memory::card_layout::Loaded;
-use card_memory::store_form::{Store, StoreFault};
-use card_memory::tables_tell_states;
-use card_memory::uicc_types::Shelf;
-use card_memory::uicc_types::events::CALL_CONTROL;
-use toolkit_model::applet_trait::{Act, Applet, Stimulus};
+use card_memory::{Loaded, Shelf, Store, StoreFault, tables_tell_states};
+use toolkit_model::events::CALL_CONTROL;
+use toolkit_model::{Act, Applet, Stimulus};
 use toolkit_session::Session;
 
 // Whether call control begins the run.

@@ -1,6 +1,6 @@
 //! Where a run goes on.
 
-use card_memory::uicc_types::Shelf;
+use card_memory::Shelf;
 use toolkit_model::Profile;
 
 /// The shelf of the applet that runs, the profile that the handset sent, if it sent one, and whether call control began the run.

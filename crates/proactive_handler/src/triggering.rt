@@ -15,11 +15,8 @@ ghost use Rattle.proactive_handler.specs.Scenes.{IsInService, KeepsScene};
 
 use crate::running::run_one;
 use applet_registry::{Index, Shelves};
-use card_memory::card_layout::Loaded;
-use card_memory::store_form::{Store, StoreFault};
-use card_memory::tables_tell_states;
-use card_memory::uicc_types::{Octets, Shelf};
-use toolkit_model::applet_trait::{Act, Applet, Stimulus};
+use card_memory::{Loaded, Octets, Shelf, Store, StoreFault, tables_tell_states};
+use toolkit_model::{Act, Applet, Stimulus};
 use toolkit_session::Session;
 
 // Keeps an event for an applet that waits for an answer. It seldom does, so the place for the bytes is made in here alone.

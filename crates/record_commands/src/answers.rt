@@ -1,7 +1,7 @@
 //! The data of answers.
 ghost use Rattle.std.specs.Prelude.{◌≡◌, ◌+◌, ◌≤◌, ◌++◌, length};
 
-use file_model::uicc_types::{AnswerData, Full};
+use file_model::{AnswerData, Full};
 
 /// Puts bytes behind others.
 pub fn append(out: &mut AnswerData, part: &[u8])

@@ -6,9 +6,7 @@ ghost use Rattle.record_commands.specs.Targets.{IsRecordOf};
 ghost use Rattle.file_model.specs.card_layout.Memory.{IsMounted, Reads, held_by, memory};
 
 use card_memory::read_record;
-use file_model::card_layout::Loaded;
-use file_model::store_form::{Store, StoreFault};
-use file_model::uicc_types::AnswerData;
+use file_model::{AnswerData, Loaded, Store, StoreFault};
 use file_tree::Descriptor;
 
 /// Reads the record with this number into the whole of `out`. After a fault `out` holds any bytes.

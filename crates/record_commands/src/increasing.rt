@@ -20,11 +20,9 @@ use crate::holding::record_of;
 use crate::targets::{Demand, LONGEST_INCREASED, Structure, record_file};
 use card_memory::{tables_tell_states, write_newest_record};
 use file_commands::{is_allowed, is_card_table, settle, worked_on};
-use file_model::apdu_form::Command;
-use file_model::card_layout::Loaded;
-use file_model::store_form::{Store, StoreFault};
-use file_model::uicc_types::{Answer, AnswerData, StatusWord};
-use file_model::{Op, Verified};
+use file_model::{
+    Answer, AnswerData, Command, Loaded, Op, StatusWord, Store, StoreFault, Verified,
+};
 use file_tree::{Descriptor, Selection};
 
 // P1 is 0, or has b8 set and a short file identifier behind it.

@@ -3,8 +3,7 @@ ghost use Rattle.file_model.specs.Files.{descriptors_of};
 ghost use Rattle.file_tree.specs.Tables.{IsCardTable};
 ghost use Rattle.record_commands.specs.Tables.{HaveRecords};
 
-use file_model::card_layout::Loaded;
-use file_model::files_are_found;
+use file_model::{Loaded, files_are_found};
 use layout_standing::standing_is_sound;
 
 /// A file with records has at least one.

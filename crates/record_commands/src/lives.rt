@@ -15,12 +15,11 @@ ghost use Rattle.file_model.specs.card_layout.Memory.{memory};
 
 use card_memory::{tables_tell_states, write_life};
 use file_commands::{addressed, is_allowed, is_card_table, settle};
-use file_model::apdu_form::Command;
-use file_model::card_layout::Loaded;
-use file_model::card_layout::kinds::{ACTIVATED, DEACTIVATED};
-use file_model::store_form::{Store, StoreFault};
-use file_model::uicc_types::{Answer, StatusWord};
-use file_model::{Op, Verified, has_no_data, has_no_parameters};
+use file_model::kinds::{ACTIVATED, DEACTIVATED};
+use file_model::{
+    Answer, Command, Loaded, Op, StatusWord, Store, StoreFault, Verified, has_no_data,
+    has_no_parameters,
+};
 use file_tree::{Descriptor, Selection};
 
 /// A change of the life cycle, with the operation that has to be allowed for it.

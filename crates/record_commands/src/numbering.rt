@@ -5,8 +5,7 @@ ghost use Rattle.file_model.specs.Outcomes.{pointer_before};
 ghost use Rattle.record_commands.specs.Targets.{IsPointer};
 
 use crate::targets::{NEXT, PREVIOUS, is_cyclic, mode_in, pointer_before, short_in};
-use file_model::apdu_form::Command;
-use file_model::uicc_types::StatusWord;
+use file_model::{Command, StatusWord};
 use file_tree::{Descriptor, Selection};
 
 // Behind the last record of a cyclic file comes the first.

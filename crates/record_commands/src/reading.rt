@@ -17,11 +17,9 @@ use crate::numbering::number_to_read;
 use crate::targets::{Demand, Structure, has_parameters, record_file, selection_after, short_in};
 use card_memory::tables_tell_states;
 use file_commands::{is_allowed, is_card_table, settle};
-use file_model::apdu_form::Command;
-use file_model::card_layout::Loaded;
-use file_model::store_form::{Store, StoreFault};
-use file_model::uicc_types::{Answer, StatusWord};
-use file_model::{Op, Verified, has_le_alone};
+use file_model::{
+    Answer, Command, Loaded, Op, StatusWord, Store, StoreFault, Verified, has_le_alone,
+};
 use file_tree::{Descriptor, Selection};
 
 // The EF that the command works on.

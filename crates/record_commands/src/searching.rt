@@ -19,11 +19,10 @@ use crate::numbering::absolute_record;
 use crate::targets::{Demand, Structure, mode_in, pointer_before, record_file, short_in};
 use card_memory::tables_tell_states;
 use file_commands::{is_allowed, is_card_table, settle, worked_on};
-use file_model::apdu_form::Command;
-use file_model::card_layout::Loaded;
-use file_model::store_form::{Store, StoreFault};
-use file_model::uicc_types::{Answer, AnswerData, Full, StatusWord};
-use file_model::{Op, Verified, has_data};
+use file_model::{
+    Answer, AnswerData, Command, Full, Loaded, Op, StatusWord, Store, StoreFault, Verified,
+    has_data,
+};
 use file_tree::{Descriptor, Selection};
 use memchr::memchr;
 

@@ -10,10 +10,8 @@ ghost use Rattle.record_commands.specs.Targets.{fits, IsTarget};
 
 use crate::laws::records_are_there;
 use file_commands::{addressed, is_deactivated, worked_on};
-use file_model::apdu_form::Command;
-use file_model::card_layout::Loaded;
-use file_model::card_layout::kinds::{self, CYCLIC};
-use file_model::uicc_types::StatusWord;
+use file_model::kinds::{self, CYCLIC};
+use file_model::{Command, Loaded, StatusWord};
 use file_tree::{Descriptor, Selection};
 
 /// P2 says in b3 to b1 that the next record is meant.

@@ -21,11 +21,7 @@ use crate::targets::{
 };
 use card_memory::{tables_tell_states, write_newest_record, write_record};
 use file_commands::{is_allowed, is_card_table, settle};
-use file_model::apdu_form::Command;
-use file_model::card_layout::Loaded;
-use file_model::store_form::{Store, StoreFault};
-use file_model::uicc_types::{Answer, StatusWord};
-use file_model::{Op, Verified, has_data};
+use file_model::{Answer, Command, Loaded, Op, StatusWord, Store, StoreFault, Verified, has_data};
 use file_tree::{Descriptor, Selection};
 
 // The EF that the command works on.

@@ -3,8 +3,7 @@
 use crate::cases::{Patch, Setup};
 use crate::plans::plan_of;
 use std::alloc::{AllocError, Global};
-use uicc_run::eeprom_model::{BenchEeprom, Eeprom};
-use uicc_run::uicc_types::{CutAt, Plan};
+use uicc_run::{BenchEeprom, CutAt, Eeprom, Plan};
 
 /// A device of so many bytes that holds nothing.
 pub fn blank(alloc: Global, size: usize) -> Result<BenchEeprom, AllocError> {

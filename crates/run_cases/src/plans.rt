@@ -1,8 +1,7 @@
 //! Plans of faults that are tried at one call of the memory after the other.
 
 use std::alloc::{AllocError, Global};
-use uicc_run::script_form::{ScriptLine, read_line};
-use uicc_run::uicc_types::Plan;
+use uicc_run::{Plan, ScriptLine, read_line};
 
 /// The line of a plan, but for the number of its call.
 #[derive(Drop)]

@@ -7,11 +7,9 @@ use crate::devices::{blank, has_all, prepared, revive};
 use crate::judging::Left;
 use boxed_applets::{ProgramApplet, applet_of, make_applets};
 use std::alloc::{AllocError, Global};
-use uicc_run::byte_streams::{ListSink, SliceSource};
-use uicc_run::card_layout::places::MEMORY_SIZE;
-use uicc_run::card_layout::sizes::ROW_COUNT;
-use uicc_run::eeprom_model::{BenchEeprom, Eeprom};
-use uicc_run::{device_size, devices, run};
+use uicc_run::{
+    BenchEeprom, Eeprom, ListSink, MEMORY_SIZE, ROW_COUNT, SliceSource, device_size, devices, run,
+};
 
 /// The longest trace that a run may have.
 const LONGEST_TRACE: usize = 1_048_576;

@@ -1,6 +1,6 @@
 //! The text that goes in and out of a run: lines of a script, which are read, and lines of a trace, which are written.
 //!
-//! It passes on the crates whose words it speaks, so that who stands on it need not list them.
+//! It passes on the words of other crates that it speaks in, so that who stands on it need not list those crates.
 #![tactic(auto)]
 
 mod cursor;
@@ -15,7 +15,6 @@ mod reading;
 mod trace;
 mod values;
 
-pub use byte_streams;
 pub use byte_streams::{
     Failed, InputSource, LONGEST_LINE, LineReader, ListSink, NextLine, OutputSink, Sink,
     SliceSource, Source,
@@ -24,5 +23,7 @@ pub use handset::{HandsetLine, Note};
 pub use lines::{DEEPEST, LineFault, Path, ScriptLine};
 pub use reading::{read_line, read_line_into};
 pub use trace::{TraceLine, write_answer, write_command, write_note, write_trace};
-pub use uicc_types;
+pub use uicc_types::{
+    Answer, ApduBytes, ByteList, FileId, Full, Octets, OutOfMemory, Plan, StatusWord,
+};
 pub use values::number_of;

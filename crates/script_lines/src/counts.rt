@@ -2,8 +2,7 @@
 
 use crate::shown::put_number;
 use crate::written::text_of;
-use phone_runs::byte_streams::Sink;
-use phone_runs::{CountingSink, Counts};
+use phone_runs::{CountingSink, Counts, Sink};
 use std::alloc::Global;
 use unit_tables::Failure;
 

@@ -3,9 +3,7 @@
 use crate::shown::put_number;
 use crate::written::{fails, text_of};
 use boxed_applets::Clock;
-use phone_runs::byte_streams::SliceSource;
-use phone_runs::card_sections::{ScriptFault, ScriptReader, kind_on, read_section};
-use phone_runs::layout_section::Section;
+use phone_runs::{ScriptFault, ScriptReader, Section, SliceSource, kind_on, read_section};
 use std::alloc::Global;
 use unit_tables::{Failure, small_number};
 

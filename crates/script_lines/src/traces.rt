@@ -2,9 +2,8 @@
 
 use crate::shown::put_text;
 use crate::written::{count, place};
-use phone_runs::byte_streams::{Failed, ListSink};
-use phone_runs::script_form::{Note, TraceLine, write_note, write_trace};
-use phone_runs::uicc_types::{Answer, StatusWord};
+use phone_runs::{Answer, Failed, ListSink, StatusWord};
+use script_form::{Note, TraceLine, write_note, write_trace};
 use std::alloc::Global;
 use unit_tables::{Failure, byte_list, double_byte, small_number};
 

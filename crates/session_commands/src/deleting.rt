@@ -16,18 +16,15 @@ ghost use Rattle.session_commands.specs.Carrying.{CarriesOut};
 
 use crate::forms::status_of;
 use crate::shelves::{put_back, take_out};
-use file_model::Verified;
-use file_model::apdu_form::Command;
-use file_model::card_layout::sizes::ROW_COUNT;
-use file_model::card_layout::{Loaded, states_are_of_entries};
-use file_model::store_form::{Store, StoreFault};
-use file_model::uicc_types::{Answer, Shelf, StatusWord};
-use proactive_handler::applet_registry::{Index, commits_are_those_of_sessions};
-use proactive_handler::card_memory::{remove_row, tables_tell_states};
-use proactive_handler::toolkit_session::Session;
-use proactive_handler::{drive, rows_are_listed, sessions_are_served};
-use toolkit_model::applet_trait::Applet;
-use toolkit_model::sessions_stay_in_order;
+use applet_registry::{Index, commits_are_those_of_sessions};
+use file_model::sizes::ROW_COUNT;
+use file_model::{
+    Answer, Command, Loaded, Shelf, StatusWord, Store, StoreFault, Verified, states_are_of_entries,
+};
+use proactive_handler::{
+    Session, drive, remove_row, rows_are_listed, sessions_are_served, tables_tell_states,
+};
+use toolkit_model::{Applet, sessions_stay_in_order};
 
 // P1 is 00, and P2 a shelf.
 fn names_shelf(command: &Command<'_>) -> bool
@@ -58,7 +55,7 @@ fn try_delete(
         return Err(StatusWord::SECURITY_NOT_SATISFIED);
     }
     let shelf = Shelf(command.p2);
-    match proactive_handler::applet_registry::delete(loaded, shelf, session.idle(shelf)) {
+    match applet_registry::delete(loaded, shelf, session.idle(shelf)) {
         Ok(()) => Ok(()),
         Err(fault) => Err(status_of(fault)),
     }

@@ -18,17 +18,10 @@ ghost use Rattle.session_commands.specs.Triggers.{IsTriggerOf};
 use crate::forms::try_envelope;
 use crate::telling::tell;
 use crate::triggers::{Trigger, is_busy, is_call, trigger_of};
-use file_model::apdu_form::Command;
-use file_model::card_layout::Loaded;
-use file_model::store_form::{Store, StoreFault};
-use file_model::uicc_types::{Answer, AnswerData, Full, StatusWord};
-use proactive_handler::applet_registry::Index;
-use proactive_handler::card_memory::tables_tell_states;
-use proactive_handler::sessions_are_served;
-use proactive_handler::toolkit_session::Session;
-use toolkit_model::applet_trait::Applet;
-use toolkit_model::sessions_stay_in_order;
-use toolkit_model::toolkit_commands::EnvelopeRef;
+use applet_registry::Index;
+use file_model::{Answer, AnswerData, Command, Full, Loaded, StatusWord, Store, StoreFault};
+use proactive_handler::{Session, sessions_are_served, tables_tell_states};
+use toolkit_model::{Applet, EnvelopeRef, sessions_stay_in_order};
 
 // User activity and the idle screen are reported once.
 fn note_reported(session: &mut Session, envelope: &EnvelopeRef<'_>)

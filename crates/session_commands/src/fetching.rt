@@ -8,14 +8,10 @@ ghost use Rattle.file_model.specs.card_layout.Memory.{memory};
 ghost use Rattle.session_commands.specs.Carrying.{CarriesOut};
 
 use crate::forms::try_fetch;
-use file_model::apdu_form::Command;
-use file_model::card_layout::Loaded;
-use file_model::store_form::{Store, StoreFault};
-use file_model::uicc_types::{Answer, StatusWord};
-use proactive_handler::applet_registry::Index;
-use proactive_handler::toolkit_session::Session;
-use toolkit_model::applet_trait::Applet;
-use toolkit_model::sessions_stay_in_order;
+use applet_registry::Index;
+use file_model::{Answer, Command, Loaded, StatusWord, Store, StoreFault};
+use proactive_handler::Session;
+use toolkit_model::{Applet, sessions_stay_in_order};
 
 /// FETCH (ETSI TS 102 221, 11.2.3): answers the bytes of the outstanding command, all of them, and marks it fetched. Nothing but the
 /// session is touched.

@@ -5,11 +5,9 @@ ghost use Rattle.toolkit_model.specs.toolkit_commands.Reports.{reported, bytes_i
 ghost use Rattle.card_model.specs.Toolkit.{row_status};
 ghost use Rattle.session_commands.specs.Trying.{seen, data_tried, fetch_tried, response_given, response_tried, envelope_given, envelope_tried};
 
-use file_model::apdu_form::Command;
-use file_model::uicc_types::StatusWord;
-use file_model::{has_data, has_le_alone, has_no_parameters};
-use proactive_handler::applet_registry::RowFault;
-use toolkit_model::toolkit_commands::{
+use applet_registry::RowFault;
+use file_model::{Command, StatusWord, has_data, has_le_alone, has_no_parameters};
+use toolkit_model::{
     Details, EnvelopeRef, ResponseRef, read_envelope_in_place, read_response_in_place,
 };
 

@@ -19,21 +19,19 @@ ghost use Rattle.session_commands.specs.Bounds.{IsBetweenCommands, EndsToolkitWe
 
 use crate::forms::status_of;
 use crate::shelves::{kind_on, wake};
-use file_model::Verified;
-use file_model::apdu_form::Command;
-use file_model::card_layout::sizes::ROW_COUNT;
-use file_model::card_layout::{Loaded, Row, states_are_of_entries};
-use file_model::store_form::{Store, StoreFault};
-use file_model::uicc_types::{Answer, Shelf, StatusWord};
-use proactive_handler::applet_registry::{
-    Index, commits_are_those_of_sessions, installations_are_followed,
+use applet_registry::{Index, commits_are_those_of_sessions, installations_are_followed};
+use file_model::sizes::ROW_COUNT;
+use file_model::{
+    Answer, Command, Loaded, Row, Shelf, StatusWord, Store, StoreFault, Verified,
+    states_are_of_entries,
 };
-use proactive_handler::card_memory::{install_row, tables_tell_states};
-use proactive_handler::layout_standing::standing_is_sound;
-use proactive_handler::toolkit_session::Session;
-use proactive_handler::{drive, rows_are_listed, sessions_are_served};
-use toolkit_model::applet_trait::Applet;
-use toolkit_model::{installations_are_accepted, installed_rows_are_sound, sessions_stay_in_order};
+use proactive_handler::{
+    Session, drive, install_row, rows_are_listed, sessions_are_served, standing_is_sound,
+    tables_tell_states,
+};
+use toolkit_model::{
+    Applet, installations_are_accepted, installed_rows_are_sound, sessions_stay_in_order,
+};
 
 // P1 is a priority, and P2 a shelf.
 fn names_place(command: &Command<'_>) -> bool
@@ -71,7 +69,7 @@ fn try_install<B: Applet>(
         return Err(StatusWord::SECURITY_NOT_SATISFIED);
     }
     let shelf = Shelf(command.p2);
-    match proactive_handler::applet_registry::install(
+    match applet_registry::install(
         loaded,
         kind_on(cast, shelf),
         shelf,

@@ -17,17 +17,11 @@ ghost use Rattle.session_commands.specs.Carrying.{CarriesOut, ToolkitComesTo};
 use crate::forms::try_data;
 use crate::telling::tell;
 use crate::triggers::targets_of;
-use file_model::apdu_form::Command;
-use file_model::card_layout::Loaded;
-use file_model::store_form::{Store, StoreFault};
-use file_model::uicc_types::events::{PROFILE_DOWNLOAD, STATUS_COMMAND};
-use file_model::uicc_types::{Answer, StatusWord};
-use proactive_handler::applet_registry::Index;
-use proactive_handler::card_memory::tables_tell_states;
-use proactive_handler::sessions_are_served;
-use proactive_handler::toolkit_session::Session;
-use toolkit_model::applet_trait::Applet;
-use toolkit_model::sessions_stay_in_order;
+use applet_registry::Index;
+use file_model::{Answer, Command, Loaded, StatusWord, Store, StoreFault};
+use proactive_handler::{Session, sessions_are_served, tables_tell_states};
+use toolkit_model::events::{PROFILE_DOWNLOAD, STATUS_COMMAND};
+use toolkit_model::{Applet, sessions_stay_in_order};
 
 // The handset has this profile, of which the applets are told that are registered for it.
 fn profile<S: Store, B: Applet>(

@@ -11,16 +11,10 @@ ghost use Rattle.session_commands.specs.Bounds.{IsBetweenCommands, EndsToolkitWe
 ghost use Rattle.session_commands.specs.Carrying.{CarriesOut};
 
 use crate::forms::try_response;
-use file_model::apdu_form::Command;
-use file_model::card_layout::Loaded;
-use file_model::store_form::{Store, StoreFault};
-use file_model::uicc_types::{Answer, StatusWord};
-use proactive_handler::applet_registry::Index;
-use proactive_handler::card_memory::tables_tell_states;
-use proactive_handler::toolkit_session::Session;
-use proactive_handler::{respond, sessions_are_served};
-use toolkit_model::applet_trait::Applet;
-use toolkit_model::sessions_stay_in_order;
+use applet_registry::Index;
+use file_model::{Answer, Command, Loaded, StatusWord, Store, StoreFault};
+use proactive_handler::{Session, respond, sessions_are_served, tables_tell_states};
+use toolkit_model::{Applet, sessions_stay_in_order};
 
 /// TERMINAL RESPONSE (ETSI TS 102 221, 11.2.4): the handset answers the command that it fetched. The applet that sent that goes on
 /// with the response; then the command ends as each that moves the toolkit.

@@ -5,8 +5,8 @@ ghost use Rattle.toolkit_model.specs.Installing.{kind_on};
 ghost use Rattle.toolkit_model.specs.Running.{mind_on, with_mind};
 ghost use Rattle.proactive_handler.specs.Boxes.{IsSameBox};
 
-use file_model::uicc_types::{Kept, Shelf};
-use toolkit_model::applet_trait::Applet;
+use file_model::{Kept, Shelf};
+use toolkit_model::Applet;
 
 /// The kind of the applet in the box on a shelf, if there is one.
 pub(crate) fn kind_on<B: Applet>(cast: &[Option<B>], shelf: Shelf) -> Option<u8>

@@ -11,12 +11,10 @@ ghost use Rattle.proactive_handler.specs.Steps.{toolkit, scene, Moves};
 ghost use Rattle.file_model.specs.card_layout.Memory.{memory};
 ghost use Rattle.proactive_handler.specs.Scenes.{IsInService, KeepsScene};
 
-use file_model::card_layout::Loaded;
-use file_model::store_form::{Store, StoreFault};
-use proactive_handler::applet_registry::{Index, Shelves};
-use proactive_handler::toolkit_session::Session;
-use proactive_handler::{drive, trigger};
-use toolkit_model::applet_trait::Applet;
+use applet_registry::{Index, Shelves};
+use file_model::{Loaded, Store, StoreFault};
+use proactive_handler::{Session, drive, trigger};
+use toolkit_model::Applet;
 
 /// An event for the applets on these shelves, as by `trigger`, and then the end of the command, as by `drive`.
 pub(crate) fn tell<S: Store, B: Applet>(

@@ -12,13 +12,12 @@ ghost use Rattle.toolkit_model.specs.Steps.{AreRows};
 ghost use Rattle.session_commands.specs.Trying.{is_busy_with, has_item_on};
 ghost use Rattle.session_commands.specs.Triggers.{IsTriggerOf};
 
-use file_model::card_layout::{Loaded, states_are_of_entries};
-use file_model::uicc_types::Shelf;
-use file_model::uicc_types::events::{CALL_CONTROL, MENU_SELECTION, TIMER_EXPIRATION};
-use proactive_handler::applet_registry::{Index, Shelves};
-use proactive_handler::toolkit_session::Session;
+use applet_registry::{Index, Shelves};
+use file_model::{Loaded, Shelf, states_are_of_entries};
+use proactive_handler::Session;
 use std::slice::from_ref;
-use toolkit_model::toolkit_commands::EnvelopeRef;
+use toolkit_model::EnvelopeRef;
+use toolkit_model::events::{CALL_CONTROL, MENU_SELECTION, TIMER_EXPIRATION};
 
 /// The shelves of the applets that an event triggers, its code, and what is told of it, where it stands.
 #[derive(Drop)]

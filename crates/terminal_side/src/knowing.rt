@@ -5,14 +5,12 @@ ghost use Rattle.handset_model.specs.Legal.{IsBounded};
 ghost use Rattle.terminal_side.specs.Kept.{timers_after, timers_by, with_found, with_line, with_reset, with_sent, with_status};
 
 use crate::timers::{seconds_of, set_timer};
-use handset_model::script_form::HandsetLine;
 use handset_model::{
-    Command, Held, Known, LastSent, Listed, MOST_COMMANDS, Place, Report, Running,
+    Command, HandsetLine, Held, Known, LastSent, Listed, MOST_COMMANDS, Place, Report, Running,
 };
+use toolkit_commands::events::{IDLE_SCREEN, LOCATION_STATUS, USER_ACTIVITY};
 use toolkit_commands::qualifiers::{CARD_RESET, DEACTIVATE, START};
-use toolkit_commands::uicc_types::events::{IDLE_SCREEN, LOCATION_STATUS, USER_ACTIVITY};
-use toolkit_commands::uicc_types::{Answer, StatusWord};
-use toolkit_commands::{Items, Proactive};
+use toolkit_commands::{Answer, Items, Proactive, StatusWord};
 
 /// The card listed no events.
 pub const NONE_LISTED: Listed = Listed {

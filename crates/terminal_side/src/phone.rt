@@ -16,12 +16,12 @@ use crate::reactions::said_at;
 use crate::sessions::{after_call, carried_out, followed, noted, refused};
 use crate::spelling::{spell_command, spell_fetch, spell_result, spell_status};
 use crate::stages::Stage;
-use handset_model::script_form::{HandsetLine, Note};
-use handset_model::{Command, Duty, Held, Known, LastSent};
+use handset_model::{Command, Duty, HandsetLine, Held, Known, LastSent, Note};
 use std::marker::Model;
 use std::mem;
-use toolkit_commands::uicc_types::{Answer, ApduBytes, Full, Octets, StatusWord};
-use toolkit_commands::{Details, Items, Proactive, read_command};
+use toolkit_commands::{
+    Answer, ApduBytes, Details, Full, Items, Octets, Proactive, StatusWord, read_command,
+};
 
 /// The details of a command that wasn't read yet.
 const NO_DETAILS: Details = Details {

@@ -10,11 +10,9 @@ ghost use Rattle.terminal_side.specs.Stages.{Asks};
 
 use crate::sessions::{reset_card, respond, respond_with, settled, tell};
 use crate::stages::Stage;
-use handset_model::script_form::HandsetLine;
-use handset_model::{Digits, Duty, Held, Known, Place, Reply, Report, Typed};
+use handset_model::{Digits, Duty, HandsetLine, Held, Known, Place, Reply, Report, Typed};
 use toolkit_commands::results::{BACKWARD_MOVE, NO_RESPONSE, PERFORMED, SESSION_ENDED};
-use toolkit_commands::uicc_types::Octets;
-use toolkit_commands::{Items, Proactive};
+use toolkit_commands::{Items, Octets, Proactive};
 
 /// The held text was read.
 fn confirm(held: &Held) -> Stage

@@ -11,14 +11,12 @@ ghost use Rattle.terminal_side.specs.Stages.{Asks, asked_at};
 use crate::knowing::announced_by;
 use crate::stages::Stage;
 use crate::timers::{soonest, time_of, timer_in};
-use handset_model::script_form::Note;
-use handset_model::{Command, Due, Duty, Held, Known, Place, Reply, Report, Running};
+use handset_model::{Command, Due, Duty, Held, Known, Note, Place, Reply, Report, Running};
 use toolkit_commands::qualifiers::{CARD_RESET, LOCATION, START};
 use toolkit_commands::results::{
     BEYOND_CAPABILITIES, DATA_NOT_UNDERSTOOD, PERFORMED, TYPE_NOT_UNDERSTOOD, VALUES_MISSING,
 };
-use toolkit_commands::uicc_types::Answer;
-use toolkit_commands::{Items, Proactive, ProactiveFault, found_details};
+use toolkit_commands::{Answer, Items, Proactive, ProactiveFault, found_details};
 
 pub fn tell(report: Report, duty: &mut Duty) -> Stage
     ensures { Asks result duty.new (tell report) }

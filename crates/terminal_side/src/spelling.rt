@@ -10,6 +10,7 @@ ghost use Rattle.handset_model.specs.declared.commands.Report.TheVariants.{CallC
 use comprehension_tlv::TlvWriter;
 use handset_model::{Command, Digits, Place, Reply, Report};
 use toolkit_commands::devices::{CARD, DISPLAY, KEYPAD, TERMINAL};
+use toolkit_commands::events::{IDLE_SCREEN, LOCATION_STATUS as LOCATION_EVENT, USER_ACTIVITY};
 use toolkit_commands::qualifiers::{EIGHT_BITS, IN_SECONDS};
 use toolkit_commands::results::{AGAINST_TIMER_STATE, PERFORMED, UNABLE_TO_PROCESS};
 use toolkit_commands::tags::{
@@ -17,11 +18,7 @@ use toolkit_commands::tags::{
     ITEM_IDENTIFIER, LOCATION_INFORMATION, MENU_SELECTION, RESULT, TEXT_STRING, TIMER_EXPIRATION,
     TIMER_IDENTIFIER, TIMER_VALUE,
 };
-use toolkit_commands::uicc_types::events::{
-    IDLE_SCREEN, LOCATION_STATUS as LOCATION_EVENT, USER_ACTIVITY,
-};
-use toolkit_commands::uicc_types::{ApduBytes, Full, Octets};
-use toolkit_commands::{Details, TimeValue};
+use toolkit_commands::{ApduBytes, Details, Full, Octets, TimeValue};
 
 /// Adds an object of less than 128 bytes, with the comprehension flag.
 #[tactic(auto, using(toolkit_commands::proofs::Sizes::short_tagged))]

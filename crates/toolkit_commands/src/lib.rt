@@ -1,7 +1,7 @@
 //! The vocabulary of the card toolkit (ETSI TS 102 223): proactive commands, terminal responses and envelopes, each
 //! with the one spelling that is written and the reader that takes any.
 //!
-//! It passes on the crates whose words it speaks, so that who stands on it need not list them.
+//! It passes on the words of other crates that it speaks in, so that who stands on it need not list those crates.
 #![tactic(auto)]
 
 mod choices;
@@ -23,7 +23,7 @@ pub mod tones;
 mod values;
 
 pub use commands::{Details, Proactive, TimeValue};
-pub use comprehension_tlv;
+pub use comprehension_tlv::{TlvWriter, exact_reading, find, read_template};
 pub use envelopes::{BadEnvelope, Envelope, EnvelopeRef, read_envelope, read_envelope_in_place};
 pub use faults::ProactiveFault;
 pub use items::{Item, Items};
@@ -34,4 +34,6 @@ pub use numbering::renumber;
 pub use reading::{found_details, read_command, read_proactive};
 pub use responses::{Mismatch, Response, ResponseRef, read_response, read_response_in_place};
 pub use spelling::{TooLong, details_of, spell};
-pub use uicc_types;
+pub use uicc_types::{
+    Answer, ApduBytes, ByteList, Full, Kept, Octets, OutOfMemory, Shelf, StatusWord, events,
+};

@@ -2,11 +2,11 @@
 ghost use Rattle.std.specs.Prelude.{◌≡◌};
 ghost use Rattle.toolkit_model.specs.Profiles.{place_of_command, place_of_event};
 
-use card_layout::uicc_types::events::{
+use toolkit_commands::Proactive;
+use toolkit_commands::events::{
     CALL_CONNECTED, CALL_DISCONNECTED, CHANNEL_STATUS, DATA_AVAILABLE, IDLE_SCREEN,
     LANGUAGE_SELECTION, LOCATION_STATUS, MT_CALL, USER_ACTIVITY,
 };
-use toolkit_commands::Proactive;
 use toolkit_commands::qualifiers::GET_VALUE;
 
 /// A bit of a profile: its byte, and its place in that byte, each counted from 1 as in the standard.

@@ -2,7 +2,7 @@
 ghost use Rattle.std.specs.Prelude.{◌≡◌, ◌↔◌, None, IsNone, IfSome, map, replicate, length, position, is_none};
 ghost use Rattle.toolkit_model.specs.Timers.{owner_of, smallest_free, IsSmallestFree, IsAllHeld, given_to, freed, without};
 
-use card_layout::uicc_types::Shelf;
+use card_layout::Shelf;
 use std::marker::Model;
 
 /// Who holds each of the timers 1 to 8 (ETSI TS 102 223, 8.37).

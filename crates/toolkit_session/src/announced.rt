@@ -4,8 +4,7 @@ ghost use Rattle.toolkit_model.specs.Sessions.{nothing_announced};
 ghost use Rattle.toolkit_model.specs.Driving.{announcing};
 
 use std::marker::Model;
-use toolkit_model::toolkit_commands::{Items, Proactive};
-use toolkit_model::uicc_types::{Full, Octets};
+use toolkit_model::{Full, Items, Octets, Proactive};
 
 /// The events that the handset is to report, the items of the menu, and whether it is to ask for commands by itself.
 #[derive(Drop)]

@@ -8,8 +8,9 @@ ghost use Rattle.kept_triggers.specs.Commands.{command_of};
 ghost use Rattle.toolkit_session.specs.Spelled.{IsSpelled, shelf_of};
 
 use std::marker::Model;
-use toolkit_model::toolkit_commands::{Details, Proactive, details_of, spell};
-use toolkit_model::uicc_types::{Answer, Full, Octets, Shelf, StatusWord};
+use toolkit_model::{
+    Answer, Details, Full, Octets, Proactive, Shelf, StatusWord, details_of, spell,
+};
 
 /// A command that the handset was told of and has not answered yet. It is kept as it is spelled, with its details.
 #[derive(Drop)]

@@ -9,8 +9,7 @@ ghost use Rattle.toolkit_session.specs.Spelled.{shelf_of};
 use crate::Session;
 use crate::outstanding::Outstanding;
 use kept_triggers::Waiting;
-use toolkit_model::toolkit_commands::Proactive;
-use toolkit_model::uicc_types::{Octets, Shelf};
+use toolkit_model::{Octets, Proactive, Shelf};
 
 /// The number after the one of the latest command: 1 first, and again after 254.
 fn next_number(number: u8) -> u8

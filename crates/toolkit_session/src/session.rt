@@ -15,10 +15,8 @@ use crate::outstanding::Outstanding;
 use frame_store::FrameStore;
 use kept_triggers::{Late, Waiting};
 use std::marker::Model;
-use toolkit_model::toolkit_commands::Details;
-use toolkit_model::uicc_types::events::{IDLE_SCREEN, USER_ACTIVITY};
-use toolkit_model::uicc_types::{Answer, Shelf, StatusWord};
-use toolkit_model::{Profile, Timers};
+use toolkit_model::events::{IDLE_SCREEN, USER_ACTIVITY};
+use toolkit_model::{Answer, Details, Profile, Shelf, StatusWord, Timers};
 
 /// What a card knows of its toolkit between two commands, and loses at a reset (ETSI TS 102 223, 6 and 7).
 #[derive(Drop)]

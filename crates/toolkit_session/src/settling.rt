@@ -9,9 +9,7 @@ ghost use Rattle.applet_registry.specs.Indexes.{StandsFor};
 use crate::Session;
 use crate::wanting::{is_all_known, wanted};
 use applet_registry::Index;
-use toolkit_model::card_layout::Loaded;
-use toolkit_model::card_layout::sizes::MENU_LIMIT;
-use toolkit_model::toolkit_commands::Proactive;
+use toolkit_model::{Loaded, MENU_LIMIT, Proactive};
 
 impl Session {
     /// The first command that the card itself has to send, once there is a profile.

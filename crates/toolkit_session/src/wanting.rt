@@ -9,15 +9,13 @@ ghost use Rattle.toolkit_session.specs.Events.{is_heard, is_asked_for, events_in
 
 use crate::announced::Announced;
 use applet_registry::{Index, is_menu, menu};
-use toolkit_model::Profile;
-use toolkit_model::card_layout::Loaded;
-use toolkit_model::card_layout::sizes::MENU_LIMIT;
-use toolkit_model::toolkit_commands::{Proactive, lengths_of_commands};
-use toolkit_model::uicc_types::events::{
+use toolkit_model::events::{
     CALL_CONNECTED, CALL_DISCONNECTED, CHANNEL_STATUS, DATA_AVAILABLE, IDLE_SCREEN,
     LANGUAGE_SELECTION, LOCATION_STATUS, MT_CALL, STATUS_COMMAND, USER_ACTIVITY,
 };
-use toolkit_model::uicc_types::{ByteList, Full, Octets, ShortText};
+use toolkit_model::{
+    ByteList, Full, Loaded, MENU_LIMIT, Octets, Proactive, Profile, ShortText, lengths_of_commands,
+};
 
 /// The events that a handset can report (ETSI TS 102 223, 8.25), ascending.
 const DOWNLOAD_CODES: [u8; 9] = [

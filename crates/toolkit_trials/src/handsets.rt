@@ -3,11 +3,11 @@ ghost use Rattle.std.specs.Prelude.{◌≡◌, IsTrue};
 ghost use Rattle.handset_model.specs.History.{span_of};
 ghost use Rattle.handset_model.specs.Legal.{IsBounded};
 
-use handset_model::script_form::{
+use handset_model::{Answer, ApduBytes, StatusWord};
+use script_form::{
     Failed, HandsetLine, ListSink, Note, ScriptLine, TraceLine, read_line, write_command,
     write_note, write_trace,
 };
-use handset_model::uicc_types::{Answer, ApduBytes, StatusWord};
 use std::alloc::Global;
 use terminal_side::{Next, Phone};
 

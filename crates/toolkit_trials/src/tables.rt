@@ -1,7 +1,7 @@
 //! Tables of cases.
 
 use crate::handsets::Trial;
-use handset_model::script_form::number_of;
+use script_form::number_of;
 use std::alloc::Global;
 use std::{fmt, io};
 

@@ -15,9 +15,7 @@ use std::io::ErrorKind;
 use std::process::ExitCode;
 use std::rt::{Env, Files};
 use std::{env, io};
-use uicc_run::applet_trait::Applet;
-use uicc_run::byte_streams::{InputSource, OutputSink, Sink, Source};
-use uicc_run::{Ending, answer, close};
+use uicc_run::{Applet, Ending, InputSource, OutputSink, Sink, Source, answer, close};
 
 /// The words of the command line could not be had.
 #[derive(Drop)]

@@ -14,15 +14,14 @@ use crate::endings::Ending;
 use crate::images::{image_file, use_of};
 use crate::pages::{Page, page_of, show};
 use crate::running::{close, run};
-use card_core::applet_trait::Applet;
-use card_core::card_layout::places::MEMORY_SIZE;
-use card_steps::byte_streams::{Sink, Source};
+use card_core::{Applet, MEMORY_SIZE};
+use card_steps::{Sink, Source};
 use page_store::DEVICE_SIZE;
 use run_words::{Devices, devices};
 use std::alloc::Global;
 use std::fs::File;
 use std::rt::Files;
-use update_journal::eeprom_model::{BenchEeprom, Eeprom, FileEeprom};
+use update_journal::{BenchEeprom, Eeprom, FileEeprom};
 
 /// Answers `--help` and `--version`, each alone behind the program's name, with their pages, and has all other words run, with the
 /// boxes of the applets on their shelves.

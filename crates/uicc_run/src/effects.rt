@@ -1,9 +1,8 @@
 //! What a line after `start` does.
 ghost use Rattle.uicc_run.specs.Steps.{IsEffect};
 
-use card_steps::Move;
-use card_steps::script_form::ScriptLine;
-use update_journal::uicc_types::Plan;
+use card_steps::{Move, ScriptLine};
+use update_journal::Plan;
 
 /// What a line after `start` is for the card.
 #[derive(Clone, Copy, Debug)]

@@ -3,9 +3,8 @@ ghost use Rattle.std.specs.Prelude.{◌≡◌};
 ghost use Rattle.std.specs.Option.{option_to_list};
 ghost use Rattle.uicc_run.specs.Endings.{line_for, line_of_counts, status_for};
 
-use card_steps::script_form::TraceLine;
-use phone_runs::Counts;
-use phone_runs::card_sections::{PlayEnd, ScriptFault};
+use card_steps::TraceLine;
+use phone_runs::{Counts, PlayEnd, ScriptFault};
 
 /// Why a run ended.
 #[derive(Clone, Copy, Debug, PartialEq, Eq)]

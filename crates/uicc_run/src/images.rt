@@ -3,7 +3,7 @@
 use std::fs::File;
 use std::io::{Error, ErrorKind};
 use std::rt::Files;
-use update_journal::eeprom_model::{Image, open_image};
+use update_journal::{Image, open_image};
 
 /// Whether the card is made anew or is the one that the file holds.
 #[derive(Clone, Copy, Debug, PartialEq, Eq)]

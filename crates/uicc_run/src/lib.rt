@@ -1,7 +1,7 @@
 //! Plays a script of commands, resets and planned faults to a simulated smart card of a mobile telephone (UICC), and writes the
 //! trace of every command and answer.
 //!
-//! It passes on the crates whose words it speaks, so that who stands on it need not list them.
+//! It passes on the words of other crates that it speaks in, so that who stands on it need not list those crates.
 #![tactic(auto)]
 
 mod answering;
@@ -17,16 +17,19 @@ mod running;
 mod terminals;
 
 pub use answering::{answer, device_size};
-pub use card_core;
-pub use card_core::{applet_trait, card_layout, toolkit_commands};
-pub use card_steps;
-pub use card_steps::{byte_streams, script_form, t0_link};
+pub use card_core::{
+    Act, Applet, CardOver, MEMORY_SIZE, OpenFault, Proactive, ROW_COUNT, ResetFault, Stimulus,
+};
+pub use card_steps::{
+    CardEnd, Carrier, Failed, HandsetLine, InputSource, ListSink, Note, OutputSink, ScriptLine,
+    Sink, SliceSource, Source, read_line,
+};
 pub use endings::Ending;
 pub use laws::{served_traces_are_one, traces_are_one};
-pub use phone_runs;
-pub use phone_runs::{handset_model, layout_section, terminal_side};
-pub use run_words;
+pub use phone_runs::{Next, Phone, Section, format};
 pub use run_words::devices;
 pub use running::{close, run};
-pub use update_journal;
-pub use update_journal::{eeprom_model, store_form, uicc_types};
+pub use update_journal::{
+    Answer, ApduBytes, BenchEeprom, CutAt, Eeprom, Journal, Kept, Octets, Plan, StatusWord, Store,
+    SwitchedEeprom, events,
+};

@@ -2,8 +2,7 @@
 ghost use Rattle.std.specs.Prelude.{◌≡◌};
 ghost use Rattle.uicc_run.specs.Listeners.{IsCarrierBy, listener_of};
 
-use card_steps::Carrier;
-use card_steps::t0_link::Link;
+use card_steps::{Carrier, Link};
 use run_words::{Mode, Transport};
 
 /// To whom the lines after `start` go.

@@ -13,19 +13,15 @@ ghost use Rattle.uicc_run.specs.Stores.{content_in, held_in, mark_of, memory_in,
 
 use crate::endings::Ending;
 use crate::running::ending_of;
-use card_core::CardOver;
-use card_core::applet_trait::Applet;
-use card_core::card_model::runs_are_counted;
+use card_core::{Applet, CardOver, runs_are_counted};
 use card_steps::CardEnd;
 use page_store::PageStore;
-use phone_runs::card_sections::{PlayEnd, ScriptFault};
-use phone_runs::layout_section::{Section, format};
-use phone_runs::{Counts, MemoryFailed, count_lines, describe_rows, phone_runs_are_lawful};
+use phone_runs::{
+    Counts, MemoryFailed, PlayEnd, ScriptFault, Section, count_lines, describe_rows, format,
+    phone_runs_are_lawful,
+};
 use std::alloc::Global;
-use update_journal::Journal;
-use update_journal::eeprom_model::Eeprom;
-use update_journal::store_form::Store;
-use update_journal::uicc_types::Plan;
+use update_journal::{Eeprom, Journal, Plan, Store};
 
 /// Makes the card of a long run, and has a handset carry out `count` lines that are made from the number `start`.
 pub fn load<E: Eeprom, B: Applet>(

@@ -4,7 +4,7 @@ ghost use Rattle.card_steps.specs.script_form.Reads.{Reads};
 ghost use Rattle.uicc_run.specs.Pages.{AsksFor, IsPageWord, Shows, page_text};
 ghost use Rattle.update_journal.specs.uicc_types.Counts.{CountsFailure};
 
-use card_steps::byte_streams::{Failed, Sink};
+use card_steps::{Failed, Sink};
 
 /// A page that the program prints in place of a run.
 #[derive(Clone, Copy, Debug, PartialEq, Eq)]

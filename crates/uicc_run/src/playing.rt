@@ -20,17 +20,12 @@ ghost use Rattle.update_journal.specs.uicc_types.Counts.{Meter, raised};
 
 use crate::effects::{Effect, effect_of};
 use crate::listeners::Listener;
-use card_core::applet_trait::Applet;
-use card_core::card_model::{plans_are_set_in_order, runs_are_counted};
-use card_steps::byte_streams::{Failed, Sink, Source};
-use card_steps::script_form::ScriptLine;
-use card_steps::t0_link::Link;
-use card_steps::{CardEnd, Carrier, Move, StepEnd, take_step, take_tpdu};
-use phone_runs::card_sections::{PlayEnd, ScriptReader, read_behind};
-use phone_runs::terminal_side::Phone;
-use phone_runs::{Places, serve_line};
-use update_journal::store_form::Store;
-use update_journal::uicc_types::Answer;
+use card_core::{Applet, plans_are_set_in_order, runs_are_counted};
+use card_steps::{
+    CardEnd, Carrier, Failed, Link, Move, ScriptLine, Sink, Source, StepEnd, take_step, take_tpdu,
+};
+use phone_runs::{Phone, Places, PlayEnd, ScriptReader, read_behind, serve_line};
+use update_journal::{Answer, Store};
 
 /// Carries out the lines after `start` that are left, each as soon as its end was read, and answers why the run ends. A handset does, which
 /// serves the card by the carrier and rests before the first of them, or the card itself.

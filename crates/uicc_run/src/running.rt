@@ -37,23 +37,16 @@ use crate::listeners::{Listener, carrier_by, listener_for};
 use crate::loading::load;
 use crate::playing::play_lines;
 use crate::terminals::serve_channels;
-use card_core::applet_trait::Applet;
-use card_core::card_model::runs_are_counted;
-use card_core::{CardOver, OpenFault};
-use card_steps::byte_streams::{Failed, Sink, Source};
-use card_steps::script_form::write_trace;
-use card_steps::{CardEnd, Carrier};
+use card_core::{Applet, CardOver, OpenFault, runs_are_counted};
+use card_steps::{CardEnd, Carrier, Failed, Sink, Source, write_trace};
 use page_store::PageStore;
-use phone_runs::card_sections::{PlayEnd, ScriptReader, read_section};
-use phone_runs::layout_section::{Section, format};
-use phone_runs::terminal_side::Phone;
-use phone_runs::{Places, end_of, phone_runs_are_lawful, start_phone};
+use phone_runs::{
+    Phone, Places, PlayEnd, ScriptReader, Section, end_of, format, phone_runs_are_lawful,
+    read_section, start_phone,
+};
 use run_words::{Mode, asked_for};
 use std::alloc::Global;
-use update_journal::Journal;
-use update_journal::eeprom_model::Eeprom;
-use update_journal::store_form::{Store, StoreFault};
-use update_journal::uicc_types::Plan;
+use update_journal::{Eeprom, Journal, Plan, Store, StoreFault};
 
 /// Carries out the script under the words of the command line, over a memory that has power, of 71,680 bytes with
 /// `--store pages` and of 65,536 otherwise, with the boxes of the applets on their shelves. It answers the status of the program,

@@ -8,7 +8,7 @@ ghost use Rattle.update_journal.specs.uicc_types.Counts.{CountsFailure};
 
 use crate::endings::Ending;
 use bip_runs::serve;
-use card_steps::byte_streams::{Sink, Source};
+use card_steps::{Sink, Source};
 use std::alloc::Global;
 
 /// Has a new terminal carry out the script, and answers why the run ends.

@@ -6,7 +6,7 @@ use Rattle.toolkit_model.specs.Sessions.{LateTrigger}
 use Rattle.proactive_handler.specs.Boxes.{AreForOthers}
 use Rattle.toolkit_model.specs.applet_trait.Minds.{minds_of}
 use Rattle.proactive_handler.proofs.Joining.{both_done}
-use Rattle.proactive_handler.proofs.Late.{turns_apart}
+use Rattle.proactive_handler.proofs.LateLemmas.{turns_apart}
 use Rattle.proactive_handler.proofs.ScenesLemmas.{scene_then, scene_done, scene_fault}
 use Rattle.proactive_handler.specs.Serving.{triggered_one}
 use Rattle.proactive_handler.specs.Steps.{scene, toolkit}

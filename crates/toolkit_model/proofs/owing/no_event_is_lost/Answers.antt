@@ -1,6 +1,6 @@
 use Rattle.toolkit_model.proofs.Stepping.{HasLaws}
 use Rattle.toolkit_model.proofs.EventLaws.{nothing_lost}
-use Rattle.toolkit_model.proofs.events.no_event_is_lost.Goals as goal
+use Rattle.toolkit_model.proofs.owing.no_event_is_lost.Goals as goal
 
 pub returns : goal.returns
 returns c =
