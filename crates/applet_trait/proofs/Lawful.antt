@@ -7,7 +7,7 @@ use Rattle.applet_trait.specs.declared.stimuli.Stimulus.TheVariants.{Event, Resp
 use Rattle.applet_trait.specs.declared.stimuli.Act.{Act}
 use Rattle.applet_trait.specs.declared.stimuli.Act.TheVariants.{Done, Send, Keep, Register, Deregister, TakeTimer, FreeTimer, Answer}
 use Rattle.applet_trait.specs.Minds.{AppletState, Turn, turn, done, keeping, settled, kept_after}
-use Rattle.applet_trait.specs.Tables.{greeter, menu, clock, five_minutes, expired, watcher, located, barrier, typed, notebook, opened, table, going_on, at_row, acting, Row, show}
+use Rattle.applet_trait.specs.Tables.{greeter, menu, clock, five_minutes, expired, watcher, located, barrier, typed, notebook, opened, table, going_on, at_row, acting, ActionRow, show}
 use Rattle.applet_trait.specs.Turns.{act, by_kind}
 use Rattle.applet_trait.specs.Laws.{IsLawful}
 
@@ -91,7 +91,7 @@ notebook_lawful mind _ none = lawful_done mind none
 acting_lawful : (mind : AppletState) (action argument : ℕ) → mind.asked ≡ None → IsLawful mind.kind mind.kept (acting mind action argument)
 acting_lawful mind action argument none = search (either, lawful_turn, lawful_done) depth 30
 
-at_row_lawful : (mind : AppletState) (code : ℕ) (found : Option (ℕ × Row)) → mind.asked ≡ None → IsLawful mind.kind mind.kept (at_row mind code found)
+at_row_lawful : (mind : AppletState) (code : ℕ) (found : Option (ℕ × ActionRow)) → mind.asked ≡ None → IsLawful mind.kind mind.kept (at_row mind code found)
 at_row_lawful mind code (Some (place, row)) none = acting_lawful (record mind { held = place; code = code }) row.action row.argument none
 at_row_lawful mind code None none = lawful_done mind none
 

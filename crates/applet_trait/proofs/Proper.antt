@@ -5,7 +5,7 @@ use Rattle.applet_trait.specs.declared.stimuli.Stimulus.{Stimulus}
 use Rattle.applet_trait.specs.declared.stimuli.Stimulus.TheVariants.{Event, Response, Went, Refused, Timer}
 use Rattle.applet_trait.specs.declared.stimuli.Act.{Act}
 use Rattle.applet_trait.specs.Minds.{AppletState, Turn, turn, done, settled}
-use Rattle.applet_trait.specs.Tables.{greeter, menu, text_or_tone, clock, five_minutes, expired, watcher, located, barrier, typed, notebook, opened, table, going_on, at_row, acting, Row}
+use Rattle.applet_trait.specs.Tables.{greeter, menu, text_or_tone, clock, five_minutes, expired, watcher, located, barrier, typed, notebook, opened, table, going_on, at_row, acting, ActionRow}
 use Rattle.applet_trait.specs.Turns.{act, by_kind}
 use Rattle.applet_trait.specs.Laws.{IsTimer, GivesTimer, IsProperAct}
 
@@ -93,7 +93,7 @@ notebook_proper mind _ = proper_done mind
 acting_proper : (mind : AppletState) (action argument : ℕ) → IsProperTurn (acting mind action argument)
 acting_proper mind action argument = search (either, plain) depth 30
 
-at_row_proper : (mind : AppletState) (code : ℕ) (found : Option (ℕ × Row)) → IsProperTurn (at_row mind code found)
+at_row_proper : (mind : AppletState) (code : ℕ) (found : Option (ℕ × ActionRow)) → IsProperTurn (at_row mind code found)
 at_row_proper mind code (Some (place, row)) = acting_proper (record mind { held = place; code = code }) row.action row.argument
 at_row_proper mind code None = proper_done mind
 

@@ -142,19 +142,19 @@ notebook mind _ = done mind
 
 -- Kind 7, the table, does what its kept bytes say: rows of an event, an action and its argument.
 
-pub record Row : Type 0 where
+pub record ActionRow : Type 0 where
   pub event : ℕ
   pub action : ℕ
   pub argument : ℕ
 
 -- one or two bytes after the last row are passed over
-abbrev pub rows : List ℕ → List Row
+abbrev pub rows : List ℕ → List ActionRow
 rows (event ∷ action ∷ argument ∷ others) =
     record { event = event; action = action; argument = argument } ∷ rows others
 rows _ = []
 
 -- the first row of the event at this place or after it, with its place
-unfoldable pub row_from : ℕ → ℕ → List Row → Option (ℕ × Row)
+unfoldable pub row_from : ℕ → ℕ → List ActionRow → Option (ℕ × ActionRow)
 row_from from event all =
     find (λ placed. nat_le from placed.0 && (placed.1.event == event)) (enumerate_from 0 all)
 
@@ -172,7 +172,7 @@ acting mind action argument =
     else (if action == TAKE_TIMER then turn mind TakeTimer 1
     else done mind)))))))))
 
-abbrev pub at_row : AppletState → ℕ → Option (ℕ × Row) → Turn
+abbrev pub at_row : AppletState → ℕ → Option (ℕ × ActionRow) → Turn
 at_row mind code None = done mind
 at_row mind code (Some (place, row)) =
     acting (record mind { held = place; code = code }) row.action row.argument

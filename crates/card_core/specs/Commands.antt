@@ -22,10 +22,10 @@ use Rattle.card_model.specs.Instructions.{InstructionRow, instruction_tried, is_
 use Rattle.card_model.specs.States.{CardState}
 use Rattle.card_model.specs.declared.instructions.ToolkitCommand.{ToolkitCommand}
 use Rattle.card_model.specs.declared.instructions.ToolkitCommand.TheVariants.{DeleteApplet}
-use Rattle.card_core.specs.declared.instructions.Row.{Row}
+use Rattle.card_core.specs.declared.instructions.TableRow.{TableRow}
 
 -- a row of the table of instructions as the definitions have it
-abbrev pub row_shown : ℕ → Row → InstructionRow
+abbrev pub row_shown : ℕ → TableRow → InstructionRow
 row_shown ins row = record { class = row.class; ins = ins; instruction = row.instruction; is_basic = row.is_basic }
 
 -- what a command that makes, deletes or resizes a file comes to on its channel, over a state

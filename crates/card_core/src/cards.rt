@@ -3,9 +3,10 @@ ghost use Rattle.std.specs.Prelude.{◌≡◌};
 ghost use Rattle.file_model.specs.uicc_types.Counts.{armed};
 
 use crate::registered::Registered;
+use applet_registry::Index;
 use file_model::{Loaded, Plan, Shelf, Store, Verified};
 use file_tree::Channels;
-use proactive_handler::{Index, Session};
+use proactive_handler::Session;
 use toolkit_model::Applet;
 
 /// A card over a store, with the boxes of its applets on their shelves. It takes no memory once it is opened.

@@ -20,17 +20,17 @@ use file_tree::Channels;
 
 /// A command by its class, without the channel; one that is basic is taken on the basic channel alone.
 #[derive(Clone, Copy, Debug)]
-pub struct Row {
+pub struct TableRow {
     pub class: u8,
     pub instruction: Instruction,
     pub is_basic: bool,
 }
 
 // A command that is taken on each channel.
-const fn each_channel(class: u8, instruction: Instruction) -> Option<Row>
+const fn each_channel(class: u8, instruction: Instruction) -> Option<TableRow>
     ensures { result ≡ Some (record { class = class; instruction = instruction; is_basic = false }) }
 {
-    Some(Row {
+    Some(TableRow {
         class,
         instruction,
         is_basic: false,
@@ -38,23 +38,23 @@ const fn each_channel(class: u8, instruction: Instruction) -> Option<Row>
 }
 
 // A command that is taken on the basic channel alone.
-const fn basic_channel(class: u8, instruction: Instruction) -> Option<Row>
+const fn basic_channel(class: u8, instruction: Instruction) -> Option<TableRow>
     ensures { result ≡ Some (record { class = class; instruction = instruction; is_basic = true }) }
 {
-    Some(Row {
+    Some(TableRow {
         class,
         instruction,
         is_basic: true,
     })
 }
 
-impl Row {
+impl TableRow {
     ghost use Rattle.card_core.specs.Commands.{row_shown};
 
     // The row of an instruction byte in a class (ETSI TS 102 221, 10.1.2), of each command that the card has. It is inlined: a call
     // would hand the row over through memory.
     #[inline(always)]
-    fn of(class: u8, ins: u8) -> Option<Row>
+    fn of(class: u8, ins: u8) -> Option<TableRow>
         ensures shown { option_map (row_shown ins) result ≡ row_of is_known class ins }
     {
         match (class, ins) {
@@ -144,7 +144,7 @@ pub fn instruction_of(channels: &Channels, class: u8, ins: u8) -> Result<Instruc
     // Most commands come so, on the basic channel, which is open: one that has a row is refused for none of the rest.
     if class == 0x00 || class == 0x80 {
         channels.basic_is_open();
-        if let Some(row) = Row::of(class, ins) {
+        if let Some(row) = TableRow::of(class, ins) {
             return Ok(row.instruction);
         }
     }
@@ -172,7 +172,7 @@ fn instruction_tested(channels: &Channels, class: u8, ins: u8) -> Result<Instruc
     if !has_ins(ins) {
         return Err(StatusWord::NO_SUCH_INSTRUCTION);
     }
-    let Some(row) = Row::of(family(class), ins) else {
+    let Some(row) = TableRow::of(family(class), ins) else {
         return Err(StatusWord::NO_SUCH_CLASS);
     };
     if row.is_basic && channel != 0 {

@@ -1,7 +1,7 @@
 //! The card: it is opened over a store, takes commands, answers them and is reset. What it does is what the abstract card does,
 //! whatever power it loses and however its memory fails.
 //!
-//! It passes on the words of other crates that it speaks in, so that who stands on it need not list those crates.
+//! It passes on words of the crates below, for those who stand on it.
 #![tactic(auto)]
 
 mod cards;

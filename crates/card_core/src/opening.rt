@@ -15,11 +15,12 @@ use crate::laws::{tables_have_rows, the_mf_is_there};
 use crate::registered::Registered;
 use crate::resetting::NOTHING_VERIFIED;
 use crate::sessions::fresh_session;
+use applet_registry::Index;
 use card_opening::{OpenFault, start, wake_boxes};
 use file_model::sizes::ROW_COUNT;
 use file_model::{Loaded, Store};
 use file_tree::Channels;
-use proactive_handler::{Index, tables_tell_states};
+use proactive_handler::tables_tell_states;
 use std::alloc::Global;
 use toolkit_model::Applet;
 

@@ -11,10 +11,11 @@ ghost use Rattle.file_model.specs.card_layout.Memory.{Reads, memory};
 use crate::laws::{tables_have_rows, the_mf_is_there};
 use crate::toolkit::drop_leaving;
 use crate::{CardOver, ResetFault};
+use applet_registry::Index;
 use card_model::restarts_are_good;
 use file_model::{Loaded, Shelf, Store, StoreFault, Verified};
 use file_tree::Channels;
-use proactive_handler::{Index, tables_tell_states};
+use proactive_handler::tables_tell_states;
 use toolkit_model::Applet;
 
 /// No key is verified.

@@ -15,9 +15,10 @@ ghost use Rattle.card_core.specs.Serving.{KeepsToolkit};
 
 use crate::keys::keys_seen;
 use crate::laws::keys_are_own;
+use applet_registry::Index;
 use card_model::ToolkitCommand;
 use file_model::{Answer, Command, Loaded, Shelf, StatusWord, Store, StoreFault, Verified};
-use proactive_handler::{Index, Session};
+use proactive_handler::Session;
 use session_commands::{delete, fetch, install, take_envelope, take_profile, take_response};
 use toolkit_model::Applet;
 
@@ -85,7 +86,7 @@ pub(crate) fn leaving(command: ToolkitCommand, apdu: &Command<'_>) -> Option<She
 fn has_row(loaded: &Loaded, shelf: Shelf) -> bool
     ensures { result ≡ is_some (row_on (rows_of loaded.now) shelf.0) }
 {
-    proactive_handler::delete(loaded, shelf, true).is_ok()
+    applet_registry::delete(loaded, shelf, true).is_ok()
 }
 
 // The box on a shelf is dropped, if there is such a shelf.

@@ -1,7 +1,7 @@
 //! How a card lies in the 65,536 bytes of a store: its files, PINs and registered applets, in both versions of the
 //! layout, and the writes that change one entry of it.
 //!
-//! It passes on the words of other crates that it speaks in, so that who stands on it need not list those crates.
+//! It passes on words of the crates below, for those who stand on it.
 #![tactic(auto)]
 
 mod entries;

@@ -2,7 +2,7 @@
 //! after a fault for that or for the state before. For files that come or grow, free bytes are prepared first, which commits
 //! nothing. Of the crates above, those that make, delete and resize files alone name places in the memory.
 //!
-//! It passes on the words of other crates that it speaks in, so that who stands on it need not list those crates.
+//! It passes on words of the crates below, for those who stand on it.
 #![tactic(auto)]
 
 mod commits;

@@ -1,7 +1,7 @@
 //! The abstract card: its state, its one list of instructions, what it answers to a command, and how it moves in a run of
 //! commands, resets, losses of power and memory failures. Definitions, and laws that hold of them.
 //!
-//! It passes on the words of other crates that it speaks in, so that who stands on it need not list those crates.
+//! It passes on words of the crates below, for those who stand on it.
 #![tactic(auto)]
 
 mod instructions;

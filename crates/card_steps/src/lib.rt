@@ -1,7 +1,7 @@
 //! A run, step by step: what is done to a card over any store, by itself or over a T=0 link, and what the trace shows of it; and
 //! that the link changes no answer and no step of a run.
 //!
-//! It passes on the words of other crates that it speaks in, so that who stands on it need not list those crates.
+//! It passes on words of the crates below, for those who stand on it.
 #![tactic(auto)]
 
 mod carriers;

@@ -2,7 +2,7 @@
 //! command does, and what it is refused for; and what the access rules in a record of an EF_ARR allow (9.2.4; ISO 7816-4, 5.4.3).
 //! Definitions, laws that hold of them, and the test of a rule.
 //!
-//! It passes on the words of other crates that it speaks in, so that who stands on it need not list those crates.
+//! It passes on words of the crates below, for those who stand on it.
 #![tactic(auto)]
 
 mod commands;

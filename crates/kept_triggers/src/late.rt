@@ -10,7 +10,7 @@ use toolkit_commands::{ByteList, Full, Octets, Shelf};
 
 /// An event for the applet of a shelf: its code, and its body.
 #[derive(Debug, Drop)]
-pub struct Trigger {
+pub struct KeptTrigger {
     pub shelf: Shelf,
     pub code: u8,
     pub body: Octets,
@@ -58,12 +58,12 @@ impl Late {
     }
 
     /// The trigger at a place below `len`.
-    pub fn get(&self, at: usize) -> Trigger
+    pub fn get(&self, at: usize) -> KeptTrigger
         requires { at < length self.now }
         ensures { slice_get self.now at ≡ Some (kept result) }
     {
         let frame = self.frames.get(at);
-        Trigger {
+        KeptTrigger {
             shelf: Shelf(frame[0]),
             code: frame[1],
             body: Octets::from_slice(&frame[2..]),
@@ -90,7 +90,7 @@ impl Late {
     }
 
     /// Takes the trigger at a place below `len` out.
-    pub fn take(&mut self, at: usize) -> Trigger
+    pub fn take(&mut self, at: usize) -> KeptTrigger
         requires { at < length self.old }
         ensures value { slice_get self.old at ≡ Some (kept result) }
         ensures others { self.new ≡ remove self.old at }

@@ -5,5 +5,5 @@
 mod late;
 mod waiting;
 
-pub use late::{Late, Trigger};
+pub use late::{KeptTrigger, Late};
 pub use waiting::Waiting;

@@ -18,7 +18,7 @@ pub struct Counts {
 
 /// A line of a table.
 #[derive(Clone, Copy)]
-struct Row<'a> {
+struct TrialRow<'a> {
     command: &'a str,
     rest: &'a str,
     expected: &'a str,
@@ -26,7 +26,7 @@ struct Row<'a> {
 
 /// The row of a line: what it asks for, and behind `=>` what it must come to, which is `ok` where nothing is said. An empty line and
 /// one that begins with `#` have none.
-fn row_of(line: &str) -> Option<Row<'_>> {
+fn row_of(line: &str) -> Option<TrialRow<'_>> {
     let line = line.trim();
     if line.is_empty() || line.starts_with('#') {
         return None;
@@ -39,7 +39,7 @@ fn row_of(line: &str) -> Option<Row<'_>> {
         Some((command, rest)) => (command, rest.trim()),
         None => (asked, ""),
     };
-    Some(Row {
+    Some(TrialRow {
         command,
         rest,
         expected,

@@ -1,7 +1,7 @@
 //! A handset that serves a card: what it sends goes to the card, and what the card answers goes back to it, until it rests; the
 //! lines of a script, carried out so; a long run, whose lines are made from a number; and what is counted in a trace.
 //!
-//! It passes on the words of other crates that it speaks in, so that who stands on it need not list those crates.
+//! It passes on words of the crates below, for those who stand on it.
 #![tactic(auto)]
 
 mod count_laws;
@@ -33,10 +33,6 @@ pub use fetching::{
 };
 pub use fixed_rows::fixed_row;
 pub use handset_laws::handsets_are_served;
-pub use handset_model::{
-    Answer, ByteList, Failed, FileId, Full, InputSource, LineReader, ListSink, NextLine,
-    OutputSink, Sink, SliceSource, Source, StatusWord,
-};
 pub use laws::{phone_runs_are_lawful, phone_runs_are_one};
 pub use layout_section::{Section, format};
 pub use lines::{end_of, serve_line};

@@ -31,7 +31,7 @@ use Rattle.toolkit_model.specs.Passing.{ShelfTurn, Happening, Committed, rows_in
 use Rattle.toolkit_model.specs.Running.{Setting, Works, Carried, Ran, ends, answers, commits, changing, taking, carried, admitted, is_admitted, is_cards_own, is_short, is_within_rights, is_held_by, committed, noted, going_on, logged, carrying, awakened, run_on}
 use Rattle.toolkit_model.specs.Orderly.{CanBeSent}
 use Rattle.toolkit_model.specs.Commands.{answer_in, last_answer}
-use Rattle.proactive_handler.specs.declared.endings.Ending.{Ending}
+use Rattle.proactive_handler.specs.declared.endings.RunEnd.{RunEnd}
 use Rattle.proactive_handler.specs.Acts.{After, Told, Sent, next_of, Stage, works_at, with_these_rows, IsCarriedOut, IsActStopped}
 use Rattle.proactive_handler.specs.Runs.{answer_of, Ended, with_each_rows, StopsAt, IsRun, IsCut, RunsTo}
 use Rattle.proactive_handler.specs.Counting.{Counts}
@@ -349,6 +349,6 @@ woke at stimulus acts old new ending none has same works sent answer =
     }
 
 -- a run that a fault stopped
-pub cut_runs : (ran : Ran) (old new : Stage) (does : Act) (again : Result Ending StoreFault) → IsErr again → IsCut ran old new → RunsTo ran old new does again
+pub cut_runs : (ran : Ran) (old new : Stage) (does : Act) (again : Result RunEnd StoreFault) → IsErr again → IsCut ran old new → RunsTo ran old new does again
 cut_runs ran old new does (Ok ending) err cut = cc err
 cut_runs ran old new does (Err fault) err cut = cut

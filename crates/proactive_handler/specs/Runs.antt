@@ -16,7 +16,7 @@ use Rattle.toolkit_model.specs.Running.{Works, Ran, run_on, most_acts}
 use Rattle.toolkit_model.specs.Commands.{last_answer}
 use Rattle.applet_registry.specs.Indexes.{StandsFor}
 use Rattle.proactive_handler.specs.declared.settings.Setting.{Setting as GivenSetting}
-use Rattle.proactive_handler.specs.declared.endings.Ending.{Ending}
+use Rattle.proactive_handler.specs.declared.endings.RunEnd.{RunEnd}
 use Rattle.proactive_handler.specs.Acts.{setting_of, Stage, works_at, with_these_rows, command_of}
 use Rattle.proactive_handler.specs.Counting.{Counts}
 
@@ -39,7 +39,7 @@ pub record Ended : Type 0 where
   pub answer : Option Bool
 
 -- a command that was sent is that of the last act
-abbrev pub ended_by : Act → Ending → Ended
+abbrev pub ended_by : Act → RunEnd → Ended
 ended_by does ending = record { sent = if ending.is_sent then command_of does else None; answer = ending.answer }
 
 -- The run came to its end: it changed what the definition changes, the store stands for the state with the rows after it, and
@@ -67,12 +67,12 @@ pub record IsCut (ran : Ran) (old new : Stage) : Type 0 where
   pub stops : StopsAt (rows_of old.memory.table ∷ passed_rows ran.log) old.memory new.memory
 
 -- it comes to this run, with this act as the last, or a fault stopped it
-abbrev pub RunsTo : Ran → Stage → Stage → Act → Result Ending StoreFault → Type 0
+abbrev pub RunsTo : Ran → Stage → Stage → Act → Result RunEnd StoreFault → Type 0
 RunsTo ran old new does (Ok ending) = IsRun ran old new (ended_by does ending)
 RunsTo ran old new does (Err fault) = IsCut ran old new
 
 -- the same, of the run over what stands on the stage
-abbrev pub Runs : (Works → Ran) → Stage → Stage → Act → Result Ending StoreFault → Type 0
+abbrev pub Runs : (Works → Ran) → Stage → Stage → Act → Result RunEnd StoreFault → Type 0
 Runs run old new does result = RunsTo (run (works_at old)) old new does result
 
 -- ---- what it needs, and what it keeps

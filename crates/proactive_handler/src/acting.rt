@@ -11,7 +11,7 @@ ghost use Rattle.proactive_handler.specs.Runs.{answer_of, ended_by, run_of, Runs
 ghost use Rattle.card_memory.specs.card_layout.Memory.{memory};
 
 use crate::carrying::carry_out;
-use crate::endings::{Ending, Next};
+use crate::endings::{Next, RunEnd};
 use crate::settings::Setting;
 use applet_registry::Index;
 use card_memory::{Loaded, Shelf, Store, StoreFault, states_are_of_entries, tables_tell_states};
@@ -59,7 +59,7 @@ fn run_on<S: Store, B: Applet>(
     stimulus: &Stimulus,
     does: &mut Act,
     acts: u8,
-) -> Result<Ending, StoreFault>
+) -> Result<RunEnd, StoreFault>
     requires may_run { MayRun (memory S.Store store.old loaded.old) index.old at.now.shelf.0 }
     requires one_of_eight { GivesTimer stimulus.now }
     ensures runs { Runs (run_on acts (setting_of at.now) stimulus.now)
@@ -76,7 +76,7 @@ fn run_on<S: Store, B: Applet>(
     lengths_of_commands();
     if acts == 0 {
         wake(loaded, applet, at.shelf);
-        return Ok(Ending {
+        return Ok(RunEnd {
             is_sent: false,
             answer: None,
         });
@@ -84,11 +84,11 @@ fn run_on<S: Store, B: Applet>(
     applet.step_into(stimulus, does);
     let answer = answer_of(does);
     match carry_out(store, loaded, index, timers, at, does)? {
-        Next::Idle => Ok(Ending {
+        Next::Idle => Ok(RunEnd {
             is_sent: false,
             answer,
         }),
-        Next::Sent => Ok(Ending {
+        Next::Sent => Ok(RunEnd {
             is_sent: sends(does),
             answer,
         }),
@@ -105,7 +105,7 @@ fn run_on<S: Store, B: Applet>(
                 does,
                 acts - 1,
             )?;
-            Ok(Ending {
+            Ok(RunEnd {
                 is_sent: rest.is_sent,
                 answer: rest.answer.or(answer),
             })
@@ -130,7 +130,7 @@ pub fn run_row<S: Store, B: Applet>(
     at: &Setting,
     stimulus: &Stimulus,
     does: &mut Act,
-) -> Result<Ending, StoreFault>
+) -> Result<RunEnd, StoreFault>
     requires may_run { MayRun (memory S.Store store.old loaded.old) index.old at.now.shelf.0 }
     requires one_of_eight { GivesTimer stimulus.now }
     ensures runs { Runs (run_of at.now stimulus.now)

@@ -12,7 +12,7 @@ use crate::laws::rows_are_listed;
 use crate::running::run_alone;
 use applet_registry::Index;
 use card_memory::{Loaded, Store, StoreFault, tables_tell_states};
-use kept_triggers::{Late, Trigger};
+use kept_triggers::{KeptTrigger, Late};
 use toolkit_model::{Applet, Stimulus};
 use toolkit_session::Session;
 
@@ -46,7 +46,7 @@ fn catch_each<S: Store, B: Applet>(
     }
     match session.take_late() {
         Some(trigger) => {
-            let Trigger { shelf, code, body } = trigger;
+            let KeptTrigger { shelf, code, body } = trigger;
             let event = Stimulus::Event { code, body };
             run_alone(store, loaded, index, cast, session, shelf, &event, false)?;
             catch_each(store, loaded, index, cast, session, count - 1)

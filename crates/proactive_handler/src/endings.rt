@@ -40,7 +40,7 @@ pub(crate) enum Next {
 
 /// What a run ended with.
 #[derive(Clone, Copy, Debug)]
-pub struct Ending {
+pub struct RunEnd {
     /// Whether the last act's command goes to the handset: then the applet waits for the answer, and otherwise it is idle.
     pub is_sent: bool,
     /// The last answer to call control that it gave, if it gave one.

@@ -2,7 +2,7 @@
 //! and puts the next command out. One runs act after act over the card's memory, until it is done, sends a command to the handset,
 //! or did 32 of them.
 //!
-//! It passes on the words of other crates that it speaks in, so that who stands on it need not list those crates.
+//! It passes on words of the crates below, for those who stand on it.
 #![tactic(auto)]
 
 mod acting;
@@ -18,10 +18,8 @@ mod running;
 mod settings;
 mod triggering;
 
-pub use applet_registry::{Index, delete};
 pub use card_memory::{
-    cards_are_known, install_row, remove_row, standing_is_sound, standing_keys_are_own,
-    tables_tell_states,
+    cards_are_known, standing_is_sound, standing_keys_are_own, tables_tell_states,
 };
 pub use driving::drive;
 pub use kept_triggers::{Late, Waiting};

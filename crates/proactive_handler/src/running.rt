@@ -19,7 +19,7 @@ ghost use Rattle.proactive_handler.specs.Scenes.{IsInService, KeepsScene};
 ghost use Rattle.proactive_handler.specs.Runs.{ended_by, MayRun, KeepsRows};
 
 use crate::acting::run_row;
-use crate::endings::Ending;
+use crate::endings::RunEnd;
 use crate::settings::Setting;
 use applet_registry::Index;
 use card_memory::{Loaded, Shelf, Store, StoreFault, tables_tell_states};
@@ -49,7 +49,7 @@ fn send_of(session: &mut Session, shelf: Shelf, is_resumed: bool, act: &Act)
 }
 
 // The command that a run ended with goes out or waits, if there is one.
-fn send_last(session: &mut Session, shelf: Shelf, is_resumed: bool, last: &Act, ending: &Ending)
+fn send_last(session: &mut Session, shelf: Shelf, is_resumed: bool, last: &Act, ending: &RunEnd)
     requires sendable { IfSome (ended_by last.now ending.now).sent CanBeSent }
     requires room { is_resumed ≡ false → length session.old.waiting < MOST }
     ensures { session.new ≡ sending shelf.0 is_resumed (ended_by last.now ending.now).sent session.old }

@@ -1,6 +1,6 @@
 //! The text that goes in and out of a run: lines of a script, which are read, and lines of a trace, which are written.
 //!
-//! It passes on the words of other crates that it speaks in, so that who stands on it need not list those crates.
+//! It passes on words of the crates below, for those who stand on it.
 #![tactic(auto)]
 
 mod cursor;
@@ -16,8 +16,7 @@ mod trace;
 mod values;
 
 pub use byte_streams::{
-    Failed, InputSource, LONGEST_LINE, LineReader, ListSink, NextLine, OutputSink, Sink,
-    SliceSource, Source,
+    Failed, InputSource, LineReader, ListSink, NextLine, OutputSink, Sink, SliceSource, Source,
 };
 pub use handset::{HandsetLine, Note};
 pub use lines::{DEEPEST, LineFault, Path, ScriptLine};

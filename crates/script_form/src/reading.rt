@@ -11,7 +11,8 @@ use crate::handset_reading::{network, proactive, time, user};
 use crate::keywords::{Keyword, Structure, keyword_of, structure_of};
 use crate::pins::{key_of, pin_of, switch_of};
 use crate::values::{byte_of, bytes_of, number_of, read_bytes};
-use crate::{LONGEST_LINE, LineFault, Path, ScriptLine};
+use crate::{LineFault, Path, ScriptLine};
+use byte_streams::LONGEST_LINE;
 use uicc_types::{ApduBytes, CutAt, FailAt};
 
 /// The largest number of nine digits.

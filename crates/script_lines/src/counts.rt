@@ -2,7 +2,8 @@
 
 use crate::shown::put_number;
 use crate::written::text_of;
-use phone_runs::{CountingSink, Counts, Sink};
+use phone_runs::{CountingSink, Counts};
+use script_form::Sink;
 use std::alloc::Global;
 use unit_tables::Failure;
 

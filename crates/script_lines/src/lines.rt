@@ -2,8 +2,7 @@
 
 use crate::shown::{put_bytes, put_comma, put_number, put_text};
 use crate::written::text_of;
-use phone_runs::FileId;
-use script_form::{HandsetLine, LineFault, Path, ScriptLine, read_line, read_line_into};
+use script_form::{FileId, HandsetLine, LineFault, Path, ScriptLine, read_line, read_line_into};
 use std::alloc::{AllocError, Global};
 use unit_tables::Failure;
 

@@ -1,7 +1,7 @@
 //! Lists of bytes of a bounded length, and new answers.
 
 use crate::shown::{put_bytes, put_comma};
-use phone_runs::{Answer, ByteList, Full};
+use script_form::{Answer, ByteList, Full};
 use std::alloc::Global;
 use unit_tables::{Failure, bytes};
 

@@ -3,7 +3,8 @@
 use crate::shown::put_number;
 use crate::written::{fails, text_of};
 use boxed_applets::Clock;
-use phone_runs::{ScriptFault, ScriptReader, Section, SliceSource, kind_on, read_section};
+use phone_runs::{ScriptFault, ScriptReader, Section, kind_on, read_section};
+use script_form::SliceSource;
 use std::alloc::Global;
 use unit_tables::{Failure, small_number};
 

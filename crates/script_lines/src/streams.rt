@@ -2,7 +2,7 @@
 
 use crate::shown::{put_comma, put_number, put_text};
 use crate::written::{fails, place, text_of};
-use phone_runs::{
+use script_form::{
     InputSource, LineReader, ListSink, NextLine, OutputSink, Sink, SliceSource, Source,
 };
 use std::alloc::Global;

@@ -2,8 +2,7 @@
 
 use crate::shown::put_text;
 use crate::written::{count, place};
-use phone_runs::{Answer, Failed, ListSink, StatusWord};
-use script_form::{Note, TraceLine, write_note, write_trace};
+use script_form::{Answer, Failed, ListSink, Note, StatusWord, TraceLine, write_note, write_trace};
 use std::alloc::Global;
 use unit_tables::{Failure, byte_list, double_byte, small_number};
 

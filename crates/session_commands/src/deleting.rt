@@ -17,13 +17,12 @@ ghost use Rattle.session_commands.specs.Carrying.{CarriesOut};
 use crate::forms::status_of;
 use crate::shelves::{put_back, take_out};
 use applet_registry::{Index, commits_are_those_of_sessions};
+use card_memory::{remove_row, tables_tell_states};
 use file_model::sizes::ROW_COUNT;
 use file_model::{
     Answer, Command, Loaded, Shelf, StatusWord, Store, StoreFault, Verified, states_are_of_entries,
 };
-use proactive_handler::{
-    Session, drive, remove_row, rows_are_listed, sessions_are_served, tables_tell_states,
-};
+use proactive_handler::{Session, drive, rows_are_listed, sessions_are_served};
 use toolkit_model::{Applet, sessions_stay_in_order};
 
 // P1 is 00, and P2 a shelf.

@@ -19,8 +19,9 @@ use crate::forms::try_envelope;
 use crate::telling::tell;
 use crate::triggers::{Trigger, is_busy, is_call, trigger_of};
 use applet_registry::Index;
+use card_memory::tables_tell_states;
 use file_model::{Answer, AnswerData, Command, Full, Loaded, StatusWord, Store, StoreFault};
-use proactive_handler::{Session, sessions_are_served, tables_tell_states};
+use proactive_handler::{Session, sessions_are_served};
 use toolkit_model::{Applet, EnvelopeRef, sessions_stay_in_order};
 
 // User activity and the idle screen are reported once.

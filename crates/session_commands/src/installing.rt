@@ -20,15 +20,13 @@ ghost use Rattle.session_commands.specs.Bounds.{IsBetweenCommands, EndsToolkitWe
 use crate::forms::status_of;
 use crate::shelves::{kind_on, wake};
 use applet_registry::{Index, commits_are_those_of_sessions, installations_are_followed};
+use card_memory::{install_row, tables_tell_states};
 use file_model::sizes::ROW_COUNT;
 use file_model::{
     Answer, Command, Loaded, Row, Shelf, StatusWord, Store, StoreFault, Verified,
     states_are_of_entries,
 };
-use proactive_handler::{
-    Session, drive, install_row, rows_are_listed, sessions_are_served, standing_is_sound,
-    tables_tell_states,
-};
+use proactive_handler::{Session, drive, rows_are_listed, sessions_are_served, standing_is_sound};
 use toolkit_model::{
     Applet, installations_are_accepted, installed_rows_are_sound, sessions_stay_in_order,
 };

@@ -18,8 +18,9 @@ use crate::forms::try_data;
 use crate::telling::tell;
 use crate::triggers::targets_of;
 use applet_registry::Index;
+use card_memory::tables_tell_states;
 use file_model::{Answer, Command, Loaded, StatusWord, Store, StoreFault};
-use proactive_handler::{Session, sessions_are_served, tables_tell_states};
+use proactive_handler::{Session, sessions_are_served};
 use toolkit_model::events::{PROFILE_DOWNLOAD, STATUS_COMMAND};
 use toolkit_model::{Applet, sessions_stay_in_order};
 

@@ -12,8 +12,9 @@ ghost use Rattle.session_commands.specs.Carrying.{CarriesOut};
 
 use crate::forms::try_response;
 use applet_registry::Index;
+use card_memory::tables_tell_states;
 use file_model::{Answer, Command, Loaded, StatusWord, Store, StoreFault};
-use proactive_handler::{Session, respond, sessions_are_served, tables_tell_states};
+use proactive_handler::{Session, respond, sessions_are_served};
 use toolkit_model::{Applet, sessions_stay_in_order};
 
 /// TERMINAL RESPONSE (ETSI TS 102 221, 11.2.4): the handset answers the command that it fetched. The applet that sent that goes on

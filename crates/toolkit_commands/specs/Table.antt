@@ -13,13 +13,13 @@ use Rattle.toolkit_commands.specs.declared.qualifiers.TheConstants.{NONE, UNTIL_
 use Rattle.toolkit_commands.specs.declared.tags.TheConstants.{PROACTIVE_COMMAND, COMMAND_DETAILS, DEVICE_IDENTITIES, DURATION, ALPHA_IDENTIFIER, TEXT_STRING, TONE, ITEM, RESPONSE_LENGTH, EVENT_LIST, TIMER_IDENTIFIER, TIMER_VALUE}
 
 -- a command's type, its qualifier, the device that it goes to, and its objects
-pub record Row : Type 0 where
+pub record CommandRow : Type 0 where
   pub kind : ℕ
   pub qualifier : ℕ
   pub destination : ℕ
   pub objects : List Object
 
-abbrev pub row : ℕ → ℕ → ℕ → List Object → Row
+abbrev pub row : ℕ → ℕ → ℕ → List Object → CommandRow
 row kind qualifier destination objects =
     record { kind = kind; qualifier = qualifier; destination = destination; objects = objects }
 
@@ -56,7 +56,7 @@ abbrev pub input_qualifier : Bool → ℕ
 input_qualifier true = DIGITS
 input_qualifier false = CHARACTERS
 
-abbrev pub row_of : Proactive → Row
+abbrev pub row_of : Proactive → CommandRow
 row_of (Refresh mode) = row REFRESH mode TERMINAL []
 row_of MoreTime = row MORE_TIME NONE TERMINAL []
 row_of (PollInterval seconds) = row POLL_INTERVAL NONE TERMINAL (required DURATION (IN_SECONDS ∷ seconds ∷ []) ∷ [])

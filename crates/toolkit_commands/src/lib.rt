@@ -1,7 +1,7 @@
 //! The vocabulary of the card toolkit (ETSI TS 102 223): proactive commands, terminal responses and envelopes, each
 //! with the one spelling that is written and the reader that takes any.
 //!
-//! It passes on the words of other crates that it speaks in, so that who stands on it need not list those crates.
+//! It passes on words of the crates below, for those who stand on it.
 #![tactic(auto)]
 
 mod choices;

@@ -2,7 +2,7 @@
 //! of itself (ETSI TS 102 223, 5.2); who holds each of the eight timers; and what holds of the toolkit over whole runs of commands,
 //! by functions that do nothing: each carries a statement, which a caller has by calling it.
 //!
-//! It passes on the words of other crates that it speaks in, so that who stands on it need not list those crates.
+//! It passes on words of the crates below, for those who stand on it.
 #![tactic(auto)]
 
 mod answering;

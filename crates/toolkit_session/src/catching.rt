@@ -5,7 +5,7 @@ ghost use Rattle.toolkit_model.specs.Driving.{first_idle};
 ghost use Rattle.toolkit_session.specs.Catching.{StandsFirst, Catches};
 
 use crate::Session;
-use kept_triggers::Trigger;
+use kept_triggers::KeptTrigger;
 
 impl Session {
     /// The place of the first late trigger whose applet waits for no answer.
@@ -21,7 +21,7 @@ impl Session {
     }
 
     /// Takes out the first late trigger whose applet waits for no answer. `None`, and no change, where there is none.
-    pub fn take_late(&mut self) -> Option<Trigger>
+    pub fn take_late(&mut self) -> Option<KeptTrigger>
         ensures { Catches self.old self.new result }
     {
         match self.first_idle() {

@@ -7,7 +7,7 @@ ghost use Rattle.boxed_applets.specs.Casts.{program_boxes};
 ghost use Rattle.uicc_run.specs.card_layout.declared.sizes.TheConstants.{ROW_COUNT};
 ghost use Rattle.uicc_run.specs.Answering.{HasLoadedOnBench, HasRunOnBench, HasServed, KeepsToScripts, NameNoImage};
 ghost use Rattle.uicc_run.specs.Pages.{AsksForNone, words_of};
-ghost use Rattle.uicc_run.specs.Scenes.{outside};
+ghost use Rattle.uicc_run.specs.Worlds.{outside};
 
 use boxed_applets::{ProgramApplet, make_applets};
 use std::fs::File;

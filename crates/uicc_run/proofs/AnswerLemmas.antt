@@ -16,7 +16,7 @@ use Rattle.uicc_run.specs.Headline.{Closes, Comes, Traces}
 use Rattle.uicc_run.specs.Loading.{LoadsFrom, TracesLoad}
 use Rattle.uicc_run.specs.Opening.{IsAskedFor}
 use Rattle.uicc_run.specs.Playing.{Given}
-use Rattle.uicc_run.specs.Scenes.{Scene, Seen, left_in, seen}
+use Rattle.uicc_run.specs.Worlds.{World, Seen, left_in, seen}
 use Rattle.uicc_run.specs.Scripts.{IsUndisturbed}
 use Rattle.uicc_run.specs.Stores.{IsSizeFor, size_of}
 use Rattle.uicc_run.specs.declared.endings.Ending.{Ending}
@@ -25,7 +25,7 @@ use Rattle.update_journal.specs.uicc_types.Counts.{Meter, Rose}
 
 -- ---- a run of which the device is let go
 
-module _ {MemoryIsSame BoxesAreSame : Type 0} (given : Given) (status : ℕ) (before after : Scene) where
+module _ {MemoryIsSame BoxesAreSame : Type 0} (given : Given) (status : ℕ) (before after : World) where
   pub gone : (words : List (List ℕ)) → before.meter ≡ given.meter → Traces given after.left (left_in given.pages after) status (IsCaused given words before after MemoryIsSame BoxesAreSame)
       → Traces given after.left (left_in given.pages after) status (IsSeenCause words (seen status before after) given.meter after.meter)
   gone words was traces = record {
@@ -163,7 +163,7 @@ module _ (seen : Seen) (before : Option (List ℕ)) where
       (record { usage = λ is. none; read_failed = λ is. absurd (omega arith); eeprom_failed = λ is. absurd (omega arith) })
       begun closes
 
-pub loads_run : (given : Given) (start count : ℕ) (words : List (List ℕ)) (before : Scene) → LoadsFrom given start count words before → AskForRun words
+pub loads_run : (given : Given) (start count : ℕ) (words : List (List ℕ)) (before : World) → LoadsFrom given start count words before → AskForRun words
 loads_run given start count words before from = (record { mode = Load start count; devices = from.devices }, from.words_are)
 
 -- a run is made over some devices
@@ -188,7 +188,7 @@ size_given given words made size found same asked =
     let wish = asked found.so.asked found.so.words_are in
     ap size_of wish.store_is ∙ ap (λ d. size_of d.pages) (sym found.so.devices) ∙ sym same
 
-pub load_size_given : (given : Given) (start count : ℕ) (words : List (List ℕ)) (made : Devices) (size : ℕ) (before : Scene) → IsOnly (IsMadeFor words) made → size ≡ size_of made.pages
+pub load_size_given : (given : Given) (start count : ℕ) (words : List (List ℕ)) (made : Devices) (size : ℕ) (before : World) → IsOnly (IsMadeFor words) made → size ≡ size_of made.pages
     → LoadsFrom given start count words before → size_of given.pages ≡ size
 load_size_given given start count words made size before found same from =
     ap size_of from.store_is ∙ ap (λ d. size_of d.pages) (made_alone words made (record { mode = Load start count; devices = from.devices }) found from.words_are) ∙ sym same

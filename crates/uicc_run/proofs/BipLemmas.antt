@@ -15,7 +15,7 @@ use Rattle.card_steps.specs.script_form.declared.trace.TraceLine.TheVariants as 
 use Rattle.uicc_run.specs.Endings.{status_for}
 use Rattle.uicc_run.specs.Headline.{Closes, last_text}
 use Rattle.uicc_run.specs.Running.{ServesChannels}
-use Rattle.uicc_run.specs.Scenes.{Scene, Seen, seen}
+use Rattle.uicc_run.specs.Worlds.{World, Seen, seen}
 use Rattle.uicc_run.specs.Scripts.{StopsAndTells, TellsNext}
 use Rattle.uicc_run.specs.Terminals.{AskForBip, ComesToBip, TracesBip}
 use Rattle.uicc_run.specs.declared.endings.Ending.{Ending}
@@ -145,7 +145,7 @@ bip_two text begun before seen was traces two = elim traces.closes [
 -- ---- all of it
 
 -- what a run comes to whose trace is that of the channels
-pub channels_served : {MemoryIsSame BoxesAreSame : Type 0} → (words : List (List ℕ)) (status : ℕ) (before after : Scene)
+pub channels_served : {MemoryIsSame BoxesAreSame : Type 0} → (words : List (List ℕ)) (status : ℕ) (before after : World)
     → ((text : List ℕ) → AskForBip words → before.left ≡ Some text → TracesBip text before.taken (seen status before after)) → (AskForBip words → MemoryIsSame × BoxesAreSame) → (AskForBip words → status ≤ 5)
     → (status ≡ 3 → Rose before.source after.source) → (status ≡ 4 → Rose before.sink after.sink) → ServesChannels words status before after MemoryIsSame BoxesAreSame
 channels_served words status before after traced same low read put = record {

@@ -8,7 +8,7 @@ use Rattle.phone_runs.specs.declared.counts.Counts.{Counts}
 use Rattle.uicc_run.specs.Causes.{EndsFor, EndsLoad}
 use Rattle.uicc_run.specs.Endings.{status_for}
 use Rattle.uicc_run.specs.Loading.{ending_for_load}
-use Rattle.uicc_run.specs.Scenes.{Scene}
+use Rattle.uicc_run.specs.Worlds.{World}
 use Rattle.uicc_run.specs.declared.endings.Ending.{Ending}
 use Rattle.uicc_run.specs.declared.endings.Ending.TheVariants.{Played}
 use Rattle.update_journal.specs.uicc_types.Counts.{CountsFailure, Meter, Rose}
@@ -37,7 +37,7 @@ for_its_memory play.ResetFailed is = refl
 same_end : (end other : PlayEnd) → Played end ≡ Played other → end ≡ other
 same_end end other is = cc is
 
-pub ends_played : (end : PlayEnd) (before after : Scene) (TraceIsSame BoxesAreSame : Type 0) → CountsFailure before.source after.source (end ≡ play.ReadFailed) → CountsFailure before.sink after.sink (end ≡ play.SinkFailed)
+pub ends_played : (end : PlayEnd) (before after : World) (TraceIsSame BoxesAreSame : Type 0) → CountsFailure before.source after.source (end ≡ play.ReadFailed) → CountsFailure before.sink after.sink (end ≡ play.SinkFailed)
     → (end ≡ play.ResetFailed → Rose before.meter.faults after.meter.faults) → is_some after.taken ≡ is_some before.taken → EndsFor (Played end) before after TraceIsSame ⊥ BoxesAreSame
 ends_played end before after TraceIsSame BoxesAreSame source sink memory tells = record {
   source_cause = record { kept = source.kept; rose = λ three. source.rose (for_its_source end three) };

@@ -13,7 +13,7 @@ mod PlaceLemmas
 mod PlayLemmas
 mod ReadingLemmas
 mod RunLemmas
-mod SceneLemmas
+mod WorldLemmas
 mod ScriptLemmas
 mod ServingLemmas
 mod ShowLemmas

@@ -15,7 +15,7 @@ use Rattle.uicc_run.specs.Opening.{ReadsFrom, RunsFrom}
 use Rattle.uicc_run.specs.Pages.{AsksFor, IsNoUse, Shows}
 use Rattle.uicc_run.specs.Playing.{Given}
 use Rattle.uicc_run.specs.Reading.{ReadsTo}
-use Rattle.uicc_run.specs.Scenes.{Scene, Seen, over_bench, seen}
+use Rattle.uicc_run.specs.Worlds.{World, Seen, over_bench, seen}
 use Rattle.uicc_run.specs.Scripts.{CanOpen, IsFirstBad, IsFirstTooMuch, IsGoodScript, IsUndisturbed, MeetsBad, ReachesStart, Refusal, RefusesAndTells, StopsAndTells, StopsAtStart, StopsBehind, TellsNext, TellsWhy}
 use Rattle.uicc_run.specs.Stores.{size_of}
 use Rattle.uicc_run.specs.Terminals.{AskForBip, TracesBip}
@@ -55,7 +55,7 @@ pub record KeepsToScript (given : Given) (words : List (List ℕ)) (seen : Seen)
   pub taken : IsTaken (MOST_BYTES + 1) given.text seen.left
 
 -- so it is with whatever a run is given
-abbrev pub KeepsToScripts : List (List ℕ) → ℕ → Scene → Scene → Type 0
+abbrev pub KeepsToScripts : List (List ℕ) → ℕ → World → World → Type 0
 KeepsToScripts words status before after =
     (given : Given) → ReadsFrom given words before → KeepsToScript given words (seen status before after)
 
@@ -76,12 +76,12 @@ pub record HasRun (given : Given) (words : List (List ℕ)) (seen : Seen) : Type
   pub no_card_only : seen.status ≡ 7 → RefusesAndTells given seen.taken
 
 -- so it is over a memory that tells its bytes,
-abbrev pub HasRunOver : List (List ℕ) → ℕ → Scene → Scene → Type 0
+abbrev pub HasRunOver : List (List ℕ) → ℕ → World → World → Type 0
 HasRunOver words status before after =
     (given : Given) → RunsFrom given words before → HasRun given words (seen status before after)
 
 -- and over a new memory of the bench, for the store that is asked for
-abbrev pub HasRunOnBench : List (List ℕ) → ℕ → Scene → Scene → Type 0
+abbrev pub HasRunOnBench : List (List ℕ) → ℕ → World → World → Type 0
 HasRunOnBench words status before after =
     (given : Given) → RunsFrom given words (over_bench (size_of given.pages) before) → HasRun given words (seen status before after)
 
@@ -94,40 +94,40 @@ pub record HasLoaded (given : Given) (start count : ℕ) (seen : Seen) : Type 0 
       (λ ending. status_for ending ≡ 6 → HasFailed given.meter meter)
   pub complete : (card : Persistent) → IsUndisturbed seen → IsFixedCard given.boxes card → (seen.status ≡ 0) ⊎ (seen.status ≡ 5)
 
-abbrev pub HasLoadedOver : List (List ℕ) → ℕ → Scene → Scene → Type 0
+abbrev pub HasLoadedOver : List (List ℕ) → ℕ → World → World → Type 0
 HasLoadedOver words status before after =
     (given : Given) (start count : ℕ) → LoadsFrom given start count words before
     → HasLoaded given start count (seen status before after)
 
-abbrev pub HasLoadedOnBench : List (List ℕ) → ℕ → Scene → Scene → Type 0
+abbrev pub HasLoadedOnBench : List (List ℕ) → ℕ → World → World → Type 0
 HasLoadedOnBench words status before after =
     (given : Given) (start count : ℕ) → LoadsFrom given start count words (over_bench (size_of given.pages) before)
     → HasLoaded given start count (seen status before after)
 
 -- the run of a terminal's channels, which is over no memory
-abbrev pub HasServed : List (List ℕ) → ℕ → Scene → Scene → Type 0
+abbrev pub HasServed : List (List ℕ) → ℕ → World → World → Type 0
 HasServed words status before after =
     (text : List ℕ) → AskForBip words → before.left ≡ Some text → TracesBip text before.taken (seen status before after)
 
 -- a page is written and nothing is read
-pub record ShowsPages (words : List (List ℕ)) (status : ℕ) (before after : Scene) (ScriptIsSame : Type 0) : Type 0 where
+pub record ShowsPages (words : List (List ℕ)) (status : ℕ) (before after : World) (ScriptIsSame : Type 0) : Type 0 where
   pub page : (page : Page) → AsksFor words page → Shows page before.taken after.taken status
   pub unread : (page : Page) → AsksFor words page → ScriptIsSame
 
 -- words of no use end with their status, and no others do
-pub record RefusesUseless (words : List (List ℕ)) (status : ℕ) (before after : Scene) : Type 0 where
+pub record RefusesUseless (words : List (List ℕ)) (status : ℕ) (before after : World) : Type 0 where
   pub usage : IsNoUse words → Closes Usage before.taken after.taken status
   pub usage_only : status ≡ 1 → IsNoUse words
 
 -- why each status comes, and that a long run takes nothing from the script
-pub record HasOuterCauses (words : List (List ℕ)) (status : ℕ) (before after : Scene) (ScriptIsSame : Type 0) : Type 0 where
+pub record HasOuterCauses (words : List (List ℕ)) (status : ℕ) (before after : World) (ScriptIsSame : Type 0) : Type 0 where
   pub load_unread : (start count : ℕ) → AskToLoad words start count → ScriptIsSame
   pub statuses : status ≤ 8
   pub source_failed : CountsFailure before.source after.source (status ≡ 3)
   pub sink_failed : CountsFailure before.sink after.sink (status ≡ 4)
 
 -- the same of words that are those of a run, of which none is wrong
-pub record HasUsedCauses (words : List (List ℕ)) (status : ℕ) (before after : Scene) (ScriptIsSame : Type 0) : Type 0 where
+pub record HasUsedCauses (words : List (List ℕ)) (status : ℕ) (before after : World) (ScriptIsSame : Type 0) : Type 0 where
   pub used : status ≢ 1
   pub outer : HasOuterCauses words status before after ScriptIsSame
 

@@ -14,7 +14,7 @@ use Rattle.uicc_run.specs.Endings.{HasFailed, IsEarly, IsUnopened, IsUnshown, Ke
 use Rattle.uicc_run.specs.Loading.{AskToLoad, ComesToLoad, HoldsFixed, LoadsFrom}
 use Rattle.uicc_run.specs.Playing.{Given}
 use Rattle.uicc_run.specs.Reading.{ReadsTo}
-use Rattle.uicc_run.specs.Scenes.{Scene, Seen, left_in}
+use Rattle.uicc_run.specs.Worlds.{World, Seen, left_in}
 use Rattle.uicc_run.specs.Scripts.{HoldsDescribed, IsHalfMade}
 use Rattle.uicc_run.specs.Showing.{ShowsTo}
 use Rattle.uicc_run.specs.Stores.{IsSizeFor, content_in, held_in}
@@ -46,7 +46,7 @@ pub record KeepsStoreForm {S : Type 0} (words : StoreWords S) (old new : S) (IsF
 -- Each end has its cause: 3, 4 and 6 come where the source, the sink, the memory failed; of a reset in which the memory failed a fault
 -- was counted. A sink that tells what it has taken goes on telling it. The trace stays where the memory failed before a card was open,
 -- the memory where nothing was done to it, and the boxes where no card was open; what each of these is.
-pub record EndsFor (ending : Ending) (before after : Scene) (TraceIsSame MemoryIsSame BoxesAreSame : Type 0) : Type 0 where
+pub record EndsFor (ending : Ending) (before after : World) (TraceIsSame MemoryIsSame BoxesAreSame : Type 0) : Type 0 where
   pub source_cause : CountsFailure before.source after.source (status_for ending ≡ 3)
   pub sink_cause : CountsFailure before.sink after.sink (status_for ending ≡ 4)
   pub memory_cause : status_for ending ≡ 6 → HasFailed before.meter after.meter
@@ -58,7 +58,7 @@ pub record EndsFor (ending : Ending) (before after : Scene) (TraceIsSame MemoryI
 
 -- Which lines of the script were read, and why no more of them, where a run is given this; what is shown behind what the sink had taken;
 -- that it was quiet where no card was open; and how many bytes of the script were taken at most.
-pub record ReadsUntold (IsFor : Given → Type 0) (ending : Ending) (before after : Scene) : Type 0 where
+pub record ReadsUntold (IsFor : Given → Type 0) (ending : Ending) (before after : World) : Type 0 where
   pub reads : (given : Given) → IsFor given → ReadsTo given after.left ending
   pub shows : (given : Given) → IsFor given → before.taken ≡ Some given.before
       → ShowsTo given before.meter after.left ending after.taken after.meter
@@ -85,7 +85,7 @@ pub record EndsLoad (ending : Ending) (memory memory_then : Meter) (MemoryIsSame
 
 -- A long run before its last line: it writes nothing and reads nothing. Its memory tells its bytes; where there was none for the rest of
 -- it, it is as it was, or holds just the card of such a run.
-pub record LoadsUntold (words : List (List ℕ)) (ending : Ending) (before after : Scene) (ScriptIsSame TraceIsSame MemoryIsSame : Type 0) : Type 0 where
+pub record LoadsUntold (words : List (List ℕ)) (ending : Ending) (before after : World) (ScriptIsSame TraceIsSame MemoryIsSame : Type 0) : Type 0 where
   pub load : (given : Given) (start count : ℕ) (taken : Option (List ℕ)) → LoadsFrom given start count words before
       → ComesToLoad given start count ending (record (left_in given.pages after) { taken = taken })
   pub load_unwritten : (given : Given) (start count : ℕ) → LoadsFrom given start count words before → TraceIsSame
@@ -97,7 +97,7 @@ pub record LoadsUntold (words : List (List ℕ)) (ending : Ending) (before after
 
 -- Where no card was opened: in `open` each byte is as it was; where a card is made, and the memory failed in that, the first eight bytes
 -- are the old ones or it holds just that card, and where there was no memory for the rest, it is as it was or holds just that card.
-pub record KeepsMemory (given : Given) (ending : Ending) (before after : Scene) (MemoryIsSame : Type 0) : Type 0 where
+pub record KeepsMemory (given : Given) (ending : Ending) (before after : World) (MemoryIsSame : Type 0) : Type 0 where
   pub bytes : given.first ≡ None → KeepsBytes ending (held_in given.pages before.contents)
       → content_in given.pages after.contents ≡ content_in given.pages before.contents
   pub half_made : is_some given.first ≡ true → ending ≡ FormatFailed
@@ -106,7 +106,7 @@ pub record KeepsMemory (given : Given) (ending : Ending) (before after : Scene) 
       → MemoryIsSame ⊎ HoldsDescribed given (content_in given.pages after.contents)
 
 -- the same of a store with this mark, by the card that was described, if one was
-pub record KeepsCardThere (mark : ℕ) (described : Option Persistent) (ending : Ending) (before after : Scene) : Type 0 where
+pub record KeepsCardThere (mark : ℕ) (described : Option Persistent) (ending : Ending) (before after : World) : Type 0 where
   pub bytes : described ≡ None → KeepsBytes ending (standing mark before.contents) → after.contents ≡ before.contents
   pub half_made : (card : Persistent) → described ≡ Some card → ending ≡ FormatFailed
       → Becomes (KeepsFirstOr mark card) before.contents after.contents
@@ -114,7 +114,7 @@ pub record KeepsCardThere (mark : ℕ) (described : Option Persistent) (ending :
       → IfSome after.contents (λ content. stands_for mark content ≡ Ok card)
 
 -- and where the card is only opened: no end of it is one of a formatting
-pub record KeepsOpened (mark : ℕ) (ending : Ending) (before after : Scene) : Type 0 where
+pub record KeepsOpened (mark : ℕ) (ending : Ending) (before after : World) : Type 0 where
   pub bytes : KeepsBytes ending (standing mark before.contents) → after.contents ≡ before.contents
   pub formatted : ending ≢ FormatFailed
 
@@ -122,7 +122,7 @@ pub record KeepsOpened (mark : ℕ) (ending : Ending) (before after : Scene) : T
 
 -- Why a run under these words ended so, and what it left alone, be its last line taken or not; what it is for the memory and the boxes to
 -- be as they were.
-pub record IsCaused (given : Given) (words : List (List ℕ)) (before after : Scene) (MemoryIsSame BoxesAreSame : Type 0) (ending : Ending) : Type 0 where
+pub record IsCaused (given : Given) (words : List (List ℕ)) (before after : World) (MemoryIsSame BoxesAreSame : Type 0) (ending : Ending) : Type 0 where
   pub usage : ending ≡ Usage → AskForRun words → ⊥
   pub read_failed : status_for ending ≡ 3 → Rose before.source after.source
   pub eeprom_failed : status_for ending ≡ 6 → HasFailed before.meter after.meter
@@ -131,7 +131,7 @@ pub record IsCaused (given : Given) (words : List (List ℕ)) (before after : Sc
   pub memory_kept : KeepsMemory given ending before after MemoryIsSame
 
 -- the same of a long run, which reads no script and makes its card anew
-pub record IsLoadCaused (given : Given) (before after : Scene) (MemoryIsSame BoxesAreSame : Type 0) (ending : Ending) : Type 0 where
+pub record IsLoadCaused (given : Given) (before after : World) (MemoryIsSame BoxesAreSame : Type 0) (ending : Ending) : Type 0 where
   pub eeprom_failed : status_for ending ≡ 6 → HasFailed before.meter after.meter
   pub untouched : IsEarly ending → MemoryIsSame
   pub boxes_kept : IsUnopened ending → BoxesAreSame

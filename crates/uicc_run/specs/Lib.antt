@@ -12,7 +12,6 @@ pub mod Playing
 pub mod Reading
 pub mod Running
 pub mod Runs
-pub mod Scenes
 pub mod Scripts
 pub mod Serving
 pub mod Showing
@@ -20,6 +19,7 @@ pub mod Steps
 pub mod Stores
 pub mod Terminals
 pub mod Unplanned
+pub mod Worlds
 pub use Rattle.card_core.specs.applet_trait
 pub use Rattle.card_core.specs.card_layout
 pub use Rattle.phone_runs.specs.handset_model

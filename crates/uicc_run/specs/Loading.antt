@@ -25,14 +25,14 @@ use Rattle.uicc_run.specs.Headline.{Closes, IsMigratedAtMost}
 use Rattle.uicc_run.specs.Opening.{IsGiven}
 use Rattle.uicc_run.specs.Playing.{Given, Leaves}
 use Rattle.uicc_run.specs.Runs.{first_machine}
-use Rattle.uicc_run.specs.Scenes.{Scene}
+use Rattle.uicc_run.specs.Worlds.{World}
 use Rattle.uicc_run.specs.Stores.{mark_of, memory_in}
 use Rattle.uicc_run.specs.Unplanned.{IsUnplanned}
 use Rattle.uicc_run.specs.declared.endings.Ending.{Ending}
 use Rattle.uicc_run.specs.declared.endings.Ending.TheVariants.{Usage, NoMemory, Section, FormatFailed, EepromFailed, NotACard, NoApplet, Played, Counted, LoadFailed}
 
 -- the words ask for so many lines from this number, and the run is given the rest
-pub record LoadsFrom (given : Given) (start count : ℕ) (words : List (List ℕ)) (before : Scene) : Type 0 where
+pub record LoadsFrom (given : Given) (start count : ℕ) (words : List (List ℕ)) (before : World) : Type 0 where
   pub devices : Devices
   pub words_are : IsRequest words (record { mode = Load start count; devices = devices })
   pub store_is : given.pages ≡ devices.pages

@@ -17,7 +17,7 @@ use Rattle.run_words.specs.declared.requests.Request.{Request}
 use Rattle.uicc_run.specs.Headline.{ReadsForCard, first_of, is_served_by}
 use Rattle.uicc_run.specs.Listeners.{is_handset}
 use Rattle.uicc_run.specs.Playing.{Given, IsOpened, IsPlayed}
-use Rattle.uicc_run.specs.Scenes.{Scene}
+use Rattle.uicc_run.specs.Worlds.{World}
 use Rattle.uicc_run.specs.Serving.{beginning}
 use Rattle.uicc_run.specs.Stores.{memory_in}
 use Rattle.uicc_run.specs.declared.endings.Ending.{Ending}
@@ -41,26 +41,26 @@ pub record IsAskedFor (given : Given) (asked : Request) : Type 0 where
   pub served_is : given.is_served ≡ is_served_by asked.mode
 
 -- a run is given the text, and the rest, and is the one that its words ask for
-pub record RunsFrom (given : Given) (words : List (List ℕ)) (before : Scene) : Type 0 where
+pub record RunsFrom (given : Given) (words : List (List ℕ)) (before : World) : Type 0 where
   pub text_is : before.left ≡ Some given.text
   pub others_are : IsGiven given before.taken (memory_in given.pages before.contents) before.meter before.boxes
   pub is_asked : (asked : Request) → IsRequest words asked → IsAskedFor given asked
 
 -- The same of what decides which lines are read: nothing is said of the memory and its counts,
-pub record ReadsFrom (given : Given) (words : List (List ℕ)) (before : Scene) : Type 0 where
+pub record ReadsFrom (given : Given) (words : List (List ℕ)) (before : World) : Type 0 where
   pub text_is : before.left ≡ Some given.text
   pub before_is : before.taken ≡ Some given.before
   pub boxes_are : before.boxes ≡ given.boxes
   pub is_asked : (asked : Request) → IsRequest words asked → IsAskedFor given asked
 
 -- nor of the sink.
-pub record IsToRead (given : Given) (words : List (List ℕ)) (before : Scene) : Type 0 where
+pub record IsToRead (given : Given) (words : List (List ℕ)) (before : World) : Type 0 where
   pub text_is : before.left ≡ Some given.text
   pub boxes_are : before.boxes ≡ given.boxes
   pub is_asked : (asked : Request) → IsRequest words asked → IsAskedFor given asked
 
 -- The same of a run of lines for this listener, which are added to this card, if there is one, and over this store.
-pub record IsToPlay (given : Given) (listener : Listener) (pages : Bool) (card : Option Persistent) (before : Scene) : Type 0 where
+pub record IsToPlay (given : Given) (listener : Listener) (pages : Bool) (card : Option Persistent) (before : World) : Type 0 where
   pub text_is : before.left ≡ Some given.text
   pub boxes_are : before.boxes ≡ given.boxes
   pub served_is : given.is_served ≡ is_handset listener

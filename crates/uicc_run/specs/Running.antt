@@ -14,7 +14,7 @@ use Rattle.uicc_run.specs.Loading.{AskToLoad, IsFixedCard, LoadsFrom, TracesLoad
 use Rattle.uicc_run.specs.Opening.{ReadsFrom, RunsFrom}
 use Rattle.uicc_run.specs.Playing.{Given}
 use Rattle.uicc_run.specs.Reading.{ReadsTo}
-use Rattle.uicc_run.specs.Scenes.{Scene, left_in, seen}
+use Rattle.uicc_run.specs.Worlds.{World, left_in, seen}
 use Rattle.uicc_run.specs.Scripts.{CanOpen, HoldsDescribed, IsFirstBad, IsFirstTooMuch, IsGoodScript, IsUndisturbed, MeetsBad, ReachesStart, Refusal, RefusesAndTells, StopsAndTells, StopsAtStart, StopsBehind, TellsNext, TellsWhy}
 use Rattle.uicc_run.specs.Showing.{ShowsTo}
 use Rattle.uicc_run.specs.Stores.{content_in}
@@ -25,7 +25,7 @@ use Rattle.uicc_run.specs.declared.endings.Ending.TheVariants.{Usage, EepromFail
 use Rattle.update_journal.specs.uicc_types.Counts.{CountsFailure, Rose}
 
 -- Over a memory that tells its bytes the trace is that of the abstract card, and the memory holds at the end what that card does.
-abbrev pub IsTraced : List (List ℕ) → ℕ → Scene → Scene → Type 0 → Type 0 → Type 0
+abbrev pub IsTraced : List (List ℕ) → ℕ → World → World → Type 0 → Type 0 → Type 0
 IsTraced words status before after MemoryIsSame BoxesAreSame =
     (given : Given) → RunsFrom given words before
     → Traces given after.left (left_in given.pages after) status
@@ -36,7 +36,7 @@ IsTraced words status before after MemoryIsSame BoxesAreSame =
 -- handset, and what the device has counted of that. Where no card was open, nothing was shown, the device was given no plan and counts no
 -- fewer faults, and the boxes are as they were; and where the script was not read up to `start`, but for want of memory, or its words are
 -- wrong, so is the memory.
-pub record EndsUntold (given : Given) (status : ℕ) (before after : Scene) (MemoryIsSame BoxesAreSame : Type 0) : Type 0 where
+pub record EndsUntold (given : Given) (status : ℕ) (before after : World) (MemoryIsSame BoxesAreSame : Type 0) : Type 0 where
   pub ending : Ending
   pub put : Option (List ℕ)
   pub closes : Closes ending put after.taken status
@@ -47,14 +47,14 @@ pub record EndsUntold (given : Given) (status : ℕ) (before after : Scene) (Mem
   pub boxes_kept : IsUnopened ending → BoxesAreSame
   pub untouched : IsEarly ending → MemoryIsSame
 
-abbrev pub IsEndedUntold : List (List ℕ) → ℕ → Scene → Scene → Type 0 → Type 0 → Type 0
+abbrev pub IsEndedUntold : List (List ℕ) → ℕ → World → World → Type 0 → Type 0 → Type 0
 IsEndedUntold words status before after MemoryIsSame BoxesAreSame =
     (given : Given) → ReadsFrom given words before → EndsUntold given status before after MemoryIsSame BoxesAreSame
 
 -- Where neither the source nor the sink failed and the run doesn't end for its memory, a good script is carried out to its end, if there
 -- is memory to begin with and the card can be opened, of which nothing is known over a memory that tells nothing. Status 0 comes only
 -- for a good script, over any memory, and that is read to its end then.
-pub record CarriesOut (words : List (List ℕ)) (status : ℕ) (before after : Scene) : Type 0 where
+pub record CarriesOut (words : List (List ℕ)) (status : ℕ) (before after : World) : Type 0 where
   pub complete : (given : Given) → RunsFrom given words before → AskForRun words
       → IsUndisturbed (seen status before after)
       → IsGoodScript given → CanOpen given → (status ≡ 0) ⊎ (status ≡ 5)
@@ -66,7 +66,7 @@ pub record CarriesOut (words : List (List ℕ)) (status : ℕ) (before after : S
 
 -- Another script is carried out up to its first bad line, behind `start` where the card can be opened, and the trace ends with its number.
 -- Status 2 comes only so, over any memory.
-pub record StopsAtBad (words : List (List ℕ)) (status : ℕ) (before after : Scene) : Type 0 where
+pub record StopsAtBad (words : List (List ℕ)) (status : ℕ) (before after : World) : Type 0 where
   pub bad_line : (given : Given) → RunsFrom given words before → AskForRun words
       → IsUndisturbed (seen status before after)
       → (found : LineList) → MeetsBad given found → ((status ≡ 2) × TellsNext found after.taken) ⊎ (status ≡ 5)
@@ -78,7 +78,7 @@ pub record StopsAtBad (words : List (List ℕ)) (status : ℕ) (before after : S
       → StopsAndTells (IsFirstBad given) given.text after.left after.taken
 
 -- So it is with a line for which there is no room, and status 8, over any memory.
-pub record StopsForRoom (words : List (List ℕ)) (status : ℕ) (before after : Scene) : Type 0 where
+pub record StopsForRoom (words : List (List ℕ)) (status : ℕ) (before after : World) : Type 0 where
   pub no_room : (given : Given) → ReadsFrom given words before → AskForRun words
       → IsUndisturbed (seen status before after)
       → (found : LineList) → IsFirstTooMuch given found → ((status ≡ 8) × TellsNext found after.taken) ⊎ (status ≡ 5)
@@ -86,7 +86,7 @@ pub record StopsForRoom (words : List (List ℕ)) (status : ℕ) (before after :
       → StopsAndTells (IsFirstTooMuch given) given.text after.left after.taken
 
 -- A card that can't be opened is refused, with why. Status 7 comes only so; over any memory only where `start` comes behind good lines.
-pub record RefusesCards (words : List (List ℕ)) (status : ℕ) (before after : Scene) : Type 0 where
+pub record RefusesCards (words : List (List ℕ)) (status : ℕ) (before after : World) : Type 0 where
   pub no_card : (given : Given) → RunsFrom given words before → AskForRun words
       → IsUndisturbed (seen status before after)
       → (why : Refusal) → StopsAtStart given why → ((status ≡ 7) × TellsWhy given why after.taken) ⊎ (status ≡ 5)
@@ -95,7 +95,7 @@ pub record RefusesCards (words : List (List ℕ)) (status : ℕ) (before after :
       → (card : Option Persistent) × ReachesStart given card
 
 -- A long run comes to the counts of a trace that its lines have on its card, and takes nothing from the script.
-pub record LoadsLines (words : List (List ℕ)) (status : ℕ) (before after : Scene) (ScriptIsSame MemoryIsSame BoxesAreSame : Type 0) : Type 0 where
+pub record LoadsLines (words : List (List ℕ)) (status : ℕ) (before after : World) (ScriptIsSame MemoryIsSame BoxesAreSame : Type 0) : Type 0 where
   pub load : (given : Given) (start count : ℕ) → LoadsFrom given start count words before
       → TracesLoad given start count (left_in given.pages after) status
       (IsLoadCaused given before after MemoryIsSame BoxesAreSame)
@@ -105,7 +105,7 @@ pub record LoadsLines (words : List (List ℕ)) (status : ℕ) (before after : S
 
 -- The channels of a terminal: the trace is that of the script's lines, and on each channel the card got what it gave, in order. The
 -- memory and the boxes are as they were. Statuses come as above.
-pub record ServesChannels (words : List (List ℕ)) (status : ℕ) (before after : Scene) (MemoryIsSame BoxesAreSame : Type 0) : Type 0 where
+pub record ServesChannels (words : List (List ℕ)) (status : ℕ) (before after : World) (MemoryIsSame BoxesAreSame : Type 0) : Type 0 where
   pub bip : (text : List ℕ) → AskForBip words → before.left ≡ Some text → TracesBip text before.taken (seen status before after)
   pub bip_untouched : AskForBip words → MemoryIsSame × BoxesAreSame
   pub bip_statuses : AskForBip words → status ≤ 5
@@ -121,13 +121,13 @@ pub record ServesChannels (words : List (List ℕ)) (status : ℕ) (before after
       → StopsAndTells (IsFirstBadBip text) text after.left after.taken
 
 -- Words in no form are refused with status 1 and its line, and nothing is read then. Status 1 comes only so.
-pub record RefusesWords (words : List (List ℕ)) (status : ℕ) (before after : Scene) (ScriptIsSame : Type 0) : Type 0 where
+pub record RefusesWords (words : List (List ℕ)) (status : ℕ) (before after : World) (ScriptIsSame : Type 0) : Type 0 where
   pub usage : (AskForRun words → ⊥) → Closes Usage before.taken after.taken status
   pub usage_only : status ≡ 1 → AskForRun words → ⊥
   pub unread : (AskForRun words → ⊥) → ScriptIsSame
 
 -- Why each status comes. With 6 behind more than its last line, as in a reset, a fault was counted: a loss of power is none.
-pub record HasCauses (status : ℕ) (before after : Scene) : Type 0 where
+pub record HasCauses (status : ℕ) (before after : World) : Type 0 where
   pub statuses : status ≤ 8
   pub source_failed : CountsFailure before.source after.source (status ≡ 3)
   pub sink_failed : CountsFailure before.sink after.sink (status ≡ 4)
@@ -137,7 +137,7 @@ pub record HasCauses (status : ℕ) (before after : Scene) : Type 0 where
 
 -- What stays: the memory where the words are in no form or there is no room for what a line describes; all but 16,777,217 bytes of the
 -- script; and where `play` had no memory to begin with, the device is as it was, or it was formatted and holds just the card of the script.
-pub record LeavesTheRest (words : List (List ℕ)) (status : ℕ) (before after : Scene) (MemoryIsSame : Type 0) : Type 0 where
+pub record LeavesTheRest (words : List (List ℕ)) (status : ℕ) (before after : World) (MemoryIsSame : Type 0) : Type 0 where
   pub untouched : (status ≡ 1) ⊎ (status ≡ 8) → MemoryIsSame
   pub taken : (text : List ℕ) → before.left ≡ Some text → IsTaken (MOST_BYTES + 1) text after.left
   pub no_memory : (given : Given) → RunsFrom given words before → is_some given.first ≡ true → status ≡ 5

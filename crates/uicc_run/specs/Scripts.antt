@@ -18,7 +18,7 @@ use Rattle.card_steps.specs.script_form.declared.lines.ScriptLine.TheVariants.{S
 use Rattle.card_steps.specs.script_form.declared.trace.TraceLine.{TraceLine}
 use Rattle.card_steps.specs.script_form.declared.trace.TraceLine.TheVariants as line
 use Rattle.uicc_run.specs.Playing.{Given}
-use Rattle.uicc_run.specs.Scenes.{Seen}
+use Rattle.uicc_run.specs.Worlds.{Seen}
 use Rattle.uicc_run.specs.Steps.{may_stand}
 use Rattle.uicc_run.specs.Stores.{mark_of}
 use Rattle.update_journal.specs.uicc_types.Counts.{Rose}

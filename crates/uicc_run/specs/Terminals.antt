@@ -6,7 +6,7 @@ use Rattle.run_words.specs.declared.requests.Devices.{Devices}
 use Rattle.run_words.specs.declared.requests.Mode.TheVariants.{Bip}
 use Rattle.uicc_run.specs.Endings.{status_for}
 use Rattle.uicc_run.specs.Headline.{Closes}
-use Rattle.uicc_run.specs.Scenes.{Scene, Seen}
+use Rattle.uicc_run.specs.Worlds.{World, Seen}
 use Rattle.uicc_run.specs.declared.endings.Ending.{Ending}
 use Rattle.uicc_run.specs.declared.endings.Ending.TheVariants.{Usage, NoMemory, Section, FormatFailed, EepromFailed, NotACard, NoApplet, Played, Counted, LoadFailed}
 use Rattle.update_journal.specs.uicc_types.Counts.{Rose}
@@ -29,7 +29,7 @@ ComesToBip text before left taken (Counted lines counts) = ⊥
 ComesToBip text before left taken LoadFailed = ⊥
 
 -- what it comes to by its words, and leaves alone: what it is for the memory and the boxes to be as they were
-pub record ServesBip (before after : Scene) (MemoryIsSame BoxesAreSame : Type 0) (ending : Ending) : Type 0 where
+pub record ServesBip (before after : World) (MemoryIsSame BoxesAreSame : Type 0) (ending : Ending) : Type 0 where
   pub comes : (text : List ℕ) → before.left ≡ Some text → ComesToBip text before.taken after.left after.taken ending
   pub low : status_for ending ≤ 5
   pub memory_kept : MemoryIsSame

@@ -1,6 +1,6 @@
 -- What a run leaves of the counts of its memory's device where no card was opened.
 use Rattle.std.specs.Prelude.{◌≡◌, ◌≤◌}
-use Rattle.uicc_run.specs.Scenes.{Scene}
+use Rattle.uicc_run.specs.Worlds.{World}
 use Rattle.update_journal.specs.uicc_types.Counts.{Meter}
 use Rattle.update_journal.specs.uicc_types.declared.plans.TheConstants.Plan.{NONE}
 
@@ -13,6 +13,6 @@ pub record IsUnplanned (old new : Meter) : Type 0 where
   pub no_plan : old.plan ≡ NONE → new.plan ≡ NONE
 
 -- nothing was put into the sink, and so it is with the counts
-pub record IsQuiet (before after : Scene) : Type 0 where
+pub record IsQuiet (before after : World) : Type 0 where
   pub silent : after.taken ≡ before.taken
   pub unplanned : IsUnplanned before.meter after.meter

@@ -7,7 +7,7 @@ ghost use Rattle.card_steps.specs.script_form.Reads.{IsOnly};
 ghost use Rattle.uicc_run.specs.Answering.{HasLoadedOnBench, HasLoadedOver, HasOuterCauses, HasRunOnBench, HasRunOver, HasServed, HasUsedCauses, IsUsage, KeepsToScripts, NameNoImage, RefusesUseless, ShowsPages};
 ghost use Rattle.uicc_run.specs.Causes.{FitsRun};
 ghost use Rattle.uicc_run.specs.Pages.{AsksForNone, words_of};
-ghost use Rattle.uicc_run.specs.Scenes.{new_meter, outside, over_bench, scene};
+ghost use Rattle.uicc_run.specs.Worlds.{new_meter, outside, over_bench, world};
 ghost use Rattle.uicc_run.specs.Stores.{size_of};
 
 use crate::endings::Ending;
@@ -205,10 +205,10 @@ fn play_over<E: Eeprom + Drop, R: Source, W: Sink, B: Applet>(
         (outside R.Source W.Sink script.old output.old (minds_of B.mind cast.items))
         (outside R.Source W.Sink script.new output.new []) }
     ensures trace { HasRunOver (map string_bytes words.now) result
-        (scene R.Source W.Sink E.Eeprom B.Applet script.old output.old eeprom cast.items)
+        (world R.Source W.Sink E.Eeprom B.Applet script.old output.old eeprom cast.items)
         (outside R.Source W.Sink script.new output.new []) }
     ensures load { HasLoadedOver (map string_bytes words.now) result
-        (scene R.Source W.Sink E.Eeprom B.Applet script.old output.old eeprom cast.items)
+        (world R.Source W.Sink E.Eeprom B.Applet script.old output.old eeprom cast.items)
         (outside R.Source W.Sink script.new output.new []) }
     ensures bip { HasServed (map string_bytes words.now) result
         (outside R.Source W.Sink script.old output.old (minds_of B.mind cast.items))

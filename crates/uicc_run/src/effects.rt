@@ -2,7 +2,7 @@
 ghost use Rattle.uicc_run.specs.Steps.{IsEffect};
 
 use card_steps::{Move, ScriptLine};
-use update_journal::Plan;
+use uicc_types::Plan;
 
 /// What a line after `start` is for the card.
 #[derive(Clone, Copy, Debug)]

@@ -1,7 +1,7 @@
 //! Plays a script of commands, resets and planned faults to a simulated smart card of a mobile telephone (UICC), and writes the
 //! trace of every command and answer.
 //!
-//! It passes on the words of other crates that it speaks in, so that who stands on it need not list those crates.
+//! It passes on words of the crates below, for those who stand on it.
 #![tactic(auto)]
 
 mod answering;
@@ -29,7 +29,5 @@ pub use laws::{served_traces_are_one, traces_are_one};
 pub use phone_runs::{Next, Phone, Section, format};
 pub use run_words::devices;
 pub use running::{close, run};
-pub use update_journal::{
-    Answer, ApduBytes, BenchEeprom, CutAt, Eeprom, Journal, Kept, Octets, Plan, StatusWord, Store,
-    SwitchedEeprom, events,
-};
+pub use uicc_types::{Answer, ApduBytes, CutAt, Kept, Octets, Plan, StatusWord, events};
+pub use update_journal::{BenchEeprom, Eeprom, Journal, Store, SwitchedEeprom};

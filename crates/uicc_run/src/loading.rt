@@ -21,7 +21,8 @@ use phone_runs::{
     phone_runs_are_lawful,
 };
 use std::alloc::Global;
-use update_journal::{Eeprom, Journal, Plan, Store};
+use uicc_types::Plan;
+use update_journal::{Eeprom, Journal, Store};
 
 /// Makes the card of a long run, and has a handset carry out `count` lines that are made from the number `start`.
 pub fn load<E: Eeprom, B: Applet>(

@@ -25,7 +25,8 @@ use card_steps::{
     CardEnd, Carrier, Failed, Link, Move, ScriptLine, Sink, Source, StepEnd, take_step, take_tpdu,
 };
 use phone_runs::{Phone, Places, PlayEnd, ScriptReader, read_behind, serve_line};
-use update_journal::{Answer, Store};
+use uicc_types::Answer;
+use update_journal::Store;
 
 /// Carries out the lines after `start` that are left, each as soon as its end was read, and answers why the run ends. A handset does, which
 /// serves the card by the carrier and rests before the first of them, or the card itself.

@@ -22,7 +22,7 @@ ghost use Rattle.uicc_run.specs.Opening.{IsGiven, IsMade, IsStarted, IsToPlay, I
 ghost use Rattle.uicc_run.specs.Playing.{Given, left_at};
 ghost use Rattle.uicc_run.specs.Reading.{ReadsTo};
 ghost use Rattle.uicc_run.specs.Running.{CarriesOut, HasCauses, IsEndedUntold, IsTraced, LeavesTheRest, LoadsLines, RefusesCards, RefusesWords, ServesChannels, StopsAtBad, StopsForRoom};
-ghost use Rattle.uicc_run.specs.Scenes.{left_in, left_of, scene, stored};
+ghost use Rattle.uicc_run.specs.Worlds.{left_in, left_of, world, stored};
 ghost use Rattle.uicc_run.specs.Serving.{ComesTo};
 ghost use Rattle.uicc_run.specs.Showing.{IsShowing, LinesShow, ShowsTo};
 ghost use Rattle.uicc_run.specs.Steps.{may_stand};
@@ -46,7 +46,8 @@ use phone_runs::{
 };
 use run_words::{Mode, asked_for};
 use std::alloc::Global;
-use update_journal::{Eeprom, Journal, Plan, Store, StoreFault};
+use uicc_types::Plan;
+use update_journal::{Eeprom, Journal, Store, StoreFault};
 
 /// Carries out the script under the words of the command line, over a memory that has power, of 71,680 bytes with
 /// `--store pages` and of 65,536 otherwise, with the boxes of the applets on their shelves. It answers the status of the program,
@@ -62,47 +63,47 @@ pub fn run<R: Source, W: Sink, E: Eeprom, B: Applet>(
     requires fits { FitsRun (map string_bytes words.now) (E.byte_count eeprom) cast.items }
     // Over a memory that tells its bytes.
     ensures trace { IsTraced (map string_bytes words.now) result.0
-        (scene R.Source W.Sink E.Eeprom B.Applet script.old trace.old eeprom cast.items)
-        (scene R.Source W.Sink E.Eeprom B.Applet script.new trace.new result.1 result.2.items)
+        (world R.Source W.Sink E.Eeprom B.Applet script.old trace.old eeprom cast.items)
+        (world R.Source W.Sink E.Eeprom B.Applet script.new trace.new result.1 result.2.items)
         (result.1 ≡ eeprom) (result.2.items ≡ cast.items) }
     // Over any memory, also one that tells nothing, as an image.
     ensures untold { IsEndedUntold (map string_bytes words.now) result.0
-        (scene R.Source W.Sink E.Eeprom B.Applet script.old trace.old eeprom cast.items)
-        (scene R.Source W.Sink E.Eeprom B.Applet script.new trace.new result.1 result.2.items)
+        (world R.Source W.Sink E.Eeprom B.Applet script.old trace.old eeprom cast.items)
+        (world R.Source W.Sink E.Eeprom B.Applet script.new trace.new result.1 result.2.items)
         (result.1 ≡ eeprom) (result.2.items ≡ cast.items) }
     // Which scripts are carried out, and where the others stop.
     ensures good { CarriesOut (map string_bytes words.now) result.0
-        (scene R.Source W.Sink E.Eeprom B.Applet script.old trace.old eeprom cast.items)
-        (scene R.Source W.Sink E.Eeprom B.Applet script.new trace.new result.1 result.2.items) }
+        (world R.Source W.Sink E.Eeprom B.Applet script.old trace.old eeprom cast.items)
+        (world R.Source W.Sink E.Eeprom B.Applet script.new trace.new result.1 result.2.items) }
     ensures bad { StopsAtBad (map string_bytes words.now) result.0
-        (scene R.Source W.Sink E.Eeprom B.Applet script.old trace.old eeprom cast.items)
-        (scene R.Source W.Sink E.Eeprom B.Applet script.new trace.new result.1 result.2.items) }
+        (world R.Source W.Sink E.Eeprom B.Applet script.old trace.old eeprom cast.items)
+        (world R.Source W.Sink E.Eeprom B.Applet script.new trace.new result.1 result.2.items) }
     ensures no_room { StopsForRoom (map string_bytes words.now) result.0
-        (scene R.Source W.Sink E.Eeprom B.Applet script.old trace.old eeprom cast.items)
-        (scene R.Source W.Sink E.Eeprom B.Applet script.new trace.new result.1 result.2.items) }
+        (world R.Source W.Sink E.Eeprom B.Applet script.old trace.old eeprom cast.items)
+        (world R.Source W.Sink E.Eeprom B.Applet script.new trace.new result.1 result.2.items) }
     ensures no_card { RefusesCards (map string_bytes words.now) result.0
-        (scene R.Source W.Sink E.Eeprom B.Applet script.old trace.old eeprom cast.items)
-        (scene R.Source W.Sink E.Eeprom B.Applet script.new trace.new result.1 result.2.items) }
+        (world R.Source W.Sink E.Eeprom B.Applet script.old trace.old eeprom cast.items)
+        (world R.Source W.Sink E.Eeprom B.Applet script.new trace.new result.1 result.2.items) }
     // The runs of other words.
     ensures load { LoadsLines (map string_bytes words.now) result.0
-        (scene R.Source W.Sink E.Eeprom B.Applet script.old trace.old eeprom cast.items)
-        (scene R.Source W.Sink E.Eeprom B.Applet script.new trace.new result.1 result.2.items)
+        (world R.Source W.Sink E.Eeprom B.Applet script.old trace.old eeprom cast.items)
+        (world R.Source W.Sink E.Eeprom B.Applet script.new trace.new result.1 result.2.items)
         (script.new ≡ script.old) (result.1 ≡ eeprom) (result.2.items ≡ cast.items) }
     ensures bip { ServesChannels (map string_bytes words.now) result.0
-        (scene R.Source W.Sink E.Eeprom B.Applet script.old trace.old eeprom cast.items)
-        (scene R.Source W.Sink E.Eeprom B.Applet script.new trace.new result.1 result.2.items)
+        (world R.Source W.Sink E.Eeprom B.Applet script.old trace.old eeprom cast.items)
+        (world R.Source W.Sink E.Eeprom B.Applet script.new trace.new result.1 result.2.items)
         (result.1 ≡ eeprom) (result.2.items ≡ cast.items) }
     ensures usage { RefusesWords (map string_bytes words.now) result.0
-        (scene R.Source W.Sink E.Eeprom B.Applet script.old trace.old eeprom cast.items)
-        (scene R.Source W.Sink E.Eeprom B.Applet script.new trace.new result.1 result.2.items)
+        (world R.Source W.Sink E.Eeprom B.Applet script.old trace.old eeprom cast.items)
+        (world R.Source W.Sink E.Eeprom B.Applet script.new trace.new result.1 result.2.items)
         (script.new ≡ script.old) }
     // Why each status comes, and what stays.
     ensures causes { HasCauses result.0
-        (scene R.Source W.Sink E.Eeprom B.Applet script.old trace.old eeprom cast.items)
-        (scene R.Source W.Sink E.Eeprom B.Applet script.new trace.new result.1 result.2.items) }
+        (world R.Source W.Sink E.Eeprom B.Applet script.old trace.old eeprom cast.items)
+        (world R.Source W.Sink E.Eeprom B.Applet script.new trace.new result.1 result.2.items) }
     ensures stays { LeavesTheRest (map string_bytes words.now) result.0
-        (scene R.Source W.Sink E.Eeprom B.Applet script.old trace.old eeprom cast.items)
-        (scene R.Source W.Sink E.Eeprom B.Applet script.new trace.new result.1 result.2.items) (result.1 ≡ eeprom) }
+        (world R.Source W.Sink E.Eeprom B.Applet script.old trace.old eeprom cast.items)
+        (world R.Source W.Sink E.Eeprom B.Applet script.new trace.new result.1 result.2.items) (result.1 ≡ eeprom) }
 {
     let (ending, eeprom, cast) = carry_out(alloc, words, script, trace, eeprom, cast);
     (close(&ending, trace), eeprom, cast)
@@ -119,33 +120,33 @@ fn carry_out<R: Source, W: Sink, E: Eeprom, B: Applet>(
 ) -> (Ending, E, Vec<Option<B>>)
     requires fits { FitsRun (map string_bytes words.now) (E.byte_count eeprom) cast.items }
     ensures comes { (given : Given) → RunsFrom given (map string_bytes words.now)
-        (scene R.Source W.Sink E.Eeprom B.Applet script.old trace.old eeprom cast.items)
+        (world R.Source W.Sink E.Eeprom B.Applet script.old trace.old eeprom cast.items)
         → Comes given (R.left script.new) result.0 (left_in given.pages
-        (scene R.Source W.Sink E.Eeprom B.Applet script.new trace.new result.1 result.2.items)) }
+        (world R.Source W.Sink E.Eeprom B.Applet script.new trace.new result.1 result.2.items)) }
     // Over any memory: which lines of the script were read, why no more of them, and what is shown.
     ensures untold { ReadsUntold (λ given. IsToRead given (map string_bytes words.now)
-        (scene R.Source W.Sink E.Eeprom B.Applet script.old trace.old eeprom cast.items)) result.0
-        (scene R.Source W.Sink E.Eeprom B.Applet script.old trace.old eeprom cast.items)
-        (scene R.Source W.Sink E.Eeprom B.Applet script.new trace.new result.1 result.2.items) }
+        (world R.Source W.Sink E.Eeprom B.Applet script.old trace.old eeprom cast.items)) result.0
+        (world R.Source W.Sink E.Eeprom B.Applet script.old trace.old eeprom cast.items)
+        (world R.Source W.Sink E.Eeprom B.Applet script.new trace.new result.1 result.2.items) }
     ensures load { LoadsUntold (map string_bytes words.now) result.0
-        (scene R.Source W.Sink E.Eeprom B.Applet script.old trace.old eeprom cast.items)
-        (scene R.Source W.Sink E.Eeprom B.Applet script.new trace.new result.1 result.2.items)
+        (world R.Source W.Sink E.Eeprom B.Applet script.old trace.old eeprom cast.items)
+        (world R.Source W.Sink E.Eeprom B.Applet script.new trace.new result.1 result.2.items)
         (script.new ≡ script.old) (trace.new ≡ trace.old) (result.1 ≡ eeprom) }
     ensures bip { AskForBip (map string_bytes words.now) → ServesBip
-        (scene R.Source W.Sink E.Eeprom B.Applet script.old trace.old eeprom cast.items)
-        (scene R.Source W.Sink E.Eeprom B.Applet script.new trace.new result.1 result.2.items)
+        (world R.Source W.Sink E.Eeprom B.Applet script.old trace.old eeprom cast.items)
+        (world R.Source W.Sink E.Eeprom B.Applet script.new trace.new result.1 result.2.items)
         (result.1 ≡ eeprom) (result.2.items ≡ cast.items) result.0 }
     ensures usage { RefusesAtFirst (map string_bytes words.now) result.0
         (script.new ≡ script.old) (trace.new ≡ trace.old) }
     ensures memory { (given : Given) → IsToRead given (map string_bytes words.now)
-        (scene R.Source W.Sink E.Eeprom B.Applet script.old trace.old eeprom cast.items)
+        (world R.Source W.Sink E.Eeprom B.Applet script.old trace.old eeprom cast.items)
         → KeepsMemory given result.0
-        (scene R.Source W.Sink E.Eeprom B.Applet script.old trace.old eeprom cast.items)
-        (scene R.Source W.Sink E.Eeprom B.Applet script.new trace.new result.1 result.2.items)
+        (world R.Source W.Sink E.Eeprom B.Applet script.old trace.old eeprom cast.items)
+        (world R.Source W.Sink E.Eeprom B.Applet script.new trace.new result.1 result.2.items)
         (result.1 ≡ eeprom) }
     ensures ends { EndsFor result.0
-        (scene R.Source W.Sink E.Eeprom B.Applet script.old trace.old eeprom cast.items)
-        (scene R.Source W.Sink E.Eeprom B.Applet script.new trace.new result.1 result.2.items)
+        (world R.Source W.Sink E.Eeprom B.Applet script.old trace.old eeprom cast.items)
+        (world R.Source W.Sink E.Eeprom B.Applet script.new trace.new result.1 result.2.items)
         (trace.new ≡ trace.old) (result.1 ≡ eeprom) (result.2.items ≡ cast.items) }
 {
     let Some(asked) = asked_for(words) else {
@@ -184,25 +185,25 @@ fn read_and_play<R: Source, W: Sink, E: Eeprom, B: Applet>(
 ) -> (Ending, E, Vec<Option<B>>)
     requires fits { FitsStore (E.byte_count eeprom) (size_of pages) cast.items }
     ensures comes { (given : Given) → IsToPlay given listener pages card
-        (scene R.Source W.Sink E.Eeprom B.Applet script.old trace.old eeprom cast.items)
+        (world R.Source W.Sink E.Eeprom B.Applet script.old trace.old eeprom cast.items)
         → IsGiven given (W.taken trace.old) (memory_in given.pages (E.contents eeprom)) (E.meter eeprom)
         (minds_of B.mind cast.items)
         → Comes given (R.left script.new) result.0 (left_in given.pages
-        (scene R.Source W.Sink E.Eeprom B.Applet script.new trace.new result.1 result.2.items)) }
+        (world R.Source W.Sink E.Eeprom B.Applet script.new trace.new result.1 result.2.items)) }
     ensures untold { ReadsUntold (λ given. IsToPlay given listener pages card
-        (scene R.Source W.Sink E.Eeprom B.Applet script.old trace.old eeprom cast.items)) result.0
-        (scene R.Source W.Sink E.Eeprom B.Applet script.old trace.old eeprom cast.items)
-        (scene R.Source W.Sink E.Eeprom B.Applet script.new trace.new result.1 result.2.items) }
+        (world R.Source W.Sink E.Eeprom B.Applet script.old trace.old eeprom cast.items)) result.0
+        (world R.Source W.Sink E.Eeprom B.Applet script.old trace.old eeprom cast.items)
+        (world R.Source W.Sink E.Eeprom B.Applet script.new trace.new result.1 result.2.items) }
     ensures used { result.0 ≢ Ending.Usage }
     ensures memory { (given : Given) → IsToPlay given listener pages card
-        (scene R.Source W.Sink E.Eeprom B.Applet script.old trace.old eeprom cast.items)
+        (world R.Source W.Sink E.Eeprom B.Applet script.old trace.old eeprom cast.items)
         → KeepsMemory given result.0
-        (scene R.Source W.Sink E.Eeprom B.Applet script.old trace.old eeprom cast.items)
-        (scene R.Source W.Sink E.Eeprom B.Applet script.new trace.new result.1 result.2.items)
+        (world R.Source W.Sink E.Eeprom B.Applet script.old trace.old eeprom cast.items)
+        (world R.Source W.Sink E.Eeprom B.Applet script.new trace.new result.1 result.2.items)
         (result.1 ≡ eeprom) }
     ensures ends { EndsFor result.0
-        (scene R.Source W.Sink E.Eeprom B.Applet script.old trace.old eeprom cast.items)
-        (scene R.Source W.Sink E.Eeprom B.Applet script.new trace.new result.1 result.2.items)
+        (world R.Source W.Sink E.Eeprom B.Applet script.old trace.old eeprom cast.items)
+        (world R.Source W.Sink E.Eeprom B.Applet script.new trace.new result.1 result.2.items)
         (trace.new ≡ trace.old) (result.1 ≡ eeprom) (result.2.items ≡ cast.items) }
 {
     let mut reader = ScriptReader::new();

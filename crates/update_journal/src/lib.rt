@@ -1,6 +1,6 @@
 //! A store over any device: a journal that makes each commit whole or not at all, whenever power is lost.
 //!
-//! It passes on the words of other crates that it speaks in, so that who stands on it need not list those crates.
+//! It passes on words of the crates below, for those who stand on it.
 #![tactic(auto)]
 
 mod device;
@@ -13,6 +13,4 @@ pub use eeprom_model::{
 };
 pub use journal::Journal;
 pub use store_form::{MOST_BYTES, MOST_PIECES, OWN_END, OWN_START, Store, StoreFault, Writes};
-pub use uicc_types::{
-    Answer, ApduBytes, ByteList, CutAt, Full, Kept, Octets, Plan, StatusWord, events,
-};
+pub use uicc_types::{ByteList, Full, Plan};

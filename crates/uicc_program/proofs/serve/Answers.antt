@@ -1,7 +1,7 @@
 use Rattle.std.proofs.Common.{[], subst}
 use Rattle.uicc_run.specs.Answering.{HasLoadedOnBench, HasRunOnBench, HasServed, KeepsToScripts}
 use Rattle.uicc_run.specs.Pages.{words_of}
-use Rattle.uicc_run.specs.Scenes.{outside}
+use Rattle.uicc_run.specs.Worlds.{outside}
 use Rattle.uicc_program.proofs.serve.Goals as goal
 
 pub returns-clause-script : goal.returns-clause-script

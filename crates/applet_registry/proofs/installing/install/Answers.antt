@@ -1,3 +1,4 @@
+-- The lemma of each refusal wants the answers of all tests before it, and that of the row wants a next number below the last one.
 use Rattle.std.proofs.Common.{◌≡◌, ◌<◌, true, false, sym, ◌∙◌, arith, rules}
 use Rattle.std.specs.Prelude.{◌==◌}
 use Rattle.std.proofs.lemmas.Bool.Decides.{nat_tests}

@@ -1,3 +1,4 @@
+-- A part copied behind a copied one makes one longer copy, as source and target are apart; where one is torn, the target alone is.
 use Rattle.std.proofs.Common.{refl, ◌∙◌, arith, rules}
 use Rattle.card_memory.specs.Prepared.{copied}
 use Rattle.file_model.specs.uicc_types.Optional.{on_err}

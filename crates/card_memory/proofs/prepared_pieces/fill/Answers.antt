@@ -1,3 +1,4 @@
+-- FF behind FF is one longer fill; where a fault tears a part, the parts filled before it count as torn too, all within the range.
 use Rattle.std.proofs.Common.{refl, ◌∙◌, arith, rules}
 use Rattle.card_memory.specs.Prepared.{filled}
 use Rattle.file_model.specs.uicc_types.Optional.{on_err}

@@ -1,3 +1,4 @@
+-- The commit needs that no two rows answer call control: the code is another one, or no other row has it; both cases make one commit.
 use Rattle.std.specs.Prelude.{[], ◌∷◌, List}
 use Rattle.std.proofs.Common.{ap, subst, ◌∙◌, inl, inr, ⊎_elim, arith}
 use Rattle.std.proofs.lemmas.Result.{on_ok_weaker}

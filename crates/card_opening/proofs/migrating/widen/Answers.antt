@@ -1,3 +1,4 @@
+-- Torn upper rows still stand for the narrow card; after them a fault leaves the version written or not: the wide card or the narrow.
 use Rattle.std.proofs.Common.{ℕ, inl, ◌∙◌, ap, rules}
 use Rattle.card_layout.specs.uicc_types.Optional.{on_err}
 use Rattle.card_layout.specs.Standing.{standing}

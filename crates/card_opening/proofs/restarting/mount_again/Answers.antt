@@ -1,3 +1,4 @@
+-- A box is missing or no card is read only where the store doesn't tell its bytes; so the table that was kept still agrees with it.
 use Rattle.std.proofs.Common.{◌≡◌, None, ◌∙◌, ap, rules}
 use Rattle.std.specs.Prelude.{Err, is_some}
 use Rattle.card_model.specs.applet_trait.Minds.{minds_of}

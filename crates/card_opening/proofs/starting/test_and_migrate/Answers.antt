@@ -1,3 +1,4 @@
+-- The boxes were tested before the migration, which keeps the rows; a fault in it leaves the old card or the migrated one.
 use Rattle.std.proofs.Common.{List, refl, sym, subst, ◌∙◌}
 use Rattle.std.specs.Prelude.{All}
 use Rattle.card_layout.specs.Memory.{memory}

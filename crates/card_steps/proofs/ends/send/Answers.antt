@@ -1,3 +1,4 @@
+-- A card that answers had power, as one without answers NoPower; 6581 alone shows that the memory failed, and a cut that power was lost.
 use Rattle.std.proofs.Common.{ap, refl, inl, ◌∙◌, rules}
 use Rattle.std.proofs.lemmas.Bool.{eqb-true, false≢true}
 use Rattle.std.specs.Prelude.{◌==◌}

@@ -1,3 +1,4 @@
+-- A plan is set before the command and taken back after: the machine is the same with it, and the sink may break off in either line.
 use Rattle.std.proofs.Common.{Ok, Err, ◌∙◌, rules}
 use Rattle.card_steps.proofs.Shown.{command_cut_off, exchange_shows}
 use Rattle.card_steps.proofs.StepLemmas.{breaks_command, exchanges_at, faults_behind, idle_counted, with_plan}

@@ -1,3 +1,4 @@
+-- Done, cut or failed, the reset stands between a plan set and taken back, and each of the three has a sink that may break off in its line.
 use Rattle.std.proofs.Common.{Ok, Err, ap, inl, inr, refl, rules}
 use Rattle.card_steps.specs.Ends.{End}
 use Rattle.card_steps.specs.declared.steps.ResetOutcome.TheVariants as restart

@@ -1,3 +1,4 @@
+-- The sink may break off in the TPDU's line, before the link is given it, or in the reply's, after: what was taken is joined of both lines.
 use Rattle.std.proofs.Common.{◌∙◌, rules}
 use Rattle.card_steps.proofs.Shown.{reply_cut_off, tpdu_cut_off, tpdu_shows}
 use Rattle.card_steps.proofs.StepLemmas.{idle_counted}

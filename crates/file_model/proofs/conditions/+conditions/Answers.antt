@@ -1,3 +1,4 @@
+-- The value read under each tag is one condition, and conditions spell a whole group exactly where others spell what is left of it.
 use Rattle.std.proofs.Common.{◌≡◌, ◌<◌, length, ap, Some, arith}
 use Rattle.std.proofs.lemmas.Grind.{common_steps}
 use Rattle.file_model.proofs.ConditionLemmas.{says_always, says_never, says_key, says_some, says_all}

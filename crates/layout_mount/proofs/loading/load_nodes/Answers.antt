@@ -1,3 +1,4 @@
+-- The nodes below this number passed and fill the table's front, so one that is refused is the first check that fails.
 use Rattle.std.proofs.Common.{◌≡◌, ℕ, ◌+◌, true, length, take, set, sym, ap, ◌∙◌, arith, subst, below_more, Some}
 use Rattle.std.proofs.lemmas.List.{length-replicate}
 use Rattle.card_layout.specs.Blank.{unused_node}

@@ -1,3 +1,4 @@
+-- A memory stands where it is well formed and its state sound, so after each commit of a row or of what it keeps both are shown anew.
 use Rattle.layout_standing.proofs.Whole.{standing_sound, sound_stands}
 use Rattle.layout_standing.proofs.Attributes.{row_removed, events_changed, registered, deregistered, kept_stands, apart_stands}
 use Rattle.layout_standing.proofs.Entries.{row_changed, row_added, row_installed, row_reread, sequence_changed}

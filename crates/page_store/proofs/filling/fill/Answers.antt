@@ -1,3 +1,4 @@
+-- Over pages of FF the content is FF through any map, so the map's write, torn or whole, leaves it; the first map is well formed.
 use Rattle.std.proofs.Common.{◌≡◌, ◌∙◌, length, subst, arith}
 use Rattle.update_journal.specs.uicc_types.Told.{Becomes}
 use Rattle.update_journal.specs.uicc_types.Patches.{Torn}

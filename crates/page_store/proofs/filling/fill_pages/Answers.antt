@@ -1,3 +1,4 @@
+-- No page is filled where the map lies, so it stays ill formed, and the content stays all FF even where a fault tears a page.
 use Rattle.std.proofs.Common.{◌*◌, ◌∙◌, refl, subst, arith}
 use Rattle.update_journal.specs.uicc_types.Calls.{calm_same, caused_then, calm_ok}
 use Rattle.page_store.proofs.Told.{HasLength}

@@ -1,3 +1,4 @@
+-- The page is written to one that the map of the commit's beginning doesn't name, so what a fault leaves there isn't seen through it.
 use Rattle.std.proofs.Common.{◌≡◌, ◌+◌, ◌*◌, List, ℕ, Option, sym, ap, ◌∙◌, subst, rules}
 use Rattle.std.specs.Prelude.{option_map}
 use Rattle.update_journal.specs.uicc_types.Optional.{on_err}

@@ -1,3 +1,4 @@
+-- The touched pages below this one have moved since the commit began, so a fault at the next page leaves the content as it was then.
 use Rattle.std.specs.Prelude.{if◌then◌else◌}
 use Rattle.std.proofs.Common.{◌≡◌, sym, ap, ◌∙◌, refl, subst, arith}
 use Rattle.update_journal.specs.uicc_types.Optional.{on_err}

@@ -1,3 +1,4 @@
+-- What was put page by page joins to one write of the bytes so far, and a part that a fault tears lies inside the whole range.
 use Rattle.std.proofs.Common.{◌+◌, ◌-◌, List, ℕ, drop, refl, ap, ◌∙◌, arith, rules}
 use Rattle.std.specs.Prelude.{option_map}
 use Rattle.std.proofs.lemmas.List.{length-drop, length-take, take_all}

@@ -1,3 +1,4 @@
+-- A command, a reset and a note each add one event to the log; what the places hold is what the handset asked for, and it has less to do.
 use Rattle.std.proofs.Common.{rules}
 use Rattle.card_steps.proofs.StandingLemmas.{machine_stands}
 use Rattle.card_steps.specs.Ends.{moment_at}

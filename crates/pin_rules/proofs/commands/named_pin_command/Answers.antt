@@ -1,3 +1,4 @@
+-- The trial read from the table comes to what the command settles; where that passes no state nothing is committed, and no fault stops it.
 use Rattle.std.proofs.Common.{◌≡◌, length, refl, sym, ◌∙◌, ap, subst}
 use Rattle.std.proofs.lemmas.Bool.{false≢true}
 use Rattle.file_model.specs.uicc_types.Optional.{on_err}

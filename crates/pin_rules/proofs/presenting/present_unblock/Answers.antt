@@ -1,3 +1,4 @@
+-- The slot shows one unblocking try less after the first commit and the unblocked PIN after the second; a fault may stop either.
 use Rattle.std.proofs.Common.{◌-◌, true, sym, ◌∙◌, arith}
 use Rattle.std.specs.Str.{bytes_eq}
 use Rattle.file_model.specs.card_layout.States.{pin_state}

@@ -1,3 +1,4 @@
+-- The first slot with the key is one of the table's, and the one that the model finds there; an unused slot, of key 0, is never it.
 use Rattle.std.proofs.Common.{◌<◌, List, length, get_or, sym, ap, ◌∙◌, arith}
 use Rattle.std.proofs.lemmas.Bool.{eqb-false}
 use Rattle.std.proofs.lemmas.Option.{slice_get-get_or}

@@ -1,3 +1,4 @@
+-- Each kind of act has its lemma for any mind; that a told timer is one of eight is read from it with a fresh mind put in.
 use Rattle.std.proofs.Common.{refl, sym, ap, ◌∙◌, ℕ, List, [], rules}
 use Rattle.std.specs.Prelude.{Ok}
 use Rattle.std.proofs.lemmas.Result.{on_ok_weaker}

@@ -1,3 +1,4 @@
+-- The commit registers the row as the session's act does, so the index with the shelf put under this code stands for the rows again.
 use Rattle.std.proofs.Common.{refl, ◌∙◌, List}
 use Rattle.card_memory.specs.card_layout.Changing.{with_code_committed}
 use Rattle.card_memory.specs.card_layout.Memory.{memory}

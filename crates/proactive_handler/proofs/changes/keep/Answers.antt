@@ -1,3 +1,4 @@
+-- Bytes that are kept change no codes, so an index of the rows stays one; after a fault the rows are the old ones or those of the act.
 use Rattle.std.proofs.Common.{refl, ◌∙◌, List, arith}
 use Rattle.std.proofs.lemmas.Bool.Decides.{nat_tests}
 use Rattle.card_memory.specs.card_layout.Changing.{with_kept_committed}

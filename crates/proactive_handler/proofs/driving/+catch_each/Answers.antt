@@ -1,3 +1,4 @@
+-- The late trigger taken out is of an idle applet with a row, whose run leaves the other late ones; so the rest is caught up from there.
 use Rattle.std.proofs.Common.{◌-◌, sym, ap, ◌∙◌, subst, false, List, arith, refl}
 use Rattle.toolkit_model.specs.Sessions.{SessionState, LateTrigger}
 use Rattle.toolkit_model.specs.Driving.{caught_up}

@@ -1,3 +1,4 @@
+-- The late triggers are as many as their free places tell, so all are caught up with before it settles; a fault stops it before that.
 use Rattle.std.proofs.Common.{refl, sym, ap, subst, arith, rules}
 use Rattle.card_memory.specs.card_layout.States.{rows_of}
 use Rattle.toolkit_model.specs.Sessions.{SessionState}

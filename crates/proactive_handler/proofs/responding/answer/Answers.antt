@@ -1,3 +1,4 @@
+-- As a command was fetched, its owner has a row and is idle once it is answered; where it was the card's own, nobody runs.
 use Rattle.std.proofs.Common.{sym, ap, ◌∙◌, subst, ℕ, Some, rules}
 use Rattle.toolkit_model.specs.toolkit_commands.Replies.{replied}
 use Rattle.toolkit_model.specs.applet_trait.Minds.{minds_of}

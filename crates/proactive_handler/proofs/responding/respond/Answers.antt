@@ -1,3 +1,4 @@
+-- The response leaves what is late as it was, so answering it and ending the command are one step that leaves the others' boxes alone.
 use Rattle.toolkit_model.specs.toolkit_commands.Replies.{replied}
 use Rattle.proactive_handler.specs.Boxes.{AreForOthers}
 use Rattle.toolkit_model.specs.applet_trait.Minds.{minds_of}

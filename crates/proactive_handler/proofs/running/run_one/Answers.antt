@@ -1,3 +1,4 @@
+-- The mind that ran is put back in its own box, so all other shelves' are as they were; where there is no box the run is none at all.
 use Rattle.std.proofs.Common.{set, ℕ, List, Option, Some, None, refl, sym, ap, ◌∙◌, subst, arith, rules, ◌<◌, length, slice_index_or}
 use Rattle.std.proofs.lemmas.List.{set-get_or, get_or-set_other}
 use Rattle.toolkit_model.specs.applet_trait.Minds.{AppletState, minds_of}

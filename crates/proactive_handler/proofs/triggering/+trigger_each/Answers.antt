@@ -1,3 +1,4 @@
+-- The shelves differ, so after the first one's turn the others still have rows and places for late events; the turns make one.
 use Rattle.std.proofs.Common.{ap, ◌∙◌, map, arith}
 use Rattle.card_memory.specs.uicc_types.declared.identifiers.Shelf.{Shelf}
 use Rattle.card_memory.specs.card_layout.Memory.{memory}

@@ -1,3 +1,4 @@
+-- An idle applet runs, a waiting one has the event kept or misses it; in each case the shelves behind it still have their places.
 use Rattle.std.proofs.Common.{refl, sym, ap, ◌∙◌, subst, Bool, false, rules}
 use Rattle.std.proofs.lemmas.Result.{IfOk-weaker}
 use Rattle.toolkit_model.specs.applet_trait.declared.stimuli.Stimulus.{Stimulus}

@@ -1,3 +1,4 @@
+-- The sum was read from the state the store still has; it passes one state, that with the sum as newest record, and a fault leaves either.
 use Rattle.std.proofs.Common.{◌≡◌, Option, Some, sym, ◌∙◌, true, [], ◌∷◌}
 use Rattle.std.specs.Prelude.{Ok}
 use Rattle.file_model.specs.uicc_types.Optional.{on_err, if_some, if_some_at}

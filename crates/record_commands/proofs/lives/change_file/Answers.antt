@@ -1,3 +1,4 @@
+-- A life cycle status that is new passes one state: a fault leaves that or the one before, and all other files are as they were.
 use Rattle.std.proofs.Common.{◌≡◌, Option, Some, [], ◌∷◌, refl, sym, ◌∙◌, true, rules}
 use Rattle.std.proofs.lemmas.Bool.{ne_eqb}
 use Rattle.file_model.specs.uicc_types.Optional.{on_err, if_some, if_some_at}

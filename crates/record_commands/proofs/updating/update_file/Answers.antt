@@ -1,3 +1,4 @@
+-- The number found is that of the command's rules, so its record is the one state passed; a fault of the write leaves either state.
 use Rattle.std.proofs.Common.{◌≡◌, Some, sym, ◌∙◌, true, [], ◌∷◌}
 use Rattle.file_model.specs.uicc_types.Optional.{on_err, if_some, if_some_at}
 use Rattle.file_model.specs.card_layout.Persistent.{Persistent}

@@ -1,3 +1,4 @@
+-- That the row may go is taken from what was tested to the card itself; the shelf that is emptied is P2 of the command as it came.
 use Rattle.std.proofs.Common.{inr, ℕ, refl, sym, ap, subst, ◌∙◌, []}
 use Rattle.std.specs.Prelude.{Ok, Err}
 use Rattle.file_model.specs.apdu_form.Model.{Apdu}

@@ -1,3 +1,4 @@
+-- Where a fault stops what follows the row's commit, the box that was taken out is on its shelf again, with the mind that it had.
 use Rattle.std.proofs.Common.{sym, subst, List, ◌∙◌}
 use Rattle.file_model.specs.card_layout.Memory.{memory}
 use Rattle.toolkit_model.specs.Sessions.{LateTrigger}

@@ -1,3 +1,4 @@
+-- The applet is idle, so nothing that is out or late is its own; its row's one commit, where it fails, leaves the row there or gone.
 use Rattle.std.proofs.Common.{sym, ap, subst, refl, ℕ}
 use Rattle.file_model.specs.card_layout.Blank.{unused_row}
 use Rattle.file_model.specs.card_layout.declared.entries.Loaded.{Loaded}

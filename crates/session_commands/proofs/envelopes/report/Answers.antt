@@ -1,3 +1,4 @@
+-- What is noted of the event first leaves what is late and who is asked, so the shelves that are told of it have the tested places.
 use Rattle.std.proofs.Common.{◌≡◌, refl, sym, subst, List}
 use Rattle.std.proofs.lemmas.Result.{IfOk-weaker}
 use Rattle.toolkit_model.specs.toolkit_commands.Reports.{reported}

@@ -1,3 +1,4 @@
+-- The row that was tried is that of each card it may come to; order needs all sequence numbers of the rows to be below the next one.
 use Rattle.std.proofs.Common.{refl, sym, ap, ◌∙◌, []}
 use Rattle.file_model.specs.apdu_form.Model.{Apdu}
 use Rattle.file_model.specs.card_layout.Memory.{memory}

@@ -1,3 +1,4 @@
+-- The new row stands in the table of rows, so its shelf has one: the index takes it in there, and the applet that wakes is of its kind.
 use Rattle.std.proofs.Common.{ℕ, List, Option, None, refl, sym, ◌∙◌, ap, subst}
 use Rattle.std.specs.Prelude.{Contains}
 use Rattle.std.proofs.lemmas.List.{get_or-set_other}

@@ -1,3 +1,4 @@
+-- The profile that is set is the body of the command as it came; what the test of the data refuses leaves the card as it was.
 use Rattle.std.proofs.Common.{refl, sym, ap, ◌∙◌, []}
 use Rattle.file_model.specs.apdu_form.Model.{Apdu}
 use Rattle.file_model.specs.card_layout.Memory.{memory}

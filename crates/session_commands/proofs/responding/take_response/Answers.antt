@@ -1,3 +1,4 @@
+-- A response that passes the tests is to a command that was fetched: that one is named, and what `respond` says of any is said of it.
 use Rattle.std.proofs.Common.{refl, sym, ap, ◌∙◌, [], ◌∷◌}
 use Rattle.toolkit_model.specs.toolkit_commands.Replies.{replied}
 use Rattle.file_model.specs.card_layout.Memory.{memory}

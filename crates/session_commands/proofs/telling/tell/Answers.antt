@@ -1,3 +1,4 @@
+-- A fault stops the telling or what ends the command; what was kept late is for those told alone, so in both the other boxes stay.
 use Rattle.std.proofs.Common.{sym, ap, ◌∙◌, subst, List}
 use Rattle.file_model.specs.card_layout.Memory.{memory}
 use Rattle.toolkit_model.specs.Driving.{driven}

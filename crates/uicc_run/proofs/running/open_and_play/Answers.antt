@@ -1,3 +1,4 @@
+-- The card opened is the one at the end of the link, and the store handed back is that card's: the lines are told from one to the other.
 use Rattle.std.proofs.Common.{[], None, ap, refl, sym, subst, ◌∙◌}
 use Rattle.card_core.specs.Parts.{CardParts}
 use Rattle.card_core.specs.Cards.{parts_of}

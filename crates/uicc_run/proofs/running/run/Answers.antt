@@ -1,10 +1,11 @@
+-- Each status comes of one ending: the others are ruled out by its number or by sound devices, so that the script tells which it is.
 use Rattle.std.proofs.Common.{ap, arith, is_some, subst, ◌∙◌}
 use Rattle.std.proofs.lemmas.Grind.{common_steps}
 use Rattle.uicc_run.specs.Headline.{Closes}
 use Rattle.uicc_run.proofs.BipLemmas.{channels_served, rose_on, status_low}
 use Rattle.uicc_run.proofs.BoxLemmas.{is_boxed}
 use Rattle.uicc_run.proofs.LoadLemmas.{load_completes}
-use Rattle.uicc_run.proofs.SceneLemmas.{to_read, to_read_told}
+use Rattle.uicc_run.proofs.WorldLemmas.{to_read, to_read_told}
 use Rattle.uicc_run.proofs.ScriptLemmas.{bad_stops, completes, eight_is_full, five_is, full_stops, good_ends, line_verdict, not_usage, one_is, refuses, seven_refuses, seven_starts, six_shows, stops_bad, two_is_bad, verdict, zero_is_good, zero_reads_out}
 use Rattle.uicc_run.proofs.running.run.Goals as goal
 

@@ -1,3 +1,4 @@
+-- The pieces so far and those in the rest are what the area spells, so one unusable piece, or too many bytes, refuses the whole.
 use Rattle.std.proofs.Common.{◌≡◌, ◌⊎◌, ◌∷◌, ◌++◌, ◌<◌, ◌+◌, ◌-◌, ℕ, List, [], length, inl, inr, refl, sym, ap, ◌∙◌, arith, length-append}
 use Rattle.std.proofs.lemmas.Bool.{cases_lt}
 use Rattle.std.proofs.lemmas.List.Elements.{All-nil, All-push, All-same}

@@ -1,3 +1,4 @@
+-- The count and the entries up to each piece are the front of all entries, so where one of them doesn't fit, all are too long.
 use Rattle.std.proofs.Common.{◌∷◌, ◌++◌, ℕ, List, length, sym, ap, ◌∙◌, arith}
 use Rattle.std.specs.List.{flat_map}
 use Rattle.std.proofs.lemmas.List.{take_all}

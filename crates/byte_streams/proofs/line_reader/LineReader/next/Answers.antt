@@ -1,3 +1,4 @@
+-- What `fill` takes is still to come, so what is known of the first line in what is held is known of the text as it was before.
 use Rattle.std.proofs.Common.{◌<◌, ◌+◌, length, ap, arith, rules}
 use Rattle.byte_streams.specs.declared.next_line.NextLine.TheVariants.{TooLong}
 use Rattle.byte_streams.proofs.BadLemmas.{full_bad}

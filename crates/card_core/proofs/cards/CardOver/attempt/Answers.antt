@@ -1,3 +1,4 @@
+-- What holds of the command that was read is led to its bytes: Le cuts the data after Ok, a fault leaves none, bad form is refused.
 use Rattle.std.proofs.Common.{false, refl, sym, ◌∙◌, ap, rules}
 use Rattle.file_model.specs.apdu_form.Model.{Apdu, cut_to}
 use Rattle.file_model.specs.uicc_types.declared.answers.TheConstants.StatusWord.{WRONG_LENGTH}

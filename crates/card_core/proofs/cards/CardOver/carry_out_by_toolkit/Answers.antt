@@ -1,3 +1,4 @@
+-- A fault puts the noted rows back: no row had come but by INSTALL, so table and boxes fit again, whatever was committed.
 use Rattle.std.proofs.Common.{◌∷◌, Err, Option, ap, subst, sym, ◌∙◌, rules}
 use Rattle.std.specs.Prelude.{All, IfSome, IsSomeAnd}
 use Rattle.file_model.specs.card_layout.declared.entries.Loaded.{Loaded}

@@ -1,3 +1,4 @@
+-- A fault puts the old PINs back in the table, whatever was committed: the store holds one of the states that the command passes.
 use Rattle.std.specs.Prelude.{None}
 use Rattle.card_core.proofs.Restored.{silent_agrees}
 use Rattle.std.proofs.Common.{ℕ, List, ◌∷◌, Option, refl, sym, ◌∙◌, ap, subst, rules}

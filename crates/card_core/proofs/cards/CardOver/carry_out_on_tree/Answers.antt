@@ -1,3 +1,4 @@
+-- on_tree speaks of each memory with the table's entries: the card's answer, its commits and what a fault leaves are drawn from that.
 use Rattle.std.proofs.Common.{ℕ, List, Option, refl, ◌∙◌, ap, subst, rules, Ok, Err}
 use Rattle.file_model.specs.card_layout.declared.entries.Loaded.{Loaded}
 use Rattle.file_model.specs.card_layout.Standing.{standing, Agrees}

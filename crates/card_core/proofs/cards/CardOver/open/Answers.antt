@@ -1,3 +1,4 @@
+-- The opened card is set out part by part: the boxes given fill all shelves with empty ones behind, and a migrated card is a card still.
 use Rattle.std.proofs.Common.{true, false, None, option_map, refl, subst, arith, rules}
 use Rattle.std.proofs.lemmas.List.{length-map}
 use Rattle.file_model.specs.card_layout.declared.entries.Loaded.{Loaded}

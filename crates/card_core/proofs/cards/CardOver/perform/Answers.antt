@@ -1,3 +1,4 @@
+-- What was due is done first and leaves the same card: a fault in that leaves what the command may leave, and else it meets that card.
 use Rattle.std.proofs.Common.{◌≡◌, ℕ, [], Option, sym, ◌∙◌, ap, subst, rules}
 use Rattle.std.proofs.lemmas.Bool.{false≢true}
 use Rattle.std.specs.Prelude.{IfSome, IsSomeAnd, is_some}

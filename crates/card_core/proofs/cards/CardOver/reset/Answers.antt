@@ -1,3 +1,4 @@
+-- The card started again is the one due, which is the old card after a reset: power_up moves no bytes, and only PowerLost ends it off.
 use Rattle.std.proofs.Common.{true, false, refl, sym, ◌∙◌, ap, rules}
 use Rattle.std.proofs.lemmas.Bool.{true≢false}
 use Rattle.file_model.specs.uicc_types.Counts.{Meter}

@@ -1,3 +1,4 @@
+-- The boxes that were lent and woken are the card's again: with them it is the card that was due, and where a fault came it still is.
 use Rattle.std.proofs.Common.{List, Option, None, true, false, refl, sym, ◌∙◌, ap, subst, rules}
 use Rattle.std.specs.Prelude.{All}
 use Rattle.std.specs.Vec.{with_items}

@@ -1,3 +1,4 @@
+-- poll speaks of a table and boxes that are lent: all it says is led to the card's own, also which state a fault in telling STATUS leaves.
 use Rattle.std.proofs.Common.{◌≡◌, ℕ, List, ◌∷◌, length, Option, option_map, Ok, Err, refl, sym, ◌∙◌, ap, subst, rules}
 use Rattle.std.proofs.lemmas.List.{with_items_is, length-map}
 use Rattle.toolkit_model.specs.applet_trait.Minds.{AppletState, minds_of}

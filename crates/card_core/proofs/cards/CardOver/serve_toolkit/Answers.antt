@@ -1,3 +1,4 @@
+-- by_toolkit speaks of a lent table and lent boxes; where a fault stops a DELETE, the box whose row may be gone is the one that is leaving.
 use Rattle.proactive_handler.specs.Boxes.{kinds_of}
 use Rattle.std.proofs.Common.{◌≡◌, ℕ, List, ◌∷◌, length, Option, option_map, Ok, Err, refl, sym, ◌∙◌, ap, subst, rules}
 use Rattle.std.proofs.lemmas.Bool.{false≢true}

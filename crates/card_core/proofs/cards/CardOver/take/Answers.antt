@@ -1,3 +1,4 @@
+-- That the command names this instruction on these channels turns what its method says into what is said of a command of known form.
 use Rattle.std.proofs.Common.{true, false, refl, sym, ◌∙◌, ap, rules, Ok}
 use Rattle.file_model.specs.Chains.{and_given}
 use Rattle.file_model.specs.declared.commands.FileCommand.TheVariants.{Select, Status, Contents}

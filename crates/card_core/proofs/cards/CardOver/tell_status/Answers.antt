@@ -1,3 +1,4 @@
+-- STATUS alone meets no fault and commits nothing: what both steps commit, and what a fault leaves, is what telling the applets does.
 use Rattle.std.proofs.Common.{◌≡◌, false, refl, subst, rules, Ok, Err}
 use Rattle.std.specs.Prelude.{OnErr}
 use Rattle.file_model.specs.card_layout.declared.entries.Loaded.{Loaded}

@@ -1,3 +1,4 @@
+-- After a fault the card is the one due, and all but power stays as perform left it; no command answers 6581 of itself.
 use Rattle.std.proofs.Common.{◌≡◌, [], length, Option, true, refl, sym, ◌∙◌, ap, subst, Err, inl, inr, Ok}
 use Rattle.std.proofs.lemmas.Bool.{false≢true}
 use Rattle.std.specs.Prelude.{IfSome, IsSomeAnd}

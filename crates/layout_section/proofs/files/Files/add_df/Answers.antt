@@ -1,3 +1,4 @@
+-- The new DF has no bytes, so the files still lie one after the other, and no file of its parent has its identifier.
 use Rattle.std.proofs.Common.{ℕ, ◌<◌, List, [], ◌∷◌, ◌++◌, length, take, ap, sym, subst, refl, inl, ◌∙◌, arith}
 use Rattle.std.proofs.lemmas.List.{length-set, take_more_set}
 use Rattle.card_layout.specs.declared.entries.Node.{Node}

@@ -1,3 +1,4 @@
+-- A record filled up with FF lies inside its file's range, so it alone changes; without a place the file has no such record.
 use Rattle.std.proofs.Common.{◌≡◌, ◌≢◌, ℕ, ◌+◌, ◌-◌, ◌<◌, ◌≤◌, List, ◌++◌, length, take, get_or, replicate, ap, sym, subst, ◌∙◌, arith}
 use Rattle.std.specs.Prelude.{Ok, Err}
 use Rattle.std.specs.Vec.{with_items}

@@ -1,3 +1,4 @@
+-- The way a TPDU's data go tells its course: the link answers by itself, never with `NoPower`, or the card's result decides alone.
 use Rattle.std.proofs.Common.{◌≡◌, ◌↔◌, false, None, Some, Ok, Err, refl, ap, subst}
 use Rattle.t0_link.specs.declared.endpoint.LinkFault.TheVariants.{NoPower}
 use Rattle.t0_link.specs.declared.tpdus.Transfer.TheVariants.{GetResponse, Outgoing, Incoming}

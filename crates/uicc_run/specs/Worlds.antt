@@ -12,7 +12,7 @@ use Rattle.uicc_run.specs.Playing.{Leaves}
 use Rattle.uicc_run.specs.Stores.{held_in}
 use Rattle.update_journal.specs.uicc_types.Counts.{Meter}
 
-pub record Scene : Type 0 where
+pub record World : Type 0 where
   -- what the source has left to give, where it tells, and the faults that it counted
   pub left : Option (List ℕ)
   pub source : ℕ
@@ -26,9 +26,9 @@ pub record Scene : Type 0 where
   pub boxes : List (Option AppletState)
 
 -- over a device
-abbrev pub scene : {R W E B : Type 0} → SourceWords R → SinkWords W → EepromWords E → AppletWords B
-    → R → W → E → List (Option B) → Scene
-scene source_words sink_words device_words box_words source sink device boxes = record {
+abbrev pub world : {R W E B : Type 0} → SourceWords R → SinkWords W → EepromWords E → AppletWords B
+    → R → W → E → List (Option B) → World
+world source_words sink_words device_words box_words source sink device boxes = record {
   left = source_words.left source;
   source = source_words.faults source;
   taken = sink_words.taken sink;
@@ -40,7 +40,7 @@ scene source_words sink_words device_words box_words source sink device boxes = 
 
 -- over a store: the bytes are those that it stands for
 abbrev pub stored : {R W S B : Type 0} → SourceWords R → SinkWords W → StoreWords S → AppletWords B
-    → R → W → S → List (Option B) → Scene
+    → R → W → S → List (Option B) → World
 stored source_words sink_words store_words box_words source sink store boxes = record {
   left = source_words.left source;
   source = source_words.faults source;
@@ -56,7 +56,7 @@ abbrev pub new_meter : Meter
 new_meter = (new_bench 0).meter
 
 -- where nothing is told of a memory, since there is none yet or it is gone, and these minds are in the boxes
-abbrev pub outside : {R W : Type 0} → SourceWords R → SinkWords W → R → W → List (Option AppletState) → Scene
+abbrev pub outside : {R W : Type 0} → SourceWords R → SinkWords W → R → W → List (Option AppletState) → World
 outside source_words sink_words source sink boxes = record {
   left = source_words.left source;
   source = source_words.faults source;
@@ -68,7 +68,7 @@ outside source_words sink_words source sink boxes = record {
 }
 
 -- the same over a new memory of the bench, of so many bytes, with power and without a plan
-abbrev pub over_bench : ℕ → Scene → Scene
+abbrev pub over_bench : ℕ → World → World
 over_bench size before = record before { contents = Some (new_bench size).bytes; meter = (new_bench size).meter }
 
 -- What is seen of a run from outside at its end, of which the memory and the boxes may be gone: what the source and the sink counted before
@@ -82,7 +82,7 @@ pub record Seen : Type 0 where
   pub taken : Option (List ℕ)
   pub status : ℕ
 
-abbrev pub seen : ℕ → Scene → Scene → Seen
+abbrev pub seen : ℕ → World → World → Seen
 seen status before after = record {
   source = before.source;
   source_then = after.source;
@@ -96,9 +96,9 @@ seen status before after = record {
 -- ---- what of it is left
 
 -- over a device: what the one of the two stores stands for
-abbrev pub left_in : Bool → Scene → Leaves
+abbrev pub left_in : Bool → World → Leaves
 left_in pages after = record { held = held_in pages after.contents; taken = after.taken; meter = after.meter; boxes = after.boxes }
 
 -- over a store with this mark
-abbrev pub left_of : ℕ → Scene → Leaves
+abbrev pub left_of : ℕ → World → Leaves
 left_of mark after = record { held = standing mark after.contents; taken = after.taken; meter = after.meter; boxes = after.boxes }

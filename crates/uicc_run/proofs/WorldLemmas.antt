@@ -4,10 +4,10 @@ use Rattle.card_core.specs.card_layout.Persistent.{Persistent}
 use Rattle.uicc_run.specs.Listeners.{is_handset}
 use Rattle.uicc_run.specs.Opening.{IsToPlay, IsToRead, ReadsFrom, RunsFrom}
 use Rattle.uicc_run.specs.Playing.{Given}
-use Rattle.uicc_run.specs.Scenes.{Scene}
+use Rattle.uicc_run.specs.Worlds.{World}
 use Rattle.uicc_run.specs.declared.listeners.Listener.{Listener}
 
-module _ (given : Given) (words : List (List ℕ)) (before : Scene) where
+module _ (given : Given) (words : List (List ℕ)) (before : World) where
   pub to_read : ReadsFrom given words before → IsToRead given words before
   to_read from = record { text_is = from.text_is; boxes_are = from.boxes_are; is_asked = from.is_asked }
 
