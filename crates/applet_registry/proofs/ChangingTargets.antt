@@ -5,7 +5,7 @@ use Rattle.std.specs.List.{list_any}
 use Rattle.std.proofs.lemmas.Bool.Decides.{nat_tests}
 use Rattle.std.proofs.lemmas.List.Elements.{All-head, All-tail}
 use Rattle.std.proofs.lemmas.Bool.{eqb-true, not_from_false, not_from_true, or_from, cond_both, not-true}
-use Rattle.toolkit_model.specs.uicc_types.Pairs.{pairs_head, pairs_tail}
+use Rattle.toolkit_model.proofs.uicc_types.PairLemmas.{pairs_head, pairs_tail}
 use Rattle.toolkit_model.specs.card_layout.Persistent.{Registration}
 use Rattle.toolkit_model.specs.Order.{is_for, comes_before, placed, in_order, trigger_order, targets}
 use Rattle.toolkit_model.specs.Registry.{is_on, without_row, without_code, with_kept}

@@ -5,7 +5,7 @@ use Rattle.std.specs.List.{list_any}
 use Rattle.std.proofs.lemmas.Bool.{cases_lt, lt-ltb, le-ltb, or_parts, cases_eq}
 use Rattle.std.proofs.lemmas.Bool.Decides.{nat_tests}
 use Rattle.std.proofs.lemmas.List.Elements.{All-nil, All-head, All-tail, All-cons, All-weaker}
-use Rattle.toolkit_model.specs.uicc_types.Pairs.{pairs_head, pairs_tail}
+use Rattle.toolkit_model.proofs.uicc_types.PairLemmas.{pairs_head, pairs_tail}
 use Rattle.toolkit_model.specs.card_layout.Persistent.{Registration}
 use Rattle.toolkit_model.specs.card_layout.Sections.{with_row, is_call_control}
 use Rattle.toolkit_model.specs.Registry.{is_on, without_row}

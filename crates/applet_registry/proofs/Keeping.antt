@@ -6,8 +6,8 @@ use Rattle.std.proofs.lemmas.List.Elements.{All-filter, All-map, All-weaker, All
 use Rattle.std.proofs.lemmas.List.Kept.{AllPairs-filter}
 use Rattle.std.proofs.lemmas.List.Sums.{sum_by-cons}
 use Rattle.std.proofs.lemmas.Bool.{cond_both}
-use Rattle.toolkit_model.specs.uicc_types.Numbered.{all_unmapped}
-use Rattle.toolkit_model.specs.uicc_types.Pairs.{pairs_map, pairs_unmap}
+use Rattle.toolkit_model.proofs.uicc_types.NumberedLemmas.{all_unmapped}
+use Rattle.toolkit_model.proofs.uicc_types.PairLemmas.{pairs_map, pairs_unmap}
 use Rattle.toolkit_model.specs.card_layout.Persistent.{Registration}
 use Rattle.toolkit_model.specs.card_layout.Kinds.{event_codes, known_codes}
 use Rattle.toolkit_model.specs.card_layout.Sections.{has_text, sorted_codes}

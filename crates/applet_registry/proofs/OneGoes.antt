@@ -3,7 +3,7 @@ use Rattle.std.proofs.Common.{◌≡◌, ℕ, ◌<◌, Bool, true, false, cond, 
 use Rattle.std.proofs.lemmas.Bool.Decides.{nat_tests}
 use Rattle.std.proofs.lemmas.List.Elements.{All-head, All-tail, All-weaker}
 use Rattle.std.specs.Prelude.{◌==◌, nat_lt, not, AllPairs}
-use Rattle.toolkit_model.specs.uicc_types.Pairs.{pairs_head, pairs_tail}
+use Rattle.toolkit_model.proofs.uicc_types.PairLemmas.{pairs_head, pairs_tail}
 use Rattle.toolkit_model.specs.card_layout.Persistent.{Registration}
 
 module _ (shelf : ℕ) where

@@ -6,8 +6,8 @@ use Rattle.std.specs.List.{list_any}
 use Rattle.std.proofs.lemmas.Bool.Decides.{nat_tests}
 use Rattle.std.proofs.lemmas.List.Elements.{Contains-append_cases}
 use Rattle.std.proofs.lemmas.Bool.{eqb-true}
-use Rattle.toolkit_model.specs.uicc_types.Pairs.{pairs_head, pairs_tail}
-use Rattle.toolkit_model.specs.uicc_types.Members.{only_there}
+use Rattle.toolkit_model.proofs.uicc_types.PairLemmas.{pairs_head, pairs_tail}
+use Rattle.toolkit_model.proofs.uicc_types.MemberLemmas.{only_there}
 use Rattle.toolkit_model.specs.card_layout.Persistent.{Registration}
 use Rattle.toolkit_model.specs.card_layout.Kinds.{event_codes}
 use Rattle.toolkit_model.specs.card_layout.Events.{bit_of}

@@ -10,7 +10,7 @@ use Rattle.toolkit_model.specs.card_layout.Kinds.{event_codes, known_codes}
 use Rattle.toolkit_model.specs.card_layout.Events.{bit_of}
 use Rattle.std.specs.List.{list_any}
 use Rattle.std.proofs.lemmas.Bool.{eqb-true, or_from, cases_eq, cond_both, ne_eqb}
-use Rattle.toolkit_model.specs.card_layout.Codes.{codes_known}
+use Rattle.toolkit_model.proofs.card_layout.CodeLemmas.{codes_known}
 use Rattle.toolkit_model.specs.card_layout.States.{rows_of, registration_of, used_rows}
 use Rattle.toolkit_model.specs.card_layout.declared.entries.Loaded.{Loaded}
 use Rattle.toolkit_model.specs.Order.{is_for, in_order, trigger_order, targets}

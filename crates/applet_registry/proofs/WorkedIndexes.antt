@@ -2,7 +2,7 @@
 use Rattle.std.proofs.Common.{◌≡◌, refl, ℕ, ◌<◌, ◌≤◌, List, [], ◌∷◌, length, arith}
 use Rattle.std.specs.Prelude.{◌≢◌, Contains}
 use Rattle.std.proofs.lemmas.List.Elements.{All-nil, All-cons}
-use Rattle.toolkit_model.specs.uicc_types.Pairs.{pairs_nil, pairs_cons}
+use Rattle.toolkit_model.proofs.uicc_types.PairLemmas.{pairs_nil, pairs_cons}
 use Rattle.toolkit_model.specs.card_layout.Persistent.{Registration}
 use Rattle.toolkit_model.specs.card_layout.Kinds.{known_codes}
 use Rattle.toolkit_model.specs.Order.{trigger_order, targets}

@@ -14,11 +14,11 @@ use Rattle.bip_runs.specs.Serving.{AreInOrder, AreReadInPlace, BipComesTo, EndsS
 use Rattle.bip_runs.specs.Traces.{history, lines_of, shown, text_of}
 use Rattle.bip_runs.specs.declared.effects.Place.{Place}
 use Rattle.bip_runs.specs.declared.effects.Place.TheVariants.{Before, Behind}
-use Rattle.script_form.specs.byte_streams.Laws.{HasRead-start, IsTakenFor-read_out}
+use Rattle.script_form.proofs.byte_streams.ReadingLemmas.{HasRead-start, IsTakenFor-read_out}
 use Rattle.script_form.specs.byte_streams.Lines.{LineList}
 use Rattle.script_form.specs.byte_streams.Reading.{at_start}
 use Rattle.script_form.specs.byte_streams.Streams.{TakesFront}
-use Rattle.card_sections.specs.LineLaws.{AreRead-more}
+use Rattle.card_sections.proofs.LineLemmas.{AreRead-more}
 use Rattle.card_sections.specs.Reading.{Finds, Follows, GivesNext, IsUnread}
 use Rattle.card_sections.specs.declared.behind.PlayEnd.{PlayEnd}
 use Rattle.card_sections.specs.declared.behind.PlayEnd.TheVariants.{Finished, BadLine, ReadFailed, SinkFailed, ResetFailed}

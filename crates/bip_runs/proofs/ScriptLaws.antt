@@ -8,7 +8,7 @@ use Rattle.bip_runs.specs.declared.effects.Place.{Place}
 use Rattle.bip_runs.specs.declared.effects.Place.TheVariants.{Before, Behind}
 use Rattle.bip_runs.proofs.Readings.{Only, Says, Agree, only_first, only_last, only_says, says_itself}
 use Rattle.script_form.specs.byte_streams.Lines.{LineList}
-use Rattle.card_sections.specs.LineLaws.{Say-from_read}
+use Rattle.card_sections.proofs.LineLemmas.{Say-from_read}
 use Rattle.card_sections.specs.Script.{Each}
 use Rattle.card_sections.specs.declared.behind.PlayEnd.TheVariants.{Finished, BadLine}
 use Rattle.script_form.specs.Forms.{IsLine}

@@ -2,10 +2,10 @@
 use Rattle.std.proofs.Common.{◌≡◌, ℕ, List, [], ◌∷◌, ◌++◌, Some, None, refl}
 use Rattle.std.specs.List.{flat_map}
 use Rattle.std.specs.Prelude.{codes}
-use Rattle.toolkit_commands.specs.comprehension_tlv.Reading.{template_of, value_at, length_at, tag_at, object_at, outline_at, outline_within}
-use Rattle.toolkit_commands.specs.comprehension_tlv.Writing.{tagged}
-use Rattle.toolkit_commands.specs.Reading.{list_of, details_found}
-use Rattle.toolkit_commands.specs.Steps.{template_in, needed}
+use Rattle.bip_channels.specs.comprehension_tlv.Reading.{template_of, value_at, length_at, tag_at, object_at, outline_at, outline_within}
+use Rattle.bip_channels.specs.comprehension_tlv.Writing.{tagged}
+use Rattle.bip_channels.specs.toolkit_commands.Reading.{list_of, details_found}
+use Rattle.bip_channels.specs.toolkit_commands.Steps.{template_in, needed}
 use Rattle.bip_channels.specs.Channels.{carried_out, answered, echoed, cut}
 use Rattle.bip_channels.specs.Reading.{bip_of, command_of, command_in, opening_in, closing_in, receiving_in, sending_in, status_in}
 use Rattle.bip_runs.specs.Places.{moved_by}

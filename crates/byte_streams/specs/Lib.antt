@@ -1,4 +1,3 @@
-pub mod Laws
 pub mod Lines
 pub mod Planned
 pub mod ReaderSteps

@@ -10,7 +10,7 @@ use Rattle.file_model.specs.card_layout.Persistent.{Registration}
 use Rattle.toolkit_model.specs.Model.{AppletState, fresh}
 use Rattle.card_model.specs.Runs.{box_left, boxes_left}
 use Rattle.card_model.specs.States.{row_on, woken_mind, woken_boxes}
-use Rattle.card_model.specs.Woken.{length-woken_boxes, woken_at}
+use Rattle.card_model.proofs.WokenLemmas.{length-woken_boxes, woken_at}
 use Rattle.card_core.specs.Cards.{boxes_kept}
 
 -- ---- one shelf

@@ -4,8 +4,8 @@ use Rattle.std.specs.Prelude.{All, IfSome, IsSomeAnd, is_none, slice_index_or}
 use Rattle.std.proofs.lemmas.Bool.{false≢true, true≢false, eqb-true}
 use Rattle.std.proofs.lemmas.List.{length-map}
 use Rattle.std.proofs.lemmas.List.Elements.{Contains-get_or}
-use Rattle.file_model.specs.uicc_types.Finding.{find_Some}
-use Rattle.file_model.specs.uicc_types.Numbered.{all_unmapped}
+use Rattle.file_model.proofs.uicc_types.FindingLemmas.{find_Some}
+use Rattle.file_model.proofs.uicc_types.NumberedLemmas.{all_unmapped}
 use Rattle.file_model.specs.uicc_types.declared.answers.StatusWord.{StatusWord}
 use Rattle.file_model.specs.uicc_types.declared.identifiers.Shelf.{Shelf}
 use Rattle.file_model.specs.apdu_form.Model.{Apdu}

@@ -1,7 +1,7 @@
 -- Rows that are kept one after the other.
 use Rattle.std.proofs.Common.{◌≡◌, ℕ, ◌+◌, ◌<◌, ◌≤◌, List, ◌++◌, length, take, drop, set, get_or, ◌∙◌, ap, arith}
 use Rattle.std.proofs.lemmas.List.{take_all, drop_all, append-nil}
-use Rattle.file_model.specs.uicc_types.Edits.{set_more}
+use Rattle.file_model.proofs.uicc_types.EditLemmas.{set_more}
 use Rattle.file_model.specs.card_layout.declared.entries.Row.{Row}
 
 module _ (rows first places : List Row) (shelf : ℕ) where

@@ -9,7 +9,7 @@ use Rattle.file_model.specs.store_form.declared.store.StoreFault.{StoreFault}
 use Rattle.toolkit_model.specs.applet_trait.Minds.{AppletState}
 use Rattle.file_model.specs.card_layout.Persistent.{Registration, Persistent}
 use Rattle.card_model.specs.States.{CardState, IsGood, woken, woken_boxes}
-use Rattle.card_model.specs.Woken.{woken_again}
+use Rattle.card_model.proofs.WokenLemmas.{woken_again}
 use Rattle.card_model.specs.Answers.{answer, passed}
 use Rattle.card_model.specs.Instructions.{is_known}
 use Rattle.card_model.specs.Runs.{boxes_left, IsLeft}

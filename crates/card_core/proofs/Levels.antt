@@ -2,7 +2,7 @@
 use Rattle.std.proofs.Common.{◌≡◌, false, [], Result, refl}
 use Rattle.std.specs.Prelude.{IsOk, OnOk, true}
 use Rattle.std.proofs.lemmas.Bool.{false≢true}
-use Rattle.file_model.specs.uicc_types.Optional.{on_ok}
+use Rattle.file_model.proofs.uicc_types.OptionalLemmas.{on_ok}
 use Rattle.file_model.specs.uicc_types.declared.answers.Answer.{Answer}
 use Rattle.file_model.specs.uicc_types.declared.answers.StatusWord.{StatusWord}
 use Rattle.file_model.specs.store_form.declared.store.StoreFault.{StoreFault}

@@ -33,3 +33,7 @@ mod Restored
 mod Taking
 pub mod Named
 mod Levels
+pub use Rattle.file_model.proofs.apdu_form
+pub use Rattle.card_model.proofs as card_model
+pub use Rattle.file_model.proofs as file_model
+pub use Rattle.card_opening.proofs.layout_mount

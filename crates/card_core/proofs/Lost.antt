@@ -3,7 +3,7 @@ use Rattle.std.proofs.Common.{◌≡◌, ℕ, Bool, true, false, List, ◌∷◌
 use Rattle.std.specs.Prelude.{All, IfSome, IsSomeAnd, MatchResult, Contains, is_none, is_some, unwrap_or, ⊤}
 use Rattle.std.proofs.lemmas.Bool.{false≢true, true≢false}
 use Rattle.std.proofs.lemmas.List.Elements.{All-nil, All-cons, All-contains}
-use Rattle.file_model.specs.uicc_types.Members.{front_of}
+use Rattle.file_model.proofs.uicc_types.MemberLemmas.{front_of}
 use Rattle.file_model.specs.uicc_types.declared.answers.StatusWord.{StatusWord}
 use Rattle.file_model.specs.apdu_form.Model.{Apdu}
 use Rattle.toolkit_model.specs.applet_trait.Minds.{AppletState}

@@ -2,7 +2,7 @@
 use Rattle.std.proofs.Common.{◌≡◌, ◌≤◌, ◌-◌, ℕ, zero, suc, true, false, List, ◌∷◌, ◌++◌, length, map, replicate, Option, Some, None, option_map, refl, sym, ◌∙◌, ap, subst, arith}
 use Rattle.std.specs.Prelude.{IfSome, All, is_some}
 use Rattle.std.proofs.lemmas.List.{map-append, length-map, length-append, length-replicate}
-use Rattle.file_model.specs.uicc_types.Optional.{is_some-map, if_some_at}
+use Rattle.file_model.proofs.uicc_types.OptionalLemmas.{is_some-map, if_some_at}
 use Rattle.toolkit_model.specs.applet_trait.Minds.{AppletState, minds_of}
 use Rattle.file_model.specs.card_layout.Migration.{migrated}
 use Rattle.file_model.specs.card_layout.Persistent.{Registration, Persistent}
@@ -12,7 +12,7 @@ use Rattle.file_model.specs.card_layout.States.{rows_of}
 use Rattle.file_model.specs.Files.{descriptors_of}
 use Rattle.file_model.specs.Laws.{IsSoundCard}
 use Rattle.card_model.specs.States.{HasBox, AreOfSevenKinds, IsGood, woken_boxes, woken, basic_channel_alone, nothing_verified}
-use Rattle.card_model.specs.Woken.{length-woken_boxes, woken_is_good}
+use Rattle.card_model.proofs.WokenLemmas.{length-woken_boxes, woken_is_good}
 use Rattle.proactive_handler.specs.card_memory.Laws.{TablesTellStates}
 use Rattle.card_opening.specs.Starts.{HoldsCard}
 use Rattle.card_core.specs.Parts.{CardParts}

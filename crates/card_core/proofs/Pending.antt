@@ -9,7 +9,7 @@ use Rattle.file_model.specs.uicc_types.declared.answers.TheConstants.StatusWord.
 use Rattle.file_model.specs.apdu_form.Model.{command_in}
 use Rattle.file_model.specs.card_layout.Persistent.{Persistent}
 use Rattle.file_model.specs.declared.selections.Selection.{Selection}
-use Rattle.file_model.specs.Chained.{unless_so, given_so}
+use Rattle.file_model.proofs.ChainedLemmas.{unless_so, given_so}
 use Rattle.toolkit_model.specs.Sessions.{SessionState}
 use Rattle.toolkit_model.specs.Commands.{pending}
 use Rattle.card_model.specs.Answers.{Answered, settled, tried, told_pending, answer_of, answer, passed}

@@ -21,7 +21,7 @@ use Rattle.file_model.specs.Commands.{file_outcome}
 use Rattle.file_model.specs.declared.commands.FileCommand.TheVariants.{Status}
 use Rattle.card_core.specs.AnyStore.{MayBe, AnswersAs}
 use Rattle.file_model.specs.store_form.declared.store.StoreFault.{StoreFault}
-use Rattle.file_model.specs.Chained.{unless_so, given_so}
+use Rattle.file_model.proofs.ChainedLemmas.{unless_so, given_so}
 use Rattle.proactive_handler.specs.card_memory.Laws.{IsTold}
 use Rattle.card_core.specs.Cards.{card_with}
 use Rattle.card_core.specs.Moves.{Answers, Polls, Settles, polled_on}

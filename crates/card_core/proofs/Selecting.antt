@@ -14,7 +14,7 @@ use Rattle.proactive_handler.specs.layout_standing.SoundnessLaws.{StandingIsSoun
 use Rattle.proactive_handler.specs.layout_standing.Known.{StandingIsOfTable}
 use Rattle.card_model.specs.Channels.{selected_on, first_selection}
 use Rattle.card_model.specs.States.{basic_channel_alone}
-use Rattle.card_model.specs.Woken.{start_is_selected}
+use Rattle.card_model.proofs.WokenLemmas.{start_is_selected}
 use Rattle.file_making.specs.Lawful.{AreSelected}
 use Rattle.card_core.specs.Laws.{TheMfIsThere, TablesHaveRows}
 

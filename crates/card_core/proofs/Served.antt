@@ -6,8 +6,8 @@ use Rattle.std.proofs.lemmas.Bool.{false≢true, true≢false}
 use Rattle.std.proofs.lemmas.Option.{same_Some}
 use Rattle.std.proofs.lemmas.List.{get_or-set_other}
 use Rattle.std.proofs.lemmas.List.Elements.{All-cons, All-head, All-tail}
-use Rattle.file_model.specs.uicc_types.Numbered.{all_unmapped}
-use Rattle.file_model.specs.uicc_types.Optional.{is_some-map}
+use Rattle.file_model.proofs.uicc_types.NumberedLemmas.{all_unmapped}
+use Rattle.file_model.proofs.uicc_types.OptionalLemmas.{is_some-map}
 use Rattle.file_model.specs.uicc_types.declared.answers.Answer.{Answer}
 use Rattle.file_model.specs.uicc_types.declared.answers.StatusWord.{StatusWord}
 use Rattle.file_model.specs.store_form.declared.store.StoreFault.{StoreFault}

@@ -3,8 +3,8 @@ use Rattle.std.proofs.Common.{◌≡◌, ℕ, ◌+◌, ◌≤◌, arith, false, 
 use Rattle.std.specs.Prelude.{IfSome, IsSomeAnd, Contains, Result, Ok, Err, OnErr, unwrap_or, slice_set}
 use Rattle.std.specs.Option.{option_to_list}
 use Rattle.std.proofs.lemmas.List.{set-get_or, length-map}
-use Rattle.file_model.specs.uicc_types.Optional.{if_some_at}
-use Rattle.file_model.specs.uicc_types.Numbered.{nil_mapped}
+use Rattle.file_model.proofs.uicc_types.OptionalLemmas.{if_some_at}
+use Rattle.file_model.proofs.uicc_types.NumberedLemmas.{nil_mapped}
 use Rattle.file_model.specs.uicc_types.Counts.{raised_by}
 use Rattle.file_model.specs.uicc_types.declared.answers.Answer.{Answer}
 use Rattle.file_model.specs.uicc_types.declared.answers.StatusWord.{StatusWord}

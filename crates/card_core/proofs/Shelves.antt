@@ -4,9 +4,9 @@ use Rattle.std.specs.Prelude.{find, filter, nat_lt, is_ok, is_some, is_none, Con
 use Rattle.std.proofs.lemmas.Bool.{false≢true, true≢false, eqb-true, eq-eqb, cases_eq}
 use Rattle.std.proofs.lemmas.Bool.Decides.{nat_tests}
 use Rattle.std.proofs.lemmas.List.Elements.{Contains-append_left, Contains-append_right}
-use Rattle.file_model.specs.uicc_types.Finding.{find-map, find_Some}
-use Rattle.file_model.specs.uicc_types.Optional.{none_of}
-use Rattle.file_model.specs.uicc_types.Members.{kept_there, first_there}
+use Rattle.file_model.proofs.uicc_types.FindingLemmas.{find-map, find_Some}
+use Rattle.file_model.proofs.uicc_types.OptionalLemmas.{none_of}
+use Rattle.file_model.proofs.uicc_types.MemberLemmas.{kept_there, first_there}
 use Rattle.file_model.specs.uicc_types.declared.answers.StatusWord.{StatusWord}
 use Rattle.file_model.specs.apdu_form.Model.{Apdu}
 use Rattle.file_model.specs.declared.rules.Verified.{Verified}

@@ -4,7 +4,7 @@ use Rattle.std.specs.Prelude.{IfSome, IsSomeAnd, Contains, is_some, Result, Ok, 
 use Rattle.std.specs.Result.{result_ok}
 use Rattle.std.proofs.lemmas.Bool.{false≢true}
 use Rattle.std.proofs.lemmas.Option.{same_Some}
-use Rattle.file_model.specs.uicc_types.Optional.{if_some_at}
+use Rattle.file_model.proofs.uicc_types.OptionalLemmas.{if_some_at}
 use Rattle.file_model.specs.uicc_types.Counts.{raised_by}
 use Rattle.file_model.specs.uicc_types.declared.answers.Answer.{Answer}
 use Rattle.file_model.specs.uicc_types.declared.answers.StatusWord.{StatusWord}

@@ -34,7 +34,7 @@ use Rattle.card_core.specs.Commands.{KindsKept}
 use Rattle.card_core.specs.Cards.{boxes_kept}
 use Rattle.card_core.specs.Parts.{CardParts}
 use Rattle.card_opening.specs.Starts.{IsReadAgain}
-use Rattle.layout_mount.specs.Mounted.{HasRead}
+use Rattle.card_opening.specs.layout_mount.Mounted.{HasRead}
 use Rattle.proactive_handler.specs.Boxes.{kinds_of}
 use Rattle.session_commands.specs.Deleting.{LeavesUnregistered}
 

@@ -44,7 +44,7 @@ use session_commands::poll;
 use toolkit_model::Applet;
 
 // A command on what a file holds, which its access rule may forbid, over what is selected on its channel.
-#[tactic(auto, using(file_commands::specs::Chained::stays_still), unfolding(file_model::specs::Commands::contents_outcome, file_model::specs::Commands::file_addressed))]
+#[tactic(auto, using(file_commands::proofs::ChainedLemmas::stays_still), unfolding(file_model::specs::Commands::contents_outcome, file_model::specs::Commands::file_addressed))]
 fn on_contents<S: Store>(
     command: ContentsCommand,
     store: &mut S,
@@ -82,7 +82,7 @@ fn on_contents<S: Store>(
 }
 
 // A command on files, over what is selected on its channel. The keys are looked at where access is tested.
-#[tactic(auto, using(file_commands::specs::Chained::stays_still), unfolding(file_model::specs::Commands::file_outcome))]
+#[tactic(auto, using(file_commands::proofs::ChainedLemmas::stays_still), unfolding(file_model::specs::Commands::file_outcome))]
 fn on_files<S: Store>(
     command: FileCommand,
     store: &mut S,

@@ -7,7 +7,7 @@ ghost use Rattle.file_model.specs.card_layout.States.{rows_of};
 ghost use Rattle.card_model.specs.States.{woken_boxes};
 ghost use Rattle.toolkit_model.specs.applet_trait.Minds.{minds_of};
 ghost use Rattle.card_opening.specs.Starts.{Opens, Refuses, IsKept};
-ghost use Rattle.layout_mount.specs.Mounted.{unread};
+ghost use Rattle.card_opening.specs.layout_mount.Mounted.{unread};
 ghost use Rattle.card_core.specs.Openings.{with_all_shelves};
 
 use crate::CardOver;

@@ -18,7 +18,7 @@ use Rattle.toolkit_model.specs.Commands.{pending}
 use Rattle.card_model.specs.Answers.{Answered, settled, told_pending, file_tried, pin_tried, managed, tree_tried, toolkit_tried, selection_on, seen_by, is_status, event_told, carried_out, carried_with, tried, answer_of}
 use Rattle.card_model.specs.Channels.{ChannelOutcome, channel_of}
 use Rattle.card_model.specs.Instructions.{has_toolkit}
-use Rattle.card_model.specs.Naming.{all_hold}
+use Rattle.card_model.proofs.NamingLemmas.{all_hold}
 use Rattle.card_model.specs.States.{CardState, IsGood}
 use Rattle.card_model.specs.Toolkit.{ToolkitOutcome}
 use Rattle.card_model.specs.declared.instructions.Instruction.{Instruction}
@@ -28,7 +28,7 @@ use Rattle.file_model.specs.declared.commands.PinCommand.{PinCommand}
 use Rattle.card_model.specs.file_making.declared.commands.TreeCommand.{TreeCommand}
 use Rattle.file_model.specs.Commands.{file_outcome, pin_outcome}
 use Rattle.card_model.specs.file_making.Commands.{tree_outcome}
-use Rattle.card_model.specs.Cases.{cut_so}
+use Rattle.card_model.proofs.CaseLemmas.{cut_so}
 use Rattle.card_model.proofs.CasesLemmas.{command_is}
 use Rattle.card_model.proofs.Lawful.{channel_low, selected_is, managed_lawful}
 use Rattle.card_model.specs.Laws.{statuses}

@@ -5,7 +5,7 @@ use Rattle.std.specs.Str.{bytes_eq}
 use Rattle.std.proofs.lemmas.Bool.{false≢true, eqb-true, eq-eqb, cases_eq, not-true, or_parts, and_parts, and_from}
 use Rattle.std.proofs.lemmas.List.Elements.{All-nil, All-cons, All-head, All-tail}
 use Rattle.std.proofs.lemmas.Option.{same_Some}
-use Rattle.update_journal.specs.uicc_types.Choices.{second_false}
+use Rattle.update_journal.proofs.uicc_types.ChoiceLemmas.{second_false}
 use Rattle.update_journal.specs.uicc_types.declared.answers.StatusWord.{StatusWord}
 use Rattle.update_journal.specs.uicc_types.declared.answers.TheConstants.StatusWord.{DONE}
 use Rattle.update_journal.specs.uicc_types.declared.runs.Step.TheVariants as step

@@ -9,7 +9,7 @@ use Rattle.update_journal.specs.uicc_types.declared.answers.TheConstants.StatusW
 use Rattle.file_model.specs.apdu_form.Model.{Apdu, cut_to}
 use Rattle.file_model.specs.card_layout.Persistent.{Registration}
 use Rattle.file_model.specs.Chains.{and_given}
-use Rattle.file_model.specs.Chained.{unless_so, given_so}
+use Rattle.file_model.proofs.ChainedLemmas.{unless_so, given_so}
 use Rattle.toolkit_model.specs.toolkit_commands.Envelopes.{envelope_of}
 use Rattle.toolkit_model.specs.toolkit_commands.declared.envelopes.Envelope.{Envelope}
 use Rattle.toolkit_model.specs.toolkit_commands.declared.responses.Response.{Response as Reply}
@@ -21,7 +21,7 @@ use Rattle.toolkit_model.specs.Steps.{Command, Profile, Status, Report, Fetch, R
 use Rattle.card_model.specs.Answers.{Answered, settled, told_pending, with_pending, on_toolkit, toolkit_tried, carried_out, carried_with, cut_answer, tried, answer_of, is_carried_out}
 use Rattle.card_model.specs.Chained.{Any}
 use Rattle.card_model.proofs.ChainedLemmas.{past}
-use Rattle.card_model.specs.Cases.{cut_result}
+use Rattle.card_model.proofs.CaseLemmas.{cut_result}
 use Rattle.card_model.proofs.CasesLemmas.{all_so}
 use Rattle.card_model.specs.Instructions.{has_toolkit}
 use Rattle.card_model.specs.States.{CardState, IsGood}

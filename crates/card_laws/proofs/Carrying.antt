@@ -11,7 +11,7 @@ use Rattle.file_model.specs.Chains.{refused_if, and_given}
 use Rattle.file_model.specs.Commands.{file_outcome}
 use Rattle.file_model.specs.Outcomes.{FileOutcome}
 use Rattle.file_model.specs.Selecting.{status_told}
-use Rattle.file_model.specs.Chained.{unless_so, given_so}
+use Rattle.file_model.proofs.ChainedLemmas.{unless_so, given_so}
 use Rattle.toolkit_model.specs.toolkit_commands.Envelopes.{envelope_of}
 use Rattle.toolkit_model.specs.declared.faults.RowFault.{RowFault}
 use Rattle.toolkit_model.specs.declared.faults.RowFault.TheVariants.{BadData, NoBox, Narrow, Taken, MenuFull, Spent, NoRow, NotIdle}
@@ -20,7 +20,7 @@ use Rattle.toolkit_model.specs.Registry.{installed_row}
 use Rattle.toolkit_model.specs.Steps.{Command, Status, Report, Fetch, Respond}
 use Rattle.card_model.specs.Answers.{Answered, settled, with_pending, file_tried, toolkit_tried, selection_on, seen_by, then_polled, carried_out, carried_with, answer_of, is_carried_out}
 use Rattle.card_model.specs.Channels.{channel_of}
-use Rattle.card_model.specs.Cases.{cut_result, IsRead}
+use Rattle.card_model.proofs.CaseLemmas.{cut_result, IsRead}
 use Rattle.card_model.specs.Instructions.{has_toolkit}
 use Rattle.card_model.specs.States.{CardState, IsGood}
 use Rattle.card_model.specs.Toolkit.{ToolkitOutcome, kind_in, row_status, row_or_status, profile_taken, command_fetched, response_taken, envelope_taken, applet_installed, applet_deleted, toolkit_outcome}

@@ -3,8 +3,8 @@ use Rattle.std.proofs.Common.{◌≡◌, ℕ, ◌+◌, ◌<◌, Bool, true, fals
 use Rattle.std.specs.Prelude.{All, Contains, IfOk, IsSomeAnd, MatchResult, ◌==◌, not, ◌&&◌, option_map, option_and_then, IfSome, nat_le}
 use Rattle.std.proofs.lemmas.Bool.{eqb-true, leb-true, and_parts, not-false}
 use Rattle.std.proofs.lemmas.List.Elements.{All-nil, All-cons, All-head, All-tail, All-filter}
-use Rattle.update_journal.specs.uicc_types.Finding.{find_Some}
-use Rattle.update_journal.specs.uicc_types.Numbered.{mapped_too}
+use Rattle.update_journal.proofs.uicc_types.FindingLemmas.{find_Some}
+use Rattle.update_journal.proofs.uicc_types.NumberedLemmas.{mapped_too}
 use Rattle.update_journal.specs.uicc_types.declared.answers.StatusWord.{StatusWord}
 use Rattle.file_model.specs.declared.rules.Verified.{Verified}
 use Rattle.file_model.specs.apdu_form.Model.{Apdu}
@@ -13,7 +13,7 @@ use Rattle.file_model.specs.card_layout.Sections.{Installation, installation_of,
 use Rattle.toolkit_model.specs.applet_trait.Minds.{AppletState}
 use Rattle.file_model.specs.Chains.{and_given}
 use Rattle.file_model.specs.Outcomes.{last_of}
-use Rattle.file_model.specs.Chained.{unless_so, given_so}
+use Rattle.file_model.proofs.ChainedLemmas.{unless_so, given_so}
 use Rattle.toolkit_model.specs.toolkit_commands.Envelopes.{envelope_of}
 use Rattle.toolkit_model.specs.declared.faults.RowFault.{RowFault}
 use Rattle.toolkit_model.specs.declared.faults.RowFault.TheVariants.{BadData, NoBox, Narrow, Taken, MenuFull, Spent, NoRow, NotIdle}

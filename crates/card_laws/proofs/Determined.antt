@@ -2,7 +2,7 @@
 use Rattle.std.proofs.Common.{◌≡◌, Bool, true, false, List, [], ◌∷◌, ◌++◌, sym, ap, ◌∙◌, subst, inl, inr}
 use Rattle.std.specs.Prelude.{ℕ, MatchBool}
 use Rattle.std.proofs.lemmas.List.Elements.{All-head, All-tail}
-use Rattle.update_journal.specs.uicc_types.Members.{front_of, back_of}
+use Rattle.update_journal.proofs.uicc_types.MemberLemmas.{front_of, back_of}
 use Rattle.card_model.specs.Runs.{Commands, Exchanges, IsRun, MeetsNoPower, Restarts, StepGives, StepEnds}
 use Rattle.card_model.specs.States.{Machine}
 use Rattle.card_model.specs.Counts.{is_cut, is_failure}

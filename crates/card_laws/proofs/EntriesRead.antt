@@ -8,7 +8,7 @@ use Rattle.std.proofs.lemmas.List.{length-take-le, take-append-drop}
 use Rattle.std.proofs.lemmas.List.Elements.{All-cons, All-drop, All-nil, All-tail}
 use Rattle.std.proofs.lemmas.Nat.{be_bytes_2}
 use Rattle.std.proofs.lemmas.Option.{cond_some, option_and_then_some}
-use Rattle.update_journal.specs.uicc_types.Choices.{mapped_Some}
+use Rattle.update_journal.proofs.uicc_types.ChoiceLemmas.{mapped_Some}
 use Rattle.update_journal.specs.store_form.Pieces.{Piece, byte_total}
 use Rattle.update_journal.proofs.Spelling.{pieces_back}
 use Rattle.update_journal.specs.Entries.{are_well_formed, entries, entry, first_piece, first_pieces, if_well_formed, is_usable, pieces_in}

@@ -10,9 +10,9 @@ use Rattle.std.proofs.lemmas.List.Kept.{AllPairs-filter}
 use Rattle.std.proofs.lemmas.List.Sums.{AllPass-from_list_all}
 use lib.Pointwise.{bytes_decides, pointwise}
 use Rattle.file_model.specs.card_layout.Persistent.{Registration}
-use Rattle.update_journal.specs.uicc_types.Finding.{find_Some}
-use Rattle.update_journal.specs.uicc_types.Numbered.{mapped_too}
-use Rattle.update_journal.specs.uicc_types.Pairs.{pairs_cons, pairs_head, pairs_nil, pairs_tail}
+use Rattle.update_journal.proofs.uicc_types.FindingLemmas.{find_Some}
+use Rattle.update_journal.proofs.uicc_types.NumberedLemmas.{mapped_too}
+use Rattle.update_journal.proofs.uicc_types.PairLemmas.{pairs_cons, pairs_head, pairs_nil, pairs_tail}
 use Rattle.toolkit_model.specs.Profiles.{EventRow, allowed, allowed_event, event_table, has}
 use Rattle.toolkit_model.specs.toolkit_commands.declared.commands.Proactive.{Proactive}
 use Rattle.toolkit_model.specs.toolkit_commands.declared.commands.Proactive.TheVariants.{PollInterval, SetUpEventList, SetUpMenu}

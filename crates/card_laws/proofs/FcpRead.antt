@@ -18,7 +18,7 @@ use Rattle.file_model.specs.declared.descriptors.Descriptor.{Descriptor}
 use Rattle.file_model.specs.declared.descriptors.RuleReference.{RuleReference}
 use Rattle.file_model.specs.declared.descriptors.Wanted.TheVariants.{Number}
 use Rattle.update_journal.specs.uicc_types.declared.answers.StatusWord.{StatusWord}
-use Rattle.update_journal.specs.uicc_types.Choices.{low_chosen}
+use Rattle.update_journal.proofs.uicc_types.ChoiceLemmas.{low_chosen}
 use Rattle.file_model.proofs.SelectLaws.{object_low, kind_low, keys_low, few_pins}
 use Rattle.card_laws.specs.Fcp.{Object, file_told, objects_in, pins_told, rule_told, short_told}
 use Rattle.card_laws.specs.FcpLaws.{FcpAreNotCut, FcpAreObjects, IsFcp, SelectAnswersFcp, StatusAnswersFcp}

@@ -2,7 +2,7 @@
 use Rattle.std.proofs.Common.{◌≡◌, ℕ, ◌≤◌, List, Option, Some, None, refl, arith}
 use Rattle.std.specs.Prelude.{◌==◌, All}
 use Rattle.std.proofs.lemmas.List.Elements.{All-contains}
-use Rattle.update_journal.specs.uicc_types.Finding.{find_Some}
+use Rattle.update_journal.proofs.uicc_types.FindingLemmas.{find_Some}
 use Rattle.file_model.specs.card_layout.Persistent.{Pin}
 use Rattle.file_model.specs.card_layout.Soundness.{IsSoundPin}
 use Rattle.file_model.specs.Guards.{Guard, OfPin, OfUnblock, tries_by}

@@ -6,7 +6,7 @@ use Rattle.std.proofs.lemmas.Bool.{cases_lt}
 use Rattle.std.proofs.lemmas.List.{get_or-replicate, get_or_past, length-replicate}
 use Rattle.std.proofs.lemmas.List.Elements.{All-drop, All-filter, All-map, All-take}
 use Rattle.std.proofs.lemmas.List.FromFn.{get_or-enumerate_from, get_or-range_with_len, length-enumerate_from, length-range_with_len}
-use Rattle.update_journal.specs.uicc_types.Ranges.{length-range}
+use Rattle.update_journal.proofs.uicc_types.RangeLemmas.{length-range}
 use Rattle.file_model.specs.card_layout.Blank.{absent_pin, unused_node}
 use Rattle.file_model.specs.card_layout.Checks.{checks, first_failed}
 use Rattle.file_model.specs.card_layout.Decoding.{node_at, node_bytes, node_of, number_at, pin_at, pin_bytes, pin_of, table_of}

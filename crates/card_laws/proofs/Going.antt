@@ -28,7 +28,7 @@ use Rattle.card_model.specs.Channels.{ChannelOutcome, channel_of}
 use Rattle.card_model.specs.Instructions.{has_toolkit}
 use Rattle.card_model.specs.OtherFiles.{HaveOtherFiles}
 use Rattle.card_model.proofs.OtherFilesLemmas.{file_leaves, tree_leaves}
-use Rattle.card_model.specs.Cases.{cut_result}
+use Rattle.card_model.proofs.CaseLemmas.{cut_result}
 use Rattle.card_model.proofs.CasesLemmas.{all_so}
 use Rattle.card_model.specs.Runs.{boxes_left}
 use Rattle.card_model.specs.States.{CardState, IsGood, woken}

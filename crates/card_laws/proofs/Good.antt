@@ -21,7 +21,7 @@ use Rattle.toolkit_model.specs.Steps.{Command, Status, moved}
 use Rattle.toolkit_model.specs.Installing.{InstallationsAreAccepted}
 use Rattle.toolkit_model.specs.Sound.{AreSoundRows, HasApplet, IsGoodToolkit, LeavesGood, StepsLeaveGood, InstalledRowsAreSound}
 use Rattle.card_model.specs.Answers.{Answered, settled, on_toolkit, toolkit_tried, then_polled, is_status, event_told, carried_out, carried_with, seen_by, answer_of, passed_of}
-use Rattle.card_model.specs.Cases.{cut_result}
+use Rattle.card_model.proofs.CaseLemmas.{cut_result}
 use Rattle.card_model.proofs.CasesLemmas.{all_so, command_is}
 use Rattle.card_model.specs.Chained.{Any}
 use Rattle.card_model.specs.Instructions.{has_toolkit, is_of_tree}
@@ -29,7 +29,7 @@ use Rattle.card_model.specs.Laws.{key_named, IsStatusOf, IsLawfulAnswer, Command
 use Rattle.card_model.specs.Runs.{IsLeft, box_left, boxes_left}
 use Rattle.card_model.specs.States.{CardState, AreChannels, HasBox, AreOfSevenKinds, IsGood, row_on}
 use Rattle.card_model.specs.Toolkit.{ToolkitOutcome, toolkit_of, coming_to, with_rows, states_passed}
-use Rattle.card_model.specs.Woken.{woken_is_good}
+use Rattle.card_model.proofs.WokenLemmas.{woken_is_good}
 use Rattle.card_model.specs.declared.instructions.Instruction.{Instruction}
 use Rattle.card_model.proofs.Lawful.{last_is}
 use Rattle.card_model.specs.declared.instructions.Instruction.TheVariants.{Toolkit}

@@ -2,7 +2,7 @@
 use Rattle.std.proofs.Common.{◌≡◌, Bool, true, false, List, [], ◌∷◌, ◌++◌, refl, sym, ap, ◌∙◌, subst, inl, inr}
 use Rattle.std.specs.Prelude.{MatchBool}
 use Rattle.std.proofs.lemmas.List.Elements.{All-append, All-cons, All-head, All-nil, All-tail}
-use Rattle.update_journal.specs.uicc_types.Members.{front_of, back_of}
+use Rattle.update_journal.proofs.uicc_types.MemberLemmas.{front_of, back_of}
 use Rattle.card_model.specs.Counts.{is_cut}
 use Rattle.card_model.specs.Runs.{Commands, MeetsNoPower, StepGives, StepEnds}
 use Rattle.card_model.specs.States.{Machine}

@@ -9,7 +9,7 @@ use Rattle.file_model.specs.apdu_form.Model.{Apdu}
 use Rattle.file_model.specs.card_layout.Persistent.{Registration}
 use Rattle.file_model.specs.Chains.{and_given}
 use Rattle.file_model.specs.Records.{other_length}
-use Rattle.file_model.specs.Chained.{unless_so, given_so}
+use Rattle.file_model.proofs.ChainedLemmas.{unless_so, given_so}
 use Rattle.toolkit_model.specs.toolkit_commands.Envelopes.{envelope_of}
 use Rattle.toolkit_model.specs.toolkit_commands.declared.envelopes.Envelope.{Envelope}
 use Rattle.toolkit_model.specs.toolkit_commands.declared.responses.Response.{Response as Reply}
@@ -19,11 +19,11 @@ use Rattle.toolkit_model.specs.Commands.{unfetched, unanswered, reply_to, bytes_
 use Rattle.toolkit_model.specs.Registry.{installed_row}
 use Rattle.toolkit_model.specs.Steps.{Command, Profile, Status, Report, Fetch, Respond, Delete}
 use Rattle.card_model.specs.Answers.{Answered, settled, told_pending, with_pending, toolkit_tried, carried_out, carried_with, answer_of, is_carried_out}
-use Rattle.card_model.specs.Cases.{cut_result}
+use Rattle.card_model.proofs.CaseLemmas.{cut_result}
 use Rattle.card_model.proofs.CasesLemmas.{command_is}
 use Rattle.card_model.specs.Channels.{family}
 use Rattle.card_model.specs.Instructions.{has_toolkit}
-use Rattle.card_model.specs.Naming.{IsNamed, named_so}
+use Rattle.card_model.proofs.NamingLemmas.{IsNamed, named_so}
 use Rattle.card_model.specs.States.{CardState, IsGood}
 use Rattle.card_model.specs.Toolkit.{ToolkitOutcome, kind_in, command_fetched, response_taken, toolkit_outcome}
 use Rattle.card_model.specs.declared.instructions.Instruction.{Instruction}

@@ -20,9 +20,10 @@ use Rattle.file_model.specs.Outcomes.{FileOutcome, addressed, has_data, has_le_a
 use Rattle.file_model.specs.Records.{has_record_parameters, is_cyclic, number_to_read, number_to_update, number_updated, record_file, record_named, record_read, record_read_from, record_reading, record_update_in, record_updated, record_updating, short_in_p2, may_be_updated}
 use Rattle.file_model.specs.declared.descriptors.Descriptor.{Descriptor}
 use Rattle.file_model.specs.declared.selections.Selection.{Selection}
-use Rattle.update_journal.specs.uicc_types.Finding.{find-map, find_alike, numbered_found}
+use Rattle.update_journal.proofs.uicc_types.FindingLemmas.{find-map, find_alike, numbered_found}
 use Rattle.card_laws.specs.ReadingLaws.{BytesAreRead, RecordsAreRead}
-use Rattle.update_journal.specs.uicc_types.Patches.{patched, range-patched_there}
+use Rattle.update_journal.specs.uicc_types.Patches.{patched}
+use Rattle.update_journal.proofs.uicc_types.PatchLemmas.{range-patched_there}
 use Rattle.update_journal.specs.uicc_types.declared.answers.StatusWord.{StatusWord}
 use Rattle.update_journal.specs.uicc_types.declared.answers.TheConstants.StatusWord.{CONDITIONS_NOT_SATISFIED, WRONG_STRUCTURE}
 

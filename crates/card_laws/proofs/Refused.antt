@@ -26,7 +26,7 @@ use Rattle.file_model.specs.declared.descriptors.Descriptor.{Descriptor}
 use Rattle.file_model.specs.declared.descriptors.Wanted.{Wanted}
 use Rattle.file_model.specs.declared.descriptors.Wanted.TheVariants.{Number, Short}
 use Rattle.file_model.specs.declared.selections.Selection.{Selection}
-use Rattle.update_journal.specs.uicc_types.Finding.{find_Some}
+use Rattle.update_journal.proofs.uicc_types.FindingLemmas.{find_Some}
 use Rattle.card_laws.specs.RefusalLaws.{DoesNotHold, IsAdmitted, IsDoneByAdm, IsDoneByLeave, IsDoneByRule, IsFirst, IsGranted, IsRefusedFor, IsTestedBy, IsTreeRefusedFor}
 use Rattle.card_laws.proofs.PutAndRead.{given_met, unless_ok}
 use Rattle.card_laws.specs.Refusals.{Refusal, file_meant, of_file, of_found, refusals_of_create, refusals_of_delete, refusals_of_increase, refusals_of_life_cycle, refusals_of_read_binary, refusals_of_read_record, refusals_of_resize, refusals_of_search_record, refusals_of_select, refusals_of_status, refusals_of_update_binary, refusals_of_update_record, without_file}

@@ -9,7 +9,7 @@ use Rattle.toolkit_model.specs.Installing.{InstallationsAreAccepted}
 use Rattle.toolkit_model.specs.Sound.{InstalledRowsAreSound}
 use Rattle.card_model.specs.Answers.{Answered, told_pending, with_pending, settled, tried, answer_of, is_carried_out, refusal}
 use Rattle.card_model.specs.Instructions.{has_toolkit}
-use Rattle.card_model.specs.Pending.{pending_few}
+use Rattle.card_model.proofs.PendingLemmas.{pending_few}
 use Rattle.card_model.proofs.PendingLemmas.{told_done}
 use Rattle.card_model.specs.States.{CardState}
 use Rattle.card_model.specs.declared.instructions.Instruction.{Instruction}

@@ -27,7 +27,7 @@ use Rattle.toolkit_model.specs.Commands.{told, with_profile, profiled, polled, t
 use Rattle.toolkit_model.specs.Steps.{Command, Profile, Status, Report, Fetch, Respond, Install, Delete, Wake, moved}
 use Rattle.toolkit_model.specs.Sound.{BringsSound}
 use Rattle.card_model.specs.States.{IsOfSevenKinds, AreOfSevenKinds}
-use Rattle.card_model.specs.Woken.{kinds_woken}
+use Rattle.card_model.proofs.WokenLemmas.{kinds_woken}
 use Rattle.card_laws.proofs.Waking.{wakes}
 
 abbrev pub TurnsKeepKinds : Type 0

@@ -7,7 +7,7 @@ use Rattle.file_model.specs.declared.rules.Verified.{Verified}
 use Rattle.file_model.specs.apdu_form.Model.{Apdu}
 use Rattle.file_model.specs.card_layout.Persistent.{Registration}
 use Rattle.file_model.specs.Chains.{refused_if, and_given}
-use Rattle.file_model.specs.Chained.{unless_so, given_so}
+use Rattle.file_model.proofs.ChainedLemmas.{unless_so, given_so}
 use Rattle.file_model.proofs.ChainedLemmas.{and_given_so}
 use Rattle.toolkit_model.specs.declared.faults.RowFault.{RowFault}
 use Rattle.toolkit_model.specs.declared.faults.RowFault.TheVariants.{BadData, NoBox, Narrow, Taken, MenuFull, Spent, NoRow, NotIdle}
@@ -15,7 +15,7 @@ use Rattle.toolkit_model.specs.Sessions.{Outstanding, SessionState}
 use Rattle.toolkit_model.specs.Orderly.{CanBeSent}
 use Rattle.toolkit_model.specs.Commands.{unfetched, bytes_of, call_data_of}
 use Rattle.card_model.specs.Laws.{statuses}
-use Rattle.card_model.specs.Pending.{pending_few}
+use Rattle.card_model.proofs.PendingLemmas.{pending_few}
 use Rattle.card_model.specs.States.{CardState, IsGood}
 use Rattle.card_model.specs.Toolkit.{ToolkitOutcome, row_or_status, profile_taken, command_fetched, response_taken, envelope_taken, applet_installed, applet_deleted, toolkit_outcome}
 use Rattle.card_model.specs.declared.instructions.ToolkitCommand.{ToolkitCommand}

@@ -18,7 +18,7 @@ use Rattle.card_model.specs.file_making.Outcomes.{TreeOutcome}
 use Rattle.toolkit_model.specs.Commands.{polled}
 use Rattle.toolkit_model.specs.Passing.{passed_rows}
 use Rattle.card_model.specs.Answers.{Answered, settled, file_tried, pin_tried, managed, tree_tried, toolkit_tried, selection_on, seen_by, carried_out, on_files, then_polled, carried_with, tried, answer_of, passed}
-use Rattle.card_model.specs.Cases.{cut_so}
+use Rattle.card_model.proofs.CaseLemmas.{cut_so}
 use Rattle.card_model.proofs.CasesLemmas.{of_tried}
 use Rattle.card_model.specs.Channels.{ChannelOutcome, family, channel_of}
 use Rattle.card_model.specs.Instructions.{has_toolkit}
@@ -30,7 +30,7 @@ use Rattle.card_laws.specs.Guesses.{presents_by, is_trial, if_command, tries_of}
 use Rattle.card_laws.specs.GuessLaws.{SetsNoTries}
 use Rattle.card_laws.proofs.Answers.{IsGuarded, NoGuess, PresentsNone, PresentsBy, EachKeepsOrFills, none_told, refused_guarded, quiet_guarded, pin_guarded, cut_guarded, pending_guarded}
 use Rattle.card_model.specs.Chained.{Any}
-use Rattle.card_model.specs.Naming.{IsNamed, named_so}
+use Rattle.card_model.proofs.NamingLemmas.{IsNamed, named_so}
 use Rattle.card_laws.proofs.Files.{HaveSamePins, same_with_files, same_with_rows, same_joined, same_last}
 use Rattle.card_model.specs.OtherFiles.{HaveOtherFiles}
 use Rattle.card_model.proofs.OtherFilesLemmas.{file_leaves, tree_leaves}

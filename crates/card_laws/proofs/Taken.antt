@@ -4,7 +4,7 @@ use Rattle.update_journal.specs.uicc_types.declared.answers.StatusWord.{StatusWo
 use Rattle.file_model.specs.apdu_form.Model.{Apdu}
 use Rattle.toolkit_model.specs.Steps.{Command}
 use Rattle.card_model.specs.Answers.{Answered, carried_with, tried}
-use Rattle.card_model.specs.Cases.{cut_result, Refuses, IsRead, of_read}
+use Rattle.card_model.proofs.CaseLemmas.{cut_result, Refuses, IsRead, of_read}
 use Rattle.card_model.specs.Instructions.{has_toolkit}
 use Rattle.card_model.specs.States.{CardState}
 use Rattle.card_model.specs.declared.instructions.Instruction.{Instruction}

@@ -13,7 +13,7 @@ use Rattle.file_model.specs.Commands.{pin_outcome}
 use Rattle.file_model.specs.declared.commands.PinCommand.{PinCommand}
 use Rattle.file_model.specs.declared.commands.PinCommand.TheVariants.{Verify, Change, Disable, Enable, Unblock}
 use Rattle.file_model.specs.Guards.{Guard, OfPin, OfUnblock, guard_of, tries_by, with_one_less}
-use Rattle.file_model.specs.Chained.{unless_so, given_so}
+use Rattle.file_model.proofs.ChainedLemmas.{unless_so, given_so}
 use Rattle.card_laws.specs.Guesses.{tells_tries, value_by}
 use Rattle.card_model.proofs.ChainedLemmas.{either_so}
 

@@ -4,7 +4,8 @@ use Rattle.std.proofs.Common.{refl, ◌∙◌, ap, inl, ⊎_elim, arith}
 use Rattle.std.specs.Int.{w16, from_be_bytes}
 use Rattle.std.proofs.lemmas.Bool.{cases_lt}
 use Rattle.std.proofs.lemmas.Bool.Decides.{nat_tests}
-use Rattle.uicc_types.specs.Patches.{patched, IsApart, get_or-patched_apart, range-patched_apart}
+use Rattle.uicc_types.specs.Patches.{patched, IsApart}
+use Rattle.uicc_types.proofs.PatchLemmas.{get_or-patched_apart, range-patched_apart}
 use Rattle.card_layout.specs.Blank.{unused_row}
 use Rattle.card_layout.specs.Places.{pin_place, row_place, kept_place, node_place, row_count}
 use Rattle.card_layout.proofs.RowPlacesLemmas.{row_place_low, row_place_high, below_32}

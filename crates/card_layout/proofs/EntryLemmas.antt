@@ -1,5 +1,5 @@
 -- The keys of the slots, and two tables with the same entries.
-use Rattle.std.specs.Prelude.{◌≡◌, ℕ, ◌<◌, Bool, zero, suc, List, [], ◌∷◌, Contains}
+use Rattle.std.specs.Prelude.{◌≡◌, ℕ, ◌<◌, Bool, zero, suc, List, [], ◌∷◌, Contains, ◌==◌, true, false, if◌then◌else◌}
 use Rattle.std.proofs.Common.{refl, arith}
 use Rattle.uicc_types.specs.declared.keys.TheConstants.{PIN_1, PIN_2, ADM_1}
 use Rattle.card_layout.specs.declared.entries.Node.{Node}
@@ -9,6 +9,15 @@ use Rattle.card_layout.specs.declared.entries.Loaded.{Loaded}
 use Rattle.card_layout.specs.declared.sizes.TheConstants.{PIN_COUNT}
 use Rattle.card_layout.specs.Checks.{key_of_slot}
 use Rattle.card_layout.specs.Soundness.{slot_of_key}
+use Rattle.card_layout.specs.Kinds.{df_kind}
+use Rattle.card_layout.specs.States.{df_file, ef_file, file_of}
+
+-- the file of an entry has the entry's number
+pub number_of_file : (content : List ℕ) (number : ℕ) (node : Node) → (file_of content number node).number ≡ number
+number_of_file content number node = by_test (node.kind == df_kind) where
+  by_test : (b : Bool) → (if b then df_file number node else ef_file content number node).number ≡ number
+  by_test true = refl
+  by_test false = refl
 
 -- the key of a slot is one of the three
 pub key_among : (slot : ℕ) → slot < PIN_COUNT → Contains (PIN_1 ∷ PIN_2 ∷ ADM_1 ∷ []) (key_of_slot slot)

@@ -11,8 +11,8 @@ use Rattle.std.proofs.lemmas.List.Folds.{list_any_none, list_any_at}
 use Rattle.std.proofs.lemmas.Nat.{or_lt}
 use Rattle.std.proofs.lemmas.Nat.Bits.{bit_at_set_same, bit_at_set_other, bit_at_clear_same, bit_at_clear_other, shr_and_one}
 use Rattle.std.proofs.Math.Pow.{pow_mono}
-use Rattle.uicc_types.specs.Choices.{mapped_Some}
-use Rattle.uicc_types.specs.Finding.{find_Some}
+use Rattle.uicc_types.proofs.ChoiceLemmas.{mapped_Some}
+use Rattle.uicc_types.proofs.FindingLemmas.{find_Some}
 use Rattle.card_layout.specs.Kinds.{event_codes, codes_of}
 use Rattle.card_layout.specs.Sections.{is_code, sorted_codes}
 use Rattle.card_layout.proofs.EventBits.{pairs}

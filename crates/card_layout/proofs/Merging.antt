@@ -7,7 +7,8 @@ use Rattle.std.proofs.lemmas.Bool.{cases_lt, false≢true}
 use Rattle.std.proofs.lemmas.Bool.Decides.{nat_tests}
 use Rattle.std.proofs.lemmas.Grind.{same_number_lists}
 use Rattle.std.specs.Int.{w16, from_be_bytes}
-use Rattle.uicc_types.specs.Patches.{patched, length-patched, patched_before, patched_inside, patched_after}
+use Rattle.uicc_types.specs.Patches.{patched}
+use Rattle.uicc_types.proofs.PatchLemmas.{length-patched, patched_before, patched_inside, patched_after}
 use Rattle.uicc_types.specs.declared.identifiers.FileId.{FileId}
 use Rattle.uicc_types.specs.declared.identifiers.Pin8.{Pin8}
 use Rattle.card_layout.specs.declared.entries.Node.{Node}
@@ -17,7 +18,7 @@ use Rattle.card_layout.specs.Spelling.{node_spelled, pin_spelled, row_spelled}
 use Rattle.card_layout.specs.Decoding.{node_of, pin_of, row_of}
 use Rattle.card_layout.specs.Ranges.{HasNodeRanges, HasPinRanges, HasRowRanges}
 use Rattle.card_layout.specs.Fields.{node_fields, pin_fields, row_fields, is_among, is_beside, is_uncut, AreWholeFields, merged_node, merged_pin, merged_row, kept_anew}
-use Rattle.card_layout.specs.ReadingBack.{length-node_spelled, length-pin_spelled, length-row_spelled}
+use Rattle.card_layout.proofs.ReadingBackLemmas.{length-node_spelled, length-pin_spelled, length-row_spelled}
 use Rattle.card_layout.proofs.ReadingBackLemmas.{node_back, pin_back, row_back, row_front_back, kept_count, kept_spelled, take-padded}
 
 -- ---- choices

@@ -3,7 +3,7 @@ use Rattle.std.proofs.Common.{get_or, ◌≡◌, ℕ, ◌-◌, ◌≤◌, ◌<�
 use Rattle.std.proofs.lemmas.List.{length-take, length-replicate, get_or-replicate, get_or-take, get_or_append_left, get_or-append_right}
 use Rattle.std.proofs.lemmas.Grind.{same_number_lists}
 use Rattle.std.proofs.lemmas.Bool.{cases_lt}
-use Rattle.card_layout.specs.ReadingBack.{length-padded}
+use Rattle.card_layout.proofs.ReadingBackLemmas.{length-padded}
 use Rattle.card_layout.specs.Spelling.{padded}
 
 module _ (width shown : ℕ) (bytes : List ℕ) (short : width ≤ 32) (is : shown ≡ min (length bytes) width) where

@@ -5,7 +5,12 @@ use Rattle.std.proofs.lemmas.Bool.{cases_lt}
 use Rattle.std.proofs.lemmas.Bool.Decides.{nat_tests}
 use Rattle.card_layout.specs.declared.places.TheConstants.{ROWS, UPPER_ROWS, KEPT_APART}
 use Rattle.card_layout.specs.declared.sizes.TheConstants.{ROW_WIDTH, ROW_STRIDE, LOWER_ROW_COUNT, ROW_COUNT}
-use Rattle.card_layout.specs.Places.{row_place, row_count}
+use Rattle.card_layout.specs.Places.{row_place, row_count, data_end}
+
+-- the bytes of the files end inside the memory
+pub data_end_inside : (wide : Bool) → data_end wide ≤ 65536
+data_end_inside true = omega arith
+data_end_inside false = omega arith
 
 pub row_place_low : (shelf : ℕ) → shelf < LOWER_ROW_COUNT → row_place shelf ≡ ROWS + ROW_STRIDE * shelf
 row_place_low shelf low = grind (arith, nat_tests)

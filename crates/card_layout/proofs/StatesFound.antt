@@ -9,7 +9,7 @@ use Rattle.card_layout.specs.declared.entries.Node.{Node}
 use Rattle.card_layout.specs.declared.entries.PinSlot.{PinSlot}
 use Rattle.card_layout.specs.declared.entries.Row.{Row}
 use Rattle.card_layout.specs.declared.entries.Loaded.{Loaded}
-use Rattle.card_layout.specs.EntryLaws.{number_of_file}
+use Rattle.card_layout.proofs.EntryLemmas.{number_of_file}
 use Rattle.card_layout.specs.Kinds.{df_kind}
 use Rattle.card_layout.specs.Persistent.{Pin}
 use Rattle.card_layout.specs.Checks.{key_of_slot, has_row_text}

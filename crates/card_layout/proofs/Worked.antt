@@ -13,7 +13,7 @@ use Rattle.card_layout.specs.Checks.{is_node, first_failed}
 use Rattle.card_layout.specs.Decoding.{node_of}
 use Rattle.card_layout.specs.States.{files_of, rows_of, contents_of, state_of}
 use Rattle.card_layout.specs.Soundness.{mf, AreEventCodes}
-use Rattle.card_layout.specs.Codes.{codes_known}
+use Rattle.card_layout.proofs.CodeLemmas.{codes_known}
 use Rattle.card_layout.specs.Spelling.{version_part}
 use Rattle.card_layout.specs.StateLaws.{file_with_number, pin_with_key, text_count_of}
 use Rattle.card_layout.specs.Blank.{unused_node, unused_row}

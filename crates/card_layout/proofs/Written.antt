@@ -7,9 +7,10 @@ use Rattle.std.specs.List.{range_with_len}
 use Rattle.std.proofs.lemmas.Bool.{cases_lt, lt-ltb}
 use Rattle.std.proofs.lemmas.List.{length-drop, drop_all, take_at, set-set}
 use Rattle.std.proofs.lemmas.Nat.{from_be_bytes-to_be_bytes_2}
-use Rattle.uicc_types.specs.Numbered.{same_numbered, set_numbered}
-use Rattle.uicc_types.specs.Ranges.{length-range, length-between}
-use Rattle.uicc_types.specs.Patches.{patched, length-patched, patched_inside, patched-all, IsApart, get_or-patched_apart, range-patched_apart, range-patched_inside}
+use Rattle.uicc_types.proofs.NumberedLemmas.{same_numbered, set_numbered}
+use Rattle.uicc_types.proofs.RangeLemmas.{length-range, length-between}
+use Rattle.uicc_types.specs.Patches.{patched, IsApart}
+use Rattle.uicc_types.proofs.PatchLemmas.{length-patched, patched_inside, patched-all, get_or-patched_apart, range-patched_apart, range-patched_inside}
 use Rattle.store_form.specs.Pieces.{applied}
 use Rattle.card_layout.specs.declared.entries.Node.{Node}
 use Rattle.card_layout.specs.declared.entries.PinSlot.{PinSlot}
@@ -18,14 +19,14 @@ use Rattle.card_layout.specs.declared.entries.Loaded.{Loaded}
 use Rattle.card_layout.specs.Places.{pin_place, row_place, kept_place, node_place, row_count, data_place, data_end, version_of}
 use Rattle.card_layout.specs.Spelling.{node_part, pin_part, row_part, kept_part, version_part, sequence_part, node_spelled, pin_spelled, row_spelled}
 use Rattle.card_layout.proofs.EntryLemmas.{same_table}
-use Rattle.card_layout.specs.RowPlaces.{data_end_inside}
+use Rattle.card_layout.proofs.RowPlacesLemmas.{data_end_inside}
 use Rattle.card_layout.proofs.RowPlacesLemmas.{row_place_low, row_place_high, row_below_kept, below_32, row_above}
 use Rattle.card_layout.specs.Decoding.{bytes_at, is_wide, node_bytes, pin_bytes, row_bytes, kept_bytes, node_in, pin_in, row_of, row_in, row_when, node_at, pin_at, row_at, bytes_apart, rows_when, table_of}
 use Rattle.card_layout.specs.Ranges.{HasNodeRanges, HasPinRanges, HasRowRanges}
 use Rattle.card_layout.specs.Fields.{node_fields, pin_fields, row_fields, AreWholeFields, merged_node, merged_pin, merged_row, kept_anew, reread_node, reread_pin, reread_row, node_there, pin_there, shown_node, shown_pin, shown_row}
 use Rattle.card_layout.specs.Laws.{after}
 use Rattle.card_layout.specs.Checks.{row_there}
-use Rattle.card_layout.specs.ReadingBack.{length-node_spelled, length-pin_spelled, length-row_spelled}
+use Rattle.card_layout.proofs.ReadingBackLemmas.{length-node_spelled, length-pin_spelled, length-row_spelled}
 use Rattle.card_layout.proofs.Merging.{node_merged, pin_merged, row_merged, row_merged_front, merged_kept_anew, kept_merged, kept_apart_merged}
 use Rattle.card_layout.proofs.Committed.{row_inside, wide_stays, next_stays, node_stays, pin_stays, row_stays}
 

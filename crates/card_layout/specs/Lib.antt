@@ -2,9 +2,7 @@ pub mod Adding
 pub mod Blank
 pub mod Changing
 pub mod Checks
-pub mod Codes
 pub mod Decoding
-pub mod EntryLaws
 pub mod Events
 pub mod Fields
 pub mod Installations
@@ -12,16 +10,11 @@ pub mod Kinds
 pub mod Laws
 pub mod Memory
 pub mod Migration
-pub mod NewFileLaws
 pub mod NewFiles
 pub mod Persistent
 pub mod Places
 pub mod Ranges
-pub mod ReadingBack
-pub mod RecordLaws
-pub mod RowPlaces
 pub mod Sections
-pub mod SortedCodes
 pub mod Soundness
 pub mod Spelling
 pub mod Standing

@@ -11,7 +11,7 @@ use Rattle.file_model.specs.card_layout.declared.entries.Node.{Node}
 use Rattle.file_model.specs.card_layout.Laws.{after}
 use Rattle.file_model.specs.card_layout.Persistent.{Persistent}
 use Rattle.file_model.specs.card_layout.Places.{memory_size}
-use Rattle.file_model.specs.card_layout.ReadingBack.{length-node_spelled}
+use Rattle.file_model.proofs.card_layout.ReadingBackLemmas.{length-node_spelled}
 use Rattle.file_model.specs.card_layout.Spelling.{node_spelled, node_part}
 use Rattle.file_model.specs.card_layout.Memory.{Memory, held, IsMounted, Committed}
 use Rattle.file_model.specs.card_layout.Standing.{standing, Agrees}

@@ -15,7 +15,7 @@ use Rattle.file_model.specs.card_layout.Changing.{with_bytes}
 use Rattle.file_model.specs.card_layout.States.{record_count}
 use Rattle.file_model.specs.card_layout.Used.{HasNode}
 use Rattle.file_model.specs.store_form.Pieces.{Piece, applied, IsUsable, IsUsablePiece}
-use Rattle.file_model.specs.card_layout.RowPlaces.{data_end_inside}
+use Rattle.file_model.proofs.card_layout.RowPlacesLemmas.{data_end_inside}
 use Rattle.layout_standing.specs.Known.{NodesAreFiles}
 use Rattle.layout_standing.specs.StandingLaws.{WrittenBytesStand}
 use Rattle.file_model.specs.declared.descriptors.Descriptor.{Descriptor}

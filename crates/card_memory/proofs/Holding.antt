@@ -6,7 +6,7 @@ use Rattle.file_model.specs.card_layout.declared.entries.Loaded.{Loaded}
 use Rattle.file_model.specs.card_layout.Kinds.{transparent_kind, has_records}
 use Rattle.file_model.specs.card_layout.Persistent.{Contents, Persistent}
 use Rattle.file_model.specs.card_layout.States.{state_of, file_of, record_count}
-use Rattle.file_model.specs.card_layout.EntryLaws.{number_of_file}
+use Rattle.file_model.proofs.card_layout.EntryLemmas.{number_of_file}
 use Rattle.file_model.specs.card_layout.Standing.{Stands, standing, Agrees}
 use Rattle.file_model.specs.card_layout.Used.{HasNode}
 use Rattle.layout_standing.specs.Standing.{IsFileNumbered, IsFileEntry}

@@ -2,8 +2,9 @@
 use Rattle.std.specs.Prelude.{◌≡◌, ℕ, ◌+◌, ◌-◌, ◌≤◌, List, [], length, take, drop, replicate, Option, Some, None, option_map, IfSome}
 use Rattle.std.proofs.Common.{refl, sym, ◌∙◌, ap, subst, inl, inr, ⊎_elim, arith}
 use Rattle.std.proofs.lemmas.List.{length-replicate, replicate-append-replicate}
-use Rattle.file_model.specs.uicc_types.Ranges.{length-range, next_range}
-use Rattle.file_model.specs.uicc_types.Patches.{patched, patched-nil, patched-patched, Torn, Torn_patched, Torn_wider, Torn_again, IsApart, range-patched_apart}
+use Rattle.file_model.proofs.uicc_types.RangeLemmas.{length-range, next_range}
+use Rattle.file_model.specs.uicc_types.Patches.{patched, Torn, IsApart}
+use Rattle.file_model.proofs.uicc_types.PatchLemmas.{patched-nil, patched-patched, Torn_patched, Torn_wider, Torn_again, range-patched_apart}
 use Rattle.file_model.specs.uicc_types.Told.{Becomes}
 use Rattle.file_model.specs.card_layout.Places.{memory_size}
 use Rattle.file_model.specs.card_layout.Decoding.{bytes_at}

@@ -18,7 +18,7 @@ use Rattle.file_model.specs.card_layout.Spelling.{pin_spelled, pin_part}
 use Rattle.file_model.specs.card_layout.Standing.{Stands, Agrees}
 use Rattle.file_model.specs.card_layout.States.{pins_of, pin_state}
 use Rattle.file_model.specs.card_layout.Used.{HasPin}
-use Rattle.file_model.specs.card_layout.ReadingBack.{length-pin_spelled}
+use Rattle.file_model.proofs.card_layout.ReadingBackLemmas.{length-pin_spelled}
 use Rattle.layout_standing.specs.Changes.{with_slot}
 use Rattle.layout_standing.specs.Known.{StandingIsCard, StandingIsOfTable, SlotsArePins}
 use Rattle.layout_standing.specs.StandingLaws.{ChangedPinStands}

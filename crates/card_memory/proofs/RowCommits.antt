@@ -5,8 +5,8 @@ use Rattle.std.proofs.lemmas.List.Elements.{All-contains, All-contains_itself, A
 use Rattle.std.proofs.lemmas.List.{length-take, length-drop}
 use Rattle.std.proofs.lemmas.Bool.Decides.{nat_tests}
 use Rattle.std.proofs.lemmas.Option.{get_or_from_slice_get, same_Some}
-use Rattle.file_model.specs.uicc_types.Numbered.{same_mapped}
-use Rattle.file_model.specs.uicc_types.Members.{in_rest}
+use Rattle.file_model.proofs.uicc_types.NumberedLemmas.{same_mapped}
+use Rattle.file_model.proofs.uicc_types.MemberLemmas.{in_rest}
 use Rattle.file_model.specs.store_form.Pieces.{Piece, applied, IsUsablePiece}
 use Rattle.file_model.specs.card_layout.declared.entries.Row.{Row}
 use Rattle.file_model.specs.card_layout.declared.entries.Loaded.{Loaded}
@@ -19,13 +19,13 @@ use Rattle.file_model.specs.card_layout.Soundness.{IsSound, IsSoundRow}
 use Rattle.file_model.specs.card_layout.Changing.{placed, with_row_on, with_row_changed, with_codes, with_kept_committed}
 use Rattle.file_model.specs.card_layout.Adding.{HasRoom}
 use Rattle.file_model.specs.card_layout.Places.{memory_size, row_place, row_count}
-use Rattle.file_model.specs.card_layout.ReadingBack.{length-row_spelled}
+use Rattle.file_model.proofs.card_layout.ReadingBackLemmas.{length-row_spelled}
 use Rattle.file_model.specs.card_layout.Spelling.{row_spelled, row_part, sequence_part, kept_part}
 use Rattle.file_model.specs.card_layout.Standing.{Stands, Agrees}
 use Rattle.file_model.specs.card_layout.StateLaws.{RowsComeFromEntries}
 use Rattle.file_model.specs.card_layout.States.{rows_of, registration_of}
 use Rattle.file_model.specs.card_layout.Used.{HasRow, registration_if}
-use Rattle.file_model.specs.card_layout.SortedCodes.{of_sorted}
+use Rattle.file_model.proofs.card_layout.SortedCodeLemmas.{of_sorted}
 use Rattle.layout_standing.specs.Changes.{with_row}
 use Rattle.layout_standing.specs.ChangeLaws.{kept_pieces}
 use Rattle.layout_standing.specs.Known.{StandingIsCard, StandingIsOfTable}

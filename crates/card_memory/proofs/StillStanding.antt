@@ -3,10 +3,11 @@ use Rattle.std.specs.Prelude.{◌≡◌, ℕ, ◌+◌, ◌-◌, ◌≤◌, ◌<�
 use Rattle.std.proofs.Common.{sym, ◌∙◌, ap, subst, lit≤, arith}
 use Rattle.std.proofs.lemmas.List.{length-replicate}
 use Rattle.std.proofs.lemmas.Result.{on_ok_weaker}
-use Rattle.file_model.specs.uicc_types.Optional.{whichever}
-use Rattle.file_model.specs.uicc_types.Ranges.{length-range}
-use Rattle.file_model.specs.uicc_types.Calls.{caused_then, calm_ok}
-use Rattle.file_model.specs.uicc_types.Patches.{patched-patched, Torn}
+use Rattle.file_model.proofs.uicc_types.OptionalLemmas.{whichever}
+use Rattle.file_model.proofs.uicc_types.RangeLemmas.{length-range}
+use Rattle.file_model.proofs.uicc_types.CallLemmas.{caused_then, calm_ok}
+use Rattle.file_model.specs.uicc_types.Patches.{Torn}
+use Rattle.file_model.proofs.uicc_types.PatchLemmas.{patched-patched}
 use Rattle.file_model.specs.uicc_types.Told.{Becomes}
 use Rattle.file_model.specs.store_form.declared.store.StoreFault.{StoreFault}
 use Rattle.file_model.specs.store_form.Faults.{HasCause}

@@ -1,6 +1,5 @@
 pub mod Commits
 pub mod Entries
-pub mod Keeping
 pub mod Laws
 pub mod Model
 pub mod Performing

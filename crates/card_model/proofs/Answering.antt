@@ -22,12 +22,12 @@ use Rattle.file_making.specs.declared.commands.TreeCommand.{TreeCommand}
 use Rattle.toolkit_model.specs.Model.{AppletState}
 use Rattle.toolkit_model.specs.Commands.{pending}
 use Rattle.card_model.specs.Answers.{told_pending, with_pending, Answered, refused, settled, file_tried, pin_tried, managed, tree_tried, selection_on, seen_by, carried_out, is_status, carried_with, cut_answer, tried, answer_of, passed_of, is_carried_out, refusal}
-use Rattle.card_model.specs.Cases.{cut_result, cut_so, IsRead}
+use Rattle.card_model.proofs.CaseLemmas.{cut_result, cut_so, IsRead}
 use Rattle.card_model.proofs.CasesLemmas.{cut_low, command_is, of_tried}
 use Rattle.card_model.specs.Channels.{ChannelOutcome, family, channel_of}
 use Rattle.card_model.specs.Instructions.{toolkit_commands, has_toolkit, is_of_toolkit, is_of_tree}
-use Rattle.card_model.specs.Naming.{tree_named}
-use Rattle.card_model.specs.Pending.{pending_few}
+use Rattle.card_model.proofs.NamingLemmas.{tree_named}
+use Rattle.card_model.proofs.PendingLemmas.{pending_few}
 use Rattle.card_model.proofs.PendingLemmas.{told_known, told_same}
 use Rattle.card_model.specs.Laws.{key_named, is_of_tree_named, IsStatusOf, ChangesAtMostTries, IsLawfulAnswer, WithoutToolkit, statuses}
 use Rattle.card_model.specs.Runs.{IsLeft, box_left, boxes_left}
@@ -36,7 +36,7 @@ use Rattle.card_model.specs.declared.instructions.Instruction.{Instruction}
 use Rattle.card_model.specs.declared.instructions.Instruction.TheVariants.{File, Pin, ManageChannel, Toolkit, Tree}
 use Rattle.card_model.specs.declared.instructions.ToolkitCommand.{ToolkitCommand}
 use Rattle.card_model.specs.declared.instructions.ToolkitCommand.TheVariants.{TerminalProfile, Fetch, TerminalResponse, Envelope, InstallApplet, DeleteApplet}
-use Rattle.card_model.specs.Woken.{woken_is_good}
+use Rattle.card_model.proofs.WokenLemmas.{woken_is_good}
 use Rattle.card_model.proofs.Statuses.{file_known, pin_known, tree_known}
 use Rattle.card_model.proofs.Usual.{IsUsual, NeverFails, other, outcome_usual, toolkit_usual, lawful_usual, event_usual, pending_usual}
 use Rattle.card_model.proofs.Lawful.{channel_low, selected_is, files_lawful, trees_lawful, pins_lawful, channels_lawful, managed_lawful}

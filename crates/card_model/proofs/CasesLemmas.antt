@@ -6,12 +6,12 @@ use Rattle.file_model.specs.uicc_types.Told.{AreBytes}
 use Rattle.file_model.specs.uicc_types.declared.answers.StatusWord.{StatusWord}
 use Rattle.file_model.specs.uicc_types.declared.answers.TheConstants.StatusWord.{WRONG_LENGTH, NO_SUCH_CLASS, NO_SECURE_MESSAGING, NO_SUCH_CHANNEL, NO_SUCH_INSTRUCTION}
 use Rattle.file_model.specs.apdu_form.Model.{Apdu, IsCommand, command_in, cut_to}
-use Rattle.file_model.specs.apdu_form.Reading.{commands_are}
+use Rattle.file_model.proofs.apdu_form.ReadingLemmas.{commands_are}
 use Rattle.card_model.specs.Answers.{Answered, carried_with, tried}
 use Rattle.card_model.specs.Instructions.{has_toolkit}
 use Rattle.card_model.specs.States.{CardState}
 use Rattle.card_model.specs.declared.instructions.Instruction.{Instruction}
-use Rattle.card_model.specs.Cases.{cut_result, of_read, Refuses, IsRead}
+use Rattle.card_model.proofs.CaseLemmas.{cut_result, of_read, Refuses, IsRead}
 
 pub cut_low : (expected : Option ℕ) (body : List ℕ) → length (cut_to expected body) ≤ length body
 cut_low None body = omega arith

@@ -3,7 +3,7 @@ use Rattle.std.proofs.Common.{◌≡◌, Bool, true, false, cond, Option, Result
 use Rattle.std.specs.Prelude.{MatchResult}
 use Rattle.file_model.specs.uicc_types.declared.answers.StatusWord.{StatusWord}
 use Rattle.file_model.specs.Chains.{refused_if, given, and_given}
-use Rattle.file_model.specs.Chained.{unless_so, given_so}
+use Rattle.file_model.proofs.ChainedLemmas.{unless_so, given_so}
 use Rattle.card_model.specs.Chained.{Any}
 
 pub either_so : {X : Type 0} (P : X → Type 0) (R : StatusWord → Type 0) (b : Bool) (x y : Result X StatusWord)

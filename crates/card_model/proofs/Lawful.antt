@@ -2,9 +2,9 @@
 use Rattle.std.proofs.Common.{mod-lt, get_or, ◌≡◌, ◌⊎◌, inl, inr, ⊎_elim, ℕ, zero, suc, ◌<◌, ◌≤◌, Bool, true, false, List, [], ◌∷◌, length, map, Option, Some, None, refl, sym, ◌∙◌, ap, subst, arith}
 use Rattle.std.specs.Prelude.{◌==◌, ◌%◌, Err, All, Contains, MatchResult, IfSome, slice_index_or, slice_set, is_some, unwrap_or, not, ◌&&◌, nat_le, if◌then◌else◌}
 use Rattle.std.proofs.lemmas.Bool.{false≢true, cases_eq, cond-true, cond-false, eq-eqb, ne_eqb, leb-true, and_parts}
-use Rattle.file_model.specs.uicc_types.Finding.{find_Some}
+use Rattle.file_model.proofs.uicc_types.FindingLemmas.{find_Some}
 use Rattle.file_model.specs.apdu_form.Model.{Apdu}
-use Rattle.file_model.specs.Chained.{unless_so, given_so}
+use Rattle.file_model.proofs.ChainedLemmas.{unless_so, given_so}
 use Rattle.file_model.specs.uicc_types.declared.answers.TheConstants.StatusWord.{DONE, END_OF_FILE, FILE_DEACTIVATED, WRONG_PARAMETERS}
 use Rattle.std.proofs.lemmas.List.{length-set, get_or-set_other}
 use Rattle.std.proofs.lemmas.List.Elements.{All-nil, All-cons, All-map}
@@ -25,10 +25,10 @@ use Rattle.card_model.specs.Channels.{selected_on, is_open, names_channel, chann
 use Rattle.file_making.specs.Lawful.{ChangesOneNode, IsLawfulTree}
 use Rattle.file_making.specs.Outcomes.{TreeOutcome}
 use Rattle.card_model.specs.Laws.{ChangesOneThing, ChangesAtMostTries, IsKnownStatus, IsLawfulAnswer, statuses}
-use Rattle.card_model.specs.Naming.{all_hold}
+use Rattle.card_model.proofs.NamingLemmas.{all_hold}
 use Rattle.card_model.proofs.Statuses.{among}
 use Rattle.card_model.specs.States.{CardState, AreChannels, HasBox, IsGood}
-use Rattle.card_model.specs.Woken.{start_is_selected}
+use Rattle.card_model.proofs.WokenLemmas.{start_is_selected}
 
 -- ---- channels
 

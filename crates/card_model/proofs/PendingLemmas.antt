@@ -1,11 +1,25 @@
 -- What the status tells of a command that there is to fetch.
-use Rattle.std.proofs.Common.{◌≡◌, inl, inr, ℕ, ◌+◌, ◌≤◌, Bool, true, false, Option, Some, None, refl, sym, ◌∙◌, subst, arith}
-use Rattle.std.specs.Prelude.{◌||◌, ◌/◌, ◌==◌, if◌then◌else◌, IfSome}
+use Rattle.std.proofs.Common.{◌≡◌, inl, inr, ℕ, ◌+◌, ◌≤◌, Bool, true, false, Option, Some, None, refl, sym, ◌∙◌, subst, arith, length}
+use Rattle.std.specs.Prelude.{◌||◌, ◌/◌, ◌==◌, if◌then◌else◌, IfSome, option_map}
 use Rattle.std.proofs.lemmas.Bool.{false≢true, eq-eqb}
 use Rattle.file_model.specs.uicc_types.declared.answers.StatusWord.{StatusWord}
 use Rattle.file_model.specs.uicc_types.declared.answers.TheConstants.StatusWord.{DONE, END_OF_FILE, FILE_DEACTIVATED}
 use Rattle.card_model.specs.Answers.{told_pending, is_carried_out}
 use Rattle.card_model.specs.Laws.{IsStatusOf}
+use Rattle.toolkit_model.specs.Sessions.{Outstanding, SessionState}
+use Rattle.toolkit_model.specs.Orderly.{CanBeSent}
+use Rattle.toolkit_model.specs.Commands.{bytes_of, if_fetched, pending}
+
+few_if : (out : Outstanding) (b : Bool) → CanBeSent out.command → IfSome (option_map (λ (each : Outstanding). length (bytes_of each)) (if b then None else Some out)) (λ count. count ≤ 255)
+few_if out true sent = tt
+few_if out false sent = sent.short out.number
+
+-- a command that can be sent has 255 bytes at most
+pub pending_few : (session : SessionState) → IfSome session.out (λ out. CanBeSent out.command) → IfSome (pending session) (λ count. count ≤ 255)
+pending_few session sent = by_out session.out sent where
+  by_out : (out : Option Outstanding) → IfSome out (λ each. CanBeSent each.command) → IfSome (option_map (λ (each : Outstanding). length (bytes_of each)) (if_fetched false out)) (λ count. count ≤ 255)
+  by_out None sent = tt
+  by_out (Some out) sent = few_if out out.is_fetched sent
 
 -- what holds of a status, and of each that tells of bytes to fetch, holds of what is told
 pub told_so : (P : StatusWord → Type 0) (count : Option ℕ) (status : StatusWord) → IfSome count (λ n. n ≤ 255) → ((n : ℕ) → n ≤ 255 → P (record { 0 = 0x9100 + n })) → P status → P (told_pending count status)

@@ -8,7 +8,7 @@ use Rattle.file_model.specs.uicc_types.declared.answers.StatusWord.{StatusWord}
 use Rattle.file_model.specs.Laws.{IsFileRefusal, file_refusals, pin_refusals}
 use Rattle.file_making.specs.Lawful.{tree_refusals}
 use Rattle.card_model.specs.Laws.{IsKnownStatus, IsStatusOf, statuses, tree_statuses}
-use Rattle.card_model.specs.Naming.{all_hold}
+use Rattle.card_model.proofs.NamingLemmas.{all_hold}
 
 abbrev same : StatusWord → StatusWord → Bool
 same a b = a.0 == b.0

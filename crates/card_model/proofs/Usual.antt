@@ -10,12 +10,12 @@ use Rattle.file_model.specs.apdu_form.Model.{Apdu}
 use Rattle.file_model.specs.card_layout.Persistent.{Registration}
 use Rattle.file_model.specs.Chains.{refused_if, given, and_given}
 use Rattle.file_model.specs.Records.{other_length}
-use Rattle.file_model.specs.Chained.{unless_so, given_so}
+use Rattle.file_model.proofs.ChainedLemmas.{unless_so, given_so}
 use Rattle.toolkit_model.specs.declared.faults.RowFault.{RowFault}
 use Rattle.toolkit_model.specs.declared.faults.RowFault.TheVariants.{BadData, NoBox, Narrow, Taken, MenuFull, Spent, NoRow, NotIdle}
 use Rattle.card_model.specs.Answers.{Answered, toolkit_tried, settled, told_pending, with_pending, event_told}
 use Rattle.card_model.specs.Laws.{IsKnownStatus, IsStatusOf, IsLawfulAnswer, statuses, tree_statuses}
-use Rattle.card_model.specs.Naming.{all_hold}
+use Rattle.card_model.proofs.NamingLemmas.{all_hold}
 use Rattle.card_model.specs.States.{CardState}
 use Rattle.card_model.specs.Toolkit.{ToolkitOutcome, profile_taken, command_fetched, response_taken, envelope_taken, row_or_status, applet_installed, applet_deleted, toolkit_outcome}
 use Rattle.card_model.specs.declared.instructions.ToolkitCommand.{ToolkitCommand}

@@ -1,17 +1,13 @@
 pub mod Answers
-pub mod Cases
 pub mod Chained
 pub mod Channels
 pub mod Counts
 pub mod Instructions
 pub mod Laws
-pub mod Naming
 pub mod OtherFiles
-pub mod Pending
 pub mod Runs
 pub mod States
 pub mod Toolkit
-pub mod Woken
 pub use Rattle.toolkit_model.specs.applet_trait
 pub use Rattle.file_making.specs as file_making
 pub use Rattle.file_model.specs as file_model

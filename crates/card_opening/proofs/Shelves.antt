@@ -5,7 +5,7 @@ use Rattle.std.proofs.lemmas.List.Elements.{All-contains_itself}
 use Rattle.std.proofs.lemmas.Option.{slice_get_within, slice_get_read}
 use Rattle.std.proofs.lemmas.List.{get_or-map, get_or_default}
 use Rattle.std.proofs.lemmas.Bool.{cases_lt, eqb-true, eq-eqb, not-false, not-true, false≢true, true≢false}
-use Rattle.card_layout.specs.uicc_types.Finding.{find_Some}
+use Rattle.card_layout.proofs.uicc_types.FindingLemmas.{find_Some}
 use Rattle.card_model.specs.applet_trait.Minds.{AppletState}
 use Rattle.card_layout.specs.declared.entries.Row.{Row}
 use Rattle.card_layout.specs.declared.entries.Loaded.{Loaded}

@@ -18,7 +18,8 @@ use Rattle.card_model.specs.file_model.Files.{record_width}
 use Rattle.card_model.specs.file_model.Laws.{IsSoundCard}
 use Rattle.card_layout.specs.store_form.declared.store.StoreFault.{StoreFault}
 use Rattle.card_layout.specs.store_form.declared.store.StoreFault.TheVariants as store
-use Rattle.layout_mount.specs.Mounted.{IsTable, HoldsNoCard, read_told}
+use Rattle.layout_mount.specs.Mounted.{IsTable, HoldsNoCard}
+use Rattle.layout_mount.proofs.MountedLemmas.{read_told}
 use Rattle.layout_mount.specs.declared.mounting.MountFault.{MountFault}
 use Rattle.layout_mount.specs.declared.mounting.MountFault.TheVariants as mount
 use Rattle.layout_standing.specs.SoundnessLaws.{StandingIsSound, RecordsAreShort, HasShortRecords}

@@ -2,7 +2,7 @@
 use Rattle.std.proofs.Common.{◌≡◌, ℕ, zero, suc, ◌+◌, ◌<◌, ◌≤◌, Bool, true, false, List, [], ◌∷◌, ◌++◌, length, take, drop, set, get_or, slice_get, Option, Some, None, option_map, option_and_then, refl, sym, ◌∙◌, ap, arith}
 use Rattle.std.proofs.lemmas.List.{map-set, get_or-map, take_all, drop_all, append-nil, length-map}
 use Rattle.std.proofs.lemmas.Option.{slice_get_read}
-use Rattle.card_layout.specs.uicc_types.Edits.{set_more}
+use Rattle.card_layout.proofs.uicc_types.EditLemmas.{set_more}
 use Rattle.card_model.specs.applet_trait.Minds.{AppletState, minds_of}
 use Rattle.card_layout.specs.declared.entries.Row.{Row}
 use Rattle.card_layout.specs.declared.entries.Loaded.{Loaded}
@@ -10,7 +10,7 @@ use Rattle.card_layout.specs.States.{rows_of, state_of}
 use Rattle.card_layout.specs.StateLaws.{RowsAreEntries}
 use Rattle.card_layout.specs.Used.{registration_if}
 use Rattle.card_model.specs.States.{row_on, woken_mind, woken_boxes}
-use Rattle.card_model.specs.Woken.{length-woken_boxes, woken_at}
+use Rattle.card_model.proofs.WokenLemmas.{length-woken_boxes, woken_at}
 use Rattle.card_opening.specs.Boxes.{woken_beside}
 
 -- what stands behind those that were put over

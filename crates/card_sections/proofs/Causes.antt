@@ -2,14 +2,14 @@
 use Rattle.std.proofs.Common.{◌≡◌, ℕ, ◌+◌, List, [], ◌∷◌, ◌++◌, Bool, true, false, Option, Some, None, Ok, Err, refl, sym, ap, ◌∙◌, subst}
 use Rattle.std.proofs.lemmas.List.{append-nil}
 use Rattle.applet_trait.specs.Minds.{AppletState}
-use Rattle.script_form.specs.byte_streams.Laws.{IsTakenFor-read_out}
+use Rattle.script_form.proofs.byte_streams.ReadingLemmas.{IsTakenFor-read_out}
 use Rattle.script_form.specs.byte_streams.Lines.{LineList}
 use Rattle.card_layout.specs.Persistent.{Persistent}
 use Rattle.card_layout.specs.declared.faults.SectionFault.TheVariants.{NoRoom as has_no_room}
-use Rattle.card_sections.specs.LineLaws.{AreRead-more}
+use Rattle.card_sections.proofs.LineLemmas.{AreRead-more}
 use Rattle.card_sections.specs.Reading.{EndsInSection, Finds, Follows, GivesNext, GivesSectionLine, InSection, IsAdded, IsBadHere, IsOutOfPlace, IsUnread, StopsAt}
 use Rattle.card_sections.specs.Script.{AreRead, with_line}
-use Rattle.card_sections.specs.SectionLaws.{with_lines-more}
+use Rattle.card_sections.proofs.SectionLemmas.{with_lines-more}
 use Rattle.card_sections.specs.declared.faults.ScriptFault.{ScriptFault}
 use Rattle.card_sections.specs.declared.faults.ScriptFault.TheVariants.{BadLine, NoRoom, ReadFailed}
 use Rattle.card_sections.specs.declared.script_reader.ScriptReader.{ScriptReader}

@@ -1,1 +1,5 @@
+pub mod BehindLemmas
 mod Causes
+pub mod LineLemmas
+pub mod RowLemmas
+pub mod SectionLemmas

@@ -2,7 +2,7 @@
 ghost use Rattle.card_sections.specs.RowLaws.{RowsHaveBoxes};
 
 /// Each row that a section describes is of the kind of the box on its shelf.
-#[tactic(auto, using(crate::specs::RowLaws::rows_have_boxes))]
+#[tactic(auto, using(crate::proofs::RowLemmas::rows_have_boxes))]
 pub fn rows_have_boxes()
     ensures { RowsHaveBoxes }
 {}

@@ -8,11 +8,11 @@ use Rattle.card_core.specs.apdu_form.Model.{Apdu, command_in}
 use Rattle.card_core.specs.file_model.Chains.{given, and_given}
 use Rattle.card_core.specs.card_model.Answers.{Answered, refused, carried_with, cut_answer, settled, tried, with_pending, answer_of}
 use Rattle.card_core.specs.apdu_form.Model.{cut_to}
-use Rattle.card_core.specs.card_model.Cases.{cut_result}
+use Rattle.card_core.proofs.card_model.CaseLemmas.{cut_result}
 use Rattle.card_core.specs.card_model.Chained.{Any}
 use Rattle.card_core.specs.card_model.Channels.{family}
 use Rattle.card_core.specs.card_model.Instructions.{instruction_tried, has_toolkit}
-use Rattle.card_core.specs.card_model.Naming.{IsNamed, named_so, instruction_so}
+use Rattle.card_core.proofs.card_model.NamingLemmas.{IsNamed, named_so, instruction_so}
 use Rattle.card_core.specs.card_model.States.{CardState}
 use Rattle.card_core.specs.card_model.declared.instructions.Instruction.{Instruction}
 use Rattle.card_core.proofs.Named.{cut_nothing}

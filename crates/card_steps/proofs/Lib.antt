@@ -15,3 +15,6 @@ pub mod TellLaws
 pub mod Worked
 mod WorkedLink
 mod Written
+pub use Rattle.script_form.proofs.byte_streams
+pub use Rattle.card_core.proofs.card_model
+pub use Rattle.card_core.proofs.file_model

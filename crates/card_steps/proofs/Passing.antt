@@ -10,7 +10,7 @@ use Rattle.script_form.specs.uicc_types.declared.answers.Answer.{Answer}
 use Rattle.script_form.specs.uicc_types.declared.answers.StatusWord.{StatusWord}
 use Rattle.script_form.specs.uicc_types.declared.answers.TheConstants.StatusWord.{MEMORY_PROBLEM}
 use Rattle.card_core.specs.apdu_form.Model.{Apdu, IsCommand, data_field, le_field, fields_in, command_in}
-use Rattle.card_core.specs.apdu_form.Reading.{commands_are}
+use Rattle.card_core.proofs.apdu_form.ReadingLemmas.{commands_are}
 use Rattle.t0_link.specs.declared.instructions.TheConstants.{GET_RESPONSE, STATUS}
 use Rattle.t0_link.specs.declared.tpdus.Transfer.TheVariants.{GetResponse, Outgoing, Incoming}
 use Rattle.t0_link.specs.Tpdus.{is_outgoing}
@@ -19,7 +19,7 @@ use Rattle.t0_link.specs.Carrying.{is_carried_by, command_answer, cut_answer_to}
 use Rattle.t0_link.specs.Passing.{IsPlain, GivesAnswer, passed_by, passed_apdu}
 use Rattle.t0_link.proofs.Passed.{carried_gives, no_data}
 use Rattle.card_core.specs.card_model.Answers.{Answered, cut_answer, answer_of}
-use Rattle.card_core.specs.card_model.Naming.{all_hold}
+use Rattle.card_core.proofs.card_model.NamingLemmas.{all_hold}
 use Rattle.card_core.specs.card_model.Instructions.{has_toolkit}
 use Rattle.card_core.specs.card_model.Laws.{IsKnownStatus, IsStatusOf, statuses, tree_statuses, PlainAnswersAreLawful, IsLawfulAnswer, is_of_tree_named, key_named}
 use Rattle.card_core.specs.card_model.States.{CardState, IsGood}

@@ -1,6 +1,6 @@
 -- What a card of the code stands for as a machine: what its store holds, and the minds in its boxes.
 use Rattle.std.proofs.Common.{◌≡◌, Bool, true, false, Some, refl, sym, ap, ◌∙◌, option_map}
-use Rattle.script_form.specs.uicc_types.Choices.{mapped_Some}
+use Rattle.script_form.proofs.uicc_types.ChoiceLemmas.{mapped_Some}
 use Rattle.card_core.specs.Cards.{card_of, card_with, held_by}
 use Rattle.card_core.specs.Parts.{CardParts}
 use Rattle.card_core.specs.card_layout.Persistent.{Persistent}

@@ -6,7 +6,7 @@ use Rattle.comprehension_tlv.specs.declared.faults.TlvFault.{TlvFault}
 use Rattle.comprehension_tlv.specs.declared.faults.TlvFault.TheVariants.{NoTag, BadLength, CutShort}
 use Rattle.comprehension_tlv.specs.Model.{Object, flagged, IsTag, IsLength, IsObject}
 use Rattle.comprehension_tlv.specs.Reading.{◌>>=◌, long_tag_at, tag_at, one_byte_at, two_bytes_at, length_at, value_at, object_at}
-use Rattle.uicc_types.specs.Choices.{chosen}
+use Rattle.uicc_types.proofs.ChoiceLemmas.{chosen}
 use Rattle.comprehension_tlv.proofs.Steps.{IsBytes, IsBytes-tail, bind_ok, done, ok_is}
 
 -- ---- tags

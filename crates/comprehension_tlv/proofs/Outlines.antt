@@ -5,7 +5,7 @@ use Rattle.comprehension_tlv.specs.declared.faults.TlvFault.{TlvFault}
 use Rattle.comprehension_tlv.specs.declared.faults.TlvFault.TheVariants.{NoTag}
 use Rattle.comprehension_tlv.specs.Model.{Object, IsLength, IsObject, IsObjects}
 use Rattle.comprehension_tlv.specs.Reading.{◌>>=◌, long_tag_at, tag_at, value_at, object_at, Outline, ended, begun, with_first, outline_within, outline_at, IsEnding, IsOutline}
-use Rattle.uicc_types.specs.Choices.{chosen}
+use Rattle.uicc_types.proofs.ChoiceLemmas.{chosen}
 use Rattle.comprehension_tlv.proofs.Steps.{IsBytes, bind_ok, ok_is, either, IsBytes-append_right}
 use Rattle.comprehension_tlv.proofs.Forms.{value_takes, object_takes, object_again}
 

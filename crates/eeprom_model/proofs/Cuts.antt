@@ -2,7 +2,8 @@
 use Rattle.std.proofs.Common.{◌≡◌, ℕ, ◌+◌, ◌-◌, ◌≤◌, min, List, ◌++◌, length, take, replicate, sym, ◌∙◌, ap, subst, arith, length-append}
 use Rattle.std.proofs.lemmas.List.{length-take, length-replicate, take_min}
 use Rattle.uicc_types.specs.declared.plans.CutAt.{CutAt}
-use Rattle.uicc_types.specs.Patches.{patched, patched-patched, Torn, Torn_patched}
+use Rattle.uicc_types.specs.Patches.{patched, Torn}
+use Rattle.uicc_types.proofs.PatchLemmas.{patched-patched, Torn_patched}
 use Rattle.eeprom_model.specs.Bench.{cut_bytes}
 
 pub length-cut_bytes : (cut : CutAt) (bytes : List ℕ) → length (cut_bytes cut bytes) ≡ length bytes

@@ -2,18 +2,19 @@
 use Rattle.std.proofs.Common.{◌≡◌, ℕ, List, [], ◌∷◌, length, Option, Some, None, option_map, refl, sym, ◌∙◌, ap, subst, inl, inr, arith}
 use Rattle.std.specs.Prelude.{◌⊎◌, IfSome, IsSomeAnd, IfOk, Contains, Result, Ok, Err}
 use Rattle.std.proofs.lemmas.Result.{on_ok_weaker, on_err_weaker}
-use Rattle.file_model.specs.uicc_types.Calls.{IsCalm, calm_same}
+use Rattle.file_model.specs.uicc_types.Calls.{IsCalm}
+use Rattle.file_model.proofs.uicc_types.CallLemmas.{calm_same}
 use Rattle.file_model.specs.uicc_types.Counts.{Meter, Caused, raised_by}
 use Rattle.file_model.specs.uicc_types.declared.answers.StatusWord.{StatusWord}
 use Rattle.file_model.specs.uicc_types.declared.answers.TheConstants.StatusWord.{DONE}
 use Rattle.file_model.specs.store_form.declared.store.StoreFault.{StoreFault}
 use Rattle.file_model.specs.store_form.Faults.{HasCause}
-use Rattle.file_model.specs.store_form.Causes.{cause_of}
+use Rattle.file_model.proofs.store_form.CauseLemmas.{cause_of}
 use Rattle.file_model.specs.card_layout.declared.entries.Loaded.{Loaded}
 use Rattle.file_model.specs.card_layout.Memory.{Memory, held, IsMounted, Keeps, Committed}
 use Rattle.file_model.specs.card_layout.Persistent.{Persistent}
 use Rattle.file_model.specs.card_layout.Standing.{Stands}
-use Rattle.card_memory.specs.Keeping.{keeps_done}
+use Rattle.card_memory.proofs.KeepingLemmas.{keeps_done}
 use Rattle.card_memory.specs.Performing.{PassesOne}
 use Rattle.file_model.specs.declared.selections.Selection.{Selection}
 use Rattle.file_model.specs.Outcomes.{last_of}

@@ -8,7 +8,7 @@ use Rattle.file_model.specs.card_layout.Soundness.{IsEf, IsSound, IsSoundFile}
 use Rattle.file_model.specs.card_layout.Standing.{Stands}
 use Rattle.file_model.specs.card_layout.States.{ef_file, file_of}
 use Rattle.card_memory.specs.layout_standing.Cards.{IsFreeRange}
-use Rattle.card_memory.specs.layout_standing.Files.{ef_of}
+use Rattle.card_memory.proofs.layout_standing.FileLemmas.{ef_of}
 use Rattle.card_memory.specs.layout_standing.Known.{NodesAreFiles, IsBesideNodes}
 
 pub beside_nodes : NodesAreFiles → (mark : ℕ) (content : List ℕ) (table : Loaded) (state : Persistent) → Stands mark content table state → IsSound state → (place count : ℕ) → IsFreeRange table.wide state.files place count

@@ -2,7 +2,7 @@
 use Rattle.std.proofs.Common.{◌≡◌, ℕ, List, Option, Some, None, refl, sym, ◌∙◌, ap, subst, inl}
 use Rattle.std.specs.Prelude.{◌⊎◌, option_map, Result, Ok, Err}
 use Rattle.std.proofs.lemmas.Result.{on_ok_weaker, on_err_weaker}
-use Rattle.file_model.specs.uicc_types.Calls.{caused_then, calm_ok}
+use Rattle.file_model.proofs.uicc_types.CallLemmas.{caused_then, calm_ok}
 use Rattle.file_model.specs.store_form.declared.store.StoreFault.{StoreFault}
 use Rattle.file_model.specs.store_form.Faults.{with_commit}
 use Rattle.file_model.specs.card_layout.declared.entries.Node.{Node}

@@ -3,7 +3,7 @@ use Rattle.std.proofs.Common.{◌≡◌, ℕ, ◌-◌, ◌≤◌, ◌<◌, Bool,
 use Rattle.std.specs.Prelude.{◌≢◌, ◌==◌, ◌&&◌, nat_le, is_none, if◌then◌else◌, IsTrue, Result, Ok, Err}
 use Rattle.std.proofs.lemmas.Bool.{cond-false, cond-true, eq-eqb, ne_eqb, lt-ltb, le-ltb, leb-true, and_parts}
 use Rattle.std.proofs.lemmas.List.{take_all}
-use Rattle.file_model.specs.uicc_types.Ranges.{length-range}
+use Rattle.file_model.proofs.uicc_types.RangeLemmas.{length-range}
 use Rattle.file_model.specs.uicc_types.Patches.{patched}
 use Rattle.file_model.specs.uicc_types.declared.answers.StatusWord.{StatusWord}
 use Rattle.file_model.specs.uicc_types.declared.answers.TheConstants.StatusWord.{DONE, NO_ROOM}
@@ -19,7 +19,7 @@ use Rattle.file_model.specs.card_layout.Spelling.{node_part}
 use Rattle.file_model.specs.card_layout.Standing.{Stands}
 use Rattle.file_model.specs.card_layout.States.{file_bytes, file_of, state_of}
 use Rattle.file_model.specs.card_layout.Used.{HasNode}
-use Rattle.file_model.specs.card_layout.RowPlaces.{data_end_inside}
+use Rattle.file_model.proofs.card_layout.RowPlacesLemmas.{data_end_inside}
 use Rattle.file_model.specs.declared.descriptors.Descriptor.{Descriptor}
 use Rattle.file_model.specs.declared.selections.Selection.{Selection}
 use Rattle.file_model.specs.Chains.{refused_if}

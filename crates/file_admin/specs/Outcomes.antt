@@ -14,7 +14,7 @@ use Rattle.file_model.specs.card_layout.Standing.{Stands}
 use Rattle.card_memory.specs.Performing.{PassesOne}
 use Rattle.file_model.specs.declared.descriptors.Descriptor.{Descriptor}
 use Rattle.file_model.specs.declared.selections.Selection.{Selection}
-use Rattle.card_model.specs.Channels.{channel_of}
+use Rattle.file_tree.specs.card_model.Channels.{channel_of}
 use Rattle.file_model.specs.Files.{descriptors_of, descriptors_in}
 use Rattle.file_model.specs.Outcomes.{last_of}
 use Rattle.file_making.specs.Creating.{created}

@@ -1,7 +1,7 @@
 //! What is selected on the logical channels, where a file comes or goes.
 ghost use Rattle.std.specs.Prelude.{◌≡◌, ◌==◌, ℕ, false, slice_set, option_map};
 ghost use Rattle.std.specs.Option.{option_map_or};
-ghost use Rattle.card_model.specs.Channels.{channel_of, family, names_channel, selected_on};
+ghost use Rattle.file_tree.specs.card_model.Channels.{channel_of, family, names_channel, selected_on};
 ghost use Rattle.file_model.specs.Files.{descriptor_in};
 ghost use Rattle.file_model.specs.Selections.{selection_of};
 ghost use Rattle.file_making.specs.Creating.{file_made};

@@ -1,7 +1,7 @@
 //! CREATE FILE.
 ghost use Rattle.std.specs.Prelude.{◌≡◌, true, false, IsTrue, IsOk, OnOk, IsSomeAnd};
 ghost use Rattle.file_model.specs.card_layout.Memory.{IsMounted, memory};
-ghost use Rattle.card_model.specs.Channels.{channel_of, is_open};
+ghost use Rattle.file_tree.specs.card_model.Channels.{channel_of, is_open};
 ghost use Rattle.file_model.specs.Files.{descriptors_of, file_found, is_df};
 ghost use Rattle.file_model.specs.declared.descriptors.Wanted.TheVariants.{Number};
 ghost use Rattle.file_making.specs.Creating.{is_there, created_if_room};

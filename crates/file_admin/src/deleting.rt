@@ -1,7 +1,7 @@
 //! DELETE FILE.
 ghost use Rattle.std.specs.Prelude.{◌≡◌, true, false, Ok, IsOk, OnOk};
 ghost use Rattle.file_model.specs.card_layout.Memory.{IsMounted, memory};
-ghost use Rattle.card_model.specs.Channels.{channel_of, is_open};
+ghost use Rattle.file_tree.specs.card_model.Channels.{channel_of, is_open};
 ghost use Rattle.file_model.specs.Files.{descriptors_of};
 ghost use Rattle.file_tree.specs.Tables.{IsNumbered};
 ghost use Rattle.file_making.specs.Deleting.{is_in_use, deleting};

@@ -2,7 +2,7 @@
 ghost use Rattle.std.specs.Prelude.{◌≡◌, ◌<◌, List, Option, true, IsTrue, IsOk, OnOk};
 ghost use Rattle.file_model.specs.card_layout.Kinds.{transparent_kind};
 ghost use Rattle.file_model.specs.card_layout.Memory.{IsMounted, memory};
-ghost use Rattle.card_model.specs.Channels.{channel_of, is_open};
+ghost use Rattle.file_tree.specs.card_model.Channels.{channel_of, is_open};
 ghost use Rattle.file_model.specs.Files.{descriptors_of};
 ghost use Rattle.file_model.specs.declared.selections.Selection.{Selection};
 ghost use Rattle.file_making.specs.Lawful.{AreSelected};

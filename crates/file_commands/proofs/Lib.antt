@@ -1,4 +1,5 @@
 mod Addressing
+pub mod ChainedLemmas
 pub mod Giving
 mod Optional
 mod PinLists

@@ -1,4 +1,3 @@
-pub mod Chained
 pub mod Commands
 pub mod Ends
 pub mod Targets

@@ -7,9 +7,9 @@ use Rattle.std.proofs.lemmas.Option.{option_and_then_some}
 use Rattle.std.proofs.lemmas.List.{length-replicate}
 use Rattle.std.proofs.lemmas.List.Elements.{All-replicate, Contains-get_or}
 use Rattle.std.proofs.lemmas.List.FromFn.{length-range_with_len, get_or-range_with_len}
-use Rattle.file_model.specs.uicc_types.Choices.{mapped_Some, second_false}
-use Rattle.file_model.specs.uicc_types.Finding.{find-map, find_Some}
-use Rattle.file_model.specs.uicc_types.Optional.{none_of}
+use Rattle.file_model.proofs.uicc_types.ChoiceLemmas.{mapped_Some, second_false}
+use Rattle.file_model.proofs.uicc_types.FindingLemmas.{find-map, find_Some}
+use Rattle.file_model.proofs.uicc_types.OptionalLemmas.{none_of}
 use Rattle.file_model.specs.uicc_types.declared.identifiers.FileId.{FileId}
 use Rattle.file_model.specs.card_layout.declared.shapes.Shape.{Shape}
 use Rattle.file_model.specs.card_layout.declared.shapes.Shape.TheVariants.{Transparent, Linear, Cyclic}
@@ -19,7 +19,7 @@ use Rattle.file_model.specs.card_layout.Persistent.{File, Persistent}
 use Rattle.file_model.specs.card_layout.Sections.{kind_of, size_of, is_shape, blank_contents}
 use Rattle.file_model.specs.card_layout.Soundness.{mf, IsDf, IsEf, AreRecords, AreContents, IsInTree, IsSoundFile, IsSound}
 use Rattle.file_model.specs.card_layout.StateLaws.{file_with_number}
-use Rattle.file_model.specs.card_layout.NewFileLaws.{some_bytes, is_ef_shape}
+use Rattle.file_model.proofs.card_layout.NewFileLemmas.{some_bytes, is_ef_shape}
 use Rattle.file_model.specs.declared.descriptors.Descriptor.{Descriptor}
 use Rattle.file_model.specs.declared.descriptors.Wanted.{Wanted}
 use Rattle.file_model.specs.declared.descriptors.Wanted.TheVariants.{Number, Child, Short}

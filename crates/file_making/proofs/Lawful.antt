@@ -8,8 +8,8 @@ use Rattle.std.proofs.lemmas.Option.{option_and_then_some, same_Some}
 use Rattle.std.proofs.lemmas.List.{length-set, length-map, length-replicate}
 use Rattle.std.proofs.lemmas.List.Folds.{list_any_at}
 use Rattle.std.proofs.lemmas.List.Elements.{All-weaker, All-set, All-map, All-append, All-filter, All-cons, All-nil, All-contains}
-use Rattle.file_model.specs.uicc_types.Choices.{mapped_Some, second_false}
-use Rattle.file_model.specs.uicc_types.Finding.{find_Some, numbered_found}
+use Rattle.file_model.proofs.uicc_types.ChoiceLemmas.{mapped_Some, second_false}
+use Rattle.file_model.proofs.uicc_types.FindingLemmas.{find_Some, numbered_found}
 use Rattle.file_model.specs.uicc_types.declared.answers.StatusWord.{StatusWord}
 use Rattle.file_model.specs.card_layout.declared.shapes.Shape.TheVariants.{Transparent, Linear, Cyclic}
 use Rattle.file_model.specs.card_layout.Changing.{listed, placed, with_file_at}
@@ -17,7 +17,7 @@ use Rattle.file_model.specs.card_layout.Kinds.{df_kind, transparent_kind, is_ef_
 use Rattle.file_model.specs.card_layout.Persistent.{Contents, Files, Bytes, Records, File, Persistent}
 use Rattle.file_model.specs.card_layout.Soundness.{mf, IsSound}
 use Rattle.file_model.specs.card_layout.StateLaws.{file_with_number}
-use Rattle.file_model.specs.card_layout.NewFileLaws.{is_ef_shape}
+use Rattle.file_model.proofs.card_layout.NewFileLemmas.{is_ef_shape}
 use Rattle.file_model.specs.declared.descriptors.Descriptor.{Descriptor}
 use Rattle.file_model.specs.declared.descriptors.Wanted.TheVariants.{Number}
 use Rattle.file_model.specs.declared.selections.Selection.{Selection}

@@ -5,9 +5,9 @@ use Rattle.std.specs.List.{list_any}
 use Rattle.std.proofs.lemmas.Bool.{and_parts, and_from, or_parts, both_ways, not-true, eqb-true, eqb-false, eq-eqb, ne_eqb, cases_eq, not_from_false}
 use Rattle.std.proofs.lemmas.List.Elements.{Contains-get_or}
 use Rattle.std.proofs.lemmas.List.Folds.{list_any_at}
-use Rattle.file_model.specs.uicc_types.Choices.{mapped_Some, second_false}
-use Rattle.file_model.specs.uicc_types.Finding.{find-map, find_Some}
-use Rattle.file_model.specs.uicc_types.Numbered.{mapped_too}
+use Rattle.file_model.proofs.uicc_types.ChoiceLemmas.{mapped_Some, second_false}
+use Rattle.file_model.proofs.uicc_types.FindingLemmas.{find-map, find_Some}
+use Rattle.file_model.proofs.uicc_types.NumberedLemmas.{mapped_too}
 use Rattle.layout_standing.proofs.Numbered.{beside, contained}
 use Rattle.file_model.specs.card_layout.Kinds.{df_kind}
 use Rattle.file_model.specs.card_layout.Decoding.{number_at}

@@ -5,7 +5,7 @@ use Rattle.std.specs.Option.{option_or}
 use Rattle.std.proofs.lemmas.Bool.{eq-eqb, ne_eqb, cases_order}
 use Rattle.std.proofs.lemmas.Bool.Decides.{nat_tests}
 use Rattle.std.proofs.lemmas.List.Folds.{find-append}
-use Rattle.file_model.specs.uicc_types.Finding.{find-map, find-filter, find_alike}
+use Rattle.file_model.proofs.uicc_types.FindingLemmas.{find-map, find-filter, find_alike}
 use Rattle.file_model.specs.card_layout.Changing.{listed, placed, with_file_at}
 use Rattle.file_model.specs.card_layout.Persistent.{File, Persistent}
 use Rattle.file_model.specs.card_layout.StateLaws.{file_with_number}

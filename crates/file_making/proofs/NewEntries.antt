@@ -9,7 +9,7 @@ use Rattle.file_model.specs.card_layout.declared.shapes.Shape.TheVariants.{Trans
 use Rattle.file_model.specs.card_layout.Decoding.{bytes_at}
 use Rattle.file_model.specs.card_layout.Kinds.{df_kind, activated}
 use Rattle.file_model.specs.card_layout.NewFiles.{ef_node}
-use Rattle.file_model.specs.card_layout.NewFileLaws.{new_file_is_blank, new_rule}
+use Rattle.file_model.proofs.card_layout.NewFileLemmas.{new_file_is_blank, new_rule}
 use Rattle.file_model.specs.card_layout.Persistent.{Rule, Contents, File}
 use Rattle.file_model.specs.card_layout.Sections.{kind_of, size_of, is_shape, blank_contents}
 use Rattle.file_model.specs.card_layout.States.{contents_in, contents_of, rule_of, df_file, ef_file, file_of}

@@ -7,10 +7,10 @@ use Rattle.std.proofs.lemmas.Bool.Decides.{nat_tests}
 use Rattle.std.proofs.lemmas.Option.{option_and_then_some, same_Some}
 use Rattle.std.proofs.lemmas.List.{length-take, get_or-take, get_or-replicate, get_or_append_left, get_or-append_right}
 use Rattle.std.proofs.lemmas.List.Elements.{All-replicate, All-contains}
-use Rattle.file_model.specs.uicc_types.Choices.{mapped_Some}
-use Rattle.file_model.specs.uicc_types.Finding.{find_Some, numbered_found}
-use Rattle.file_model.specs.uicc_types.Optional.{none_of}
-use Rattle.file_model.specs.uicc_types.Pairs.{pairs_head, pairs_tail}
+use Rattle.file_model.proofs.uicc_types.ChoiceLemmas.{mapped_Some}
+use Rattle.file_model.proofs.uicc_types.FindingLemmas.{find_Some, numbered_found}
+use Rattle.file_model.proofs.uicc_types.OptionalLemmas.{none_of}
+use Rattle.file_model.proofs.uicc_types.PairLemmas.{pairs_head, pairs_tail}
 use Rattle.file_model.specs.uicc_types.declared.answers.StatusWord.{StatusWord}
 use Rattle.file_model.specs.card_layout.declared.shapes.Shape.{Shape}
 use Rattle.file_model.specs.card_layout.declared.shapes.Shape.TheVariants.{Transparent, Linear, Cyclic}

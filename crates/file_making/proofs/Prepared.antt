@@ -5,9 +5,10 @@ use Rattle.std.proofs.lemmas.Bool.{cond-true}
 use Rattle.std.proofs.lemmas.List.{length-replicate}
 use Rattle.std.proofs.lemmas.Option.{option_and_then_some}
 use Rattle.std.proofs.Math.Nat.{mul-div_cancel_left}
-use Rattle.file_model.specs.uicc_types.Choices.{mapped_Some}
+use Rattle.file_model.proofs.uicc_types.ChoiceLemmas.{mapped_Some}
 use Rattle.file_model.specs.uicc_types.declared.identifiers.FileId.{FileId}
-use Rattle.file_model.specs.uicc_types.Patches.{patched, patched-nil, Torn_patched, range-patched_there}
+use Rattle.file_model.specs.uicc_types.Patches.{patched}
+use Rattle.file_model.proofs.uicc_types.PatchLemmas.{patched-nil, Torn_patched, range-patched_there}
 use Rattle.file_model.specs.card_layout.declared.entries.Node.{Node}
 use Rattle.file_model.specs.card_layout.declared.entries.Loaded.{Loaded}
 use Rattle.file_model.specs.card_layout.declared.shapes.Shape.{Shape}
@@ -24,8 +25,8 @@ use Rattle.file_model.specs.card_layout.Spelling.{node_part}
 use Rattle.file_model.specs.card_layout.Standing.{Stands}
 use Rattle.file_model.specs.card_layout.States.{file_of}
 use Rattle.file_model.specs.card_layout.Used.{file_if}
-use Rattle.file_model.specs.card_layout.NewFileLaws.{some_bytes}
-use Rattle.file_model.specs.card_layout.RowPlaces.{data_end_inside}
+use Rattle.file_model.proofs.card_layout.NewFileLemmas.{some_bytes}
+use Rattle.file_model.proofs.card_layout.RowPlacesLemmas.{data_end_inside}
 use Rattle.file_model.specs.declared.descriptors.RuleReference.{RuleReference}
 use Rattle.layout_standing.specs.Cards.{IsFreeRange}
 use Rattle.layout_standing.specs.Changes.{with_node}

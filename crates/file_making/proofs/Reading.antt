@@ -2,7 +2,7 @@
 use Rattle.std.proofs.Common.{get_or, ◌≡◌, ℕ, ◌+◌, List, [], ◌∷◌, sym, ◌∙◌, ap, arith}
 use Rattle.std.specs.Prelude.{slice_range}
 use Rattle.std.specs.Int.{w16, from_be_bytes}
-use Rattle.file_model.specs.uicc_types.Ranges.{get_or-range}
+use Rattle.file_model.proofs.uicc_types.RangeLemmas.{get_or-range}
 use Rattle.file_model.specs.card_layout.Decoding.{number_at}
 
 pub number_read : (bytes : List ℕ) (at a b : ℕ) → a ≡ get_or bytes at 0 → b ≡ get_or bytes (at + 1) 0 → from_be_bytes w16 (a ∷ b ∷ []) ≡ number_at bytes at

@@ -3,13 +3,13 @@ use Rattle.std.proofs.Common.{◌≡◌, ℕ, ◌+◌, ◌≤◌, Bool, true, fa
 use Rattle.std.specs.Prelude.{◌-◌, ◌==◌, nat_lt, nat_le, if◌then◌else◌, is_none, unwrap_or, IsTrue}
 use Rattle.std.proofs.lemmas.Bool.{and_parts, and_left, and_right, lt-ltb, le-ltb, leb-true, eq-eqb, ne_eqb, cond-true, cond-false}
 use Rattle.std.proofs.lemmas.List.{append-nil, take-take}
-use Rattle.file_model.specs.uicc_types.Ranges.{length-range}
+use Rattle.file_model.proofs.uicc_types.RangeLemmas.{length-range}
 use Rattle.file_model.specs.uicc_types.Patches.{patched}
 use Rattle.file_model.specs.card_layout.declared.entries.Node.{Node}
 use Rattle.file_model.specs.card_layout.declared.entries.Loaded.{Loaded}
 use Rattle.file_model.specs.card_layout.Changing.{with_file_at}
 use Rattle.file_model.specs.card_layout.Decoding.{bytes_at}
-use Rattle.file_model.specs.card_layout.EntryLaws.{number_of_file}
+use Rattle.file_model.proofs.card_layout.EntryLemmas.{number_of_file}
 use Rattle.file_model.specs.card_layout.Fields.{merged_node}
 use Rattle.file_model.specs.card_layout.Kinds.{df_kind, transparent_kind, is_ef_kind}
 use Rattle.file_model.specs.card_layout.Laws.{after}
@@ -19,7 +19,7 @@ use Rattle.file_model.specs.card_layout.Spelling.{node_part}
 use Rattle.file_model.specs.card_layout.Standing.{Stands}
 use Rattle.file_model.specs.card_layout.States.{file_bytes, records_of, record_count, from_head, contents_of, ef_file, file_of}
 use Rattle.file_model.specs.card_layout.Used.{file_if}
-use Rattle.file_model.specs.card_layout.RowPlaces.{data_end_inside}
+use Rattle.file_model.proofs.card_layout.RowPlacesLemmas.{data_end_inside}
 use Rattle.file_model.specs.Files.{descriptor_in}
 use Rattle.layout_standing.specs.Changes.{with_node}
 use Rattle.layout_standing.specs.Forms.{HasRightHead}

@@ -4,8 +4,8 @@ use Rattle.std.specs.Prelude.{◌==◌, not, Contains, IfSome, IsSomeAnd, IsTrue
 use Rattle.std.proofs.lemmas.Bool.{cases_Bool}
 use Rattle.std.proofs.lemmas.Option.{option_and_then_some}
 use Rattle.std.proofs.lemmas.List.Elements.{All-set}
-use Rattle.file_model.specs.uicc_types.Choices.{mapped_Some}
-use Rattle.file_model.specs.uicc_types.Finding.{numbered_found}
+use Rattle.file_model.proofs.uicc_types.ChoiceLemmas.{mapped_Some}
+use Rattle.file_model.proofs.uicc_types.FindingLemmas.{numbered_found}
 use Rattle.file_model.specs.uicc_types.declared.answers.StatusWord.{StatusWord}
 use Rattle.file_model.specs.card_layout.Changing.{with_file_at}
 use Rattle.file_model.specs.card_layout.Kinds.{transparent_kind}

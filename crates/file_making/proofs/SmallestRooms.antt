@@ -6,8 +6,8 @@ use Rattle.std.specs.List.{list_any}
 use Rattle.std.proofs.lemmas.Bool.{ltb-true, leb-true, le-leb, lt-ltb, and_parts, and_from, not-true, not_from_false, both_ways, false_from_ne_true, cases_eq, cases_lt}
 use Rattle.std.proofs.lemmas.List.Folds.{list_any_none, list_any_at}
 use Rattle.std.proofs.lemmas.List.Elements.{Contains-get_or}
-use Rattle.file_model.specs.uicc_types.Numbered.{mapped_too}
-use Rattle.file_model.specs.uicc_types.Members.{first_there, later_there, kept_there}
+use Rattle.file_model.proofs.uicc_types.NumberedLemmas.{mapped_too}
+use Rattle.file_model.proofs.uicc_types.MemberLemmas.{first_there, later_there, kept_there}
 use Rattle.file_model.specs.card_layout.Kinds.{is_ef_kind}
 use Rattle.file_model.specs.card_layout.Places.{data_place, data_end}
 use Rattle.file_model.specs.card_layout.Persistent.{File, Persistent}

@@ -4,7 +4,7 @@ use Rattle.std.specs.Prelude.{◌⊎◌, ◌==◌, ◌&&◌, find, slice_get, Co
 use Rattle.std.proofs.lemmas.Bool.{and_parts, and_from, both_ways, cond-true, cond-false}
 use Rattle.std.proofs.lemmas.Option.{slice_get-get_or, get_or_from_slice_get, slice_get_within}
 use Rattle.std.proofs.lemmas.List.Elements.{All-contains, Contains-get_or}
-use Rattle.file_model.specs.uicc_types.Finding.{find_Some}
+use Rattle.file_model.proofs.uicc_types.FindingLemmas.{find_Some}
 use Rattle.file_model.specs.card_layout.declared.entries.Node.{Node}
 use Rattle.file_model.specs.card_layout.declared.entries.Loaded.{Loaded}
 use Rattle.file_model.specs.card_layout.Kinds.{df_kind, is_ef_kind}

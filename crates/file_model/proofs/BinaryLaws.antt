@@ -17,7 +17,7 @@ use Rattle.file_model.specs.Holdings.{bytes_in}
 use Rattle.file_model.specs.Outcomes.{has_data, has_le_alone, addressed, pointer_before}
 use Rattle.file_model.specs.Binaries.{short_in_p1, offset_of, binary_file, binary_to_read, binary_to_update, reading, read_from, binary_read, updating, update_in, binary_updated}
 use Rattle.file_model.specs.Laws.{IsSoundCard, IsLawfulOutcome, IsFileRefusal, IsLawfulCommand}
-use Rattle.file_model.specs.Chained.{unless_so}
+use Rattle.file_model.proofs.ChainedLemmas.{unless_so}
 use Rattle.file_model.proofs.ChainedLemmas.{and_given_so}
 use Rattle.file_model.proofs.Shapes.{bytes_put_so}
 use Rattle.file_model.proofs.Selected.{IsAddressed, addressed_so, worked_so}

@@ -4,9 +4,9 @@ use Rattle.std.specs.Prelude.{◌≢◌, ◌⊎◌, ◌+◌, ◌==◌, IsTrue, f
 use Rattle.std.proofs.lemmas.Bool.{cases_eq, eq-eqb, ne_eqb, cond-true, cond-false}
 use Rattle.std.proofs.lemmas.Option.{same_Some}
 use Rattle.std.proofs.lemmas.List.Elements.{All-map, All-contains_itself}
-use Rattle.card_layout.specs.uicc_types.Finding.{numbered_found}
-use Rattle.card_layout.specs.uicc_types.Pairs.{pairs_map}
-use Rattle.card_layout.specs.uicc_types.Numbered.{mapped_too}
+use Rattle.card_layout.proofs.uicc_types.FindingLemmas.{numbered_found}
+use Rattle.card_layout.proofs.uicc_types.PairLemmas.{pairs_map}
+use Rattle.card_layout.proofs.uicc_types.NumberedLemmas.{mapped_too}
 use Rattle.card_layout.specs.Kinds.{is_ef_kind, activated, deactivated}
 use Rattle.card_layout.specs.Persistent.{File, Persistent}
 use Rattle.card_layout.specs.Changing.{with_file_changed}

@@ -3,7 +3,7 @@ use Rattle.std.proofs.Common.{◌≡◌, ℕ, zero, suc, ◌+◌, ◌<◌, Bool,
 use Rattle.std.specs.Prelude.{◌==◌, ◌&&◌, if◌then◌else◌, find, slice_get, option_map, option_and_then}
 use Rattle.std.specs.List.{enumerate_from}
 use Rattle.std.proofs.lemmas.Bool.{eq-eqb, ne_eqb}
-use Rattle.card_layout.specs.uicc_types.Finding.{find-map, find-filter, find_alike}
+use Rattle.card_layout.proofs.uicc_types.FindingLemmas.{find-map, find-filter, find_alike}
 use Rattle.card_layout.specs.declared.entries.Node.{Node}
 use Rattle.card_layout.specs.Kinds.{df_kind}
 use Rattle.file_model.specs.declared.descriptors.Descriptor.{Descriptor}

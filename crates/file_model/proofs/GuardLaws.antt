@@ -4,8 +4,8 @@ use Rattle.std.specs.Prelude.{◌⊎◌, ◌==◌, if◌then◌else◌, MatchRes
 use Rattle.std.specs.Str.{bytes_eq}
 use Rattle.std.proofs.lemmas.Bool.{eqb-true, cases_eq, eq-eqb, ne_eqb, cond-true, cond-false, eqb-false}
 use Rattle.std.proofs.lemmas.Option.{same_Some}
-use Rattle.card_layout.specs.uicc_types.Choices.{mapped_Some}
-use Rattle.card_layout.specs.uicc_types.Finding.{find-map, find_alike, find_Some}
+use Rattle.card_layout.proofs.uicc_types.ChoiceLemmas.{mapped_Some}
+use Rattle.card_layout.proofs.uicc_types.FindingLemmas.{find-map, find_alike, find_Some}
 use Rattle.card_layout.specs.uicc_types.declared.answers.StatusWord.{StatusWord}
 use Rattle.card_layout.specs.uicc_types.declared.answers.TheConstants.StatusWord.{DONE}
 use Rattle.apdu_form.specs.Model.{Apdu}
@@ -15,7 +15,7 @@ use Rattle.file_model.specs.Outcomes.{PinOutcome, has_no_data}
 use Rattle.file_model.specs.Pins.{pin_found, with_pin, marked, tries_left, pin_addressed, presented, pin_presented, unblock_presented, told, value_presented, new_value, pin_verified, pin_changed, pin_disabled, pin_enabled, pin_unblocked}
 use Rattle.file_model.specs.Guards.{Guard, OfPin, OfUnblock, tries_by, with_one_less, TakesATry, GivesNoTries, IsGuarded, GuardsPins}
 use Rattle.file_model.proofs.Optional.{some_so}
-use Rattle.file_model.specs.Chained.{unless_so, given_so}
+use Rattle.file_model.proofs.ChainedLemmas.{unless_so, given_so}
 
 -- ---- a PIN in place of another
 

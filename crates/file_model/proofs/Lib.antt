@@ -31,3 +31,7 @@ mod WorkedPins
 mod WorkedRecords
 pub mod WorkedRules
 mod WorkedSelecting
+pub use Rattle.apdu_form.proofs as apdu_form
+pub use Rattle.card_layout.proofs as card_layout
+pub use Rattle.card_layout.proofs.store_form
+pub use Rattle.card_layout.proofs.uicc_types

@@ -16,7 +16,7 @@ use Rattle.file_model.specs.Files.{descriptor_in, descriptors_in}
 use Rattle.file_model.specs.Selections.{IsSelection}
 use Rattle.file_model.specs.LifeCycles.{bringing, life_file, life_in, life_changed, file_deactivated, file_activated}
 use Rattle.file_model.specs.Laws.{IsSoundCard, IsLawfulOutcome, IsFileRefusal, IsLawfulCommand}
-use Rattle.file_model.specs.Chained.{unless_so}
+use Rattle.file_model.proofs.ChainedLemmas.{unless_so}
 use Rattle.file_model.proofs.ChainedLemmas.{and_given_so}
 use Rattle.file_model.proofs.Shapes.{same_shape}
 use Rattle.file_model.proofs.Selected.{IsAddressed, addressed_so}

@@ -6,7 +6,7 @@ use Rattle.std.specs.Option.{option_or}
 use Rattle.std.proofs.lemmas.Bool.{eqb-true, ne_eqb, cond-false}
 use Rattle.std.proofs.lemmas.List.Folds.{find-append}
 use Rattle.std.proofs.lemmas.List.Elements.{All-map, All-contains}
-use Rattle.card_layout.specs.uicc_types.Finding.{find-filter, find_Some, first-filter, first-append, option_or_assoc}
+use Rattle.card_layout.proofs.uicc_types.FindingLemmas.{find-filter, find_Some, first-filter, first-append, option_or_assoc}
 use Rattle.card_layout.specs.Persistent.{File}
 use Rattle.file_model.specs.declared.descriptors.Descriptor.{Descriptor}
 use Rattle.file_model.specs.declared.descriptors.Wanted.TheVariants.{ChildEf}

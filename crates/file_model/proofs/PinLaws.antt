@@ -4,8 +4,8 @@ use Rattle.std.specs.Prelude.{◌⊎◌, ◌==◌, if◌then◌else◌, Contains
 use Rattle.std.specs.Str.{bytes_eq}
 use Rattle.std.proofs.lemmas.Bool.{eqb-true}
 use Rattle.std.proofs.lemmas.List.Elements.{All-nil, All-cons, All-map, All-contains}
-use Rattle.card_layout.specs.uicc_types.Finding.{find_Some}
-use Rattle.card_layout.specs.uicc_types.Pairs.{pairs_map}
+use Rattle.card_layout.proofs.uicc_types.FindingLemmas.{find_Some}
+use Rattle.card_layout.proofs.uicc_types.PairLemmas.{pairs_map}
 use Rattle.card_layout.specs.uicc_types.declared.answers.StatusWord.{StatusWord}
 use Rattle.card_layout.specs.uicc_types.declared.answers.TheConstants.StatusWord.{DONE}
 use Rattle.apdu_form.specs.Model.{Apdu}
@@ -15,7 +15,7 @@ use Rattle.card_layout.specs.Soundness.{IsSoundPin, slot_of_key, IsSound}
 use Rattle.file_model.specs.Outcomes.{PinOutcome, has_no_data}
 use Rattle.file_model.specs.Pins.{pin_found, with_pin, marked, pin_addressed, presented, pin_presented, unblock_presented, told, value_presented, new_value, pin_verified, pin_changed, pin_disabled, pin_enabled, pin_unblocked}
 use Rattle.file_model.specs.Laws.{ChangesTriesAlone, TellsTries, IsLawfulPinOutcome, pin_refusals, IsLawfulPinCommand}
-use Rattle.file_model.specs.Chained.{unless_so, given_so}
+use Rattle.file_model.proofs.ChainedLemmas.{unless_so, given_so}
 use Rattle.file_model.proofs.GuardLaws.{put_key, either_result}
 
 -- ---- one PIN is another

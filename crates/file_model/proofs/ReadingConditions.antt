@@ -4,7 +4,7 @@ use Rattle.std.specs.Option.{option_map, option_and_then}
 use Rattle.std.proofs.lemmas.Option.{option_and_then_some, cond_some, same_Some}
 use Rattle.std.proofs.lemmas.Grind.{common_steps}
 use Rattle.std.proofs.lemmas.Bool.{and_parts}
-use Rattle.card_layout.specs.uicc_types.Choices.{chosen, mapped_Some}
+use Rattle.card_layout.proofs.uicc_types.ChoiceLemmas.{chosen, mapped_Some}
 use Rattle.file_model.specs.Objects.{object}
 use Rattle.file_model.specs.Conditions.{Condition, always, never, key, some_of, all_of, Conditions, end, also, IsProper, AreProper, spelled, spelled_all, holds, is_satisfied, tag_of, value_of}
 use Rattle.file_model.specs.Needs.{Says, IsGroup, hold_by, joined}

@@ -14,7 +14,7 @@ use Rattle.file_model.specs.declared.rules.Verified.{Verified}
 use Rattle.file_model.proofs.ObjectLemmas.{object_longer}
 use Rattle.file_model.proofs.PairLemmas.{IsProperPair, pair_joined, with_pair, no_pair_in_filling}
 use Rattle.file_model.proofs.ReadingLaws.{part_found, part_only}
-use Rattle.card_layout.specs.uicc_types.Choices.{chosen, mapped_Some}
+use Rattle.card_layout.proofs.uicc_types.ChoiceLemmas.{chosen, mapped_Some}
 use Rattle.file_model.proofs.ReadingConditions.{same_number, condition_found, condition_only, group_reads}
 
 mode_found : (tag : ℕ) (value : List ℕ) (mode : Mode) → mode_of tag value ≡ Some mode → (tag ≡ mode_tag mode) × (value ≡ mode_value mode)

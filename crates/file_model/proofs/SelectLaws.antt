@@ -5,9 +5,9 @@ use Rattle.std.specs.List.{flat_map}
 use Rattle.std.specs.Int.{to_be_bytes, w16}
 use Rattle.std.proofs.lemmas.Bool.{eq-eqb, ne_eqb, cond-true, cond-false}
 use Rattle.std.proofs.lemmas.List.Elements.{All-map, All-contains, All-append, All-filter, All-contains_itself}
-use Rattle.card_layout.specs.uicc_types.Finding.{find_Some}
-use Rattle.card_layout.specs.uicc_types.Pairs.{pairs_head, pairs_tail}
-use Rattle.card_layout.specs.uicc_types.Choices.{low_chosen}
+use Rattle.card_layout.proofs.uicc_types.FindingLemmas.{find_Some}
+use Rattle.card_layout.proofs.uicc_types.PairLemmas.{pairs_head, pairs_tail}
+use Rattle.card_layout.proofs.uicc_types.ChoiceLemmas.{low_chosen}
 use Rattle.card_layout.specs.uicc_types.declared.answers.TheConstants.StatusWord.{DONE, FILE_DEACTIVATED}
 use Rattle.card_layout.specs.uicc_types.declared.identifiers.FileId.{FileId}
 use Rattle.apdu_form.specs.Model.{Apdu}
@@ -27,7 +27,7 @@ use Rattle.file_model.specs.Outcomes.{is_deactivated}
 use Rattle.file_model.specs.Selecting.{selecting, file_selected, telling, status_told}
 use Rattle.file_model.specs.Laws.{IsLawfulOutcome, IsFileRefusal, IsLawfulCommand}
 use Rattle.file_model.proofs.Optional.{some_so, then_of}
-use Rattle.file_model.specs.Chained.{unless_so, given_so}
+use Rattle.file_model.proofs.ChainedLemmas.{unless_so, given_so}
 use Rattle.file_model.proofs.Changed.{df_no_ef}
 use Rattle.file_model.proofs.Selected.{IsOf, found_of, number_found}
 use Rattle.file_model.proofs.Committed.{good, unchanged_so}

@@ -3,9 +3,9 @@ use Rattle.std.proofs.Common.{◌≡◌, ℕ, ◌≤◌, Bool, true, false, cond
 use Rattle.std.specs.Prelude.{◌==◌, ◌&&◌, not, if◌then◌else◌, IsTrue, find, Contains, IsSomeAnd, IfSome, MatchResult, option_map, option_and_then}
 use Rattle.std.proofs.lemmas.Bool.{cases_eq, eq-eqb, ne_eqb, cond-true, cond-false, and_parts}
 use Rattle.std.proofs.lemmas.Option.{IfSome_then}
-use Rattle.card_layout.specs.uicc_types.Choices.{mapped_Some}
-use Rattle.card_layout.specs.uicc_types.Finding.{find-map, find_alike, find_Some, numbered_found}
-use Rattle.card_layout.specs.uicc_types.Optional.{if_some_at}
+use Rattle.card_layout.proofs.uicc_types.ChoiceLemmas.{mapped_Some}
+use Rattle.card_layout.proofs.uicc_types.FindingLemmas.{find-map, find_alike, find_Some, numbered_found}
+use Rattle.card_layout.proofs.uicc_types.OptionalLemmas.{if_some_at}
 use Rattle.card_layout.specs.uicc_types.declared.answers.TheConstants.StatusWord.{NO_CURRENT_FILE, FILE_NOT_FOUND}
 use Rattle.card_layout.specs.Kinds.{df_kind, is_ef_kind}
 use Rattle.card_layout.specs.Persistent.{File, Persistent}
@@ -20,7 +20,7 @@ use Rattle.file_model.specs.Selections.{current_ef, IsSelection}
 use Rattle.file_model.specs.Outcomes.{addressed, pointer_before, worked_on}
 use Rattle.file_model.specs.Laws.{HasSameAttributes, IsFileRefusal}
 use Rattle.file_model.proofs.Optional.{some_of, some_so, sure_of, then_of}
-use Rattle.file_model.specs.Chained.{given_so}
+use Rattle.file_model.proofs.ChainedLemmas.{given_so}
 use Rattle.file_model.proofs.Changed.{numbers_ascend}
 
 -- ---- files that are found

@@ -3,7 +3,7 @@ use Rattle.std.proofs.Common.{set, ◌≡◌, ℕ, ◌+◌, ◌-◌, ◌≤◌, 
 use Rattle.std.specs.Prelude.{◌*◌, IsTrue, All}
 use Rattle.std.proofs.lemmas.List.{length-take, length-set}
 use Rattle.std.proofs.lemmas.List.Elements.{All-set, All-cons, All-take}
-use Rattle.card_layout.specs.uicc_types.Patches.{length-patched}
+use Rattle.card_layout.proofs.uicc_types.PatchLemmas.{length-patched}
 use Rattle.card_layout.specs.Kinds.{has_records}
 use Rattle.card_layout.specs.Persistent.{Contents, Files, Bytes, Records}
 use Rattle.card_layout.specs.Changing.{bytes_put, record_put, record_pushed}

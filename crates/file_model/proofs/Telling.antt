@@ -7,7 +7,7 @@ use Rattle.std.proofs.lemmas.List.{length-take, length-drop}
 use Rattle.std.proofs.lemmas.List.FromFn.{length-map-range_with_len}
 use Rattle.std.proofs.lemmas.List.Elements.{All-map, All-append, All-take, All-drop, All-head, All-tail}
 use Rattle.std.proofs.Math.Nat.{div-mul-le_self, le_of_mul-le-mul_left}
-use Rattle.card_layout.specs.uicc_types.Numbered.{all_unmapped}
+use Rattle.card_layout.proofs.uicc_types.NumberedLemmas.{all_unmapped}
 use Rattle.card_layout.specs.uicc_types.declared.identifiers.FileId.{FileId}
 use Rattle.card_layout.specs.declared.entries.Node.{Node}
 use Rattle.card_layout.specs.Kinds.{df_kind, transparent_kind, has_records, is_ef_kind}

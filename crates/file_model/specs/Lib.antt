@@ -1,6 +1,5 @@
 pub mod Access
 pub mod Binaries
-pub mod Chained
 pub mod Chains
 pub mod Commands
 pub mod Conditions

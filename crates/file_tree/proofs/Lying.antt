@@ -3,7 +3,7 @@ use Rattle.std.proofs.Common.{get_or, ◌≡◌, ℕ, Bool, true, false, ◌<◌
 use Rattle.std.specs.Prelude.{◌==◌, ◌&&◌, not, Contains, AllPairs, IsTrue, option_map, IsSomeAnd}
 use Rattle.std.proofs.lemmas.Bool.{eq-eqb, ne_eqb}
 use Rattle.std.proofs.lemmas.List.Elements.{All-map, All-contains_itself}
-use Rattle.file_model.specs.uicc_types.Finding.{numbered_found, find-map}
+use Rattle.file_model.proofs.uicc_types.FindingLemmas.{numbered_found, find-map}
 use Rattle.file_model.specs.card_layout.Kinds.{df_kind, is_ef_kind}
 use Rattle.file_model.specs.card_layout.Persistent.{File, Persistent}
 use Rattle.file_model.specs.card_layout.Soundness.{IsDf, IsEf, IsInTree, IsSoundFile, IsSound}

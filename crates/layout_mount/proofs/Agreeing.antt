@@ -12,7 +12,7 @@ use Rattle.card_layout.specs.declared.entries.Row.{Row}
 use Rattle.card_layout.specs.declared.entries.Loaded.{Loaded}
 use Rattle.card_layout.specs.Places.{memory_size, row_place, row_count, node_place, pin_place, kept_place}
 use Rattle.card_layout.specs.Decoding.{bytes_at, number_at, is_wide, node_of, row_of, node_bytes, pin_bytes, row_bytes, kept_bytes, node_in, pin_in, row_when, node_at, pin_at, row_at, table_of}
-use Rattle.card_layout.specs.uicc_types.Numbered.{same_numbered}
+use Rattle.card_layout.proofs.uicc_types.NumberedLemmas.{same_numbered}
 use Rattle.card_layout.proofs.EntryLemmas.{same_table}
 use Rattle.card_layout.proofs.RowPlacesLemmas.{row_place_low, row_place_high, below_32}
 use Rattle.card_layout.specs.Checks.{Check, checks, first_failed, header_checks, pin_checks, row_checks, node_checks, pin_check, row_check, node_check, is_row, is_node, is_pin, key_of_slot, rows_below, nodes_below}

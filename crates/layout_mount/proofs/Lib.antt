@@ -1,3 +1,4 @@
 mod Agreeing
 mod Filling
+pub mod MountedLemmas
 mod Parts

@@ -1,6 +1,5 @@
 -- What a mount reads of a store, and what its table is then.
 use Rattle.std.specs.Prelude.{◌≡◌, ℕ, true, List, length, Option, IfSome, Err}
-use Rattle.std.proofs.Common.{sym, subst, None, Some}
 use Rattle.card_layout.specs.uicc_types.Counts.{Caused}
 use Rattle.card_layout.specs.uicc_types.Told.{AreBytes}
 use Rattle.card_layout.specs.store_form.declared.store.Store.{Ghosts as StoreWords}
@@ -23,11 +22,6 @@ pub record HasRead (told : Option (List ℕ)) (Holds : List ℕ → Type 0) : Ty
   pub bytes : AreBytes content
   pub told_is : IfSome told (λ held. held ≡ content)
   pub holds : Holds content
-
--- where it tells its bytes, it holds of those
-pub read_told : (told : Option (List ℕ)) (Holds : List ℕ → Type 0) → HasRead told Holds → IfSome told Holds
-read_told None Holds read = tt
-read_told (Some held) Holds read = subst Holds (sym read.told_is) read.holds
 
 -- The table is that of what was read, which stands for the state that the table has over it.
 abbrev pub IsTable : ℕ → Option (List ℕ) → Loaded → Type 0

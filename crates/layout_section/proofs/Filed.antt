@@ -9,7 +9,8 @@ use Rattle.std.proofs.lemmas.Bool.{cases_lt, cases_eq, eq-eqb, ne_eqb, or_parts,
 use Rattle.std.proofs.lemmas.List.{same_lists, get_or-map, length-map, length_push, get_or_append_left, get_or_push, get_or-take, take-take, take-append-le, take_at, length-take, with_items_is}
 use Rattle.std.proofs.lemmas.List.Sums.{sum_by_push, sum_by_more_le}
 use Rattle.std.proofs.lemmas.List.Recursion.{found_at, found_nowhere, or_from_places}
-use Rattle.uicc_types.specs.Patches.{patched, range-patched_apart}
+use Rattle.uicc_types.specs.Patches.{patched}
+use Rattle.uicc_types.proofs.PatchLemmas.{range-patched_apart}
 use Rattle.uicc_types.specs.declared.identifiers.FileId.{FileId}
 use Rattle.card_layout.specs.Ranges.{HasNodeRanges}
 use Rattle.card_layout.specs.declared.entries.Node.{Node}

@@ -3,7 +3,8 @@ use Rattle.std.proofs.Common.{get_or, ◌≡◌, ℕ, ◌+◌, ◌-◌, ◌≤�
 use Rattle.std.specs.Prelude.{IsTrue, Option}
 use Rattle.std.proofs.lemmas.List.{length-replicate}
 use Rattle.std.proofs.lemmas.List.Sums.{sum_by_more_le}
-use Rattle.uicc_types.specs.Patches.{patched, range-patched_there}
+use Rattle.uicc_types.specs.Patches.{patched}
+use Rattle.uicc_types.proofs.PatchLemmas.{range-patched_there}
 use Rattle.uicc_types.specs.declared.identifiers.FileId.{FileId}
 use Rattle.card_layout.specs.declared.entries.Node.{Node}
 use Rattle.card_layout.specs.declared.shapes.Shape.{Shape}
@@ -20,7 +21,7 @@ use Rattle.card_layout.specs.NewFiles.{ef_node, rule_from, rule_holds}
 use Rattle.layout_section.specs.Adding.{ef_numbered}
 use Rattle.layout_section.specs.Filing.{file_in, files_in, size_total, HasRecords, IsEfBehind, AreFilesOf}
 use Rattle.layout_section.proofs.Filed.{held, held_apart, same_files, files_push, length-files, total_is}
-use Rattle.card_layout.specs.NewFileLaws.{new_file_is_blank, new_rule, some_bytes, records_parts}
+use Rattle.card_layout.proofs.NewFileLemmas.{new_file_is_blank, new_rule, some_bytes, records_parts}
 
 -- ---- shapes
 

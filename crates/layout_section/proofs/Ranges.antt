@@ -3,7 +3,8 @@ use Rattle.std.specs.Prelude.{◌≡◌, ℕ, ◌+◌, ◌*◌, ◌≤◌, ◌<�
 use Rattle.std.proofs.Common.{[], refl, sym, subst, ◌∙◌, ap, inl, ⊎_elim, arith, take}
 use Rattle.std.proofs.lemmas.List.{append_assoc, take_at}
 use Rattle.std.proofs.lemmas.Bool.{cases_eq}
-use Rattle.uicc_types.specs.Patches.{patched, range-patched_apart, range-patched_there}
+use Rattle.uicc_types.specs.Patches.{patched}
+use Rattle.uicc_types.proofs.PatchLemmas.{range-patched_apart, range-patched_there}
 use Rattle.card_layout.specs.Decoding.{bytes_at}
 
 places_apart : (step a b : ℕ) → a < b → step * a + step ≤ step * b

@@ -5,7 +5,8 @@ use Rattle.std.proofs.lemmas.Bool.{cases_lt, cases_eq, eq-eqb, ne_eqb, le-leb, l
 use Rattle.std.proofs.lemmas.List.{append-nil, length-replicate, get_or-take}
 use Rattle.std.proofs.lemmas.List.Sums.{sum_by_more_le}
 use Rattle.std.proofs.Math.Nat.{mul-div_cancel_left, mul_comm}
-use Rattle.uicc_types.specs.Patches.{patched, range-patched_inside}
+use Rattle.uicc_types.specs.Patches.{patched}
+use Rattle.uicc_types.proofs.PatchLemmas.{range-patched_inside}
 use Rattle.card_layout.specs.declared.entries.Node.{Node}
 use Rattle.card_layout.specs.declared.faults.SectionFault.TheVariants.{Bad}
 use Rattle.card_layout.specs.Blank.{unused_node}
@@ -19,8 +20,8 @@ use Rattle.layout_section.specs.Entries.{AreBytesAt, IsRecordAt, HasNoRecord}
 use Rattle.layout_section.specs.Adding.{file_numbered, filled, with_record, Rewrites}
 use Rattle.layout_section.specs.Filing.{files_in, size_total, HasRecords, IsEfBehind, AreFilesOf}
 use Rattle.layout_section.proofs.Filed.{held, file_there, rewritten, others_held}
-use Rattle.card_layout.specs.RecordLaws.{length-records_of, record_there, record_written}
-use Rattle.uicc_types.specs.Ranges.{length-range, one_behind}
+use Rattle.card_layout.proofs.RecordLemmas.{length-records_of, record_there, record_written}
+use Rattle.uicc_types.proofs.RangeLemmas.{length-range, one_behind}
 
 -- ---- what a file holds, by its kind
 

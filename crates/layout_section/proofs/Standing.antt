@@ -20,7 +20,7 @@ use Rattle.layout_section.specs.declared.section.SpelledCard.{SpelledCard}
 use Rattle.card_layout.specs.NewFiles.{df_node}
 use Rattle.layout_section.specs.Filing.{all_bytes, size_total, file_in, files_in, IsEfBehind}
 use Rattle.layout_section.specs.Laying.{SpellsCard, IsWritten}
-use Rattle.uicc_types.specs.Ranges.{length-range, get_or-range}
+use Rattle.uicc_types.proofs.RangeLemmas.{length-range, get_or-range}
 use Rattle.layout_section.proofs.Numbered.{length-numbered, numbered_there}
 use Rattle.layout_section.proofs.Filed.{length-files}
 use Rattle.layout_section.proofs.Tables.{part_again, wide_there, next_there, node_there, node_used, node_none, pins_there, rows_there}

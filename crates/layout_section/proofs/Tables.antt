@@ -25,7 +25,7 @@ use Rattle.layout_section.specs.declared.section.SpelledCard.{SpelledCard}
 use Rattle.layout_section.specs.RowTables.{is_used, wants_wide, IsKeptApart}
 use Rattle.layout_section.specs.Laying.{first_bytes, SpellsCard, IsWritten}
 use Rattle.layout_section.proofs.Shelving.{rows_want_wide}
-use Rattle.uicc_types.specs.Ranges.{length-range, get_or-range}
+use Rattle.uicc_types.proofs.RangeLemmas.{length-range, get_or-range}
 use Rattle.layout_section.proofs.Reading.{node_in_back, node_in_none}
 use Rattle.card_layout.proofs.ReadingBackLemmas.{pin_back, row_back}
 

@@ -3,7 +3,8 @@ use Rattle.std.proofs.Common.{◌≡◌, ℕ, ◌+◌, ◌≤◌, Bool, true, fa
 use Rattle.std.specs.Prelude.{◌⊎◌, IfSome, Ok, nat_le, option_map}
 use Rattle.std.proofs.lemmas.Bool.{cases_Bool, leb-true}
 use Rattle.std.proofs.lemmas.List.{length-take}
-use Rattle.uicc_types.specs.Patches.{patched, length-patched, range-patched_apart, range-patched_there}
+use Rattle.uicc_types.specs.Patches.{patched}
+use Rattle.uicc_types.proofs.PatchLemmas.{length-patched, range-patched_apart, range-patched_there}
 use Rattle.card_layout.specs.store_form.Pieces.{applied}
 use Rattle.card_layout.specs.Persistent.{File, Persistent}
 use Rattle.card_layout.specs.Places.{data_place, data_end}

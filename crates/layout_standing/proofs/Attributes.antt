@@ -4,11 +4,11 @@ use Rattle.std.proofs.Common.{refl, sym, ◌∙◌, ap, subst, inl, inr, ⊎_eli
 use Rattle.std.proofs.lemmas.Bool.{cases_Bool, eqb-true, ne_eqb, not_from_false, false≢true}
 use Rattle.std.proofs.lemmas.List.{length-take, length-drop, length-append}
 use Rattle.std.proofs.lemmas.List.Elements.{All-contains}
-use Rattle.card_layout.specs.uicc_types.Numbered.{mapped_too}
+use Rattle.card_layout.proofs.uicc_types.NumberedLemmas.{mapped_too}
 use Rattle.card_layout.specs.uicc_types.Patches.{patched}
 use Rattle.std.proofs.lemmas.Option.{get_or_from_slice_get, slice_get_within}
-use Rattle.card_layout.specs.uicc_types.Members.{in_rest, of_filtered}
-use Rattle.card_layout.specs.Codes.{codes_known}
+use Rattle.card_layout.proofs.uicc_types.MemberLemmas.{in_rest, of_filtered}
+use Rattle.card_layout.proofs.CodeLemmas.{codes_known}
 use Rattle.card_layout.specs.Standing.{state_in, Stands}
 use Rattle.card_layout.specs.declared.entries.Node.{Node}
 use Rattle.card_layout.specs.declared.entries.PinSlot.{PinSlot}
@@ -30,7 +30,7 @@ use Rattle.card_layout.specs.Laws.{after, KeepsBytesBeside, ChangesBytesAround, 
 use Rattle.layout_standing.specs.SoundnessLaws.{StandingIsSound, SoundStands}
 use Rattle.layout_standing.specs.Cards.{HasNode, HasPin, HasRow, file_if, registration_if}
 use Rattle.card_layout.specs.Changing.{with_file_at, with_row_on, with_file_changed, with_life, with_row_changed, with_codes, with_code_committed, without_code_committed, with_kept_committed}
-use Rattle.card_layout.specs.SortedCodes.{of_sorted}
+use Rattle.card_layout.proofs.SortedCodeLemmas.{of_sorted}
 use Rattle.layout_standing.specs.Bare.{bare_node, bare_row}
 use Rattle.layout_standing.proofs.BareLemmas.{bare_node_ranges, bare_node_flag, bare_node_life, bare_row_ranges, bare_row_flag, bare_row_events}
 use Rattle.layout_standing.specs.Changes.{with_node, with_row}

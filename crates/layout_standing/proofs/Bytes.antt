@@ -4,8 +4,9 @@ use Rattle.std.proofs.Common.{get_or, sym, ◌∙◌, ap, subst, leb, inl, inr, 
 use Rattle.std.proofs.lemmas.List.{get_or-take, get_or-drop}
 use Rattle.std.proofs.lemmas.Bool.{cases_lt, and_parts, or_cases, leb-true}
 use Rattle.std.proofs.lemmas.Grind.{same_number_lists}
-use Rattle.card_layout.specs.uicc_types.Ranges.{length-between}
-use Rattle.card_layout.specs.uicc_types.Patches.{patched, length-patched, patched_before, patched_inside, patched_after}
+use Rattle.card_layout.proofs.uicc_types.RangeLemmas.{length-between}
+use Rattle.card_layout.specs.uicc_types.Patches.{patched}
+use Rattle.card_layout.proofs.uicc_types.PatchLemmas.{length-patched, patched_before, patched_inside, patched_after}
 use Rattle.card_layout.specs.Fields.{is_uncut, is_among, is_beside}
 
 pub get_or-range : (bytes : List ℕ) (first end k : ℕ) → k < end - first → get_or (slice_range bytes first end) k 0 ≡ get_or bytes (first + k) 0

@@ -8,7 +8,8 @@ use Rattle.std.proofs.lemmas.Bool.Decides.{nat_tests}
 use Rattle.std.proofs.lemmas.Grind.{same_number_lists}
 use Rattle.std.proofs.lemmas.List.FromFn.{length-map-range_with_len}
 use Rattle.std.proofs.Math.Nat.{div-mul-le_self}
-use Rattle.card_layout.specs.uicc_types.Patches.{patched, length-patched, patched_before, patched_inside, patched_after, Torn}
+use Rattle.card_layout.specs.uicc_types.Patches.{patched, Torn}
+use Rattle.card_layout.proofs.uicc_types.PatchLemmas.{length-patched, patched_before, patched_inside, patched_after}
 use Rattle.card_layout.specs.store_form.Pieces.{Piece, applied}
 use Rattle.card_layout.specs.Standing.{state_in}
 use Rattle.card_layout.specs.declared.entries.Node.{Node}
@@ -29,14 +30,14 @@ use Rattle.layout_standing.specs.Bare.{bare_node}
 use Rattle.layout_standing.proofs.BareLemmas.{bare_node_ranges, bare_node_head}
 use Rattle.layout_standing.specs.Changes.{with_node}
 use Rattle.layout_standing.specs.ChangeLaws.{oldest}
-use Rattle.card_layout.specs.uicc_types.Numbered.{all_unmapped, same_mapped}
+use Rattle.card_layout.proofs.uicc_types.NumberedLemmas.{all_unmapped, same_mapped}
 use Rattle.layout_standing.proofs.Numbered.{IsShown, all_shown, with_one, shown-reset}
-use Rattle.card_layout.specs.EntryLaws.{number_of_file}
-use Rattle.layout_standing.specs.Files.{file_with, ef_of, LieApart}
+use Rattle.card_layout.proofs.EntryLemmas.{number_of_file}
+use Rattle.layout_standing.proofs.FileLemmas.{file_with, ef_of, LieApart}
 use Rattle.layout_standing.proofs.FilesLemmas.{used, file, all_lie_well, all_efs, lies_where, all_apart, same_files, same_file, entry_there}
-use Rattle.card_layout.specs.uicc_types.Ranges.{one_behind}
-use Rattle.card_layout.specs.RecordLaws.{record_written}
-use Rattle.card_layout.specs.RowPlaces.{data_end_inside}
+use Rattle.card_layout.proofs.uicc_types.RangeLemmas.{one_behind}
+use Rattle.card_layout.proofs.RecordLemmas.{record_written}
+use Rattle.card_layout.proofs.RowPlacesLemmas.{data_end_inside}
 use Rattle.layout_standing.proofs.Records.{newest_written, oldest_low, length-from_head}
 use Rattle.layout_standing.proofs.FileChanges.{beside_files}
 

@@ -3,7 +3,8 @@ use Rattle.std.specs.Prelude.{◌≡◌, ◌⊎◌, ℕ, ◌+◌, ◌≤◌, ◌
 use Rattle.std.proofs.Common.{sym, ◌∙◌, ap, subst, inl, inr, ⊎_elim, lit≤, arith}
 use Rattle.std.proofs.lemmas.Bool.{cases_lt}
 use Rattle.std.proofs.lemmas.Bool.Decides.{nat_tests}
-use Rattle.card_layout.specs.uicc_types.Patches.{patched, length-patched, patched_before, IsApart}
+use Rattle.card_layout.specs.uicc_types.Patches.{patched, IsApart}
+use Rattle.card_layout.proofs.uicc_types.PatchLemmas.{length-patched, patched_before}
 use Rattle.card_layout.specs.Places.{memory_size, pin_place, row_place, node_place, row_count, data_place, data_end}
 use Rattle.card_layout.specs.Decoding.{bytes_at, is_wide, node_bytes, pin_bytes, row_bytes}
 use Rattle.card_layout.specs.Checks.{is_version}

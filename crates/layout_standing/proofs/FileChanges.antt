@@ -21,8 +21,8 @@ use Rattle.layout_standing.specs.Cards.{IsCard, Holds, HasNode, LiesAmongFiles, 
 use Rattle.card_layout.specs.Changing.{placed, with_file_at}
 use Rattle.layout_standing.specs.Changes.{with_node}
 use Rattle.layout_standing.proofs.Numbered.{entry_if, seen-set}
-use Rattle.card_layout.specs.EntryLaws.{number_of_file}
-use Rattle.card_layout.specs.RowPlaces.{data_end_inside}
+use Rattle.card_layout.proofs.EntryLemmas.{number_of_file}
+use Rattle.card_layout.proofs.RowPlacesLemmas.{data_end_inside}
 use Rattle.layout_standing.proofs.FilesLemmas.{used, node_count, all_lie_well, lies_where, same_files}
 use Rattle.layout_standing.proofs.FilesLemmas.{same_file, entry_there}
 

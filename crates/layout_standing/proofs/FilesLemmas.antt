@@ -11,12 +11,12 @@ use Rattle.card_layout.specs.Persistent.{File}
 use Rattle.card_layout.specs.States.{file_bytes, contents_in, contents_of, df_file, ef_file, file_of, used_nodes, files_of, pins_of, rows_of, state_of}
 use Rattle.card_layout.specs.Soundness.{IsSoundFile, AreDistinct}
 use Rattle.card_layout.specs.Fields.{node_there}
-use Rattle.card_layout.specs.EntryLaws.{number_of_file}
+use Rattle.card_layout.proofs.EntryLemmas.{number_of_file}
 use Rattle.layout_standing.proofs.Shown.{shown_node_there}
 use Rattle.layout_standing.specs.Cards.{IsCard, HasNode, LiesAmongFiles}
-use Rattle.card_layout.specs.uicc_types.Numbered.{all_unmapped, mapped_too, same_mapped}
+use Rattle.card_layout.proofs.uicc_types.NumberedLemmas.{all_unmapped, mapped_too, same_mapped}
 use Rattle.layout_standing.proofs.Numbered.{is_shown, contained, beside, got_numbered}
-use Rattle.layout_standing.specs.Files.{file_with, ef_of, LieApart}
+use Rattle.layout_standing.proofs.FileLemmas.{file_with, ef_of, LieApart}
 
 -- a DF has no bytes, and the other files are as they were if their bytes are
 same_contents : (content content' : List ℕ) (node : Node) → file_bytes content' node ≡ file_bytes content node → contents_of content' node ≡ contents_of content node

@@ -3,8 +3,9 @@ use Rattle.std.specs.Prelude.{◌≡◌, ◌⊎◌, ℕ, ◌+◌, ◌-◌, ◌*�
 use Rattle.std.proofs.Common.{get_or, refl, sym, ◌∙◌, ap, subst, inl, inr, ⊎_elim, lit≤, arith}
 use Rattle.std.proofs.lemmas.Bool.{cases_lt}
 use Rattle.std.proofs.lemmas.Grind.{same_number_lists}
-use Rattle.card_layout.specs.uicc_types.Ranges.{length-between}
-use Rattle.card_layout.specs.uicc_types.Patches.{patched, length-patched, patched_before, patched_inside, patched_after, Torn}
+use Rattle.card_layout.proofs.uicc_types.RangeLemmas.{length-between}
+use Rattle.card_layout.specs.uicc_types.Patches.{patched, Torn}
+use Rattle.card_layout.proofs.uicc_types.PatchLemmas.{length-patched, patched_before, patched_inside, patched_after}
 use Rattle.card_layout.specs.store_form.Pieces.{Piece, applied}
 use Rattle.card_layout.specs.Standing.{state_in, Stands}
 use Rattle.card_layout.specs.declared.entries.Node.{Node}
@@ -20,7 +21,7 @@ use Rattle.card_layout.specs.Sections.{with_contents}
 use Rattle.card_layout.specs.Changing.{bytes_put, record_put, record_pushed, with_bytes, with_record, with_newest_record}
 use Rattle.card_layout.specs.Fields.{node_fields, AreWholeFields, merged_node, node_there}
 use Rattle.card_layout.specs.Laws.{after, KeepsBytesBeside, ChangesBytesAround, ChangesOneNode, KeepsTable}
-use Rattle.card_layout.specs.RowPlaces.{data_end_inside}
+use Rattle.card_layout.proofs.RowPlacesLemmas.{data_end_inside}
 use Rattle.layout_standing.specs.Forms.{IsWellFormed}
 use Rattle.layout_standing.specs.SoundnessLaws.{StandingIsSound, SoundStands}
 use Rattle.layout_standing.specs.Cards.{IsCard, Holds, HasNode, IsFreeRange}

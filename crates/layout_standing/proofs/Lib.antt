@@ -12,6 +12,7 @@ mod Entries
 mod Failing
 mod FileChanges
 pub mod FileFields
+pub mod FileLemmas
 mod FileStates
 mod FilesLemmas
 pub mod Fitting

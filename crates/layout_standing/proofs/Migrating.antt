@@ -7,9 +7,10 @@ use Rattle.std.proofs.lemmas.Bool.Decides.{nat_tests}
 use Rattle.std.proofs.lemmas.List.{length-take, length-drop, take-append-le}
 use Rattle.std.proofs.lemmas.List.Elements.{All-weaker}
 use Rattle.std.proofs.lemmas.List.Sums.{AllPass-from_list_all}
-use Rattle.card_layout.specs.uicc_types.Numbered.{same_numbered, same_mapped}
-use Rattle.card_layout.specs.uicc_types.Ranges.{length-range, get_or-range}
-use Rattle.card_layout.specs.uicc_types.Patches.{patched, length-patched, patched_before, patched_inside, patched_after, Torn_patched, range-patched_there}
+use Rattle.card_layout.proofs.uicc_types.NumberedLemmas.{same_numbered, same_mapped}
+use Rattle.card_layout.proofs.uicc_types.RangeLemmas.{length-range, get_or-range}
+use Rattle.card_layout.specs.uicc_types.Patches.{patched}
+use Rattle.card_layout.proofs.uicc_types.PatchLemmas.{length-patched, patched_before, patched_inside, patched_after, Torn_patched, range-patched_there}
 use Rattle.card_layout.specs.declared.entries.Node.{Node}
 use Rattle.card_layout.specs.declared.entries.Row.{Row}
 use Rattle.card_layout.specs.declared.entries.Loaded.{Loaded}
@@ -32,7 +33,7 @@ use Rattle.layout_standing.specs.Cards.{IsCard, HasNode}
 use Rattle.layout_standing.proofs.FilesLemmas.{same_file}
 use Rattle.layout_standing.specs.StandingLaws.{FreeBytesDontCount}
 use Rattle.layout_standing.specs.Migrating.{LowEndsAreSeen, OthersStay, UpperRowsAreFree, WideVersionStands}
-use Rattle.card_layout.specs.RowPlaces.{data_end_inside}
+use Rattle.card_layout.proofs.RowPlacesLemmas.{data_end_inside}
 use Rattle.card_layout.proofs.RowPlacesLemmas.{row_below_kept, below_32}
 use Rattle.layout_standing.proofs.Elsewhere.{same_mark}
 use Rattle.layout_standing.proofs.OneFile.{all_used, lies}

@@ -7,7 +7,7 @@ use Rattle.std.proofs.lemmas.List.{get_or_default}
 use Rattle.std.proofs.lemmas.Option.{same_Some}
 use Rattle.std.proofs.lemmas.List.Elements.{All-cons, All-weaker}
 use Rattle.std.proofs.lemmas.Bool.Decides.{nat_tests}
-use Rattle.card_layout.specs.uicc_types.Numbered.{same_mapped}
+use Rattle.card_layout.proofs.uicc_types.NumberedLemmas.{same_mapped}
 use Rattle.card_layout.specs.Changing.{listed, placed}
 
 abbrev pub entry_if : {X Y : Type 0} → (X → Bool) → (ℕ × X → Y) → ℕ → X → Option Y

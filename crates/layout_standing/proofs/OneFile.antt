@@ -8,9 +8,10 @@ use Rattle.std.proofs.lemmas.List.Elements.{All-map, All-append, All-take, All-d
 use Rattle.std.proofs.lemmas.List.FromFn.{length-range_with_len, get_or-range_with_len, length-map-range_with_len, length-enumerate_from, get_or-enumerate_from}
 use Rattle.std.proofs.lemmas.Option.{same_Some, slice_get-get_or}
 use Rattle.std.proofs.Math.Nat.{div-mul-le_self}
-use Rattle.card_layout.specs.uicc_types.Numbered.{mapped_too, same_mapped}
-use Rattle.card_layout.specs.uicc_types.Ranges.{one_behind, length-between}
-use Rattle.card_layout.specs.uicc_types.Patches.{patched, length-patched}
+use Rattle.card_layout.proofs.uicc_types.NumberedLemmas.{mapped_too, same_mapped}
+use Rattle.card_layout.proofs.uicc_types.RangeLemmas.{one_behind, length-between}
+use Rattle.card_layout.specs.uicc_types.Patches.{patched}
+use Rattle.card_layout.proofs.uicc_types.PatchLemmas.{length-patched}
 use Rattle.card_layout.specs.Standing.{state_in}
 use Rattle.card_layout.specs.declared.entries.Node.{Node}
 use Rattle.card_layout.specs.Kinds.{df_kind, transparent_kind, linear_kind, cyclic_kind}
@@ -23,8 +24,8 @@ use Rattle.card_layout.specs.Sections.{refilled, with_contents}
 use Rattle.card_layout.specs.Changing.{with_file_changed}
 use Rattle.layout_standing.specs.Cards.{IsCard, HasNode}
 use Rattle.layout_standing.proofs.Numbered.{is_shown}
-use Rattle.card_layout.specs.EntryLaws.{number_of_file}
-use Rattle.card_layout.specs.RowPlaces.{data_end_inside}
+use Rattle.card_layout.proofs.EntryLemmas.{number_of_file}
+use Rattle.card_layout.proofs.RowPlacesLemmas.{data_end_inside}
 use Rattle.layout_standing.proofs.Refilled.{contents_sound}
 
 -- ---- the file of an entry

@@ -7,7 +7,7 @@ use Rattle.std.proofs.lemmas.Bool.{cases_order, cases_Bool, and_parts, false≢t
 use Rattle.std.proofs.lemmas.Bool.Decides.{nat_tests}
 use Rattle.std.proofs.lemmas.List.{length-take, get_or-set_same}
 use Rattle.std.proofs.lemmas.List.FromFn.{length-map-range_with_len, get_or-map-range_with_len}
-use Rattle.card_layout.specs.uicc_types.Ranges.{length-between}
+use Rattle.card_layout.proofs.uicc_types.RangeLemmas.{length-between}
 use Rattle.card_layout.specs.uicc_types.Patches.{patched, IsApart}
 use Rattle.card_layout.specs.declared.entries.Node.{Node}
 use Rattle.card_layout.specs.declared.entries.PinSlot.{PinSlot}
@@ -21,7 +21,7 @@ use Rattle.card_layout.specs.Checks.{key_of_slot}
 use Rattle.card_layout.specs.Ranges.{HasNodeRanges, HasPinRanges, HasRowRanges}
 use Rattle.card_layout.specs.Fields.{node_fields, pin_fields, row_fields, is_uncut, AreWholeFields, merged_node, node_there, shown_node}
 use Rattle.card_layout.specs.Laws.{after, KeepsBytesBeside, ChangesBytesAround, ChangesOneNode, RowsAreReadBack}
-use Rattle.card_layout.specs.ReadingBack.{length-node_spelled, length-pin_spelled, length-row_spelled}
+use Rattle.card_layout.proofs.ReadingBackLemmas.{length-node_spelled, length-pin_spelled, length-row_spelled}
 use Rattle.card_layout.proofs.ReadingBackLemmas.{kept_count}
 use Rattle.card_layout.proofs.RowPlacesLemmas.{row_below_kept}
 use Rattle.layout_standing.proofs.Shown.{shown_node_there}

@@ -24,7 +24,7 @@ use Rattle.card_layout.specs.Changing.{with_pin_in, with_pin_for}
 use Rattle.layout_standing.proofs.Shown.{shown_pin_there}
 use Rattle.layout_standing.specs.Changes.{with_slot}
 use Rattle.layout_standing.proofs.PinPlaces.{pins_anew}
-use Rattle.card_layout.specs.uicc_types.Numbered.{mapped_too}
+use Rattle.card_layout.proofs.uicc_types.NumberedLemmas.{mapped_too}
 use Rattle.layout_standing.proofs.Numbered.{got_numbered, contained}
 use Rattle.layout_standing.proofs.RowChanges.{files_stay}
 use Rattle.layout_standing.proofs.FileChanges.{beside_files}

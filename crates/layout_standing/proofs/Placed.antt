@@ -7,8 +7,8 @@ use Rattle.std.proofs.lemmas.List.Kept.{AllPairs-filter}
 use Rattle.std.proofs.lemmas.List.Elements.{All-nil, All-cons, All-head, All-tail, All-append, All-weaker, All-contains, All-filter, filter_passes, All-contains_itself, Contains-append_left, Contains-append_right}
 use Rattle.std.specs.List.{sum_by}
 use Rattle.std.proofs.lemmas.List.Sums.{sum_by-cons, sum_by-append}
-use Rattle.card_layout.specs.uicc_types.Pairs.{pairs_nil, pairs_cons, pairs_head, pairs_tail}
-use Rattle.card_layout.specs.uicc_types.Members.{later_there}
+use Rattle.card_layout.proofs.uicc_types.PairLemmas.{pairs_nil, pairs_cons, pairs_head, pairs_tail}
+use Rattle.card_layout.proofs.uicc_types.MemberLemmas.{later_there}
 use Rattle.card_layout.specs.Changing.{listed, placed}
 
 -- ---- pairs

@@ -6,7 +6,7 @@ use Rattle.std.proofs.lemmas.Bool.{cases_eq, cases_Bool}
 use Rattle.std.proofs.lemmas.List.FromFn.{length-map-range_with_len, get_or-map-range_with_len}
 use Rattle.std.proofs.lemmas.List.Sums.{sum_by-cons}
 use Rattle.std.proofs.lemmas.List.Elements.{All-nil, All-cons, All-head, All-tail, All-contains, All-contains_itself}
-use Rattle.card_layout.specs.uicc_types.Pairs.{pairs_nil, pairs_cons, pairs_head, pairs_tail}
+use Rattle.card_layout.proofs.uicc_types.PairLemmas.{pairs_nil, pairs_cons, pairs_head, pairs_tail}
 
 -- ---- what holds of each number of a range
 

@@ -15,8 +15,8 @@ use Rattle.card_layout.specs.States.{file_bytes, contents_of, records_of, record
 use Rattle.layout_standing.specs.Cards.{IsCard, HasNode}
 use Rattle.layout_standing.specs.ChangeLaws.{place_in_ring}
 use Rattle.layout_standing.proofs.FilesLemmas.{lies_where}
-use Rattle.card_layout.specs.uicc_types.Ranges.{length-range, one_behind}
-use Rattle.card_layout.specs.RowPlaces.{data_end_inside}
+use Rattle.card_layout.proofs.uicc_types.RangeLemmas.{length-range, one_behind}
+use Rattle.card_layout.proofs.RowPlacesLemmas.{data_end_inside}
 use Rattle.layout_standing.proofs.Records.{length-from_head}
 use Rattle.layout_standing.proofs.ContentChanges.{held_bytes, held_records, not_df}
 

@@ -6,11 +6,11 @@ use Rattle.std.specs.List.{AllByRecursion}
 use Rattle.std.proofs.lemmas.Bool.{cases_Bool, eqb-true, eqb-false, eq-eqb, ne_eqb, and_left, and_right, false_from_ne_true, both_ways}
 use Rattle.std.proofs.lemmas.List.{length-take, map-append}
 use Rattle.std.proofs.lemmas.List.Elements.{All-contains, All-filter, All-from_recursion, filter_passes, All-map, filter-append, Contains-append_right}
-use Rattle.card_layout.specs.uicc_types.Choices.{second_false}
+use Rattle.card_layout.proofs.uicc_types.ChoiceLemmas.{second_false}
 use Rattle.card_layout.specs.declared.entries.Row.{Row}
 use Rattle.card_layout.specs.Blank.{unused_row}
 use Rattle.card_layout.specs.Kinds.{event_codes, codes_of, call_control_bit, call_control_code}
-use Rattle.card_layout.specs.Codes.{codes_known}
+use Rattle.card_layout.proofs.CodeLemmas.{codes_known}
 use Rattle.card_layout.specs.Places.{sequence_place, row_count}
 use Rattle.card_layout.specs.Decoding.{number_at, is_wide, row_of, row_bytes, kept_bytes, row_at}
 use Rattle.card_layout.specs.Soundness.{IsSoundRow, AreDifferent}

@@ -2,13 +2,14 @@
 use Rattle.std.specs.Prelude.{◌≡◌, ◌⊎◌, ℕ, ◌+◌, ◌≤◌, List, length, Option, Some, None, option_map, IfSome}
 use Rattle.std.proofs.Common.{refl, sym, ◌∙◌, ap, subst, inl, inr, ⊎_elim, arith}
 use Rattle.std.specs.Result.{result_ok}
-use Rattle.card_layout.specs.uicc_types.Patches.{patched, Torn, Torn_patched}
+use Rattle.card_layout.specs.uicc_types.Patches.{patched, Torn}
+use Rattle.card_layout.proofs.uicc_types.PatchLemmas.{Torn_patched}
 use Rattle.card_layout.specs.declared.entries.Loaded.{Loaded}
 use Rattle.card_layout.specs.Places.{data_end}
 use Rattle.card_layout.specs.Persistent.{Persistent}
 use Rattle.card_layout.specs.States.{state_of}
 use Rattle.card_layout.specs.Standing.{stands_for, Stands, standing}
-use Rattle.card_layout.specs.RowPlaces.{data_end_inside}
+use Rattle.card_layout.proofs.RowPlacesLemmas.{data_end_inside}
 use Rattle.layout_standing.specs.SoundnessLaws.{StandingIsSound}
 use Rattle.layout_standing.specs.StandingLaws.{FreeBytesDontCount}
 use Rattle.layout_standing.specs.Stores.{StandsWith, AgreeingStands, WrittenStands, OneOfBothStands, PreparedStands, TornStands}

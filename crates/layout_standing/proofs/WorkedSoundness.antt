@@ -12,7 +12,7 @@ use Rattle.card_layout.specs.Decoding.{node_of}
 use Rattle.card_layout.specs.Soundness.{mf, slot_of_key, IsSoundFile, IsSoundPin, AreDistinct, AreDifferent, IsSound}
 use Rattle.layout_standing.specs.Forms.{IsPinForm, IsNodeForm}
 use Rattle.layout_standing.specs.SoundnessLaws.{FailsFirst}
-use Rattle.card_layout.specs.uicc_types.Pairs.{pairs_nil, pairs_cons}
+use Rattle.card_layout.proofs.uicc_types.PairLemmas.{pairs_nil, pairs_cons}
 
 -- ---- a card with the MF alone, and these PINs
 

@@ -2,7 +2,6 @@ pub mod Bare
 pub mod Cards
 pub mod ChangeLaws
 pub mod Changes
-pub mod Files
 pub mod Fitting
 pub mod Forms
 pub mod Holding

@@ -9,7 +9,8 @@ use Rattle.std.proofs.lemmas.List.{length-replicate, get_or-replicate, get_or-ta
 use Rattle.std.proofs.lemmas.List.Folds.{Any-from_list_any}
 use Rattle.std.proofs.lemmas.List.FromFn.{length-map-range_with_len, get_or-map-range_with_len, length-range_with_len, get_or-range_with_len}
 use Rattle.update_journal.specs.uicc_types.Told.{Becomes}
-use Rattle.update_journal.specs.uicc_types.Patches.{patched, Torn, Torn_patched, patched_inside, range-patched_there}
+use Rattle.update_journal.specs.uicc_types.Patches.{patched, Torn}
+use Rattle.update_journal.proofs.uicc_types.PatchLemmas.{Torn_patched, patched_inside, range-patched_there}
 use Rattle.update_journal.proofs.Told.{some_same}
 use Rattle.page_store.specs.Blanks.{IsBlank, first_entries}
 use Rattle.page_store.specs.Pages.{number_at, entries_of, map_of, is_in_pool, is_among, is_right, is_well_formed, place_of, through, content_of, content}

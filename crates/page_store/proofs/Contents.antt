@@ -5,8 +5,9 @@ use Rattle.std.proofs.lemmas.Bool.{cases_lt, cases_eq, cases_order, lt-ltb, le-l
 use Rattle.std.proofs.lemmas.Bool.Decides.{nat_tests}
 use Rattle.std.proofs.lemmas.Grind.{same_number_lists}
 use Rattle.std.proofs.lemmas.List.{get_or_past}
-use Rattle.update_journal.specs.uicc_types.Ranges.{length-range, get_or-range}
-use Rattle.update_journal.specs.uicc_types.Patches.{patched, length-patched, patched_before, patched_inside, patched_after, Torn}
+use Rattle.update_journal.proofs.uicc_types.RangeLemmas.{length-range, get_or-range}
+use Rattle.update_journal.specs.uicc_types.Patches.{patched, Torn}
+use Rattle.update_journal.proofs.uicc_types.PatchLemmas.{length-patched, patched_before, patched_inside, patched_after}
 use Rattle.update_journal.specs.store_form.Pieces.{IsUsable}
 use Rattle.page_store.specs.Pages.{page_of, place_of, through, entries_of, map_of, is_well_formed, content_of}
 use Rattle.page_store.specs.Laws.{length-through, get_or-through, place_low}

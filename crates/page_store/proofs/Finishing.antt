@@ -9,11 +9,13 @@ use Rattle.std.proofs.lemmas.Grind.{same_number_lists}
 use Rattle.std.proofs.lemmas.List.{length-append, get_or-append_right}
 use Rattle.std.proofs.lemmas.List.Elements.{All-head, All-tail, All-map, All-weaker}
 use Rattle.std.proofs.lemmas.List.FromFn.{fill_by_all, get_or-map-range_with_len}
-use Rattle.update_journal.specs.uicc_types.Ranges.{length-range, get_or-range}
+use Rattle.update_journal.proofs.uicc_types.RangeLemmas.{length-range, get_or-range}
 use Rattle.update_journal.specs.uicc_types.Told.{Becomes}
-use Rattle.update_journal.specs.uicc_types.Patches.{patched, length-patched, patched_before, patched_inside, patched_after}
+use Rattle.update_journal.specs.uicc_types.Patches.{patched}
+use Rattle.update_journal.proofs.uicc_types.PatchLemmas.{length-patched, patched_before, patched_inside, patched_after}
 use Rattle.update_journal.specs.store_form.Pieces.{Piece, applied, IsUsablePiece}
-use Rattle.update_journal.specs.store_form.Spared.{AreUsable, Spare, Rewritten_applied, length-applied}
+use Rattle.update_journal.specs.store_form.Spared.{AreUsable, Spare}
+use Rattle.update_journal.proofs.store_form.SparedLemmas.{Rewritten_applied, length-applied}
 use Rattle.page_store.specs.Pages.{number_at, entries_of, is_in_pool, place_of, through, map_of, content_of, content}
 use Rattle.page_store.specs.Laws.{length-through, get_or-through, place_low}
 use Rattle.page_store.specs.Tables.{Kept, IsPool, IsKept}

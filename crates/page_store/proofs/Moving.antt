@@ -7,9 +7,10 @@ use Rattle.std.proofs.lemmas.Grind.{get_or-set_at, same_number_lists}
 use Rattle.std.proofs.lemmas.List.{get_or-set_other, get_or-drop, get_or_append_left, length-drop}
 use Rattle.std.proofs.lemmas.List.FromFn.{length-range_with_len, get_or-range_with_len}
 use Rattle.std.proofs.lemmas.List.Sums.{fold_more, count_by_more_yes, count_by_more_no}
-use Rattle.update_journal.specs.uicc_types.Ranges.{length-range, get_or-range}
+use Rattle.update_journal.proofs.uicc_types.RangeLemmas.{length-range, get_or-range}
 use Rattle.update_journal.specs.uicc_types.Told.{Becomes}
-use Rattle.update_journal.specs.uicc_types.Patches.{patched, length-patched, patched_inside, Torn, Torn_patched}
+use Rattle.update_journal.specs.uicc_types.Patches.{patched, Torn}
+use Rattle.update_journal.proofs.uicc_types.PatchLemmas.{length-patched, patched_inside, Torn_patched}
 use Rattle.update_journal.specs.store_form.Pieces.{Piece, applied, IsUsable}
 use Rattle.page_store.specs.Below.{InPage}
 use Rattle.page_store.specs.Pages.{page_of, place_of, through, map_of, content_of, content}

@@ -8,10 +8,12 @@ use Rattle.std.proofs.lemmas.List.{length-take, length-drop, get_or-take, get_or
 use Rattle.std.proofs.lemmas.List.Elements.{All-take}
 use Rattle.std.proofs.lemmas.List.Folds.{list_any_at}
 use Rattle.std.proofs.lemmas.Option.{get_or_from_slice_get, slice_get_within}
-use Rattle.update_journal.specs.uicc_types.Ranges.{length-range, get_or-range}
-use Rattle.update_journal.specs.uicc_types.Patches.{patched, length-patched, patched_before, patched_inside, patched_after}
+use Rattle.update_journal.proofs.uicc_types.RangeLemmas.{length-range, get_or-range}
+use Rattle.update_journal.specs.uicc_types.Patches.{patched}
+use Rattle.update_journal.proofs.uicc_types.PatchLemmas.{length-patched, patched_before, patched_inside, patched_after}
 use Rattle.update_journal.specs.store_form.Pieces.{Piece, applied, IsUsablePiece}
-use Rattle.update_journal.specs.store_form.Spared.{AreUsable, length-applied}
+use Rattle.update_journal.specs.store_form.Spared.{AreUsable}
+use Rattle.update_journal.proofs.store_form.SparedLemmas.{length-applied}
 use Rattle.update_journal.proofs.Told.{one_more}
 use Rattle.page_store.specs.Commits.{touches, is_touched, bytes_of_page}
 

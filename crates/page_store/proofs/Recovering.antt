@@ -5,7 +5,7 @@ use Rattle.std.proofs.lemmas.Grind.{same_number_lists}
 use Rattle.std.proofs.lemmas.Bool.{cases_lt}
 use Rattle.std.proofs.lemmas.List.{length-replicate, get_or-replicate, get_or_past}
 use Rattle.std.proofs.lemmas.List.Elements.{All-replicate, All-from_get_or}
-use Rattle.update_journal.specs.uicc_types.Ranges.{length-range, get_or-range}
+use Rattle.update_journal.proofs.uicc_types.RangeLemmas.{length-range, get_or-range}
 use Rattle.update_journal.specs.uicc_types.Told.{AreBytes}
 use Rattle.update_journal.specs.store_form.Pieces.{IsUsable}
 use Rattle.page_store.specs.Pages.{entries_of, map_of, is_well_formed, place_of, through, content_of, content}

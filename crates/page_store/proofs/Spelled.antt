@@ -4,7 +4,7 @@ use Rattle.std.specs.Prelude.{slice_range}
 use Rattle.std.specs.Int.{w16, to_be_bytes}
 use Rattle.std.proofs.lemmas.Grind.{flat_map-append}
 use Rattle.std.proofs.lemmas.List.{append-nil, length-drop, get_or-drop, take_more}
-use Rattle.update_journal.specs.uicc_types.Ranges.{length-range}
+use Rattle.update_journal.proofs.uicc_types.RangeLemmas.{length-range}
 use Rattle.update_journal.specs.store_form.Pieces.{Piece, IsUsablePiece}
 use Rattle.page_store.specs.Tables.{Kept, IsPool}
 use Rattle.page_store.specs.Commits.{first_page, end_page, inner_piece}

@@ -5,10 +5,11 @@ use borrow.Rule.Slice.PartMut.{put_mid}
 use Rattle.std.proofs.lemmas.Grind.{common_steps, same_number_lists}
 use Rattle.std.proofs.lemmas.List.{length-append, length-drop, length-take, length-take-le, get_or-take, get_or_append_left, get_or-append_right}
 use Rattle.std.proofs.lemmas.Slice.{take-put_mid}
-use Rattle.update_journal.specs.uicc_types.Ranges.{length-range, get_or-range, next_range}
+use Rattle.update_journal.proofs.uicc_types.RangeLemmas.{length-range, get_or-range, next_range}
 use Rattle.update_journal.proofs.Parts.{patched_on, torn_on}
 use Rattle.std.proofs.lemmas.Bool.{cases_lt}
-use Rattle.update_journal.specs.uicc_types.Patches.{patched, Torn, Torn_patched}
+use Rattle.update_journal.specs.uicc_types.Patches.{patched, Torn}
+use Rattle.update_journal.proofs.uicc_types.PatchLemmas.{Torn_patched}
 use Rattle.update_journal.specs.uicc_types.Told.{Becomes}
 use Rattle.update_journal.specs.store_form.Pieces.{IsUsable}
 use Rattle.update_journal.proofs.Told.{some_same}

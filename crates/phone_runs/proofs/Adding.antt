@@ -7,7 +7,7 @@ use Rattle.card_steps.specs.applet_trait.Minds.{AppletState}
 use Rattle.card_steps.specs.card_layout.Persistent.{Persistent}
 use Rattle.card_steps.specs.card_layout.declared.faults.SectionFault.{SectionFault}
 use Rattle.card_sections.specs.Script.{described, then_on, with_lines}
-use Rattle.card_sections.specs.SectionLaws.{with_lines-more}
+use Rattle.card_sections.proofs.SectionLemmas.{with_lines-more}
 use Rattle.layout_section.specs.Adding.{Adds}
 use Rattle.phone_runs.specs.FixedRows.{fixed_rows}
 use Rattle.phone_runs.specs.Rows.{AreDescribed}

@@ -12,7 +12,7 @@ use Rattle.card_steps.specs.file_model.Outcomes.{FileOutcome}
 use Rattle.card_steps.specs.file_model.Records.{other_length}
 use Rattle.card_steps.specs.file_model.Selecting.{status_told, telling}
 use Rattle.card_steps.specs.file_model.declared.selections.Selection.{Selection}
-use Rattle.card_steps.specs.file_model.Chained.{unless_so, given_so}
+use Rattle.card_steps.proofs.file_model.ChainedLemmas.{unless_so, given_so}
 use Rattle.handset_model.specs.toolkit_commands.Envelopes.{envelope_of}
 use Rattle.handset_model.specs.toolkit_commands.Responses.{response_of}
 use Rattle.handset_model.specs.toolkit_commands.declared.commands.Details.{Details}
@@ -28,14 +28,14 @@ use Rattle.handset_model.specs.declared.commands.Reply.{Reply}
 use Rattle.card_steps.specs.card_model.Answers.{Answered, answer, carried_out, file_tried, toolkit_tried, settled, told_pending, event_told}
 use Rattle.card_steps.specs.card_model.Channels.{is_open, channel_of}
 use Rattle.card_steps.specs.card_model.Instructions.{is_known}
-use Rattle.card_steps.specs.card_model.Pending.{pending_few}
+use Rattle.card_steps.proofs.card_model.PendingLemmas.{pending_few}
 use Rattle.card_steps.specs.card_model.States.{CardState}
 use Rattle.card_steps.specs.card_model.Toolkit.{ToolkitOutcome, toolkit_of, coming_to, is_length_of, profile_taken, command_fetched, response_taken, envelope_taken, toolkit_outcome}
 use Rattle.card_steps.specs.card_model.declared.instructions.Instruction.TheVariants.{File, Toolkit}
 use Rattle.card_steps.specs.card_model.declared.instructions.ToolkitCommand.TheVariants as toolkit
 use Rattle.card_steps.specs.file_model.declared.commands.FileCommand.TheVariants as file
 use Rattle.card_steps.specs.file_model.Commands.{file_outcome}
-use Rattle.card_steps.specs.card_model.Cases.{cut_result, cut_so}
+use Rattle.card_steps.proofs.card_model.CaseLemmas.{cut_result, cut_so}
 use Rattle.card_laws.specs.Fetching.{FetchesGiveCommands}
 use Rattle.card_laws.specs.ToolkitLaws.{EventsGoOn}
 use Rattle.card_laws.specs.Moving.{HasOrder, Answers, if_carried, command_by, taken}

@@ -26,3 +26,4 @@ mod Agreeing
 mod Answering
 mod Following
 mod WorkedHandsets
+pub use Rattle.card_sections.proofs as card_sections

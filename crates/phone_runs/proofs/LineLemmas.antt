@@ -6,7 +6,7 @@ use Rattle.std.proofs.lemmas.Grind.{flat_map-append}
 use Rattle.handset_model.specs.byte_streams.Lines.{LineList}
 use Rattle.card_steps.specs.card_core.Parts.{CardParts}
 use Rattle.card_sections.specs.Behind.{LinesReadTo, StopsReading}
-use Rattle.card_sections.specs.LineLaws.{AreRead-more}
+use Rattle.card_sections.proofs.LineLemmas.{AreRead-more}
 use Rattle.card_sections.specs.Reading.{Finds, Follows}
 use Rattle.card_sections.specs.Script.{AreRead}
 use Rattle.card_sections.specs.declared.behind.PlayEnd.{PlayEnd}

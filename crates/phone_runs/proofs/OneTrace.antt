@@ -4,7 +4,7 @@ use Rattle.std.specs.Prelude.{MatchBool, ⊤}
 use Rattle.std.proofs.lemmas.List.{reverse-reverse}
 use Rattle.std.proofs.lemmas.List.Elements.{All-head}
 use mathlib.Core.List.{reverse_aux}
-use Rattle.handset_model.specs.uicc_types.Members.{back_of, front_of}
+use Rattle.handset_model.proofs.uicc_types.MemberLemmas.{back_of, front_of}
 use Rattle.card_steps.specs.card_model.Counts.{is_cut, is_failure}
 use Rattle.card_steps.specs.card_model.Runs.{Commands, IsRun, MeetsNoPower, StepGives}
 use Rattle.card_steps.specs.card_model.States.{Machine}

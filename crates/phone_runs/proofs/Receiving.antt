@@ -15,7 +15,7 @@ use Rattle.handset_model.specs.declared.commands.Reply.{Reply}
 use Rattle.handset_model.specs.declared.commands.Report.{Report}
 use Rattle.handset_model.specs.toolkit_commands.declared.commands.Details.{Details}
 use Rattle.card_steps.specs.card_model.Answers.{Answered, answer, answer_of, carried_with, settled, tried, with_pending}
-use Rattle.card_steps.specs.card_model.Cases.{cut_result}
+use Rattle.card_steps.proofs.card_model.CaseLemmas.{cut_result}
 use Rattle.card_steps.specs.card_model.Channels.{is_open}
 use Rattle.card_steps.specs.card_model.Instructions.{instruction_tried, is_known}
 use Rattle.card_steps.specs.card_model.States.{CardState}

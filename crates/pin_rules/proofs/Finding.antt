@@ -6,8 +6,8 @@ use Rattle.std.proofs.lemmas.Option.{slice_get_past, slice_get-get_or, cond_some
 use Rattle.std.proofs.lemmas.Iterator.Adapters.{position_from-zero}
 use Rattle.std.proofs.lemmas.List.Folds.{find_at}
 use Rattle.std.proofs.lemmas.Bool.Decides.{nat_tests}
-use Rattle.file_model.specs.uicc_types.Finding.{find-map, find-filter, find_Some}
-use Rattle.file_model.specs.uicc_types.Optional.{none_chosen}
+use Rattle.file_model.proofs.uicc_types.FindingLemmas.{find-map, find-filter, find_Some}
+use Rattle.file_model.proofs.uicc_types.OptionalLemmas.{none_chosen}
 use Rattle.file_model.specs.card_layout.declared.entries.PinSlot.{PinSlot}
 use Rattle.file_model.specs.card_layout.declared.entries.Loaded.{Loaded}
 use Rattle.file_model.specs.card_layout.States.{pins_of, pin_state, present_pins}

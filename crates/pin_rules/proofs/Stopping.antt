@@ -6,7 +6,7 @@ use Rattle.std.specs.Str.{bytes_eq}
 use Rattle.std.proofs.lemmas.Bool.{true≢false}
 use Rattle.std.proofs.lemmas.List.{length-map}
 use Rattle.std.proofs.lemmas.List.Elements.{Contains-get_or}
-use Rattle.file_model.specs.uicc_types.Optional.{if_some, if_some_at}
+use Rattle.file_model.proofs.uicc_types.OptionalLemmas.{if_some, if_some_at}
 use Rattle.file_model.specs.uicc_types.declared.answers.Answer.{Answer}
 use Rattle.file_model.specs.uicc_types.declared.answers.StatusWord.{StatusWord}
 use Rattle.file_model.specs.apdu_form.Model.{Apdu}

@@ -1,8 +1,12 @@
 -- How often a memory is committed.
-use Rattle.std.proofs.Common.{◌≡◌, refl, ap, ◌∙◌, List, [], ◌∷◌, ◌++◌, length}
+use Rattle.std.proofs.Common.{◌≡◌, refl, ap, ◌∙◌, List, [], ◌∷◌, ◌++◌, length, ℕ}
 use Rattle.card_memory.specs.uicc_types.Counts.{raised, raised_by}
 use Rattle.card_memory.specs.card_layout.Memory.{Memory}
-use Rattle.proactive_handler.specs.Counting.{Counts, raised_then}
+use Rattle.proactive_handler.specs.Counting.{Counts}
+
+pub raised_then : {X : Type 0} (first second : List X) (before : ℕ) → raised_by (length second) (raised_by (length first) before) ≡ raised_by (length (first ++ second)) before
+raised_then [] second before = refl
+raised_then (x ∷ first) second before = raised_then first second (raised before)
 
 pub counts_none : {X : Type 0} (old new : Memory) → new ≡ old → Counts {X = X} [] old new
 counts_none old new same = record { commits = ap (λ (m : Memory). m.commits) same; stays = λ none. ap (λ (m : Memory). m.told) same }

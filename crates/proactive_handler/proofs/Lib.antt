@@ -21,3 +21,4 @@ mod Serving
 mod Shelves
 mod Standings
 mod Told
+pub use Rattle.card_memory.proofs as card_memory

@@ -4,14 +4,14 @@ use Rattle.std.specs.Prelude.{◌≢◌, All, Option, Result, Ok, Err}
 use Rattle.std.specs.Result.{IsErr}
 use Rattle.std.proofs.lemmas.List.{append_assoc}
 use Rattle.std.proofs.lemmas.List.Elements.{filter_map-append}
-use Rattle.card_memory.specs.uicc_types.Members.{front_of, back_of}
+use Rattle.card_memory.proofs.uicc_types.MemberLemmas.{front_of, back_of}
 use Rattle.card_memory.specs.uicc_types.Counts.{raised_by}
 use Rattle.card_memory.specs.store_form.declared.store.StoreFault.{StoreFault}
 use Rattle.card_memory.specs.card_layout.Memory.{Memory}
 use Rattle.card_memory.specs.card_layout.Persistent.{Registration}
 use Rattle.toolkit_model.specs.Passing.{ToolkitState, ShelfTurn, Happening, Committed, Passed, noting, before, turn_in, turns, passed_rows}
 use Rattle.proactive_handler.specs.Boxes.{IsSameBox}
-use Rattle.proactive_handler.specs.Counting.{raised_then}
+use Rattle.proactive_handler.proofs.CountingLemmas.{raised_then}
 use Rattle.proactive_handler.proofs.Joining.{passed_append}
 use Rattle.proactive_handler.specs.Steps.{Scene, toolkit, IsDone}
 use Rattle.proactive_handler.specs.Reached.{HasNoTurn, StopsBehind, TurnsTo}

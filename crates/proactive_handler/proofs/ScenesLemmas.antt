@@ -9,7 +9,7 @@ use Rattle.card_memory.specs.Model.{HasRowOn}
 use Rattle.toolkit_model.specs.applet_trait.Minds.{AppletState}
 use Rattle.proactive_handler.specs.Boxes.{kinds_of, LeavesOthers}
 use Rattle.proactive_handler.proofs.BoxesLemmas.{others_then}
-use Rattle.card_memory.specs.Keeping.{keeps_then, keeps_done, fault_keeps}
+use Rattle.card_memory.proofs.KeepingLemmas.{keeps_then, keeps_done, fault_keeps}
 use Rattle.proactive_handler.specs.Steps.{Scene}
 use Rattle.proactive_handler.specs.Scenes.{KeepsScene}
 

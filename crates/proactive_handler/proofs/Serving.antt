@@ -8,8 +8,8 @@ use Rattle.std.proofs.lemmas.List.Elements.{All-nil, All-cons, All-head, All-tai
 use Rattle.std.proofs.lemmas.List.Quantifiers.{all_pairs_push}
 use Rattle.std.proofs.lemmas.List.Kept.{AllPairs-filter}
 use Rattle.std.proofs.lemmas.Option.{slice_get_within}
-use Rattle.card_memory.specs.uicc_types.Choices.{chosen}
-use Rattle.card_memory.specs.uicc_types.Pairs.{pairs_cons, pairs_head, pairs_tail, pairs_map}
+use Rattle.card_memory.proofs.uicc_types.ChoiceLemmas.{chosen}
+use Rattle.card_memory.proofs.uicc_types.PairLemmas.{pairs_cons, pairs_head, pairs_tail, pairs_map}
 use Rattle.card_memory.specs.card_layout.declared.entries.Loaded.{Loaded}
 use Rattle.card_memory.specs.card_layout.declared.entries.Row.{Row}
 use Rattle.card_memory.specs.card_layout.Persistent.{Registration}

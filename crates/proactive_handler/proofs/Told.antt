@@ -2,7 +2,7 @@
 use Rattle.std.proofs.Common.{◌≡◌, refl, sym, ap, ◌∙◌, subst, ℕ, Bool, true, false, List, [], ◌∷◌, ◌++◌, map, length, cond, Option, None, arith}
 use Rattle.std.specs.Prelude.{◌≢◌, All, AllPairs, Result, Ok, Err}
 use Rattle.std.proofs.lemmas.List.Elements.{All-head, All-map, All-tail, All-weaker}
-use Rattle.card_memory.specs.uicc_types.Pairs.{pairs_head, pairs_tail}
+use Rattle.card_memory.proofs.uicc_types.PairLemmas.{pairs_head, pairs_tail}
 use Rattle.card_memory.specs.uicc_types.declared.identifiers.Shelf.{Shelf}
 use Rattle.card_memory.specs.card_layout.declared.entries.Loaded.{Loaded}
 use Rattle.card_memory.specs.Model.{HasRowOn}

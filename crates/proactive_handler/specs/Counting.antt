@@ -1,13 +1,9 @@
 -- How often a memory is committed.
-use Rattle.std.proofs.Common.{◌≡◌, refl, ℕ, List, [], ◌∷◌, ◌++◌, length}
-use Rattle.card_memory.specs.uicc_types.Counts.{raised, raised_by}
+use Rattle.std.proofs.Common.{◌≡◌, List, [], length}
+use Rattle.card_memory.specs.uicc_types.Counts.{raised_by}
 use Rattle.card_memory.specs.card_layout.Memory.{Memory}
 
 -- There was a commit for each of these. Where there are none of them, the bytes stay.
 pub record Counts {X : Type 0} (passed : List X) (old new : Memory) : Type 0 where
   pub commits : new.commits ≡ raised_by (length passed) old.commits
   pub stays : passed ≡ [] → new.told ≡ old.told
-
-pub raised_then : {X : Type 0} (first second : List X) (before : ℕ) → raised_by (length second) (raised_by (length first) before) ≡ raised_by (length (first ++ second)) before
-raised_then [] second before = refl
-raised_then (x ∷ first) second before = raised_then first second (raised before)

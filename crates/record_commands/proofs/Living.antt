@@ -1,7 +1,7 @@
 -- A life cycle status that was told of a file leaves each selection lawful.
 use Rattle.std.proofs.Common.{◌≡◌, ℕ, Bool, true, false, cond, List, Option, Some, None, refl, sym, ap, ◌∙◌, subst}
 use Rattle.std.specs.Prelude.{◌==◌, ◌≤◌, IsTrue, IfSome, IsSomeAnd, if◌then◌else◌, option_map}
-use Rattle.file_model.specs.uicc_types.Finding.{find-map, find_alike}
+use Rattle.file_model.proofs.uicc_types.FindingLemmas.{find-map, find_alike}
 use Rattle.file_model.specs.declared.descriptors.Descriptor.{Descriptor}
 use Rattle.file_model.specs.declared.descriptors.Wanted.TheVariants.{Number}
 use Rattle.file_model.specs.Files.{is_df, is_ef, lies_in, is_wanted, file_found}

@@ -2,7 +2,7 @@
 use Rattle.std.proofs.Common.{◌≡◌, ℕ, ◌≤◌, Bool, true, false, List, Option, sym, subst}
 use Rattle.std.specs.Prelude.{IsTrue, IfSome, IsSomeAnd, ◌&&◌, ◌||◌, not, nat_le}
 use Rattle.std.proofs.lemmas.List.Elements.{All-contains}
-use Rattle.file_model.specs.uicc_types.Finding.{find_Some}
+use Rattle.file_model.proofs.uicc_types.FindingLemmas.{find_Some}
 use Rattle.file_model.specs.card_layout.Kinds.{has_records}
 use Rattle.file_model.specs.declared.descriptors.Descriptor.{Descriptor}
 use Rattle.file_model.specs.declared.descriptors.Wanted.TheVariants.{Number}

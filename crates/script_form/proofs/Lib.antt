@@ -1,3 +1,4 @@
+pub mod BoundLemmas
 pub mod Commands
 pub mod Digits
 pub mod Hexadecimal
@@ -7,3 +8,5 @@ mod PathsLemmas
 pub mod Rules
 pub mod Spaces
 mod WorkedForms
+pub use Rattle.byte_streams.proofs as byte_streams
+pub use Rattle.uicc_types.proofs as uicc_types

@@ -1,12 +1,16 @@
 -- Identifiers, one behind the other, against the paths that bytes may be.
-use Rattle.std.proofs.Common.{◌≡◌, ℕ, ◌+◌, ◌*◌, ◌<◌, ◌≤◌, suc, List, [], ◌∷◌, ◌++◌, length, sym, ap, subst, ◌∙◌, arith}
+use Rattle.std.proofs.Common.{◌≡◌, ℕ, ◌+◌, ◌*◌, ◌<◌, ◌≤◌, suc, List, [], ◌∷◌, ◌++◌, length, sym, ap, subst, ◌∙◌, arith, refl}
 use Rattle.std.specs.Prelude.{All}
 use Rattle.std.proofs.lemmas.List.{append-nil, length-append}
 use Rattle.uicc_types.specs.declared.identifiers.FileId.{FileId}
-use Rattle.script_form.specs.Paths.{length-path}
 use Rattle.script_form.proofs.PathsLemmas.{split_off}
 use Rattle.script_form.specs.Reads.{IsOnly}
 use Rattle.script_form.specs.Values.{IsFree, SpellsPath, identifier_bytes, path_bytes}
+
+-- an identifier has two bytes
+pub length-path : (path : List FileId) → length (path_bytes path) ≡ 2 * length path
+length-path [] = refl
+length-path (identifier ∷ path) = omega (arith, length-path path)
 
 -- no path begins with an identifier that a file may not have
 pub no_first : (bytes : List ℕ) → ((identifier : FileId) (rest : List ℕ) → IsFree identifier → bytes ≡ identifier_bytes identifier ++ rest → ⊥)

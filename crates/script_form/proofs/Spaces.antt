@@ -8,7 +8,7 @@ use Rattle.std.proofs.lemmas.List.Sums.{fails_before_first}
 use Rattle.std.proofs.lemmas.List.Elements.{All-from_get_or}
 use Rattle.std.proofs.lemmas.Bool.{ltb-false}
 use Rattle.std.proofs.lemmas.Option.{cond_some}
-use Rattle.uicc_types.specs.Optional.{none_chosen}
+use Rattle.uicc_types.proofs.OptionalLemmas.{none_chosen}
 use Rattle.script_form.specs.Words.{words, words_left}
 
 abbrev pub is_space : ℕ → Bool

@@ -1,6 +1,5 @@
 pub mod Bounds
 pub mod Forms
-pub mod Paths
 pub mod Reads
 pub mod Traces
 pub mod Values

@@ -38,7 +38,7 @@ pub fn read_line(bytes: &[u8], number: u32) -> Result<ScriptLine, LineFault>
 
 /// Reads a line as `read_line` does, into a place of the caller's. What a line says is large, and is written into its place
 /// once. After a fault the place holds any line.
-#[tactic(auto, using(crate::specs::Bounds::bounded))]
+#[tactic(auto, using(crate::proofs::BoundLemmas::bounded))]
 pub fn read_line_into(bytes: &[u8], number: u32, line: &mut ScriptLine) -> Result<(), LineFault>
     ensures read { OnOk result (IsOnly (IsLine bytes.now) line.new) }
     ensures within { OnOk result (IsBounded line.new) }

@@ -10,7 +10,7 @@ use Rattle.proactive_handler.specs.card_memory.Model.{HasRowOn}
 use Rattle.toolkit_model.specs.applet_trait.Minds.{AppletState}
 use Rattle.toolkit_model.specs.Running.{mind_on, with_mind}
 use Rattle.proactive_handler.specs.Boxes.{kinds_of}
-use Rattle.proactive_handler.specs.card_memory.Keeping.{keeps_then, fault_keeps}
+use Rattle.proactive_handler.proofs.card_memory.KeepingLemmas.{keeps_then, fault_keeps}
 use Rattle.proactive_handler.specs.Scenes.{KeepsScene}
 use Rattle.proactive_handler.specs.Steps.{Scene}
 use Rattle.proactive_handler.proofs.Indexing.{rows_alone_differ}

@@ -9,7 +9,7 @@ use Rattle.file_model.specs.store_form.declared.store.StoreFault.{StoreFault}
 use Rattle.file_model.specs.card_layout.Memory.{Memory, held}
 use Rattle.file_model.specs.card_layout.Persistent.{Persistent}
 use Rattle.proactive_handler.specs.card_memory.Model.{CommitsAtMost}
-use Rattle.file_model.specs.uicc_types.Numbered.{nil_mapped}
+use Rattle.file_model.proofs.uicc_types.NumberedLemmas.{nil_mapped}
 use Rattle.file_model.specs.Chains.{and_given}
 use Rattle.proactive_handler.specs.Counting.{Counts}
 use Rattle.proactive_handler.proofs.CountingLemmas.{counts_none}

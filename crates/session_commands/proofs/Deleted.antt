@@ -5,7 +5,7 @@ use Rattle.std.specs.Result.{IsErr}
 use Rattle.std.proofs.lemmas.Bool.Decides.{nat_tests}
 use Rattle.std.proofs.lemmas.List.{map-set, get_or-set_other}
 use Rattle.std.proofs.lemmas.Bool.{eqb-true}
-use Rattle.file_model.specs.uicc_types.Finding.{find_Some}
+use Rattle.file_model.proofs.uicc_types.FindingLemmas.{find_Some}
 use Rattle.file_model.specs.uicc_types.declared.answers.StatusWord.{StatusWord}
 use Rattle.file_model.specs.uicc_types.declared.answers.TheConstants.StatusWord.{WRONG_LENGTH, WRONG_PARAMETERS, SECURITY_NOT_SATISFIED}
 use Rattle.file_model.specs.apdu_form.Model.{Apdu}

@@ -1,7 +1,7 @@
 -- DELETE, as it is to each card that it may come to.
 use Rattle.std.proofs.Common.{◌≡◌, sym, ap, ◌∙◌, subst, ℕ, ◌<◌, Bool, true, List, []}
 use Rattle.std.specs.Prelude.{Ok, Err}
-use Rattle.file_model.specs.uicc_types.Numbered.{mapped_too}
+use Rattle.file_model.proofs.uicc_types.NumberedLemmas.{mapped_too}
 use Rattle.file_model.specs.uicc_types.declared.answers.StatusWord.{StatusWord}
 use Rattle.file_model.specs.apdu_form.Model.{Apdu}
 use Rattle.file_model.specs.declared.rules.Verified.{Verified}

@@ -26,7 +26,7 @@ use Rattle.proactive_handler.specs.applet_registry.Changes.{InstallationsAreFoll
 use Rattle.proactive_handler.specs.applet_registry.Indexes.{StandsFor}
 use Rattle.card_model.specs.States.{CardState}
 use Rattle.card_model.specs.Toolkit.{ToolkitOutcome, applet_installed, kind_in}
-use Rattle.proactive_handler.specs.card_memory.Keeping.{keeps_done}
+use Rattle.proactive_handler.proofs.card_memory.KeepingLemmas.{keeps_done}
 use Rattle.proactive_handler.specs.Scenes.{KeepsScene}
 use Rattle.proactive_handler.proofs.ScenesLemmas.{scene_then}
 use Rattle.proactive_handler.specs.Steps.{Scene, toolkit}

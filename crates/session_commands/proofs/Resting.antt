@@ -1,7 +1,7 @@
 -- A card between two commands: its applets can run, and what a refusal keeps of it.
 use Rattle.std.proofs.Common.{◌≡◌, refl, sym, ap, ◌∙◌, List, Option, arith}
 use Rattle.std.specs.Prelude.{◌≢◌, Ok}
-use Rattle.file_model.specs.uicc_types.Calls.{calm_same}
+use Rattle.file_model.proofs.uicc_types.CallLemmas.{calm_same}
 use Rattle.file_model.specs.uicc_types.declared.answers.Answer.{Answer}
 use Rattle.file_model.specs.uicc_types.declared.answers.StatusWord.{StatusWord}
 use Rattle.file_model.specs.uicc_types.declared.answers.TheConstants.StatusWord.{DONE, MEMORY_PROBLEM}

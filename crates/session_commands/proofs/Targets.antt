@@ -4,7 +4,7 @@ use Rattle.std.specs.Prelude.{◌≢◌, ◌≤◌, ◌==◌, ◌&&◌, ◌||◌
 use Rattle.std.specs.Option.{option_map_or}
 use Rattle.std.proofs.lemmas.Bool.Decides.{nat_tests}
 use Rattle.std.proofs.lemmas.List.Elements.{All-nil, All-cons, All-map, Contains-get_or, filter_agree}
-use Rattle.file_model.specs.uicc_types.Pairs.{pairs_head, pairs_tail, pairs_map}
+use Rattle.file_model.proofs.uicc_types.PairLemmas.{pairs_head, pairs_tail, pairs_map}
 use Rattle.file_model.specs.uicc_types.declared.identifiers.Shelf.{Shelf}
 use Rattle.file_model.specs.card_layout.declared.entries.Row.{Row}
 use Rattle.file_model.specs.card_layout.declared.entries.Loaded.{Loaded}

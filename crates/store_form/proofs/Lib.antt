@@ -1,2 +1,3 @@
+pub mod CauseLemmas
 mod SpanLemmas
 pub mod SparedLemmas

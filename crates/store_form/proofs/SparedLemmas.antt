@@ -1,15 +1,49 @@
 -- Pieces that are written, also again or in part: they change only what stands in their ranges, and once all of them are
 -- written nothing else of those ranges is left.
 use Rattle.std.specs.Prelude.{◌≡◌, ◌⊎◌, ℕ, suc, zero, ◌+◌, ◌≤◌, ◌<◌, List, [], ◌∷◌, length, take, slice_get, Some, None, All}
-use Rattle.std.proofs.Common.{get_or, sym, inl, inr, ⊎_elim, ◌∙◌, subst, arith}
+use Rattle.std.proofs.Common.{get_or, sym, inl, inr, ⊎_elim, ◌∙◌, subst, arith, refl}
 use Rattle.std.proofs.lemmas.Bool.{cases_lt}
 use Rattle.std.proofs.lemmas.Option.{same_Some}
 use Rattle.std.proofs.lemmas.List.Elements.{All-head, All-tail}
 use Rattle.std.proofs.lemmas.Grind.{same_number_lists}
-use Rattle.uicc_types.specs.Patches.{patched, All-patched, patched_before, patched_inside, patched_after, Torn}
+use Rattle.uicc_types.specs.Patches.{patched, Torn}
+use Rattle.uicc_types.proofs.PatchLemmas.{All-patched, patched_before, patched_inside, patched_after, length-patched}
 use Rattle.store_form.specs.declared.store.TheConstants.{OWN_START, OWN_END}
 use Rattle.store_form.specs.Pieces.{Piece, applied, IsUsablePiece}
-use Rattle.store_form.specs.Spared.{AreUsable, Spare, Rewritten, first_of_usable, Rewritten_applied}
+use Rattle.store_form.specs.Spared.{AreUsable, Spare, Rewritten}
+
+pub length-applied : (pieces : List Piece) (image : List ℕ) → AreUsable pieces (length image) → length (applied pieces image) ≡ length image
+length-applied [] image usable = refl
+length-applied (piece ∷ pieces) image usable =
+    let first = All-head (IsUsablePiece (length image)) piece pieces usable in
+    let kept : length (patched piece.place piece.bytes image) ≡ length image = length-patched piece.place piece.bytes image first.range.inside in
+    let rest = All-tail (IsUsablePiece (length image)) piece pieces usable in
+    let P : ℕ → Type 0 = λ n. AreUsable pieces n in
+    length-applied pieces (patched piece.place piece.bytes image) (subst P (sym kept) rest) ∙ kept
+
+-- what is known of the first piece of a list of usable ones, and of the others in the image that it makes
+pub record First (size : ℕ) (piece : Piece) (pieces : List Piece) (image : List ℕ) : Type 0 where
+  pub here : IsUsablePiece size piece
+  pub long : length (patched piece.place piece.bytes image) ≡ size
+  pub others : AreUsable pieces size
+
+pub first_of_usable : (size : ℕ) (piece : Piece) (pieces : List Piece) (image : List ℕ) → length image ≡ size → AreUsable (piece ∷ pieces) size → First size piece pieces image
+first_of_usable size piece pieces image long usable =
+    let here = All-head (IsUsablePiece size) piece pieces usable in
+    record { here = here; long = length-patched piece.place piece.bytes image (omega (arith, here.range.inside)) ∙ long; others = All-tail (IsUsablePiece size) piece pieces usable }
+
+-- pieces change only what stands in their ranges
+pub Rewritten_applied : (size : ℕ) (pieces : List Piece) (image : List ℕ) → length image ≡ size → AreUsable pieces size → Rewritten pieces image (applied pieces image)
+Rewritten_applied size [] image long usable = record { same_length = refl; spared = λ k spare. refl }
+Rewritten_applied size (piece ∷ pieces) image long usable =
+    let first = first_of_usable size piece pieces image long usable in
+    let inside : piece.place + length piece.bytes ≤ length image = omega (arith, first.here.range.inside) in
+    let rest = Rewritten_applied size pieces (patched piece.place piece.bytes image) first.long first.others in
+    record {
+      same_length = rest.same_length ∙ first.long ∙ sym long;
+      spared = λ k spare. rest.spared k spare.1
+          ∙ ⊎_elim (λ low. patched_before piece.place piece.bytes image inside k low) (λ high. patched_after piece.place piece.bytes image inside k high) spare.0;
+    }
 
 -- what holds of each byte of the pieces, and of each of the image, holds of each afterwards
 pub All-applied : (P : ℕ → Type 0) (pieces : List Piece) (image : List ℕ) → All (λ piece. All P piece.bytes) pieces → All P image → All P (applied pieces image)

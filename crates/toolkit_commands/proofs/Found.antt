@@ -1,7 +1,7 @@
 -- What is read as a command has the objects of that command.
 use Rattle.std.proofs.Common.{◌≡◌, ◌≢◌, ℕ, ◌+◌, ◌*◌, ◌/◌, ◌%◌, Bool, true, false, cond, ◌&&◌, eqb, leb, List, [], ◌∷◌, length, map, Option, Some, None, Result, Ok, Err, refl, sym, ap, subst, ◌∙◌, arith, inl, inr}
 use Rattle.std.proofs.lemmas.Bool.{eqb-true, leb-true, and_parts, cases_Bool, false≢true}
-use Rattle.uicc_types.specs.Choices.{chosen}
+use Rattle.uicc_types.proofs.ChoiceLemmas.{chosen}
 use Rattle.comprehension_tlv.specs.declared.faults.TlvFault.{TlvFault}
 use Rattle.comprehension_tlv.specs.Model.{Object}
 use Rattle.comprehension_tlv.specs.Reading.{◌>>=◌ as ◌>>='◌, outline, flaw, unless_fault, objects_of, first_value, template_of}

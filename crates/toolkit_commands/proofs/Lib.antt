@@ -13,3 +13,4 @@ pub mod Table
 pub mod Proper
 pub mod WorkedCommands
 pub mod Numbered
+pub use Rattle.uicc_types.proofs as uicc_types

@@ -5,7 +5,7 @@ use Rattle.std.specs.Prelude.{◌≢◌, All, AllPairs, filter}
 use Rattle.std.specs.List.{cons_option}
 use Rattle.std.specs.Option.{option_to_list}
 use Rattle.std.proofs.lemmas.List.Elements.{All-head, All-tail, All-weaker, All-contains, filter_map-append}
-use Rattle.card_layout.specs.uicc_types.Pairs.{pairs_head, pairs_tail}
+use Rattle.card_layout.proofs.uicc_types.PairLemmas.{pairs_head, pairs_tail}
 use Rattle.toolkit_commands.specs.declared.commands.Proactive.{Proactive}
 use Rattle.toolkit_commands.specs.declared.envelopes.Envelope.{Envelope}
 use Rattle.applet_trait.specs.declared.stimuli.Stimulus.{Stimulus}

@@ -2,8 +2,8 @@
 use Rattle.std.proofs.Common.{◌≡◌, ℕ, zero, suc, ◌≤◌, false, List, [], ◌∷◌, length, Option, Some, None, ap, arith, refl, sym, subst, ⊎_elim}
 use Rattle.std.specs.Prelude.{All, option_map}
 use Rattle.std.proofs.lemmas.List.Elements.{All-nil, All-cons}
-use Rattle.card_layout.specs.uicc_types.Choices.{chosen}
-use Rattle.card_layout.specs.uicc_types.Optional.{none_mapped}
+use Rattle.card_layout.proofs.uicc_types.ChoiceLemmas.{chosen}
+use Rattle.card_layout.proofs.uicc_types.OptionalLemmas.{none_mapped}
 use Rattle.toolkit_model.specs.Sessions.{Sent, LateTrigger}
 use Rattle.toolkit_model.specs.Orderly.{asks}
 use Rattle.toolkit_model.specs.Passing.{ToolkitState}

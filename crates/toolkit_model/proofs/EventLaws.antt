@@ -7,7 +7,7 @@ use Rattle.std.proofs.lemmas.List.{append-nil}
 use Rattle.std.proofs.lemmas.List.Elements.{All-head, All-tail, filter-append, filter_map-append}
 use Rattle.std.proofs.lemmas.Bool.{eqb-true, eq-eqb, or_parts, and_parts}
 use Rattle.std.proofs.lemmas.Option.{same_Some}
-use Rattle.card_layout.specs.uicc_types.Choices.{mapped_Some, chosen}
+use Rattle.card_layout.proofs.uicc_types.ChoiceLemmas.{mapped_Some, chosen}
 use Rattle.card_layout.specs.uicc_types.declared.events.TheConstants.{PROFILE_DOWNLOAD, STATUS_COMMAND}
 use Rattle.toolkit_commands.specs.declared.commands.Proactive.{Proactive}
 use Rattle.toolkit_commands.specs.declared.responses.Response.{Response as Reply}

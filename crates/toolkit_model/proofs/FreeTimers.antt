@@ -3,7 +3,7 @@ use Rattle.std.proofs.Common.{◌≡◌, ℕ, zero, suc, ◌+◌, ◌<◌, ◌�
 use Rattle.std.specs.List.{position, position_or_len}
 use Rattle.std.proofs.lemmas.List.Quantifiers.{position-Some}
 use Rattle.std.proofs.lemmas.Grind.{common_steps}
-use Rattle.card_layout.specs.uicc_types.Optional.{none_of}
+use Rattle.card_layout.proofs.uicc_types.OptionalLemmas.{none_of}
 use Rattle.toolkit_model.specs.Timers.{Owners, owner_of, IsFree, IsSmallestFree, IsAllHeld}
 
 -- no free place stands before the first

@@ -5,8 +5,8 @@ use Rattle.std.specs.List.{list_any, list_all}
 use Rattle.std.proofs.lemmas.Bool.{cases_lt, lt-ltb, le-ltb, leb-true, leb-false, eqb-false, or_parts, and_parts}
 use Rattle.std.proofs.lemmas.List.Sums.{sum_by-cons}
 use Rattle.std.proofs.lemmas.List.Elements.{All-nil, All-cons, All-head, All-tail, All-weaker, All-push, All-append, All-filter}
-use Rattle.card_layout.specs.uicc_types.Choices.{chosen}
-use Rattle.card_layout.specs.uicc_types.Pairs.{pairs_nil, pairs_cons, pairs_head, pairs_tail}
+use Rattle.card_layout.proofs.uicc_types.ChoiceLemmas.{chosen}
+use Rattle.card_layout.proofs.uicc_types.PairLemmas.{pairs_nil, pairs_cons, pairs_head, pairs_tail}
 use Rattle.card_layout.specs.Persistent.{Registration, Persistent}
 use Rattle.card_layout.specs.Sections.{Installation, is_installation, is_code, are_different, counted, installation_of, has_text, new_row, needs_wide, with_row}
 use Rattle.applet_trait.specs.Minds.{AppletState}

@@ -6,7 +6,7 @@ use Rattle.std.proofs.lemmas.Bool.{eqb-false, not-true, ltb-true, or_parts, cond
 use Rattle.std.proofs.lemmas.List.{get_or-set_other}
 use Rattle.std.proofs.lemmas.List.Folds.{list_any-append}
 use Rattle.std.proofs.lemmas.List.Elements.{All-map, All-push, All-append, All-filter, filter_passes}
-use Rattle.card_layout.specs.uicc_types.Numbered.{all_unmapped}
+use Rattle.card_layout.proofs.uicc_types.NumberedLemmas.{all_unmapped}
 use Rattle.card_layout.specs.Persistent.{Registration}
 use Rattle.toolkit_commands.specs.declared.commands.Proactive.{Proactive}
 use Rattle.toolkit_commands.specs.declared.responses.Response.{Response as Reply}

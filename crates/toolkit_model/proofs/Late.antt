@@ -3,7 +3,7 @@ use Rattle.std.proofs.Common.{◌≡◌, suc, ◌≤◌, ◌<◌, true, List, []
 use Rattle.std.specs.Prelude.{◌≢◌, All, AllPairs, option_map}
 use Rattle.std.proofs.lemmas.List.Elements.{All-cons, All-head, All-tail, All-push}
 use Rattle.std.proofs.lemmas.Option.{same_Some}
-use Rattle.card_layout.specs.uicc_types.Choices.{mapped_Some, chosen}
+use Rattle.card_layout.proofs.uicc_types.ChoiceLemmas.{mapped_Some, chosen}
 use Rattle.toolkit_model.specs.Sessions.{Sent, LateTrigger, SessionState}
 use Rattle.toolkit_model.specs.Orderly.{IsRegistered, asks}
 use Rattle.toolkit_model.specs.Passing.{ToolkitState}

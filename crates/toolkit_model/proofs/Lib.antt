@@ -24,3 +24,5 @@ mod Worked
 pub mod WorkedProfiles
 mod WorkedRuns
 pub mod WorkedTimers
+pub use Rattle.card_layout.proofs as card_layout
+pub use Rattle.card_layout.proofs.uicc_types

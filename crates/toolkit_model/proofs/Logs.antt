@@ -5,7 +5,7 @@ use Rattle.std.specs.Option.{option_map_or}
 use Rattle.std.proofs.lemmas.Bool.Decides.{nat_tests}
 use Rattle.std.proofs.lemmas.List.Quantifiers.{position-Some}
 use Rattle.std.proofs.lemmas.Bool.{cond_both}
-use Rattle.card_layout.specs.uicc_types.Choices.{mapped_Some}
+use Rattle.card_layout.proofs.uicc_types.ChoiceLemmas.{mapped_Some}
 use Rattle.card_layout.specs.Persistent.{Registration}
 use Rattle.toolkit_commands.specs.declared.commands.Proactive.{Proactive}
 use Rattle.toolkit_commands.specs.Table.{spelled}

@@ -5,8 +5,8 @@ use Rattle.std.specs.Option.{option_to_list}
 use Rattle.std.proofs.lemmas.List.Elements.{All-nil, All-cons, All-head, All-tail, All-weaker, All-map, All-contains_itself, All-filter}
 use Rattle.std.proofs.lemmas.List.Kept.{AllPairs-filter}
 use Rattle.std.proofs.lemmas.Bool.{or_parts, cond_both, ltb-false}
-use Rattle.card_layout.specs.uicc_types.Numbered.{mapped_too}
-use Rattle.card_layout.specs.uicc_types.Pairs.{pairs_nil, pairs_cons, pairs_map}
+use Rattle.card_layout.proofs.uicc_types.NumberedLemmas.{mapped_too}
+use Rattle.card_layout.proofs.uicc_types.PairLemmas.{pairs_nil, pairs_cons, pairs_map}
 use Rattle.card_layout.specs.uicc_types.declared.identifiers.Shelf.{Shelf}
 use Rattle.card_layout.specs.uicc_types.declared.events.TheConstants.{PROFILE_DOWNLOAD, STATUS_COMMAND, CALL_CONTROL}
 use Rattle.card_layout.specs.Persistent.{Registration}

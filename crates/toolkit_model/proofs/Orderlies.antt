@@ -1,11 +1,11 @@
 -- A session in order, in the words of the laws and in those of the proofs.
 use Rattle.std.proofs.Common.{◌≡◌, ℕ, Bool, false, List, [], ◌∷◌, map, ap, refl, sym, ◌∙◌}
-use Rattle.card_layout.specs.uicc_types.Numbered.{all_unmapped}
+use Rattle.card_layout.proofs.uicc_types.NumberedLemmas.{all_unmapped}
 use Rattle.std.specs.Prelude.{◌==◌, ◌||◌, not, All, Contains}
 use Rattle.std.specs.List.{list_any}
 use Rattle.std.proofs.lemmas.List.Elements.{All-weaker, All-map}
 use Rattle.std.proofs.lemmas.Bool.{not-false}
-use Rattle.card_layout.specs.uicc_types.Members.{number_there}
+use Rattle.card_layout.proofs.uicc_types.MemberLemmas.{number_there}
 use Rattle.toolkit_model.specs.Sessions.{Sent}
 use Rattle.toolkit_model.specs.Orderly.{asks, IsSuspended}
 use Rattle.toolkit_model.specs.Passing.{ToolkitState}

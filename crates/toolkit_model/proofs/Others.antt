@@ -8,10 +8,10 @@ use Rattle.std.proofs.lemmas.List.{length-map}
 use Rattle.std.proofs.lemmas.List.Elements.{All-nil, All-cons, All-head, All-tail, All-map, All-weaker, All-filter, All-replicate, Contains-append_left, Contains-append_right, All-append, All-push, filter_passes}
 use Rattle.std.proofs.lemmas.List.Kept.{AllPairs-filter}
 use Rattle.std.proofs.lemmas.List.Sums.{length-filter}
-use Rattle.card_layout.specs.uicc_types.Choices.{chosen}
-use Rattle.card_layout.specs.uicc_types.Numbered.{mapped_too, all_unmapped}
-use Rattle.card_layout.specs.uicc_types.Pairs.{pairs_nil, pairs_cons, pairs_head, pairs_tail}
-use Rattle.card_layout.specs.uicc_types.Members.{kept_there}
+use Rattle.card_layout.proofs.uicc_types.ChoiceLemmas.{chosen}
+use Rattle.card_layout.proofs.uicc_types.NumberedLemmas.{mapped_too, all_unmapped}
+use Rattle.card_layout.proofs.uicc_types.PairLemmas.{pairs_nil, pairs_cons, pairs_head, pairs_tail}
+use Rattle.card_layout.proofs.uicc_types.MemberLemmas.{kept_there}
 use Rattle.card_layout.specs.uicc_types.declared.identifiers.Shelf.{Shelf}
 use Rattle.card_layout.specs.Persistent.{Registration}
 use Rattle.card_layout.specs.Sections.{has_text, with_row}

@@ -5,8 +5,8 @@ use Rattle.std.specs.List.{fold}
 use Rattle.std.proofs.lemmas.List.{length-set}
 use Rattle.std.proofs.lemmas.List.Elements.{All-set, All-map}
 use Rattle.std.proofs.lemmas.Bool.{cond_both}
-use Rattle.card_layout.specs.uicc_types.Pairs.{pairs_map, pairs_unmap}
-use Rattle.card_layout.specs.uicc_types.Numbered.{all_unmapped}
+use Rattle.card_layout.proofs.uicc_types.PairLemmas.{pairs_map, pairs_unmap}
+use Rattle.card_layout.proofs.uicc_types.NumberedLemmas.{all_unmapped}
 use Rattle.card_layout.specs.Persistent.{Registration}
 use Rattle.card_layout.specs.Sections.{has_text}
 use Rattle.applet_trait.specs.declared.stimuli.Stimulus.{Stimulus}

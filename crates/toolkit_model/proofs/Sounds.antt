@@ -6,18 +6,18 @@ use Rattle.std.proofs.lemmas.Bool.{eqb-false, eqb-true, leb-true, ltb-false, or_
 use Rattle.std.proofs.lemmas.List.{length-set}
 use Rattle.std.proofs.lemmas.List.Elements.{All-nil, All-cons, All-map, All-append, All-filter, All-weaker, All-contains_itself, filter_map-append}
 use Rattle.std.proofs.lemmas.List.Kept.{AllPairs-filter}
-use Rattle.card_layout.specs.uicc_types.Choices.{chosen, second_false}
-use Rattle.card_layout.specs.uicc_types.Numbered.{all_unmapped}
-use Rattle.card_layout.specs.uicc_types.Pairs.{pairs_map, pairs_unmap}
-use Rattle.card_layout.specs.uicc_types.Members.{in_rest, of_filtered}
+use Rattle.card_layout.proofs.uicc_types.ChoiceLemmas.{chosen, second_false}
+use Rattle.card_layout.proofs.uicc_types.NumberedLemmas.{all_unmapped}
+use Rattle.card_layout.proofs.uicc_types.PairLemmas.{pairs_map, pairs_unmap}
+use Rattle.card_layout.proofs.uicc_types.MemberLemmas.{in_rest, of_filtered}
 use Rattle.card_layout.specs.uicc_types.declared.events.TheConstants.{CALL_CONTROL}
-use Rattle.card_layout.specs.Codes.{codes_known}
+use Rattle.card_layout.proofs.CodeLemmas.{codes_known}
 use Rattle.card_layout.specs.Kinds.{event_codes, known_codes, call_control_code}
 use Rattle.card_layout.specs.Persistent.{Registration}
 use Rattle.card_layout.specs.Places.{row_count, kept_limit}
 use Rattle.card_layout.specs.Sections.{Installation, is_installation, is_code, are_different, counted, installation_of, needs_wide, is_call_control, sorted_codes, new_row, with_row}
 use Rattle.card_layout.specs.Soundness.{AreEventCodes, IsSoundRow}
-use Rattle.card_layout.specs.SortedCodes.{of_sorted}
+use Rattle.card_layout.proofs.SortedCodeLemmas.{of_sorted}
 use Rattle.toolkit_commands.specs.declared.commands.Proactive.{Proactive}
 use Rattle.toolkit_commands.specs.declared.responses.Response.{Response as Reply}
 use Rattle.applet_trait.specs.declared.stimuli.Stimulus.{Stimulus}

@@ -2,7 +2,7 @@
 use Rattle.std.proofs.Common.{◌≡◌, ℕ, List, [], Option, Some, None, refl, sym, ap, ◌∙◌, inl, inr, arith, subst}
 use Rattle.std.specs.Prelude.{◌⊎◌}
 use Rattle.std.specs.Result.{result_ok}
-use Rattle.card_steps.specs.byte_streams.Laws.{IsTaken-none}
+use Rattle.card_steps.proofs.byte_streams.ReadingLemmas.{IsTaken-none}
 use Rattle.card_core.specs.card_model.Counts.{IsCounted}
 use Rattle.run_words.specs.Model.{AskForRun, IsMadeFor, IsRequest}
 use Rattle.run_words.specs.declared.requests.Devices.{Devices}

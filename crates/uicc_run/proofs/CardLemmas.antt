@@ -2,7 +2,7 @@
 use Rattle.std.proofs.Common.{◌≡◌, ℕ, zero, suc, Bool, true, false, List, [], ◌∷◌, Option, Some, None, refl, sym, ap, ◌∙◌, subst, option_map}
 use Rattle.std.specs.List.{list_all}
 use Rattle.std.specs.Prelude.{All, if◌then◌else◌, is_none, slice_index_or, slice_set}
-use Rattle.update_journal.specs.uicc_types.Choices.{mapped_Some}
+use Rattle.update_journal.proofs.uicc_types.ChoiceLemmas.{mapped_Some}
 use Rattle.card_core.specs.applet_trait.Minds.{AppletState}
 use Rattle.card_core.specs.Cards.{boxes_kept, card_of, card_with, held_by}
 use Rattle.card_core.specs.Openings.{with_all_shelves}
@@ -10,7 +10,7 @@ use Rattle.card_core.specs.Parts.{CardParts}
 use Rattle.card_core.specs.card_layout.Migration.{ends_low, migrated}
 use Rattle.card_core.specs.card_layout.Persistent.{Persistent, Registration}
 use Rattle.card_core.specs.card_model.States.{CardState, HasBox, IsGood, Machine, row_on, woken, woken_boxes, woken_mind}
-use Rattle.card_core.specs.card_model.Woken.{woken_at, woken_kind}
+use Rattle.card_core.proofs.card_model.WokenLemmas.{woken_at, woken_kind}
 use Rattle.phone_runs.specs.card_sections.Cast.{kind_of_box}
 use Rattle.card_steps.specs.Ends.{End, moment_at}
 use Rattle.card_steps.specs.Runs.{machine_of}

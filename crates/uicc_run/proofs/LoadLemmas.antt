@@ -17,13 +17,14 @@ use Rattle.card_core.specs.card_model.Counts.{IsCounted}
 use Rattle.card_core.specs.card_model.Laws.{CountsJoin}
 use Rattle.card_core.specs.card_model.States.{HasBox, woken}
 use Rattle.card_core.specs.card_opening.Boxes.{IsFirstWithoutBox}
-use Rattle.card_core.specs.layout_mount.Mounted.{read_told}
+use Rattle.card_core.proofs.layout_mount.MountedLemmas.{read_told}
 use Rattle.card_core.specs.card_opening.Starts.{Finds, IsLeftMigrated, FaultLeaves}
 use Rattle.card_core.specs.card_opening.declared.faults.OpenFault.{OpenFault}
 use Rattle.card_core.specs.card_opening.declared.faults.OpenFault.TheVariants as fault
-use Rattle.phone_runs.specs.card_sections.RowLaws.{IsOfItsBox, rows_have_boxes}
+use Rattle.phone_runs.specs.card_sections.RowLaws.{IsOfItsBox}
+use Rattle.phone_runs.proofs.card_sections.RowLemmas.{rows_have_boxes}
 use Rattle.phone_runs.specs.card_sections.Script.{then_on, with_lines}
-use Rattle.phone_runs.specs.card_sections.SectionLaws.{splits, with_lines-append}
+use Rattle.phone_runs.proofs.card_sections.SectionLemmas.{splits, with_lines-append}
 use Rattle.phone_runs.specs.card_sections.declared.faults.ScriptFault.TheVariants as script
 use Rattle.card_steps.proofs.StandingLemmas.{is_machine}
 use Rattle.card_steps.specs.Stepping.{Moment, moment}

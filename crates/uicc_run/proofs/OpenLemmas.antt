@@ -3,7 +3,7 @@ use Rattle.std.proofs.Common.{◌≡◌, ℕ, true, false, List, [], ◌∷◌, 
 use Rattle.std.specs.Prelude.{◌⊎◌, IfSome, IsOkAnd}
 use Rattle.std.proofs.lemmas.List.Elements.{All-nil}
 use Rattle.std.specs.Result.{result_ok}
-use Rattle.update_journal.specs.uicc_types.Optional.{if_some_at}
+use Rattle.update_journal.proofs.uicc_types.OptionalLemmas.{if_some_at}
 use Rattle.card_core.specs.applet_trait.Minds.{AppletState}
 use Rattle.card_core.specs.Cards.{card_of, held_by}
 use Rattle.card_core.specs.Openings.{opened, with_all_shelves}
@@ -16,14 +16,14 @@ use Rattle.card_core.specs.card_model.Counts.{IsCounted}
 use Rattle.card_core.specs.card_model.Laws.{CountsJoin}
 use Rattle.card_core.specs.card_model.States.{IsGood, woken}
 use Rattle.card_core.specs.card_opening.Boxes.{IsFirstWithoutBox}
-use Rattle.card_core.specs.layout_mount.Mounted.{read_told}
+use Rattle.card_core.proofs.layout_mount.MountedLemmas.{read_told}
 use Rattle.card_core.specs.card_opening.Starts.{Finds, IsLeftMigrated, FaultLeaves}
 use Rattle.card_core.specs.card_opening.declared.faults.OpenFault.{OpenFault}
 use Rattle.card_core.specs.card_opening.declared.faults.OpenFault.TheVariants as fault
-use Rattle.card_steps.specs.byte_streams.Laws.{HasRead-start}
+use Rattle.card_steps.proofs.byte_streams.ReadingLemmas.{HasRead-start}
 use Rattle.card_steps.specs.byte_streams.Lines.{lines_within}
 use Rattle.card_steps.specs.byte_streams.Reading.{at_start, pending}
-use Rattle.phone_runs.specs.card_sections.LineLaws.{Say-from_read}
+use Rattle.phone_runs.proofs.card_sections.LineLemmas.{Say-from_read}
 use Rattle.phone_runs.specs.card_sections.Reading.{AtStart, InSection}
 use Rattle.phone_runs.specs.card_sections.Script.{described, then_on, with_lines}
 use Rattle.phone_runs.specs.card_sections.declared.behind.PlayEnd.{PlayEnd}

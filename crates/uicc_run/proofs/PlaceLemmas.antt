@@ -10,7 +10,7 @@ use Rattle.card_core.specs.card_layout.declared.faults.SectionFault.TheVariants.
 use Rattle.phone_runs.specs.card_sections.Behind.{IsBadBehind}
 use Rattle.phone_runs.specs.card_sections.Reading.{IsBadHere, IsTooMuchHere}
 use Rattle.phone_runs.specs.card_sections.Script.{Each, with_line, with_lines}
-use Rattle.phone_runs.specs.card_sections.SectionLaws.{splits}
+use Rattle.phone_runs.proofs.card_sections.SectionLemmas.{splits}
 use Rattle.card_steps.specs.script_form.Forms.{IsLine}
 use Rattle.card_steps.specs.script_form.declared.lines.ScriptLine.{ScriptLine}
 use Rattle.card_steps.specs.script_form.declared.lines.ScriptLine.TheVariants.{Start}

@@ -7,7 +7,7 @@ use Rattle.card_core.specs.card_model.Counts.{IsCounted}
 use Rattle.card_core.specs.card_model.Laws.{CountsJoin, PlansAreSetInOrder}
 use Rattle.card_core.specs.card_model.Runs.{plan_given, armed_after, waiting_after}
 use Rattle.card_core.specs.card_model.States.{Machine}
-use Rattle.phone_runs.specs.card_sections.LineLaws.{AreRead-more}
+use Rattle.phone_runs.proofs.card_sections.LineLemmas.{AreRead-more}
 use Rattle.phone_runs.specs.card_sections.Reading.{Finds, Follows}
 use Rattle.phone_runs.specs.card_sections.Script.{AreRead}
 use Rattle.phone_runs.specs.card_sections.declared.behind.PlayEnd.{PlayEnd}

@@ -7,7 +7,7 @@ use Rattle.card_core.specs.card_layout.Persistent.{Persistent}
 use Rattle.card_core.specs.card_opening.declared.faults.OpenFault.{OpenFault}
 use Rattle.card_core.specs.card_opening.declared.faults.OpenFault.TheVariants as fault
 use Rattle.phone_runs.specs.card_sections.Behind.{EndsReading, IsReading, LinesReadTo}
-use Rattle.phone_runs.specs.card_sections.BehindLaws.{reads_first}
+use Rattle.phone_runs.proofs.card_sections.BehindLemmas.{reads_first}
 use Rattle.phone_runs.specs.card_sections.Reading.{AtStart}
 use Rattle.phone_runs.specs.card_sections.Script.{AreRead, with_lines}
 use Rattle.phone_runs.specs.card_sections.declared.behind.PlayEnd.{PlayEnd}

@@ -12,9 +12,10 @@ use Rattle.card_core.specs.Openings.{with_all_shelves}
 use Rattle.card_core.specs.card_layout.Persistent.{Persistent, Registration}
 use Rattle.card_core.specs.card_model.States.{HasBox, IsGood}
 use Rattle.card_core.specs.card_opening.Boxes.{IsFirstWithoutBox}
-use Rattle.phone_runs.specs.card_sections.LineLaws.{Say-from_read}
+use Rattle.phone_runs.proofs.card_sections.LineLemmas.{Say-from_read}
 use Rattle.phone_runs.specs.card_sections.Reading.{EndsInSection}
-use Rattle.phone_runs.specs.card_sections.RowLaws.{AreOfTheirBoxes, rows_have_boxes}
+use Rattle.phone_runs.specs.card_sections.RowLaws.{AreOfTheirBoxes}
+use Rattle.phone_runs.proofs.card_sections.RowLemmas.{rows_have_boxes}
 use Rattle.phone_runs.specs.card_sections.Script.{Say, with_lines}
 use Rattle.phone_runs.specs.card_sections.declared.behind.PlayEnd.{PlayEnd}
 use Rattle.phone_runs.specs.card_sections.declared.behind.PlayEnd.TheVariants as play

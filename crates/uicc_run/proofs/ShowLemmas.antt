@@ -12,7 +12,7 @@ use Rattle.card_core.specs.card_model.Runs.{Commands, MeetsNoPower, StepGives, a
 use Rattle.card_core.specs.card_model.States.{Machine}
 use Rattle.card_core.specs.card_opening.declared.faults.OpenFault.{OpenFault}
 use Rattle.card_core.specs.card_opening.declared.faults.OpenFault.TheVariants as fault
-use Rattle.phone_runs.specs.card_sections.LineLaws.{AreRead-more}
+use Rattle.phone_runs.proofs.card_sections.LineLemmas.{AreRead-more}
 use Rattle.phone_runs.specs.card_sections.Reading.{AtStart, Finds, Follows}
 use Rattle.phone_runs.specs.card_sections.Script.{AreRead}
 use Rattle.phone_runs.specs.card_sections.declared.behind.PlayEnd.{PlayEnd}

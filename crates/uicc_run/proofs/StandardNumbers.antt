@@ -14,7 +14,7 @@ use Rattle.card_core.specs.toolkit_commands.declared.kinds.TheConstants as comma
 use Rattle.card_core.specs.toolkit_commands.declared.results.TheConstants as general
 use Rattle.card_core.specs.toolkit_commands.declared.devices.TheConstants as device
 use Rattle.card_core.specs.toolkit_commands.declared.qualifiers.TheConstants as qualifier
-use Rattle.bip_channels.specs.declared.codes.TheConstants as channel
+use Rattle.bip_runs.specs.bip_channels.declared.codes.TheConstants as channel
 use Rattle.card_steps.specs.t0_link.declared.instructions.TheConstants as fetched_by
 use Rattle.card_steps.specs.t0_link.declared.answers.TheConstants as over_t0
 use Rattle.update_journal.specs.store_form.declared.store.TheConstants as own

@@ -1,13 +1,5 @@
 pub mod Answers
 pub mod Calls
-pub mod Choices
 pub mod Counts
-pub mod Edits
-pub mod Finding
-pub mod Members
-pub mod Numbered
-pub mod Optional
-pub mod Pairs
 pub mod Patches
-pub mod Ranges
 pub mod Told

@@ -4,13 +4,15 @@ use Rattle.std.specs.Prelude.{slice_range}
 use Rattle.std.proofs.lemmas.Bool.{cases_Bool, cases_lt}
 use Rattle.std.proofs.lemmas.List.{get_or-take, get_or-drop, get_or_past, drop_at}
 use Rattle.std.proofs.lemmas.Grind.{same_number_lists}
-use Rattle.uicc_types.specs.Patches.{patched, patched_inside, Torn, Torn_patched, Torn_wider}
+use Rattle.uicc_types.specs.Patches.{patched, Torn}
+use Rattle.uicc_types.proofs.PatchLemmas.{patched_inside, Torn_patched, Torn_wider}
 use Rattle.store_form.specs.Pieces.{Piece, applied, IsUsable, IsWithinBounds}
 use Rattle.update_journal.specs.Entries.{entries, pieces_in}
 use Rattle.update_journal.specs.Hidden.{length-hidden, hidden_own}
 use Rattle.update_journal.proofs.HiddenLemmas.{hidden_below, hidden_above, hidden-Torn, hidden-patched, hidden-applied}
 use Rattle.update_journal.specs.Journal.{is_open, pending, hidden, stable_of}
-use Rattle.store_form.specs.Spared.{AreUsable, Rewritten, Rewritten_applied}
+use Rattle.store_form.specs.Spared.{AreUsable, Rewritten}
+use Rattle.store_form.proofs.SparedLemmas.{Rewritten_applied}
 use Rattle.store_form.proofs.SparedLemmas.{applied-Rewritten, applied-applied, Spare_own}
 use Rattle.update_journal.proofs.Spelling.{pieces_back, length-entries}
 

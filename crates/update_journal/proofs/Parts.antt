@@ -2,7 +2,8 @@
 use Rattle.std.proofs.Common.{◌≡◌, ℕ, ◌+◌, ◌≤◌, List, [], ◌++◌, length, Option, None, Some, refl, sym, ◌∙◌, ap, subst, arith, length-append, append_assoc}
 use Rattle.std.specs.Prelude.{option_map, IfSome}
 use Rattle.uicc_types.specs.Told.{Becomes}
-use Rattle.uicc_types.specs.Patches.{patched, patched-nil, patched-patched, Torn, Torn_patched, Torn_wider, Torn_again}
+use Rattle.uicc_types.specs.Patches.{patched, Torn}
+use Rattle.uicc_types.proofs.PatchLemmas.{patched-nil, patched-patched, Torn_patched, Torn_wider, Torn_again}
 
 -- what is told has so many bytes
 abbrev pub HasLength : Option (List ℕ) → ℕ → Type 0

@@ -9,7 +9,8 @@ use Rattle.std.proofs.lemmas.List.Sums.{sum_by-append}
 use Rattle.std.proofs.Math.Bool.{and-false}
 use Rattle.store_form.specs.Pieces.{Piece, byte_total, IsUsablePiece}
 use Rattle.update_journal.specs.Entries.{first_piece, first_pieces, is_usable, are_well_formed, if_well_formed, pieces_in}
-use Rattle.update_journal.specs.WellFormed.{test, tests_from_usable}
+use Rattle.update_journal.specs.WellFormed.{test}
+use Rattle.update_journal.proofs.WellFormedLemmas.{tests_from_usable}
 
 -- what the area spells: these pieces, and then so many more at the front of what is left
 pub record Reads (size : ℕ) (area : List ℕ) (done : List Piece) (left : ℕ) (rest : List ℕ) : Type 0 where

@@ -12,7 +12,7 @@ use Rattle.std.proofs.lemmas.Bool.{le-leb}
 use Rattle.std.proofs.lemmas.Bool.Decides.{nat_tests}
 use Rattle.store_form.specs.Pieces.{Piece, byte_total, IsUsablePiece, IsWithinBounds}
 use Rattle.update_journal.specs.Entries.{entry, entries, first_piece, first_pieces, pieces_in}
-use Rattle.update_journal.specs.WellFormed.{tests_from_usable}
+use Rattle.update_journal.proofs.WellFormedLemmas.{tests_from_usable}
 
 pub byte_total-cons : (piece : Piece) (pieces : List Piece) → byte_total (piece ∷ pieces) ≡ length piece.bytes + byte_total pieces
 byte_total-cons piece pieces =

@@ -7,11 +7,13 @@ use Rattle.std.proofs.lemmas.List.{get_or-take, get_or-drop, take_all}
 use Rattle.std.proofs.lemmas.List.Elements.{All-take}
 use Rattle.std.proofs.lemmas.Option.{same_Some, get_or_from_slice_get, slice_get_within}
 use Rattle.uicc_types.specs.Told.{Becomes}
-use Rattle.uicc_types.specs.Patches.{patched, patched-nil, Torn, Torn_patched}
+use Rattle.uicc_types.specs.Patches.{patched, Torn}
+use Rattle.uicc_types.proofs.PatchLemmas.{patched-nil, Torn_patched}
 use Rattle.store_form.specs.Pieces.{Piece, applied, IsUsable, IsUsablePiece, IsWithinBounds}
 use Rattle.update_journal.specs.Entries.{entries, pieces_in}
 use Rattle.update_journal.specs.Journal.{is_open, stable_of, stable, IsWhole, is_settled, IsUnderWay}
-use Rattle.store_form.specs.Spared.{AreUsable, length-applied, Rewritten, Rewritten_applied}
+use Rattle.store_form.specs.Spared.{AreUsable, Rewritten}
+use Rattle.store_form.proofs.SparedLemmas.{length-applied, Rewritten_applied}
 use Rattle.store_form.proofs.SparedLemmas.{Rewritten_again, Rewritten_part, Rewritten_take}
 use Rattle.update_journal.proofs.Images.{area, pending_open, pending_none, entries_torn, area_spelled, opening, gate_torn, pieces_torn, closing, closed_gate, opened_gate, prepared, prepared_torn, stable_range}
 use Rattle.update_journal.proofs.Parts.{HasLength}

@@ -1,12 +1,11 @@
 -- What the test of well formed pieces says of them.
-use Rattle.std.specs.Prelude.{◌≡◌, ℕ, ◌+◌, ◌≤◌, ◌<◌, Bool, true, false, ◌&&◌, nat_le, if◌then◌else◌, List, [], ◌∷◌, length, Option, Some, None, option_and_then, All}
-use Rattle.std.specs.List.{list_all}
+use Rattle.std.specs.Prelude.{◌≡◌, ℕ, Bool, true, false, ◌&&◌, nat_le, if◌then◌else◌, List, [], ◌∷◌, length, Option, Some, None, option_and_then, All}
 use Rattle.std.proofs.Common.{refl, sym, subst, arith}
 use Rattle.std.proofs.lemmas.Bool.Decides.{nat_tests}
-use Rattle.std.proofs.lemmas.List.Sums.{AllPass-from_list_all, list_all-from_AllPass}
+use Rattle.std.proofs.lemmas.List.Sums.{AllPass-from_list_all}
 use Rattle.std.proofs.lemmas.List.Elements.{All-weaker}
 use Rattle.std.proofs.lemmas.Bool.{and_parts}
-use Rattle.store_form.specs.Pieces.{Piece, byte_total, IsUsablePiece}
+use Rattle.store_form.specs.Pieces.{Piece, IsUsablePiece}
 use Rattle.update_journal.specs.Entries.{is_usable, are_well_formed, if_well_formed, first_pieces, pieces_in}
 
 abbrev pub test : ℕ → Piece → Bool
@@ -18,22 +17,9 @@ usable_from_test size piece passed = record {
   range = record { inside = grind (arith, nat_tests); outside = λ some low. grind (arith, nat_tests) };
 }
 
-pub test_from_usable : (size : ℕ) (piece : Piece) → IsUsablePiece size piece → test size piece ≡ true
-test_from_usable size piece usable =
-    let some : 0 < length piece.bytes = usable.some in
-    let inside : piece.place + length piece.bytes ≤ size = usable.range.inside in
-    let outside : piece.place < 832 → piece.place + length piece.bytes ≤ 64 = usable.range.outside some in
-    grind (arith, nat_tests)
-
 pub usable_from_tests : (size : ℕ) (pieces : List Piece) → are_well_formed size pieces ≡ true → All (IsUsablePiece size) pieces
 usable_from_tests size pieces passed =
     All-weaker (λ piece. test size piece ≡ true) (IsUsablePiece size) (usable_from_test size) pieces (AllPass-from_list_all (test size) pieces ((and_parts _ _ passed).0))
-
-pub tests_from_usable : (size : ℕ) (pieces : List Piece) → All (IsUsablePiece size) pieces → byte_total pieces ≤ 640 → are_well_formed size pieces ≡ true
-tests_from_usable size pieces usable few =
-    let each : list_all (test size) pieces ≡ true = list_all-from_AllPass (test size) pieces (All-weaker (IsUsablePiece size) (λ piece. test size piece ≡ true) (test_from_usable size) pieces usable) in
-    let total : nat_le (byte_total pieces) 640 ≡ true = grind (arith, nat_tests) in
-    rw (each, total) refl
 
 from_if : (size : ℕ) (found pieces : List Piece) (b : Bool) → b ≡ are_well_formed size found → (if b then Some found else None) ≡ Some pieces → All (IsUsablePiece size) pieces
 from_if size found pieces true passed is =

@@ -1,5 +1,5 @@
 use Rattle.std.proofs.Common.{refl}
-use Rattle.script_form.specs.byte_streams.Laws.{IsTaken-within, IsWithin-start}
+use Rattle.script_form.proofs.byte_streams.ReadingLemmas.{IsTaken-within, IsWithin-start}
 use Rattle.bip_runs.proofs.Lines.{serves_first}
 use Rattle.bip_runs.proofs.serving.serve_script.Goals as goal
 

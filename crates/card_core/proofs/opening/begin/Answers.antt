@@ -6,7 +6,7 @@ use Rattle.toolkit_model.specs.applet_trait.Minds.{AppletState, minds_of}
 use Rattle.file_model.specs.card_layout.States.{rows_of}
 use Rattle.card_model.specs.States.{woken_boxes}
 use Rattle.card_opening.specs.Starts.{Opens, Refuses}
-use Rattle.layout_mount.specs.Mounted.{unread}
+use Rattle.card_opening.specs.layout_mount.Mounted.{unread}
 use Rattle.file_model.specs.card_layout.Memory.{memory}
 use Rattle.card_core.specs.Openings.{with_all_shelves}
 use Rattle.card_core.proofs.Opened.{minds_filled}

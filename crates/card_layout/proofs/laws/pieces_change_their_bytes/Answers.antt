@@ -1,4 +1,4 @@
-use Rattle.uicc_types.specs.Patches.{range-patched_apart, range-patched_inside}
+use Rattle.uicc_types.proofs.PatchLemmas.{range-patched_apart, range-patched_inside}
 use Rattle.card_layout.proofs.laws.pieces_change_their_bytes.Goals as goal
 
 pub returns-clause-beside : goal.returns-clause-beside

@@ -1,5 +1,5 @@
 use Rattle.std.proofs.Common.{ap, length, arith, length-append}
-use Rattle.card_layout.specs.ReadingBack.{length-padded}
+use Rattle.card_layout.proofs.ReadingBackLemmas.{length-padded}
 use Rattle.card_layout.proofs.spelling.spell_row.Goals as goal
 
 pub returns-clause-long : goal.returns-clause-long

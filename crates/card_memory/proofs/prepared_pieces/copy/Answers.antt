@@ -1,8 +1,8 @@
 -- A part copied behind a copied one makes one longer copy, as source and target are apart; where one is torn, the target alone is.
 use Rattle.std.proofs.Common.{refl, ◌∙◌, arith, rules}
 use Rattle.card_memory.specs.Prepared.{copied}
-use Rattle.file_model.specs.uicc_types.Optional.{on_err}
-use Rattle.file_model.specs.uicc_types.Calls.{calm_same, caused_then, calm_ok}
+use Rattle.file_model.proofs.uicc_types.OptionalLemmas.{on_err}
+use Rattle.file_model.proofs.uicc_types.CallLemmas.{calm_same, caused_then, calm_ok}
 use Rattle.card_memory.proofs.Parts.{whole_of, copied_keeps, copied_none, copied_on, torn_on}
 use Rattle.card_memory.proofs.prepared_pieces.copy.Goals as goal
 

@@ -1,8 +1,8 @@
 -- FF behind FF is one longer fill; where a fault tears a part, the parts filled before it count as torn too, all within the range.
 use Rattle.std.proofs.Common.{refl, ◌∙◌, arith, rules}
 use Rattle.card_memory.specs.Prepared.{filled}
-use Rattle.file_model.specs.uicc_types.Optional.{on_err}
-use Rattle.file_model.specs.uicc_types.Calls.{calm_same, caused_then, calm_ok}
+use Rattle.file_model.proofs.uicc_types.OptionalLemmas.{on_err}
+use Rattle.file_model.proofs.uicc_types.CallLemmas.{calm_same, caused_then, calm_ok}
 use Rattle.card_memory.proofs.Parts.{whole_of, filled_keeps, filled_none, filled_on, torn_on}
 use Rattle.card_memory.proofs.prepared_pieces.fill.Goals as goal
 

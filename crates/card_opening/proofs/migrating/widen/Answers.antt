@@ -1,6 +1,6 @@
 -- Torn upper rows still stand for the narrow card; after them a fault leaves the version written or not: the wide card or the narrow.
 use Rattle.std.proofs.Common.{ℕ, inl, ◌∙◌, ap, rules}
-use Rattle.card_layout.specs.uicc_types.Optional.{on_err}
+use Rattle.card_layout.proofs.uicc_types.OptionalLemmas.{on_err}
 use Rattle.card_layout.specs.Standing.{standing}
 use Rattle.card_opening.proofs.Widened.{after_torn, after_version, after_either, agrees_marked, either_marked}
 use Rattle.card_opening.proofs.migrating.widen.Goals as goal

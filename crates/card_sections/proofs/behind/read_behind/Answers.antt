@@ -1,4 +1,4 @@
-use Rattle.card_sections.specs.BehindLaws.{bad_in_script}
+use Rattle.card_sections.proofs.BehindLemmas.{bad_in_script}
 use Rattle.card_sections.proofs.behind.read_behind.Goals as goal
 
 pub returns-in-Ok-true-clause-gives : goal.returns-in-Ok-true-clause-gives

@@ -1,5 +1,5 @@
 use Rattle.std.proofs.Common.{◌≡◌, sym, ◌∙◌}
-use Rattle.card_model.specs.Channels.{channel_of}
+use Rattle.file_tree.specs.card_model.Channels.{channel_of}
 use Rattle.file_making.specs.Resizing.{resized_if_room, resized}
 use Rattle.file_admin.proofs.Answering.{refused, alike, still_alike}
 use Rattle.file_admin.proofs.Known.{listed}

@@ -1,5 +1,5 @@
 use Rattle.std.proofs.Common.{List, ℕ, Option, sym, ap, ◌∙◌}
-use Rattle.file_model.specs.uicc_types.Optional.{if_some, if_some_at, if_ok_from}
+use Rattle.file_model.proofs.uicc_types.OptionalLemmas.{if_some, if_some_at, if_ok_from}
 use Rattle.file_model.specs.declared.descriptors.Descriptor.{Descriptor}
 use Rattle.file_model.specs.Access.{arr_found, granted_by}
 use Rattle.card_memory.specs.Model.{held_by}

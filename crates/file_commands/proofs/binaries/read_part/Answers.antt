@@ -1,6 +1,6 @@
 use Rattle.std.proofs.Common.{◌≡◌, length, arith}
 use Rattle.std.proofs.lemmas.Grind.{common_steps}
-use Rattle.file_model.specs.uicc_types.Optional.{if_some, if_some_at}
+use Rattle.file_model.proofs.uicc_types.OptionalLemmas.{if_some, if_some_at}
 use Rattle.file_model.specs.Holdings.{bytes_in}
 use Rattle.card_memory.specs.Model.{held_by}
 use Rattle.file_commands.proofs.binaries.read_part.Goals as goal

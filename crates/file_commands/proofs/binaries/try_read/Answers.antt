@@ -2,7 +2,7 @@ use Rattle.std.proofs.Common.{ap, ◌∙◌}
 use Rattle.file_model.specs.Binaries.{binary_file, binary_to_read, read_from, binary_read}
 use Rattle.file_model.specs.Files.{descriptors_of}
 use Rattle.card_memory.specs.Model.{memory}
-use Rattle.file_commands.specs.Chained.{file_gives, refusal_gives}
+use Rattle.file_commands.proofs.ChainedLemmas.{file_gives, refusal_gives}
 use Rattle.file_commands.proofs.binaries.try_read.Goals as goal
 
 pub returns-in-Ok-clause-gives : goal.returns-in-Ok-clause-gives

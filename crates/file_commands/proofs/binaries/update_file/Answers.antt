@@ -1,13 +1,13 @@
 use Rattle.std.proofs.Common.{◌≡◌, ◌≤◌, ◌+◌, Option, Some, length, sym, ◌∙◌, true, arith}
 use Rattle.std.proofs.lemmas.Grind.{common_steps}
-use Rattle.file_model.specs.uicc_types.Optional.{on_err, if_some, if_some_at}
+use Rattle.file_model.proofs.uicc_types.OptionalLemmas.{on_err, if_some, if_some_at}
 use Rattle.file_model.specs.card_layout.Persistent.{Persistent}
 use Rattle.file_model.specs.card_layout.Changing.{with_bytes}
 use Rattle.file_model.specs.declared.rules.Op.TheVariants.{UpdateBinary}
 use Rattle.file_model.specs.Access.{may}
 use Rattle.file_model.specs.Binaries.{offset_of}
 use Rattle.card_memory.specs.Model.{held_by, standing}
-use Rattle.file_commands.specs.Chained.{left_by}
+use Rattle.file_commands.proofs.ChainedLemmas.{left_by}
 use Rattle.file_commands.proofs.Stopping.{update_changes, update_passes}
 use Rattle.file_commands.proofs.binaries.update_file.Goals as goal
 

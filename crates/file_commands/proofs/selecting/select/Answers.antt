@@ -1,8 +1,8 @@
 use Rattle.std.proofs.Common.{refl}
-use Rattle.file_model.specs.uicc_types.Optional.{if_some}
+use Rattle.file_model.proofs.uicc_types.OptionalLemmas.{if_some}
 use Rattle.file_model.specs.Selecting.{file_selected}
 use Rattle.card_memory.specs.Model.{held_by}
-use Rattle.file_commands.specs.Chained.{answered}
+use Rattle.file_commands.proofs.ChainedLemmas.{answered}
 use Rattle.file_commands.proofs.selecting.select.Goals as goal
 
 pub returns-clause-performs : goal.returns-clause-performs

@@ -1,7 +1,7 @@
 use Rattle.std.proofs.Common.{List, sym, ap, ◌∙◌}
 use Rattle.file_model.specs.declared.descriptors.Descriptor.{Descriptor}
 use Rattle.file_model.specs.Selections.{chosen}
-use Rattle.file_commands.specs.Chained.{tells_ok}
+use Rattle.file_commands.proofs.ChainedLemmas.{tells_ok}
 use Rattle.file_commands.proofs.Giving.{select_bad, select_long, select_none, select_found}
 use Rattle.file_commands.proofs.selecting.try_select.Goals as goal
 

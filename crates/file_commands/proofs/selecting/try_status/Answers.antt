@@ -2,7 +2,7 @@ use Rattle.std.proofs.Common.{List, sym, ap, ◌∙◌}
 use Rattle.file_model.specs.declared.descriptors.Descriptor.{Descriptor}
 use Rattle.file_model.specs.declared.descriptors.Wanted.TheVariants.{Number}
 use Rattle.file_model.specs.Files.{file_found}
-use Rattle.file_commands.specs.Chained.{tells_ok}
+use Rattle.file_commands.proofs.ChainedLemmas.{tells_ok}
 use Rattle.file_commands.proofs.Giving.{status_bad, status_long, status_none, status_found}
 use Rattle.file_commands.proofs.selecting.try_status.Goals as goal
 

@@ -1,5 +1,5 @@
 use Rattle.std.proofs.Common.{sym, ◌∙◌}
-use Rattle.file_model.specs.uicc_types.Optional.{if_some}
+use Rattle.file_model.proofs.uicc_types.OptionalLemmas.{if_some}
 use Rattle.file_making.proofs.ReadBack.{asked_found, asked_only}
 use Rattle.file_making.proofs.templates.read_template.Goals as goal
 

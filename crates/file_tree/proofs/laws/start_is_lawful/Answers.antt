@@ -5,7 +5,7 @@ use Rattle.file_model.specs.card_layout.Soundness.{IsSound}
 use Rattle.file_model.specs.declared.descriptors.Descriptor.{Descriptor}
 use Rattle.file_model.specs.declared.selections.TheConstants.Selection.{AT_START}
 use Rattle.file_model.specs.Selections.{IsSelection}
-use Rattle.card_model.specs.Woken.{start_is_selected}
+use Rattle.card_model.proofs.WokenLemmas.{start_is_selected}
 use Rattle.file_tree.proofs.laws.start_is_lawful.Goals as goal
 
 pub returns : goal.returns

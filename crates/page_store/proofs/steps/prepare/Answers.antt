@@ -2,9 +2,9 @@
 use Rattle.std.proofs.Common.{◌+◌, ◌-◌, List, ℕ, drop, refl, ap, ◌∙◌, arith, rules}
 use Rattle.std.specs.Prelude.{option_map}
 use Rattle.std.proofs.lemmas.List.{length-drop, length-take, take_all}
-use Rattle.update_journal.specs.uicc_types.Optional.{on_err}
+use Rattle.update_journal.proofs.uicc_types.OptionalLemmas.{on_err}
 use Rattle.update_journal.specs.uicc_types.Patches.{patched}
-use Rattle.update_journal.specs.uicc_types.Calls.{calm_same, caused_then, calm_ok}
+use Rattle.update_journal.proofs.uicc_types.CallLemmas.{calm_same, caused_then, calm_ok}
 use Rattle.page_store.specs.Pages.{content}
 use Rattle.page_store.specs.Laws.{told_content}
 use Rattle.page_store.proofs.Told.{put_on, torn_next}

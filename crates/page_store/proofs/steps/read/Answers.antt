@@ -1,6 +1,6 @@
 use Rattle.std.proofs.Common.{◌≡◌, ◌≤◌, ◌+◌, ℕ, length, sym, ◌∙◌, subst, arith}
 use Rattle.std.specs.Prelude.{slice_range, IfSome}
-use Rattle.update_journal.specs.uicc_types.Calls.{caused_then, calm_ok}
+use Rattle.update_journal.proofs.uicc_types.CallLemmas.{caused_then, calm_ok}
 use Rattle.page_store.specs.Pages.{content}
 use Rattle.page_store.specs.Laws.{told_content}
 use Rattle.page_store.proofs.Told.{Told, seen_on, part_length, mid_length}

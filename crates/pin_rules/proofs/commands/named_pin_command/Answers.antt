@@ -1,7 +1,7 @@
 -- The trial read from the table comes to what the command settles; where that passes no state nothing is committed, and no fault stops it.
 use Rattle.std.proofs.Common.{◌≡◌, length, refl, sym, ◌∙◌, ap, subst}
 use Rattle.std.proofs.lemmas.Bool.{false≢true}
-use Rattle.file_model.specs.uicc_types.Optional.{on_err}
+use Rattle.file_model.proofs.uicc_types.OptionalLemmas.{on_err}
 use Rattle.file_model.specs.uicc_types.Counts.{raised_by}
 use Rattle.file_model.specs.card_layout.States.{pins_of}
 use Rattle.file_model.specs.Commands.{pin_settled}

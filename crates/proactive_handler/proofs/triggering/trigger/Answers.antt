@@ -1,7 +1,7 @@
 use Rattle.std.proofs.Common.{sym, subst, ℕ}
 use Rattle.std.specs.Prelude.{◌≢◌, All, AllPairs}
-use Rattle.card_memory.specs.uicc_types.Numbered.{all_unmapped}
-use Rattle.card_memory.specs.uicc_types.Pairs.{pairs_unmap}
+use Rattle.card_memory.proofs.uicc_types.NumberedLemmas.{all_unmapped}
+use Rattle.card_memory.proofs.uicc_types.PairLemmas.{pairs_unmap}
 use Rattle.card_memory.specs.Model.{HasRowOn}
 use Rattle.card_memory.specs.uicc_types.declared.identifiers.Shelf.{Shelf}
 use Rattle.proactive_handler.proofs.triggering.trigger.Goals as goal

@@ -1,13 +1,13 @@
 -- A life cycle status that is new passes one state: a fault leaves that or the one before, and all other files are as they were.
 use Rattle.std.proofs.Common.{◌≡◌, Option, Some, [], ◌∷◌, refl, sym, ◌∙◌, true, rules}
 use Rattle.std.proofs.lemmas.Bool.{ne_eqb}
-use Rattle.file_model.specs.uicc_types.Optional.{on_err, if_some, if_some_at}
+use Rattle.file_model.proofs.uicc_types.OptionalLemmas.{on_err, if_some, if_some_at}
 use Rattle.file_model.specs.card_layout.Persistent.{Persistent}
 use Rattle.file_model.specs.card_layout.Changing.{with_life}
 use Rattle.file_model.specs.Access.{may}
 use Rattle.file_model.specs.Files.{descriptors_of}
 use Rattle.card_memory.specs.Model.{held_by}
-use Rattle.file_commands.specs.Chained.{left_by}
+use Rattle.file_commands.proofs.ChainedLemmas.{left_by}
 use Rattle.file_model.specs.Outcomes.{settled_file}
 use Rattle.file_model.specs.LifeCycles.{life_in}
 use Rattle.record_commands.proofs.Living.{told_keeps}

@@ -8,7 +8,7 @@ use Rattle.proactive_handler.specs.card_memory.Model.{HasRowOn}
 use Rattle.toolkit_model.specs.Sessions.{SessionState}
 use Rattle.proactive_handler.specs.applet_registry.Indexes.{StandsFor}
 use Rattle.toolkit_model.specs.applet_trait.Minds.{minds_of}
-use Rattle.proactive_handler.specs.card_memory.Keeping.{keeps_done, fault_keeps}
+use Rattle.proactive_handler.proofs.card_memory.KeepingLemmas.{keeps_done, fault_keeps}
 use Rattle.proactive_handler.proofs.MovedLemmas.{has_rows}
 use Rattle.proactive_handler.specs.Steps.{scene}
 use Rattle.proactive_handler.proofs.Indexing.{rows_alone_differ}

@@ -1,6 +1,6 @@
 -- A line does nothing, is out of place, or goes to card or link, where reset or sink may fail: each is joined to the lines before it.
 use Rattle.std.proofs.Common.{false}
-use Rattle.phone_runs.specs.card_sections.BehindLaws.{bad_behind, ends_reading, reads_on, reads_to_end}
+use Rattle.phone_runs.proofs.card_sections.BehindLemmas.{bad_behind, ends_reading, reads_on, reads_to_end}
 use Rattle.card_steps.specs.Moves.{step_of}
 use Rattle.card_steps.proofs.StandingLemmas.{machine_minds, machine_stands}
 use Rattle.uicc_run.proofs.CardLemmas.{machine_kinds}

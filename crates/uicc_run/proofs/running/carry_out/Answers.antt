@@ -1,6 +1,6 @@
 -- The words ask for one mode alone: in its branch all that is said of the other modes is refuted, and its own call says the rest.
 use Rattle.std.proofs.Common.{Some, refl, ap, sym, ◌∙◌, inl}
-use Rattle.card_steps.specs.byte_streams.Laws.{IsTaken-none}
+use Rattle.card_steps.proofs.byte_streams.ReadingLemmas.{IsTaken-none}
 use Rattle.run_words.specs.declared.requests.Mode.TheVariants.{Bip, Load}
 use Rattle.uicc_run.specs.Headline.{first_of, is_served_by}
 use Rattle.uicc_run.specs.Listeners.{is_handset}

@@ -2,7 +2,7 @@
 use Rattle.std.proofs.Common.{◌≡◌, [], None, refl, true, false, ap, sym, inr, ◌∙◌, subst}
 use Rattle.std.specs.Prelude.{IfSome, Ok}
 use Rattle.card_core.specs.card_layout.Standing.{stands_for}
-use Rattle.card_steps.specs.byte_streams.Laws.{IsTaken-within, IsWithin-start}
+use Rattle.card_steps.proofs.byte_streams.ReadingLemmas.{IsTaken-within, IsWithin-start}
 use Rattle.card_core.specs.card_model.Counts.{IsCounted}
 use Rattle.card_core.specs.applet_trait.Minds.{minds_of}
 use Rattle.phone_runs.specs.card_sections.Reading.{EndsInSection}

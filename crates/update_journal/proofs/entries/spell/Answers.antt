@@ -2,7 +2,7 @@
 use Rattle.std.proofs.Common.{◌∷◌, ◌++◌, ℕ, List, length, sym, ap, ◌∙◌, arith}
 use Rattle.std.specs.List.{flat_map}
 use Rattle.std.proofs.lemmas.List.{take_all}
-use Rattle.uicc_types.specs.Optional.{on_err}
+use Rattle.uicc_types.proofs.OptionalLemmas.{on_err}
 use Rattle.update_journal.specs.Entries.{entry, entries}
 use Rattle.update_journal.proofs.Spelling.{next_entry, length-entries}
 use Rattle.update_journal.proofs.entries.spell.Goals as goal

@@ -1,5 +1,5 @@
 use Rattle.std.proofs.lemmas.Result.{on_ok_weaker}
-use Rattle.uicc_types.specs.Optional.{whichever}
+use Rattle.uicc_types.proofs.OptionalLemmas.{whichever}
 use Rattle.update_journal.proofs.Told.{while_pieces, while_closing, once_closed}
 use Rattle.update_journal.proofs.steps.carry_out.Goals as goal
 

@@ -1,5 +1,5 @@
 use Rattle.std.proofs.Common.{inl, inr, ◌∙◌, arith, length}
-use Rattle.uicc_types.specs.Optional.{on_ok, on_err}
+use Rattle.uicc_types.proofs.OptionalLemmas.{on_ok, on_err}
 use Rattle.update_journal.specs.Entries.{entries}
 use Rattle.update_journal.proofs.Spelling.{length-entries}
 use Rattle.update_journal.proofs.Told.{while_entries, while_opening, once_open}

@@ -2,7 +2,7 @@ use Rattle.std.proofs.Common.{◌≡◌, ◌<◌, ◌∙◌, ap, arith, length}
 use Rattle.std.specs.Prelude.{option_map}
 use Rattle.std.proofs.lemmas.Bool.Decides.{nat_tests}
 use Rattle.std.proofs.lemmas.Result.{on_ok_weaker, on_err_weaker}
-use Rattle.uicc_types.specs.Optional.{on_ok}
+use Rattle.uicc_types.proofs.OptionalLemmas.{on_ok}
 use Rattle.update_journal.specs.Journal.{stable_of}
 use Rattle.update_journal.proofs.Told.{nothing_put, once_prepared, while_preparing}
 use Rattle.update_journal.proofs.steps.prepare.Goals as goal

@@ -5,7 +5,7 @@ use Rattle.std.specs.Vec.{with_items}
 use Rattle.std.proofs.lemmas.List.{with_items_is}
 use Rattle.file_model.specs.card_layout.States.{rows_of}
 use Rattle.card_model.specs.States.{HasBox, woken_boxes, nothing_verified}
-use Rattle.layout_mount.specs.Mounted.{HasRead}
+use Rattle.card_opening.specs.layout_mount.Mounted.{HasRead}
 use Rattle.toolkit_model.specs.applet_trait.Minds.{minds_of}
 use Rattle.card_opening.specs.Starts.{IsReadAgain}
 use Rattle.card_core.specs.Parts.{CardParts}

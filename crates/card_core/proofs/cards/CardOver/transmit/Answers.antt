@@ -2,7 +2,7 @@
 use Rattle.std.proofs.Common.{◌≡◌, [], length, Option, true, refl, sym, ◌∙◌, ap, subst, Err, inl, inr, Ok}
 use Rattle.std.proofs.lemmas.Bool.{false≢true}
 use Rattle.std.specs.Prelude.{IfSome, IsSomeAnd}
-use Rattle.file_model.specs.uicc_types.Optional.{on_err}
+use Rattle.file_model.proofs.uicc_types.OptionalLemmas.{on_err}
 use Rattle.file_model.specs.uicc_types.declared.answers.StatusWord.{StatusWord}
 use Rattle.proactive_handler.specs.card_memory.Performing.{CommitsAtMost}
 use Rattle.card_model.specs.States.{CardState}

@@ -1,7 +1,7 @@
 use Rattle.std.proofs.Common.{◌≡◌, List, replicate, rules, sym, subst, refl}
 use Rattle.std.specs.Prelude.{All}
 use Rattle.std.proofs.lemmas.List.Elements.{All-replicate}
-use Rattle.file_model.specs.uicc_types.Numbered.{all_alike}
+use Rattle.file_model.proofs.uicc_types.NumberedLemmas.{all_alike}
 use Rattle.file_model.specs.card_layout.Blank.{unused_row}
 use Rattle.file_model.specs.card_layout.declared.entries.Row.{Row}
 use Rattle.card_core.specs.Registered.{IsUsedOrBlank}

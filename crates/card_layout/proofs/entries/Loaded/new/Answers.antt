@@ -1,5 +1,5 @@
 use Rattle.std.proofs.Common.{rules}
-use Rattle.uicc_types.specs.Numbered.{all_alike}
+use Rattle.uicc_types.proofs.NumberedLemmas.{all_alike}
 use Rattle.card_layout.proofs.entries.Loaded.new.Goals as goal
 
 pub returns-clause-rows : goal.returns-clause-rows

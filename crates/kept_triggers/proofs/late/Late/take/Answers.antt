@@ -1,5 +1,5 @@
 use Rattle.std.proofs.Common.{ap, sym, subst, ◌∙◌, ℕ, List, map, remove, All}
-use Rattle.toolkit_commands.specs.uicc_types.Edits.{map-remove}
+use Rattle.toolkit_commands.proofs.uicc_types.EditLemmas.{map-remove}
 use Rattle.frame_store.specs.Model.{Frames}
 use Rattle.toolkit_model.specs.Sessions.{LateTrigger}
 use Rattle.kept_triggers.specs.Frames.{IsTriggerFrame, trigger_in}

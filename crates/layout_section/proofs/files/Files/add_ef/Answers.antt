@@ -2,14 +2,15 @@
 use Rattle.std.proofs.Common.{◌≡◌, ℕ, ◌+◌, ◌<◌, ◌≤◌, List, [], ◌∷◌, ◌++◌, length, take, replicate, ap, sym, subst, refl, inr, ◌∙◌, arith}
 use Rattle.std.proofs.lemmas.List.{length-set, take_more_set, length-replicate}
 use Rattle.std.specs.Vec.{with_items}
-use Rattle.uicc_types.specs.Patches.{patched, length-patched}
+use Rattle.uicc_types.specs.Patches.{patched}
+use Rattle.uicc_types.proofs.PatchLemmas.{length-patched}
 use Rattle.card_layout.specs.declared.entries.Node.{Node}
 use Rattle.card_layout.specs.Persistent.{File}
 use Rattle.card_layout.specs.Sections.{byte_total_of, size_of}
 use Rattle.card_layout.specs.Checks.{is_known_kind}
 use Rattle.layout_section.specs.Adding.{ef_numbered, IsPlaceIn, is_short_for}
 use Rattle.card_layout.specs.NewFiles.{rule_from}
-use Rattle.card_layout.specs.NewFileLaws.{some_bytes}
+use Rattle.card_layout.proofs.NewFileLemmas.{some_bytes}
 use Rattle.layout_section.specs.Filing.{all_bytes, AreFilesOf, IsEfBehind, files_in}
 use Rattle.layout_section.proofs.Filed.{file_count, file_total, filed_push, tree_for, short_for, items_are}
 use Rattle.layout_section.proofs.NewFiles.{known_kind, new_behind, with_new}

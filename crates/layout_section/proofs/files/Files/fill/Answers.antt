@@ -2,7 +2,8 @@
 use Rattle.std.proofs.Common.{◌≡◌, ◌≢◌, ℕ, ◌+◌, ◌<◌, ◌≤◌, List, length, take, get_or, ap, sym, subst, ◌∙◌, arith}
 use Rattle.std.specs.Prelude.{Ok, Err}
 use Rattle.std.specs.Vec.{with_items}
-use Rattle.uicc_types.specs.Patches.{patched, length-patched}
+use Rattle.uicc_types.specs.Patches.{patched}
+use Rattle.uicc_types.proofs.PatchLemmas.{length-patched}
 use Rattle.card_layout.specs.declared.entries.Node.{Node}
 use Rattle.card_layout.specs.declared.faults.SectionFault.TheVariants.{Bad}
 use Rattle.card_layout.specs.Blank.{unused_node}

@@ -4,7 +4,8 @@ use Rattle.std.specs.Prelude.{Ok, Err}
 use Rattle.std.specs.Vec.{with_items}
 use Rattle.std.proofs.lemmas.List.{length-replicate}
 use Rattle.std.proofs.Common.{length-append}
-use Rattle.uicc_types.specs.Patches.{patched, length-patched}
+use Rattle.uicc_types.specs.Patches.{patched}
+use Rattle.uicc_types.proofs.PatchLemmas.{length-patched}
 use Rattle.card_layout.specs.declared.entries.Node.{Node}
 use Rattle.card_layout.specs.declared.faults.SectionFault.TheVariants.{Bad}
 use Rattle.card_layout.specs.Blank.{unused_node}

@@ -3,7 +3,7 @@ use Rattle.card_layout.specs.declared.entries.Row.{Row}
 use Rattle.card_layout.specs.Blank.{unused_row}
 use Rattle.card_layout.specs.Persistent.{Registration}
 use Rattle.layout_section.specs.Adding.{RowList}
-use Rattle.uicc_types.specs.Numbered.{all_alike}
+use Rattle.uicc_types.proofs.NumberedLemmas.{all_alike}
 use Rattle.layout_section.proofs.Shelving.{rows_in_none, no_rows}
 use Rattle.layout_section.proofs.rows.Rows.new.Goals as goal
 

@@ -4,8 +4,8 @@ use Rattle.std.specs.Prelude.{find, All, AllPairs, IsTrue, IsSomeAnd, IfSome, op
 use Rattle.std.specs.List.{enumerate_from}
 use Rattle.std.proofs.lemmas.List.{length-map, get_or-replicate, get_or_default, same_lists}
 use Rattle.std.proofs.lemmas.List.FromFn.{length-enumerate_from}
-use Rattle.file_model.specs.uicc_types.Pairs.{pairs_nil}
-use Rattle.file_model.specs.uicc_types.Finding.{find-map, numbered_found}
+use Rattle.file_model.proofs.uicc_types.PairLemmas.{pairs_nil}
+use Rattle.file_model.proofs.uicc_types.FindingLemmas.{find-map, numbered_found}
 use Rattle.file_model.specs.card_layout.Persistent.{Registration, Persistent}
 use Rattle.file_model.specs.card_layout.Soundness.{mf, IsSound}
 use Rattle.file_model.specs.Files.{is_df, is_wanted, descriptor_in, descriptors_in, file_found}

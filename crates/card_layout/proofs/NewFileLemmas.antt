@@ -4,7 +4,7 @@ use Rattle.std.specs.Prelude.{◌&&◌, nat_le, IsTrue, Option, Some, None}
 use Rattle.std.proofs.lemmas.Bool.{and_parts, leb-true, ne_eqb}
 use Rattle.std.proofs.lemmas.List.{append-nil}
 use Rattle.std.proofs.Math.Nat.{mul-div_cancel_left}
-use Rattle.uicc_types.specs.Ranges.{some_product}
+use Rattle.uicc_types.proofs.RangeLemmas.{some_product}
 use Rattle.uicc_types.specs.declared.identifiers.FileId.{FileId}
 use Rattle.card_layout.specs.declared.shapes.Shape.{Shape}
 use Rattle.card_layout.specs.declared.shapes.Shape.TheVariants.{Transparent, Linear, Cyclic}
@@ -12,7 +12,7 @@ use Rattle.card_layout.specs.Persistent.{Rule, Records}
 use Rattle.card_layout.specs.Kinds.{is_ef_kind}
 use Rattle.card_layout.specs.Sections.{kind_of, size_of, is_shape}
 use Rattle.card_layout.specs.States.{records_of, from_head, rule_of}
-use Rattle.card_layout.specs.RecordLaws.{blank_records}
+use Rattle.card_layout.proofs.RecordLemmas.{blank_records}
 use Rattle.card_layout.specs.NewFiles.{ef_node, rule_from, rule_holds, NewFilesAreBlank}
 
 pub records_parts : (width count : ℕ) → (nat_le 1 width && nat_le 1 count && nat_le count 254) ≡ true → (1 ≤ width) × (1 ≤ count) × (count ≤ 254)

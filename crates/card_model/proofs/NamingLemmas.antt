@@ -3,11 +3,11 @@ use Rattle.std.proofs.Common.{◌≡◌, ℕ, zero, suc, Bool, true, List, [], �
 use Rattle.std.specs.Prelude.{◌==◌, ◌&&◌, Contains, MatchResult, ⊤}
 use Rattle.std.specs.List.{list_all}
 use Rattle.std.proofs.lemmas.Bool.{eqb-true, and_parts}
-use Rattle.file_model.specs.uicc_types.Finding.{find-filter, find_Some}
+use Rattle.file_model.proofs.uicc_types.FindingLemmas.{find-filter, find_Some}
 use Rattle.file_model.specs.uicc_types.declared.answers.StatusWord.{StatusWord}
 use Rattle.file_model.specs.uicc_types.declared.answers.TheConstants.StatusWord.{NO_SUCH_CLASS, NO_SECURE_MESSAGING, NO_SUCH_CHANNEL, NO_SUCH_INSTRUCTION}
 use Rattle.file_model.specs.declared.selections.Selection.{Selection}
-use Rattle.file_model.specs.Chained.{unless_so, given_so}
+use Rattle.file_model.proofs.ChainedLemmas.{unless_so, given_so}
 use Rattle.card_model.specs.Channels.{family}
 use Rattle.card_model.specs.Instructions.{InstructionRow, instructions, row_of, instruction_tried, is_of_tree, is_row_of_tree}
 use Rattle.card_model.specs.declared.instructions.Instruction.{Instruction}

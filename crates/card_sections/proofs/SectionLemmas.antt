@@ -35,9 +35,3 @@ splits_at cast new more (Ok next) comes = (next, refl, comes)
 
 pub splits : (cast : List (Option AppletState)) (card new : Option Persistent) (line : ScriptLine) (more : List ScriptLine) → with_lines cast card (line ∷ more) ≡ Ok new → Splits cast card new line more
 splits cast card new line more comes = let parts = splits_at cast new more (with_line cast card line) comes in record { next = parts.0; one = parts.1; others = parts.2 }
-
-abbrev going_on : Option Persistent → Result (Option Persistent) SectionFault
-going_on card = Ok card
-
-same_card : {x y : Option Persistent} → going_on x ≡ going_on y → x ≡ y
-same_card e = cc

@@ -4,7 +4,7 @@ use Rattle.std.proofs.lemmas.List.{append-nil, append_assoc}
 use Rattle.std.proofs.lemmas.List.Elements.{All-nil, All-push}
 use Rattle.script_form.specs.byte_streams.Lines.{LineList}
 use Rattle.card_sections.specs.Behind.{EndsReading, IsBadBehind, IsReading, LinesReadTo, StopsReading}
-use Rattle.card_sections.specs.LineLaws.{AreRead-more}
+use Rattle.card_sections.proofs.LineLemmas.{AreRead-more}
 use Rattle.card_sections.specs.Reading.{Finds, Follows, GivesNext, IsUnread}
 use Rattle.card_sections.specs.Script.{AreRead}
 use Rattle.card_sections.specs.declared.behind.PlayEnd.{PlayEnd}

@@ -2,7 +2,7 @@
 use Rattle.std.proofs.Common.{zero, suc, List, [], ◌∷◌, map, arith}
 use Rattle.std.specs.Prelude.{All, AllPairs}
 use Rattle.std.proofs.lemmas.List.Elements.{All-map}
-use Rattle.uicc_types.specs.Numbered.{all_unmapped}
+use Rattle.uicc_types.proofs.NumberedLemmas.{all_unmapped}
 
 pub pairs_nil : {X : Type 0} (R : X → X → Type 0) → AllPairs R []
 pairs_nil R i j d less low = absurd (omega arith)

@@ -5,8 +5,8 @@ use Rattle.std.specs.Int.{bit_at}
 use Rattle.std.specs.List.Sorted.{IsStrictlyIncreasing}
 use Rattle.std.proofs.lemmas.List.Elements.{All-filter, All-map, All-contains_itself}
 use Rattle.std.proofs.lemmas.List.Kept.{AllPairs-filter, AllPairs-from_increasing}
-use Rattle.uicc_types.specs.Numbered.{all_unmapped}
-use Rattle.uicc_types.specs.Pairs.{pairs_map, pairs_unmap}
+use Rattle.uicc_types.proofs.NumberedLemmas.{all_unmapped}
+use Rattle.uicc_types.proofs.PairLemmas.{pairs_map, pairs_unmap}
 use Rattle.card_layout.specs.Kinds.{event_codes, known_codes, codes_of}
 use Rattle.card_layout.specs.Soundness.{AreEventCodes}
 

@@ -4,9 +4,10 @@ use Rattle.std.proofs.Common.{get_or, set, sym, ◌∙◌, ap, inl, inr, ⊎_eli
 use Rattle.std.proofs.lemmas.List.{take-replicate, drop-replicate}
 use Rattle.std.proofs.lemmas.List.FromFn.{length-map-range_with_len, get_or-map-range_with_len}
 use Rattle.std.proofs.lemmas.Bool.{cases_lt}
-use Rattle.uicc_types.specs.Numbered.{set_numbered, all_alike}
-use Rattle.uicc_types.specs.Ranges.{one_behind}
-use Rattle.uicc_types.specs.Patches.{patched, IsApart, range-patched_apart, range-patched_there}
+use Rattle.uicc_types.proofs.NumberedLemmas.{set_numbered, all_alike}
+use Rattle.uicc_types.proofs.RangeLemmas.{one_behind}
+use Rattle.uicc_types.specs.Patches.{patched, IsApart}
+use Rattle.uicc_types.proofs.PatchLemmas.{range-patched_apart, range-patched_there}
 use Rattle.card_layout.specs.Decoding.{bytes_at}
 use Rattle.card_layout.specs.States.{records_of}
 

@@ -3,7 +3,7 @@ use Rattle.std.proofs.Common.{get_or, ℕ, Bool, List, filter}
 use Rattle.std.specs.Prelude.{◌==◌, Contains}
 use Rattle.std.specs.List.{list_any}
 use Rattle.std.proofs.lemmas.List.Elements.{All-contains, All-map, filter_passes}
-use Rattle.uicc_types.specs.Members.{number_there}
+use Rattle.uicc_types.proofs.MemberLemmas.{number_there}
 use Rattle.card_layout.specs.Kinds.{event_codes}
 use Rattle.card_layout.specs.Sections.{sorted_codes}
 

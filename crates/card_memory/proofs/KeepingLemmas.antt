@@ -2,9 +2,9 @@
 use Rattle.std.proofs.Common.{◌≡◌, ◌∙◌, subst, sym}
 use Rattle.std.specs.Prelude.{IsErrAnd, Result, Ok, Err}
 use Rattle.std.specs.Result.{IsErr}
-use Rattle.file_model.specs.uicc_types.Calls.{calm_ok, caused_then}
+use Rattle.file_model.proofs.uicc_types.CallLemmas.{calm_ok, caused_then}
 use Rattle.file_model.specs.store_form.declared.store.StoreFault.{StoreFault}
-use Rattle.file_model.specs.store_form.Causes.{cause_of}
+use Rattle.file_model.proofs.store_form.CauseLemmas.{cause_of}
 use Rattle.file_model.specs.card_layout.Memory.{Memory, Keeps}
 
 -- a call that met no fault, and then another

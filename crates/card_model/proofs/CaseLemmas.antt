@@ -8,7 +8,7 @@ use Rattle.file_model.specs.Chains.{given, and_given}
 use Rattle.card_model.specs.Answers.{Answered, carried_with, cut_answer, tried}
 use Rattle.card_model.specs.Channels.{family}
 use Rattle.card_model.specs.Instructions.{instruction_tried, has_toolkit}
-use Rattle.card_model.specs.Naming.{IsNamed, instruction_so}
+use Rattle.card_model.proofs.NamingLemmas.{IsNamed, instruction_so}
 use Rattle.card_model.specs.States.{CardState}
 use Rattle.card_model.specs.declared.instructions.Instruction.{Instruction}
 
