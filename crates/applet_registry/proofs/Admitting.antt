@@ -10,7 +10,7 @@ use Rattle.toolkit_model.specs.card_layout.Sections.{Installation, installation_
 use Rattle.toolkit_model.specs.card_layout.States.{registration_of, rows_of, state_of}
 use Rattle.toolkit_model.specs.declared.faults.RowFault.{RowFault}
 use Rattle.toolkit_model.specs.declared.faults.RowFault.TheVariants.{BadData, NoBox, Narrow, Taken, MenuFull, Spent}
-use Rattle.toolkit_model.specs.Registry.{given, faulty_if, is_taken, is_menu_full, last_sequence, installed_row}
+use Rattle.toolkit_model.specs.Registry.{unless_missing, faulty_if, is_taken, is_menu_full, last_sequence, installed_row}
 
 -- an installation that was read has known events
 pub parts_of : (found : Option Installation) (installed : Installed) → ReadsInstallation found (Some installed) → HasParts installed
@@ -44,7 +44,7 @@ module _ (loaded : Loaded) (held : List ℕ) (kind : Option ℕ) (shelf priority
   all_tests r = tested (narrow r) (taken r) (full r) (spent r) r
 
   abbrev tried : Option Installation → Option ℕ → Result Registration RowFault
-  tried found box = given found BadData (λ installation. given box NoBox (λ k. all_tests (new_row (state_of loaded held) shelf priority k installation)))
+  tried found box = unless_missing found BadData (λ installation. unless_missing box NoBox (λ k. all_tests (new_row (state_of loaded held) shelf priority k installation)))
 
   by_found : (found : Option Installation) → ReadsInstallation found (Some installed) → tried found (Some known) ≡ all_tests (registration_of shelf row)
   by_found None reads = absurd reads

@@ -7,7 +7,7 @@ use Rattle.std.proofs.lemmas.List.Elements.{All-head, All-tail}
 use Rattle.std.proofs.lemmas.Bool.{eqb-true, not_from_false, not_from_true, or_from, cond_both, not-true}
 use Rattle.toolkit_model.proofs.uicc_types.PairLemmas.{pairs_head, pairs_tail}
 use Rattle.toolkit_model.specs.card_layout.Persistent.{Registration}
-use Rattle.toolkit_model.specs.Order.{is_for, comes_before, placed, in_order, trigger_order, targets}
+use Rattle.toolkit_model.specs.Order.{is_for, comes_before, row_placed, in_order, trigger_order, targets}
 use Rattle.toolkit_model.specs.Registry.{is_on, without_row, without_code, with_kept}
 use Rattle.toolkit_model.specs.Steps.{AreRows}
 use Rattle.applet_registry.specs.Indexes.{left_by}
@@ -88,20 +88,20 @@ targets_cleared law rows s code are = ap (λ (rows : List Registration). map she
 -- ---- rows that change in nothing that their order rests on
 
 module _ (f : Registration → Registration) (code : ℕ) (same_order : (a b : Registration) → comes_before (f a) (f b) ≡ comes_before a b) (same_code : (row : Registration) → is_for code (f row) ≡ is_for code row) (same_shelf : (row : Registration) → (f row).shelf ≡ row.shelf) where
-  place_kept : (row first : Registration) (others changed : List Registration) → map f (placed row others) ≡ changed → (b : Bool)
-      → map f (cond b (row ∷ first ∷ others) (first ∷ placed row others)) ≡ cond b (f row ∷ f first ∷ map f others) (f first ∷ changed)
+  place_kept : (row first : Registration) (others changed : List Registration) → map f (row_placed row others) ≡ changed → (b : Bool)
+      → map f (cond b (row ∷ first ∷ others) (first ∷ row_placed row others)) ≡ cond b (f row ∷ f first ∷ map f others) (f first ∷ changed)
   place_kept row first others changed e true = refl
   place_kept row first others changed e false = ap (λ (rows : List Registration). f first ∷ rows) e
 
-  placed_kept : (row : Registration) (rows : List Registration) → map f (placed row rows) ≡ placed (f row) (map f rows)
+  placed_kept : (row : Registration) (rows : List Registration) → map f (row_placed row rows) ≡ row_placed (f row) (map f rows)
   placed_kept row [] = refl
   placed_kept row (first ∷ others) =
-      place_kept row first others (placed (f row) (map f others)) (placed_kept row others) (comes_before row first)
-      ∙ ap (λ (b : Bool). cond b (f row ∷ f first ∷ map f others) (f first ∷ placed (f row) (map f others))) (sym (same_order row first))
+      place_kept row first others (row_placed (f row) (map f others)) (placed_kept row others) (comes_before row first)
+      ∙ ap (λ (b : Bool). cond b (f row ∷ f first ∷ map f others) (f first ∷ row_placed (f row) (map f others))) (sym (same_order row first))
 
   order_kept : (rows : List Registration) → map f (in_order rows) ≡ in_order (map f rows)
   order_kept [] = refl
-  order_kept (row ∷ others) = placed_kept row (in_order others) ∙ ap (placed (f row)) (order_kept others)
+  order_kept (row ∷ others) = placed_kept row (in_order others) ∙ ap (row_placed (f row)) (order_kept others)
 
   one_kept : (row : Registration) (kept changed : List Registration) → map f kept ≡ changed → (b : Bool) → map f (cond b (row ∷ kept) kept) ≡ cond b (f row ∷ changed) changed
   one_kept row kept changed e true = ap (λ (rows : List Registration). f row ∷ rows) e

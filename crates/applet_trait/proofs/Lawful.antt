@@ -6,8 +6,8 @@ use Rattle.applet_trait.specs.declared.stimuli.Stimulus.{Stimulus}
 use Rattle.applet_trait.specs.declared.stimuli.Stimulus.TheVariants.{Event, Response, Went, Refused, Timer}
 use Rattle.applet_trait.specs.declared.stimuli.Act.{Act}
 use Rattle.applet_trait.specs.declared.stimuli.Act.TheVariants.{Done, Send, Keep, Register, Deregister, TakeTimer, FreeTimer, Answer}
-use Rattle.applet_trait.specs.Minds.{AppletState, Turn, turn, done, keeping, settled, kept_after}
-use Rattle.applet_trait.specs.Tables.{greeter, menu, clock, five_minutes, expired, watcher, located, barrier, typed, notebook, opened, table, going_on, at_row, acting, ActionRow, show}
+use Rattle.applet_trait.specs.Minds.{AppletState, Turn, turn, done, keeping, none_asked, kept_after}
+use Rattle.applet_trait.specs.Tables.{greeter, menu, clock, five_minutes, expired, watcher, located, barrier, typed, notebook, opened, table, next_or_done, at_row, acting, ActionRow, show}
 use Rattle.applet_trait.specs.Turns.{act, by_kind}
 use Rattle.applet_trait.specs.Laws.{IsLawful}
 
@@ -95,7 +95,7 @@ at_row_lawful : (mind : AppletState) (code : ℕ) (found : Option (ℕ × Action
 at_row_lawful mind code (Some (place, row)) none = acting_lawful (record mind { held = place; code = code }) row.action row.argument none
 at_row_lawful mind code None none = lawful_done mind none
 
-going_on_lawful : (mind : AppletState) → mind.asked ≡ None → IsLawful mind.kind mind.kept (going_on mind)
+going_on_lawful : (mind : AppletState) → mind.asked ≡ None → IsLawful mind.kind mind.kept (next_or_done mind)
 going_on_lawful mind none = search (either, at_row_lawful, lawful_done)
 
 table_lawful : (mind : AppletState) (stimulus : Stimulus) → mind.asked ≡ None → IsLawful mind.kind mind.kept (table mind stimulus)
@@ -117,4 +117,4 @@ by_kind_lawful kind mind stimulus none =
 
 pub act_lawful : (mind : AppletState) (stimulus : Stimulus) → IsLawful mind.kind (kept_after stimulus mind.asked mind.kept) (act mind stimulus)
 unfolding act
-act_lawful mind stimulus = by_kind_lawful mind.kind (settled mind stimulus) stimulus refl
+act_lawful mind stimulus = by_kind_lawful mind.kind (none_asked mind stimulus) stimulus refl

@@ -4,8 +4,8 @@ use Rattle.std.proofs.Common.{refl, lit≤, rules}
 use Rattle.applet_trait.specs.declared.stimuli.Stimulus.{Stimulus}
 use Rattle.applet_trait.specs.declared.stimuli.Stimulus.TheVariants.{Event, Response, Went, Refused, Timer}
 use Rattle.applet_trait.specs.declared.stimuli.Act.{Act}
-use Rattle.applet_trait.specs.Minds.{AppletState, Turn, turn, done, settled}
-use Rattle.applet_trait.specs.Tables.{greeter, menu, text_or_tone, clock, five_minutes, expired, watcher, located, barrier, typed, notebook, opened, table, going_on, at_row, acting, ActionRow}
+use Rattle.applet_trait.specs.Minds.{AppletState, Turn, turn, done, none_asked}
+use Rattle.applet_trait.specs.Tables.{greeter, menu, text_or_tone, clock, five_minutes, expired, watcher, located, barrier, typed, notebook, opened, table, next_or_done, at_row, acting, ActionRow}
 use Rattle.applet_trait.specs.Turns.{act, by_kind}
 use Rattle.applet_trait.specs.Laws.{IsTimer, GivesTimer, IsProperAct}
 
@@ -97,7 +97,7 @@ at_row_proper : (mind : AppletState) (code : ℕ) (found : Option (ℕ × Action
 at_row_proper mind code (Some (place, row)) = acting_proper (record mind { held = place; code = code }) row.action row.argument
 at_row_proper mind code None = proper_done mind
 
-going_on_proper : (mind : AppletState) → IsProperTurn (going_on mind)
+going_on_proper : (mind : AppletState) → IsProperTurn (next_or_done mind)
 going_on_proper mind = search (either, plain, at_row_proper)
 
 table_proper : (mind : AppletState) (stimulus : Stimulus) → IsProperTurn (table mind stimulus)
@@ -116,4 +116,4 @@ by_kind_proper kind mind stimulus gives =
 
 pub act_proper : (mind : AppletState) (stimulus : Stimulus) → GivesTimer stimulus → IsProperAct (act mind stimulus).does
 unfolding act
-act_proper mind stimulus gives = (by_kind_proper mind.kind (settled mind stimulus) stimulus gives).proper
+act_proper mind stimulus gives = (by_kind_proper mind.kind (none_asked mind stimulus) stimulus gives).proper

@@ -8,7 +8,7 @@ use Rattle.applet_trait.specs.declared.stimuli.Stimulus.TheVariants.{Event, Resp
 use Rattle.applet_trait.specs.declared.stimuli.Act.{Act}
 use Rattle.applet_trait.specs.declared.stimuli.Act.TheVariants.{Done, Send, Keep, TakeTimer, FreeTimer, Answer}
 use Rattle.applet_trait.specs.Minds.{AppletState, Turn, fresh}
-use Rattle.applet_trait.specs.Tables.{show, five_minutes, number_of, row_from}
+use Rattle.applet_trait.specs.Tables.{show, five_minutes, address_digits, row_from}
 use Rattle.applet_trait.specs.Turns.{act}
 
 abbrev mind : ℕ → ℕ → ℕ → ℕ → List ℕ → Option (List ℕ) → AppletState
@@ -62,16 +62,16 @@ drops : act (mind 4 1 0 0 [] (Some (7 ∷ []))) Refused ≡ answers Done (mind 4
 unfolding act
 drops = refl
 
-dialled : number_of (0x81 ∷ 0x21 ∷ 0x43 ∷ 0xF5 ∷ 0x66 ∷ []) ≡ codes "12345"
-unfolding number_of
+dialled : address_digits (0x81 ∷ 0x21 ∷ 0x43 ∷ 0xF5 ∷ 0x66 ∷ []) ≡ codes "12345"
+unfolding address_digits
 dialled = refl
 
 barred : act (fresh 5 (codes "12")) (Event 0x45 (0x81 ∷ 0x21 ∷ 0x43 ∷ 0xF5 ∷ [])) ≡ answers (Answer false) (mind 5 4 0 0 (codes "12") None)
-unfolding act number_of
+unfolding act address_digits
 barred = refl
 
 not_barred : act (fresh 5 (codes "123456")) (Event 0x45 (0x81 ∷ 0x21 ∷ 0x43 ∷ 0xF5 ∷ [])) ≡ answers (Answer true) (mind 5 4 0 0 (codes "123456") None)
-unfolding act number_of
+unfolding act address_digits
 not_barred = refl
 
 notes : act (mind 6 1 0 0 [] None) (Response 0 0 (codes "AB")) ≡ answers (Keep (codes "AB")) (mind 6 2 0 0 [] (Some (codes "AB")))

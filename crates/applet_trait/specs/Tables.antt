@@ -34,8 +34,8 @@ abbrev pub text_or_tone : Act
 text_or_tone =
     Send (SelectItem CHOICE_TITLE.now (record { id = TEXT; text = TEXT_ITEM.now } ∷ record { id = TONE; text = TONE_ITEM.now } ∷ []))
 
-abbrev pub chosen : AppletState → ℕ → Turn
-chosen mind item =
+abbrev pub item_chosen : AppletState → ℕ → Turn
+item_chosen mind item =
     if item == TEXT then turn mind (show TEXT_ITEM.now) 2
     else (if item == TONE then turn mind (Send (PlayTone GENERAL_BEEP)) 2
     else done mind)
@@ -44,7 +44,7 @@ abbrev pub menu : AppletState → Stimulus → Turn
 menu mind (Event code body) =
     if in_phase 0 mind && (code == MENU_SELECTION) then turn mind text_or_tone 1 else done mind
 menu mind (Response result item text) =
-    if in_phase 1 mind && is_good result then chosen mind item else done mind
+    if in_phase 1 mind && is_good result then item_chosen mind item else done mind
 menu mind _ = done mind
 
 -- Kind 3, the clock, starts a timer when a terminal profile comes, and shows a text when it has run down.
@@ -107,13 +107,13 @@ is_digit_half half = not (half == 0xF)
 
 -- The number of an address (TS 102 223, 8.1): after the byte of its type two digits a byte, up to the first half F.
 -- Halves A to E stand for the characters after 9.
-unfoldable pub number_of : List ℕ → List ℕ
-number_of address = map (λ half. 0x30 + half) (take_while is_digit_half (flat_map halves (drop 1 address)))
+unfoldable pub address_digits : List ℕ → List ℕ
+address_digits address = map (λ half. 0x30 + half) (take_while is_digit_half (flat_map halves (drop 1 address)))
 
 -- the number begins with the kept digits; without kept digits none is barred
 abbrev pub is_barred : List ℕ → List ℕ → Bool
 is_barred [] address = false
-is_barred (first ∷ others) address = starts_with nat_eq (number_of address) (first ∷ others)
+is_barred (first ∷ others) address = starts_with nat_eq (address_digits address) (first ∷ others)
 
 abbrev pub barrier : AppletState → Stimulus → Turn
 barrier mind (Event code body) =
@@ -181,10 +181,10 @@ at_row mind code (Some (place, row)) =
 abbrev pub next_row : AppletState → ℕ → ℕ → Turn
 next_row mind from code = at_row mind code (row_from from code (rows mind.kept))
 
-abbrev pub going_on : AppletState → Turn
-going_on mind = if in_phase 1 mind then next_row mind (mind.held + 1) mind.code else done mind
+abbrev pub next_or_done : AppletState → Turn
+next_or_done mind = if in_phase 1 mind then next_row mind (mind.held + 1) mind.code else done mind
 
 abbrev pub table : AppletState → Stimulus → Turn
 table mind (Event code body) =
-    if in_phase 0 mind then next_row mind 0 code else going_on mind
-table mind _ = going_on mind
+    if in_phase 0 mind then next_row mind 0 code else next_or_done mind
+table mind _ = next_or_done mind

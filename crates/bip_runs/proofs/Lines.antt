@@ -10,7 +10,7 @@ use Rattle.bip_channels.specs.Traffic.{Occurrence, channels_after}
 use Rattle.bip_runs.specs.Parts.{Part, Blank, Begins, Does, Foreign, occurrences, occurrences_of, part_of}
 use Rattle.bip_runs.specs.Places.{moved, step}
 use Rattle.bip_runs.proofs.ScriptLaws.{moved_by-more}
-use Rattle.bip_runs.specs.Serving.{AreInOrder, AreReadInPlace, BipComesTo, EndsServing, IsBadAt, IsServing, Stops, StopsServing, end_for}
+use Rattle.bip_runs.specs.Serving.{AreInOrder, AreReadInPlace, BipComesTo, EndsServing, IsBadAt, IsServing, Stops, StopsServing}
 use Rattle.bip_runs.specs.Traces.{history, lines_of, shown, text_of}
 use Rattle.bip_runs.specs.declared.effects.Place.{Place}
 use Rattle.bip_runs.specs.declared.effects.Place.TheVariants.{Before, Behind}
@@ -19,6 +19,7 @@ use Rattle.script_form.specs.byte_streams.Lines.{LineList}
 use Rattle.script_form.specs.byte_streams.Reading.{at_start}
 use Rattle.script_form.specs.byte_streams.Streams.{TakesFront}
 use Rattle.card_sections.proofs.LineLemmas.{AreRead-more}
+use Rattle.card_sections.specs.Behind.{end_for}
 use Rattle.card_sections.specs.Reading.{Finds, Follows, GivesNext, IsUnread}
 use Rattle.card_sections.specs.declared.behind.PlayEnd.{PlayEnd}
 use Rattle.card_sections.specs.declared.behind.PlayEnd.TheVariants.{Finished, BadLine, ReadFailed, SinkFailed, ResetFailed}

@@ -16,8 +16,6 @@ use Rattle.card_sections.specs.Reading.{Finds, Follows, GoesOn}
 use Rattle.card_sections.specs.Script.{AreRead}
 use Rattle.card_sections.specs.declared.behind.PlayEnd.{PlayEnd}
 use Rattle.card_sections.specs.declared.behind.PlayEnd.TheVariants.{Finished, BadLine, ReadFailed, SinkFailed, ResetFailed}
-use Rattle.card_sections.specs.declared.faults.ScriptFault.{ScriptFault}
-use Rattle.card_sections.specs.declared.faults.ScriptFault.TheVariants as fault
 use Rattle.card_sections.specs.declared.script_reader.ScriptReader.{ScriptReader}
 use Rattle.script_form.specs.Forms.{IsLine}
 use Rattle.script_form.specs.declared.lines.ScriptLine.{ScriptLine}
@@ -56,12 +54,6 @@ Stops place text found left (BadLine number) = GoesOn text found left (IsBadAt p
 Stops place text found left ReadFailed = IsTextCutShort text found left
 Stops place text found left SinkFailed = ⊥
 Stops place text found left ResetFailed = ⊥
-
--- why a script is read no further
-abbrev pub end_for : ScriptFault → PlayEnd
-end_for (fault.BadLine number) = BadLine number
-end_for (fault.NoRoom number) = BadLine number
-end_for fault.ReadFailed = ReadFailed
 
 -- what a search for the next line comes to: it is there, or no more are read
 abbrev pub GivesLine : Place → List ℕ → LineList → ScriptReader → Option (List ℕ) → ScriptLine → Result (Unit {0}) PlayEnd → Type 0

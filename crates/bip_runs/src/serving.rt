@@ -2,7 +2,7 @@
 ghost use Rattle.std.specs.Prelude.{◌≡◌, ◌≢◌, ◌<◌, ◌+◌, List, ℕ, Ok, Err, Option, OnOk, OnErr, Some, IfOk, is_some};
 ghost use Rattle.bip_channels.specs.Channels.{none_open};
 ghost use Rattle.bip_channels.specs.Kept.{IsKept};
-ghost use Rattle.bip_runs.specs.Serving.{BipComesTo, GivesLine, GivesServed, IsServing, end_for as end_of_fault};
+ghost use Rattle.bip_runs.specs.Serving.{BipComesTo, GivesLine, GivesServed, IsServing};
 ghost use Rattle.script_form.specs.byte_streams.Lines.{LineList};
 ghost use Rattle.script_form.specs.byte_streams.Reading.{IsTaken, IsWithin};
 ghost use Rattle.script_form.specs.byte_streams.declared.limits.TheConstants.{MOST_BYTES};
@@ -12,7 +12,7 @@ ghost use Rattle.script_form.specs.uicc_types.Counts.{CountsFailure};
 use crate::effects::{Effect, Place, effect_of};
 use crate::happening::happen;
 use bip_channels::{Bip, each_channel_tells};
-use card_sections::{PlayEnd, ScriptFault, ScriptReader};
+use card_sections::{PlayEnd, ScriptReader, end_for};
 use script_form::{Failed, OutOfMemory, ScriptLine, Sink, Source};
 use std::alloc::Global;
 
@@ -153,15 +153,5 @@ fn next_line<R: Source>(
             Place::Behind => Err(PlayEnd::Finished),
         },
         Err(fault) => Err(end_for(fault)),
-    }
-}
-
-/// Why a run ends whose script is read no further.
-fn end_for(fault: ScriptFault) -> PlayEnd
-    ensures { result ≡ end_of_fault fault }
-{
-    match fault {
-        ScriptFault::BadLine(number) | ScriptFault::NoRoom(number) => PlayEnd::BadLine(number),
-        ScriptFault::ReadFailed => PlayEnd::ReadFailed,
     }
 }

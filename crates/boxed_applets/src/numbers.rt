@@ -1,6 +1,6 @@
 //! The numbers of addresses (TS 102 223, 8.1).
 ghost use Rattle.std.specs.Prelude.{◌≡◌, ◌≤◌, ◌<◌, ◌+◌, ◌++◌, length};
-ghost use Rattle.applet_trait.specs.Tables.{halves, is_digit_half, number_of, is_barred};
+ghost use Rattle.applet_trait.specs.Tables.{halves, is_digit_half, address_digits, is_barred};
 ghost use Rattle.boxed_applets.specs.Numbers.{digit_of, digits_of, digits_up_to, has_two_digits};
 
 use toolkit_commands::ByteList;
@@ -51,10 +51,10 @@ fn digits_of(bytes: &[u8]) -> Number
 }
 
 /// The number of an address.
-#[tactic(auto, unfolding(applet_trait::specs::Tables::number_of, crate::specs::Numbers::digits_up_to))]
+#[tactic(auto, unfolding(applet_trait::specs::Tables::address_digits, crate::specs::Numbers::digits_up_to))]
 fn number_of(address: &[u8]) -> Number
     requires { length address.now ≤ 255 }
-    ensures { result ≡ number_of address.now }
+    ensures { result ≡ address_digits address.now }
 {
     match address.split_first() {
         Some((_, digits)) => digits_of(digits),

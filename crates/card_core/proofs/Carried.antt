@@ -29,7 +29,7 @@ use Rattle.card_model.specs.declared.instructions.ToolkitCommand.{ToolkitCommand
 use Rattle.card_model.specs.declared.instructions.ToolkitCommand.TheVariants.{TerminalProfile, Fetch, TerminalResponse, Envelope, InstallApplet, DeleteApplet}
 use Rattle.card_laws.specs.ToolkitLaws.{CommandsLeaveRows}
 use Rattle.card_laws.specs.Moving.{HasOrder, LeavesRows, command_by}
-use Rattle.toolkit_model.specs.Steps.{Command}
+use Rattle.toolkit_model.specs.Steps.{ToolkitInput}
 use Rattle.proactive_handler.specs.Counting.{Counts}
 use Rattle.session_commands.specs.Carrying.{HasToolkit, IsToolkitCutShort, Carries, state_at}
 use Rattle.session_commands.specs.Cards.{AnswersSo}
@@ -207,7 +207,7 @@ module _ (command : ToolkitCommand) (apdu : Apdu) (old : CardParts) (after : Sce
 
 -- ---- what its commits leave of the rows
 
-commits_leave : (command : Option Command) (card : CardState) (outcome : ToolkitOutcome) (event : Bool) (result : Result Answered StatusWord) → result ≡ Ok (on_toolkit card outcome) → event ≡ false
+commits_leave : (command : Option ToolkitInput) (card : CardState) (outcome : ToolkitOutcome) (event : Bool) (result : Result Answered StatusWord) → result ≡ Ok (on_toolkit card outcome) → event ≡ false
     → MatchResult (and_given result (λ answered. Ok (event_told event answered))) (λ answered. LeavesRows command card answered) (λ status. ⊤) → LeavesRows command card (on_toolkit card outcome)
 unfolding and_given
 commits_leave command card outcome event result is silent leaves =

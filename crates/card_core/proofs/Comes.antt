@@ -28,7 +28,7 @@ use Rattle.toolkit_model.specs.toolkit_commands.Envelopes.{envelope_of}
 use Rattle.toolkit_model.specs.declared.faults.RowFault.{RowFault}
 use Rattle.toolkit_model.specs.declared.faults.RowFault.TheVariants.{BadData, NoBox, Narrow, Taken, MenuFull, Spent}
 use Rattle.toolkit_model.specs.Commands.{unfetched, unanswered}
-use Rattle.toolkit_model.specs.Registry.{given, faulty_if, without_row, installed_row, is_taken, is_menu_full, last_sequence}
+use Rattle.toolkit_model.specs.Registry.{unless_missing, faulty_if, without_row, installed_row, is_taken, is_menu_full, last_sequence}
 use Rattle.toolkit_model.proofs.Inserted.{with_all}
 use Rattle.card_laws.proofs.Coming.{tests_so}
 use Rattle.card_core.specs.Cards.{card_with}
@@ -66,8 +66,8 @@ abbrev IsFor : ℕ → Registration → Type 0
 IsFor shelf row = row.shelf ≡ shelf
 
 new_so : (state : Persistent) (shelf priority : ℕ) (found : Option Installation) (kind : Option ℕ)
-    → IfOk (given found BadData (λ installation.
-    given kind NoBox (λ known.
+    → IfOk (unless_missing found BadData (λ installation.
+    unless_missing kind NoBox (λ known.
     let row = new_row state shelf priority known installation in
     faulty_if (needs_wide row && not state.is_wide) Narrow (
     faulty_if (is_taken state.rows row) Taken (

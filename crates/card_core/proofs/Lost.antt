@@ -18,7 +18,7 @@ use Rattle.card_model.specs.declared.instructions.Instruction.TheVariants.{File,
 use Rattle.file_model.specs.declared.commands.FileCommand.TheVariants.{Select, Status, Contents}
 use Rattle.card_laws.specs.ToolkitLaws.{CommandsLeaveRows}
 use Rattle.card_laws.specs.Moving.{HaveFixed, HasOrder, LeavesRows, command_by, rows_after}
-use Rattle.toolkit_model.specs.Steps.{Command}
+use Rattle.toolkit_model.specs.Steps.{ToolkitInput}
 use Rattle.card_core.specs.Cards.{held_by, boxes_kept, card_with, card_of, card_due}
 use Rattle.card_core.specs.Parts.{CardParts}
 use Rattle.card_core.proofs.Boxes.{at, IsLeftSo, boxes_left_so}
@@ -38,12 +38,12 @@ unchanged (Tree command) card apdu beside = refl
 abbrev Fixed : CardState → List Persistent → Type 0
 Fixed card commits = All (λ state. HaveFixed card.persistent.rows state.rows) commits
 
-told_fixed : (card : CardState) (command : Option Command) (event : Bool) (answered : Answered) → rows_after command card.persistent.rows ≡ card.persistent.rows → LeavesRows command card (event_told event answered) → Fixed card answered.commits
+told_fixed : (card : CardState) (command : Option ToolkitInput) (event : Bool) (answered : Answered) → rows_after command card.persistent.rows ≡ card.persistent.rows → LeavesRows command card (event_told event answered) → Fixed card answered.commits
 told_fixed card command false answered same leaves = subst (λ (rows : List Registration). All (λ state. HaveFixed rows state.rows) answered.commits) same leaves.fixed
 told_fixed card command true answered same leaves =
     subst (λ (rows : List Registration). All (λ state. HaveFixed rows state.rows) answered.commits) same (front_of (λ state. HaveFixed (rows_after command card.persistent.rows) state.rows) answered.commits _ leaves.fixed)
 
-settled_fixed : (card : CardState) (command : Option Command) (event : Bool) (result : Result Answered StatusWord) → rows_after command card.persistent.rows ≡ card.persistent.rows
+settled_fixed : (card : CardState) (command : Option ToolkitInput) (event : Bool) (result : Result Answered StatusWord) → rows_after command card.persistent.rows ≡ card.persistent.rows
     → MatchResult (and_given result (λ answered. Ok (event_told event answered))) (λ answered. LeavesRows command card answered) (λ status. ⊤) → Fixed card (settled card result).commits
 unfolding and_given
 settled_fixed card command event (Err status) same leaves = All-nil (λ (state : Persistent). HaveFixed card.persistent.rows state.rows)

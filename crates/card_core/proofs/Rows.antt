@@ -8,7 +8,7 @@ use Rattle.file_model.specs.uicc_types.declared.answers.TheConstants.StatusWord.
 use Rattle.file_model.specs.Chains.{refused_if, given, needs}
 use Rattle.file_model.specs.declared.selections.Selection.{Selection}
 use Rattle.card_model.specs.Channels.{is_open}
-use Rattle.card_model.specs.Instructions.{InstructionRow, instruction_tried, is_known, has_ins, row_of, rows_known}
+use Rattle.card_model.specs.Instructions.{InstructionRow, instruction_tried, is_known, has_ins, row_named, rows_known}
 use Rattle.card_model.specs.declared.instructions.Instruction.{Instruction}
 
 row_has : (rows : List InstructionRow) (class ins : ℕ) (found : InstructionRow) → find (λ each. each.ins == ins && each.class == class) rows ≡ Some found → list_any (λ each. each.ins == ins) rows ≡ true
@@ -28,17 +28,17 @@ unfolding refused_if
 passed true instruction = refl
 passed false instruction = refl
 
-basic_or_toolkit : (channels : List (Option Selection)) (class ins : ℕ) → (class ≡ 0x00) ⊎ (class ≡ 0x80) → instruction_tried is_known channels class ins ≡ tested (is_open channels 0) (has_ins is_known ins) (row_of is_known class ins)
+basic_or_toolkit : (channels : List (Option Selection)) (class ins : ℕ) → (class ≡ 0x00) ⊎ (class ≡ 0x80) → instruction_tried is_known channels class ins ≡ tested (is_open channels 0) (has_ins is_known ins) (row_named is_known class ins)
 unfolding instruction_tried refused_if given tested
-basic_or_toolkit channels class ins (inl is) = subst (λ (each : ℕ). instruction_tried is_known channels each ins ≡ tested (is_open channels 0) (has_ins is_known ins) (row_of is_known each ins)) (sym is) refl
-basic_or_toolkit channels class ins (inr is) = subst (λ (each : ℕ). instruction_tried is_known channels each ins ≡ tested (is_open channels 0) (has_ins is_known ins) (row_of is_known each ins)) (sym is) refl
+basic_or_toolkit channels class ins (inl is) = subst (λ (each : ℕ). instruction_tried is_known channels each ins ≡ tested (is_open channels 0) (has_ins is_known ins) (row_named is_known each ins)) (sym is) refl
+basic_or_toolkit channels class ins (inr is) = subst (λ (each : ℕ). instruction_tried is_known channels each ins ≡ tested (is_open channels 0) (has_ins is_known ins) (row_named is_known each ins)) (sym is) refl
 
-pub known_alone : (channels : List (Option Selection)) (class ins : ℕ) (found : InstructionRow) → (class ≡ 0x00) ⊎ (class ≡ 0x80) → is_open channels 0 ≡ true → row_of is_known class ins ≡ Some found
+pub known_alone : (channels : List (Option Selection)) (class ins : ℕ) (found : InstructionRow) → (class ≡ 0x00) ⊎ (class ≡ 0x80) → is_open channels 0 ≡ true → row_named is_known class ins ≡ Some found
     → instruction_tried is_known channels class ins ≡ Ok found.instruction
 unfolding tested refused_if given
 known_alone channels class ins found which there is =
     basic_or_toolkit channels class ins which
-    ∙ ap (λ (each : Bool). tested each (has_ins is_known ins) (row_of is_known class ins)) there
-    ∙ ap (λ (each : Bool). tested true each (row_of is_known class ins)) (row_has (rows_known is_known) class ins found is)
+    ∙ ap (λ (each : Bool). tested each (has_ins is_known ins) (row_named is_known class ins)) there
+    ∙ ap (λ (each : Bool). tested true each (row_named is_known class ins)) (row_has (rows_known is_known) class ins found is)
     ∙ ap (tested true true) is
     ∙ passed found.is_basic found.instruction

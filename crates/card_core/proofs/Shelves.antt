@@ -20,7 +20,7 @@ use Rattle.file_model.specs.card_layout.Used.{registration_if}
 use Rattle.proactive_handler.specs.card_memory.Model.{HasRowOn}
 use Rattle.file_model.specs.Chains.{and_given}
 use Rattle.proactive_handler.specs.applet_registry.Rows.{allowed}
-use Rattle.toolkit_model.specs.Registry.{given, faulty_if, without_row, installed_row, deleted_row}
+use Rattle.toolkit_model.specs.Registry.{unless_missing, faulty_if, without_row, installed_row, deleted_row}
 use Rattle.card_model.specs.States.{CardState, row_on}
 use Rattle.card_model.specs.Chained.{Any}
 use Rattle.card_model.proofs.ChainedLemmas.{past}
@@ -161,7 +161,7 @@ abbrev HasRow : CardState → Apdu → ToolkitOutcome → Type 0
 HasRow card apdu outcome = is_none (row_on card.persistent.rows apdu.p2) ≡ false
 
 found_row : (card : CardState) (apdu : Apdu) (o : Option Registration) (idle : Bool) (next : Registration → Result ToolkitOutcome StatusWord)
-    → is_none o ≡ is_none (row_on card.persistent.rows apdu.p2) → MatchResult (and_given (row_or_status (given o NoRow (λ row. faulty_if (not idle) NotIdle (Ok row)))) next) (HasRow card apdu) Any
+    → is_none o ≡ is_none (row_on card.persistent.rows apdu.p2) → MatchResult (and_given (row_or_status (unless_missing o NoRow (λ row. faulty_if (not idle) NotIdle (Ok row)))) next) (HasRow card apdu) Any
 unfolding and_given
 found_row card apdu None idle next is = tt
 found_row card apdu (Some row) false next is = tt
@@ -195,7 +195,7 @@ none_there entries table shelf none has = no_row shelf (slice_get table.rows she
 
 -- ---- the row of an idle applet may go exactly where it is there
 
-may_go : (o : Option Registration) → is_ok (allowed (given o NoRow (λ row. faulty_if (not true) NotIdle (Ok row)))) ≡ is_some o
+may_go : (o : Option Registration) → is_ok (allowed (unless_missing o NoRow (λ row. faulty_if (not true) NotIdle (Ok row)))) ≡ is_some o
 may_go None = refl
 may_go (Some row) = refl
 

@@ -1,7 +1,7 @@
 //! The table of instructions: how a command is told by its class and instruction bytes.
 ghost use Rattle.std.specs.Prelude.{◌≡◌, ◌≢◌, true, false, Err, Some, OnOk, option_map};
 ghost use Rattle.card_model.specs.Channels.{is_class, asks_secure_messaging, channel_of, is_open};
-ghost use Rattle.card_model.specs.Instructions.{instruction_tried, is_known, has_ins, row_of};
+ghost use Rattle.card_model.specs.Instructions.{instruction_tried, is_known, has_ins, row_named};
 
 use card_model::Instruction::{self, File, ManageChannel, Pin, Toolkit, Tree};
 use card_model::ToolkitCommand::{
@@ -55,7 +55,7 @@ impl TableRow {
     // would hand the row over through memory.
     #[inline(always)]
     fn of(class: u8, ins: u8) -> Option<TableRow>
-        ensures shown { option_map (row_shown ins) result ≡ row_of is_known class ins }
+        ensures shown { option_map (row_shown ins) result ≡ row_named is_known class ins }
     {
         match (class, ins) {
             (0x00, 0xA4) => each_channel(class, File(Select)),

@@ -15,9 +15,9 @@ use Rattle.toolkit_model.specs.toolkit_commands.declared.envelopes.Envelope.{Env
 use Rattle.toolkit_model.specs.toolkit_commands.declared.responses.Response.{Response as Reply}
 use Rattle.toolkit_model.specs.declared.faults.RowFault.{RowFault}
 use Rattle.toolkit_model.specs.Sessions.{Outstanding}
-use Rattle.toolkit_model.specs.Commands.{if_fetched, unfetched, unanswered, reply_to, bytes_of, as_fetched, fetched}
+use Rattle.toolkit_model.specs.Commands.{if_fetched, unfetched, unanswered, reply_to, command_bytes, as_fetched, fetched}
 use Rattle.toolkit_model.specs.Registry.{installed_row}
-use Rattle.toolkit_model.specs.Steps.{Command, Profile, Status, Report, Fetch, Respond, Delete, Wake}
+use Rattle.toolkit_model.specs.Steps.{ToolkitInput, Profile, Status, Report, Fetch, Respond, Delete, Wake}
 use Rattle.card_model.specs.Answers.{Answered, settled, told_pending, with_pending, on_toolkit, toolkit_tried, carried_out, carried_with, cut_answer, tried, answer_of, is_carried_out}
 use Rattle.card_model.specs.Chained.{Any}
 use Rattle.card_model.proofs.ChainedLemmas.{past}
@@ -39,8 +39,8 @@ use Rattle.card_laws.proofs.Statuses.{few_fetched}
 use Rattle.card_laws.proofs.Taken.{of_taken}
 
 -- such an answer to a command that was taken, but for the bytes that the status tells of; an answer has 256 bytes at most
-abbrev pub Suits : Option Command → Answered → Type 0
-Suits (Some (Fetch out)) answered = (length (bytes_of out) ≤ 256 → answered.body ≡ bytes_of out) × (answered.status ≡ DONE) × (answered.state.session.out ≡ Some (as_fetched out))
+abbrev pub Suits : Option ToolkitInput → Answered → Type 0
+Suits (Some (Fetch out)) answered = (length (command_bytes out) ≤ 256 → answered.body ≡ command_bytes out) × (answered.status ≡ DONE) × (answered.state.session.out ≡ Some (as_fetched out))
 Suits (Some (Wake rows minds)) answered = ⊥
 Suits _ answered = ⊤
 
@@ -76,18 +76,18 @@ unfolding command_fetched fetched
 fetches_suit card apdu =
     let P : ToolkitOutcome → Type 0 = λ done. Suits (option_map (λ out. Fetch out) (unfetched card.session)) (cut_answer apdu.expected (on_toolkit card done)) in
     past P _ _ _ (past P _ _ _ (given_so P Any (unfetched card.session) _ _ tt (λ out is. unless_so P Any _ _ _ tt (λ asks.
-    subst (λ (found : Option Outstanding). Suits (option_map (λ each. Fetch each) found) (cut_answer apdu.expected (on_toolkit card (coming_to card (bytes_of out) (fetched out (toolkit_of card)))))) (sym is)
-    (all_asked apdu.expected (bytes_of out) (not-false _ asks), refl, refl)))))
+    subst (λ (found : Option Outstanding). Suits (option_map (λ each. Fetch each) found) (cut_answer apdu.expected (on_toolkit card (coming_to card (command_bytes out) (fetched out (toolkit_of card)))))) (sym is)
+    (all_asked apdu.expected (command_bytes out) (not-false _ asks), refl, refl)))))
 
 module _ (card : CardState) (apdu : Apdu) where
-  abbrev S : Option Command → Result Answered StatusWord → Type 0
+  abbrev S : Option ToolkitInput → Result Answered StatusWord → Type 0
   S command result = MatchResult result (Suits command) Any
 
-  always : (command : Option Command) → ((answered : Answered) → Suits command answered) → (result : Result Answered StatusWord) → S command result
+  always : (command : Option ToolkitInput) → ((answered : Answered) → Suits command answered) → (result : Result Answered StatusWord) → S command result
   always command suits (Err status) = tt
   always command suits (Ok answered) = suits answered
 
-  of_fetch : (command : Option Command) (outcome : Result ToolkitOutcome StatusWord) → MatchResult outcome (λ done. Suits command (cut_answer apdu.expected (on_toolkit card done))) Any
+  of_fetch : (command : Option ToolkitInput) (outcome : Result ToolkitOutcome StatusWord) → MatchResult outcome (λ done. Suits command (cut_answer apdu.expected (on_toolkit card done))) Any
       → S command (cut_result apdu.expected (and_given (toolkit_tried card outcome) (λ answered. Ok answered)))
   unfolding and_given
   of_fetch command (Err status) suits = tt
@@ -104,7 +104,7 @@ module _ (card : CardState) (apdu : Apdu) where
   carried_suits (Toolkit toolkit.DeleteApplet) = always (Some (Delete apdu.p2)) (λ answered. tt) _
   carried_suits _ = always None (λ answered. tt) _
 
-  by_carried : (command : Option Command) (result : Result Answered StatusWord) → S command (cut_result apdu.expected result) → Suits (if_carried result command) (settled card (cut_result apdu.expected result))
+  by_carried : (command : Option ToolkitInput) (result : Result Answered StatusWord) → S command (cut_result apdu.expected result) → Suits (if_carried result command) (settled card (cut_result apdu.expected result))
   unfolding and_given
   by_carried command (Err status) suits = tt
   by_carried command (Ok answered) suits = suits
@@ -117,17 +117,17 @@ taken_suits knows card bytes runs =
     (λ apdu instruction read. by_carried card apdu (command_by instruction card apdu) (carried_with true instruction card apdu) (carried_suits card apdu instruction))
 
 -- no other command is to be fetched
-fetch_told : (out : Outstanding) (answered : Answered) → length (bytes_of out) ≤ 256 → Suits (Some (Fetch out)) answered → GivesCommand out (with_pending answered)
+fetch_told : (out : Outstanding) (answered : Answered) → length (command_bytes out) ≤ 256 → Suits (Some (Fetch out)) answered → GivesCommand out (with_pending answered)
 fetch_told out answered few is = record {
   body = is.0 few;
-  status = ap (λ (held : Option Outstanding). told_pending (option_map (λ (each : Outstanding). length (bytes_of each)) (if_fetched false held)) answered.status) is.2 ∙ is.1;
+  status = ap (λ (held : Option Outstanding). told_pending (option_map (λ (each : Outstanding). length (command_bytes each)) (if_fetched false held)) answered.status) is.2 ∙ is.1;
   awaits = ap (if_fetched true) is.2;
 }
 
-pub fetch_gives : (knows : Instruction → Bool) (card : CardState) (bytes : List ℕ) (out : Outstanding) → has_toolkit knows ≡ true → length (bytes_of out) ≤ 256 → taken knows card bytes ≡ Some (Fetch out) → GivesCommand out (answer_of knows card bytes)
+pub fetch_gives : (knows : Instruction → Bool) (card : CardState) (bytes : List ℕ) (out : Outstanding) → has_toolkit knows ≡ true → length (command_bytes out) ≤ 256 → taken knows card bytes ≡ Some (Fetch out) → GivesCommand out (answer_of knows card bytes)
 unfolding answer_of
 fetch_gives knows card bytes out runs few is =
-    fetch_told out (settled card (tried knows card bytes)) few (subst (λ (command : Option Command). Suits command (settled card (tried knows card bytes))) is (taken_suits knows card bytes runs))
+    fetch_told out (settled card (tried knows card bytes)) few (subst (λ (command : Option ToolkitInput). Suits command (settled card (tried knows card bytes))) is (taken_suits knows card bytes runs))
 
 -- ---- a FETCH that was carried out
 
@@ -136,5 +136,5 @@ pub fetch_carried_out : GoodCardsHaveOrder → AnswersGoOn → (knows : Instruct
 fetch_carried_out order goes knows card bytes runs good are named done =
     let fetch : IsFetch (taken knows card bytes) = (answer_names knows card bytes runs good are).fetch named done in
     let went : GoesOnBy (Fetch fetch.0) card (answer_of knows card bytes) =
-    subst (λ (command : Option Command). GoesOn command card (answer_of knows card bytes)) fetch.1 (goes knows card bytes runs (order card good)) in
+    subst (λ (command : Option ToolkitInput). GoesOn command card (answer_of knows card bytes)) fetch.1 (goes knows card bytes runs (order card good)) in
     record { out = fetch.0; waits = went.accepted; is = fetch.1; gives = fetch_gives knows card bytes fetch.0 runs (omega (arith, few_fetched card.session fetch.0 good.session.underway.out_sendable went.accepted)) fetch.1 }

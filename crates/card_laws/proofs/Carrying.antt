@@ -15,9 +15,9 @@ use Rattle.file_model.proofs.ChainedLemmas.{unless_so, given_so}
 use Rattle.toolkit_model.specs.toolkit_commands.Envelopes.{envelope_of}
 use Rattle.toolkit_model.specs.declared.faults.RowFault.{RowFault}
 use Rattle.toolkit_model.specs.declared.faults.RowFault.TheVariants.{BadData, NoBox, Narrow, Taken, MenuFull, Spent, NoRow, NotIdle}
-use Rattle.toolkit_model.specs.Commands.{unfetched, unanswered, reply_to, bytes_of, pending}
+use Rattle.toolkit_model.specs.Commands.{unfetched, unanswered, reply_to, command_bytes, pending}
 use Rattle.toolkit_model.specs.Registry.{installed_row}
-use Rattle.toolkit_model.specs.Steps.{Command, Status, Report, Fetch, Respond}
+use Rattle.toolkit_model.specs.Steps.{ToolkitInput, Status, Report, Fetch, Respond}
 use Rattle.card_model.specs.Answers.{Answered, settled, with_pending, file_tried, toolkit_tried, selection_on, seen_by, then_polled, carried_out, carried_with, answer_of, is_carried_out}
 use Rattle.card_model.specs.Channels.{channel_of}
 use Rattle.card_model.proofs.CaseLemmas.{cut_result, IsRead}
@@ -56,11 +56,11 @@ row_so P holds (Err fault) outcome = row_refused fault
 -- ---- each instruction
 
 -- where it is done there is a command of the toolkit, and else it is refused
-abbrev IsOne : Option Command → Result ToolkitOutcome StatusWord → Type 0
+abbrev IsOne : Option ToolkitInput → Result ToolkitOutcome StatusWord → Type 0
 IsOne command outcome = MatchResult outcome (λ done. is_some command ≡ true) IsRefusal
 
 -- where it is carried out there is one if its instruction is of the toolkit; else it is none of those, or refused
-abbrev Comes : Bool → Option Command → Result Answered StatusWord → Type 0
+abbrev Comes : Bool → Option ToolkitInput → Result Answered StatusWord → Type 0
 Comes moves command result =
     MatchResult result (λ answered. moves ≡ true → is_some command ≡ true) (λ status. ((command ≡ None) × (moves ≡ false)) ⊎ IsRefusal status)
 
@@ -74,7 +74,7 @@ module _ (card : CardState) (apdu : Apdu) where
   outcome_is good seen toolkit.Fetch =
       let P : Type 0 = is_some (option_map (λ out. Fetch out) (unfetched card.session)) ≡ true in
       past P _ _ _ refl (past P _ _ _ refl (given_so (λ done. P) IsRefusal (unfetched card.session) _ _ refl (λ out is.
-      past P _ _ _ (length_refused (length (bytes_of out)) (few_fetched card.session out good.session.underway.out_sendable is)) (ap (λ found. is_some (option_map (λ each. Fetch each) found)) is))))
+      past P _ _ _ (length_refused (length (command_bytes out)) (few_fetched card.session out good.session.underway.out_sendable is)) (ap (λ found. is_some (option_map (λ each. Fetch each) found)) is))))
   outcome_is good seen toolkit.TerminalResponse =
       let P : Type 0 = is_some (option_and_then (λ out. option_map (λ reply. Respond out reply) (reply_to out apdu.body)) (unanswered card.session)) ≡ true in
       past P _ _ _ refl (past P _ _ _ refl (
@@ -105,7 +105,7 @@ module _ (card : CardState) (apdu : Apdu) where
   other_comes (Ok answered) = λ moves. absurd (false≢true moves)
   other_comes (Err status) = inl (refl, refl)
 
-  toolkit_comes : (command : Option Command) (outcome : Result ToolkitOutcome StatusWord) → IsOne command outcome → Comes true command (and_given (toolkit_tried card outcome) (λ answered. Ok answered))
+  toolkit_comes : (command : Option ToolkitInput) (outcome : Result ToolkitOutcome StatusWord) → IsOne command outcome → Comes true command (and_given (toolkit_tried card outcome) (λ answered. Ok answered))
   unfolding and_given
   toolkit_comes command (Ok outcome) is = λ moves. is
   toolkit_comes command (Err status) is = inr is
@@ -130,11 +130,11 @@ not_done : (card : CardState) (status : StatusWord) → IsRefusal status → IsD
 not_done card status is done = false≢true (sym (told_refused (pending card.session) status is) ∙ done)
 
 -- it is taken as what it is
-record IsTaken (moves : Bool) (command found : Option Command) : Type 0 where
+record IsTaken (moves : Bool) (command found : Option ToolkitInput) : Type 0 where
   takes : found ≡ command
   is_one : moves ≡ true → is_some command ≡ true
 
-by_carried : (card : CardState) (moves : Bool) (command : Option Command) (expected : Option ℕ) (result : Result Answered StatusWord) → Comes moves command result → IsDone card (cut_result expected result)
+by_carried : (card : CardState) (moves : Bool) (command : Option ToolkitInput) (expected : Option ℕ) (result : Result Answered StatusWord) → Comes moves command result → IsDone card (cut_result expected result)
     → IsTaken moves command (if_carried result command)
 unfolding and_given
 by_carried card moves command expected (Ok answered) comes done = record { takes = refl; is_one = comes }
@@ -142,7 +142,7 @@ by_carried card moves command expected (Err status) (inr refused) done = absurd 
 by_carried card moves command expected (Err status) (inl none) done = record { takes = sym none.0; is_one = λ now. absurd (false≢true (sym none.1 ∙ now)) }
 
 -- so of what was read
-record TakesSo (knows : Instruction → Bool) (card : CardState) (bytes : List ℕ) (found : Option Command) : Type 0 where
+record TakesSo (knows : Instruction → Bool) (card : CardState) (bytes : List ℕ) (found : Option ToolkitInput) : Type 0 where
   apdu : Apdu
   instruction : Instruction
   read : IsRead knows card bytes apdu instruction

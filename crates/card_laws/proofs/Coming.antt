@@ -19,11 +19,11 @@ use Rattle.toolkit_model.specs.declared.faults.RowFault.{RowFault}
 use Rattle.toolkit_model.specs.declared.faults.RowFault.TheVariants.{BadData, NoBox, Narrow, Taken, MenuFull, Spent, NoRow, NotIdle}
 use Rattle.toolkit_model.specs.Orderly.{IsRegistered, asks}
 use Rattle.toolkit_model.specs.Passing.{ToolkitState, Passed, passed_rows}
-use Rattle.toolkit_model.specs.Registry.{faulty_if, given, is_on, row_on, is_taken, is_menu_full, last_sequence, installed_row, deleted_row, without_row}
+use Rattle.toolkit_model.specs.Registry.{faulty_if, unless_missing, is_on, row_on, is_taken, is_menu_full, last_sequence, installed_row, deleted_row, without_row}
 use Rattle.toolkit_model.specs.Running.{mind_on}
 use Rattle.toolkit_model.specs.Driving.{is_idle}
-use Rattle.toolkit_model.specs.Commands.{unfetched, unanswered, reply_to, is_busy, bytes_of, call_data, fetched, responded, enveloped, installed, deleted}
-use Rattle.toolkit_model.specs.Steps.{AreRows, HasMind, HaveMinds, Command, Profile, Report, Fetch, Respond, Install, Delete, IsAccepted, moved}
+use Rattle.toolkit_model.specs.Commands.{unfetched, unanswered, reply_to, is_busy, command_bytes, call_data, fetched, responded, enveloped, installed, row_deleted}
+use Rattle.toolkit_model.specs.Steps.{AreRows, HasMind, HaveMinds, ToolkitInput, Profile, Report, Fetch, Respond, Install, Delete, IsAccepted, moved}
 use Rattle.toolkit_model.specs.Installing.{InstallationsAreAccepted}
 use Rattle.toolkit_model.specs.Sound.{HasApplet, InstalledRowsAreSound}
 use Rattle.toolkit_model.proofs.Inserted.{with_all}
@@ -67,7 +67,7 @@ each_stands card next rows [] stands all = All-nil (CanStand card next)
 each_stands card next rows (first ∷ others) stands all =
     All-cons (CanStand card next) first others (stands_fixed card next rows first stands (All-head (HaveFixed rows) first others all)) (each_stands card next rows others stands (All-tail (HaveFixed rows) first others all))
 
-pub record Comes (card : CardState) (command : Command) (outcome : ToolkitOutcome) : Type 0 where
+pub record Comes (card : CardState) (command : ToolkitInput) (outcome : ToolkitOutcome) : Type 0 where
   pub accepted : IsAccepted command (toolkit_of card)
   pub passed : outcome.passed ≡ moved command (toolkit_of card)
   pub ends : last_of card.persistent.rows (passed_rows (moved command (toolkit_of card)).log) ≡ (moved command (toolkit_of card)).state.rows
@@ -78,11 +78,11 @@ pub record Comes (card : CardState) (command : Command) (outcome : ToolkitOutcom
   pub brings : AreOfSevenKinds card.boxes → BringsGood card.persistent.is_wide outcome.next_sequence command
   pub next : (last_of card.persistent (states_passed card.persistent outcome)).next_sequence ≡ outcome.next_sequence
 
-abbrev pub ComesTo : CardState → Option Command → Result ToolkitOutcome StatusWord → Type 0
+abbrev pub ComesTo : CardState → Option ToolkitInput → Result ToolkitOutcome StatusWord → Type 0
 ComesTo card command result = MatchResult result (λ outcome. IsSomeAnd command (λ each. Comes card each outcome)) Any
 
 -- where it makes no row and deletes none
-pub comes_by : (card : CardState) → HasOrder card → (command : Command) (body : List ℕ) → IsAccepted command (toolkit_of card) → Commits (toolkit_of card) (moved command (toolkit_of card))
+pub comes_by : (card : CardState) → HasOrder card → (command : ToolkitInput) (body : List ℕ) → IsAccepted command (toolkit_of card) → Commits (toolkit_of card) (moved command (toolkit_of card))
     → rows_by command card.persistent.rows ≡ card.persistent.rows → BringsGood card.persistent.is_wide card.persistent.next_sequence command → Comes card command (coming_to card body (moved command (toolkit_of card)))
 comes_by card ready command body accepted commits same brings = record {
   fixed = subst (λ (rows : List Registration). All (HaveFixed rows) (passed_rows (moved command (toolkit_of card)).log)) (sym same) commits.each;
@@ -136,8 +136,8 @@ tests_so P false false false false row holds = holds
 -- the row that INSTALL makes of these data and a kind
 abbrev made : Persistent → ℕ → ℕ → Option Installation → Option ℕ → Result Registration RowFault
 made state shelf priority found kind =
-    given found BadData (λ installation.
-    given kind NoBox (λ known.
+    unless_missing found BadData (λ installation.
+    unless_missing kind NoBox (λ known.
     let row = new_row state shelf priority known installation in
     faulty_if (needs_wide row && not state.is_wide) Narrow (
     faulty_if (is_taken state.rows row) Taken (
@@ -170,7 +170,7 @@ kind_known boxes shelf kinds = by_box (mind_on boxes shelf) (at_shelf boxes shel
   by_box (Some mind) known = known
 
 -- a row that DELETE finds is there, and its applet is idle
-deleted_is : (found : Option Registration) (idle : Bool) (row : Registration) → given found NoRow (λ each. faulty_if (not idle) NotIdle (Ok each)) ≡ Ok row → (found ≡ Some row) × (idle ≡ true)
+deleted_is : (found : Option Registration) (idle : Bool) (row : Registration) → unless_missing found NoRow (λ each. faulty_if (not idle) NotIdle (Ok each)) ≡ Ok row → (found ≡ Some row) × (idle ≡ true)
 deleted_is None idle row is = cc
 deleted_is (Some other) true row is = (cc, refl)
 deleted_is (Some other) false row is = cc
@@ -191,7 +191,7 @@ module _ (installs : InstallationsAreAccepted) (sounds : InstalledRowsAreSound) 
   abbrev at : ToolkitState
   at = toolkit_of card
 
-  abbrev P : Option Command → ToolkitOutcome → Type 0
+  abbrev P : Option ToolkitInput → ToolkitOutcome → Type 0
   P command outcome = IsSomeAnd command (λ each. Comes card each outcome)
 
   profile_comes : ComesTo card (Some (Profile apdu.body)) (profile_taken card apdu)
@@ -203,7 +203,7 @@ module _ (installs : InstallationsAreAccepted) (sounds : InstalledRowsAreSound) 
   fetch_comes =
       let Q : ToolkitOutcome → Type 0 = P (option_map (λ out. Fetch out) (unfetched card.session)) in
       past Q _ _ _ (past Q _ _ _ (given_so Q Any (unfetched card.session) _ _ tt (λ out is. past Q _ _ _ (
-      subst (λ found. P (option_map (λ each. Fetch each) found) (coming_to card (bytes_of out) (fetched out at))) (sym is) (comes_by card ready (Fetch out) (bytes_of out) is (fetched_commits out at) refl (tt, tt))))))
+      subst (λ found. P (option_map (λ each. Fetch each) found) (coming_to card (command_bytes out) (fetched out at))) (sym is) (comes_by card ready (Fetch out) (command_bytes out) is (fetched_commits out at) refl (tt, tt))))))
 
   response_comes : ComesTo card (option_and_then (λ out. option_map (λ reply. Respond out reply) (reply_to out apdu.body)) (unanswered card.session)) (response_taken card apdu)
   unfolding response_taken
@@ -261,28 +261,28 @@ module _ (installs : InstallationsAreAccepted) (sounds : InstalledRowsAreSound) 
       subst (λ found. P (if_row found) (record { body = []; passed = installed row at; next_sequence = card.persistent.next_sequence + 1 })) (sym is) (install_one row (leb-true 1 apdu.p1 both.0) (omega (arith, low)) is)))))
 
   -- a row that goes
-  delete_one : (row : Registration) → deleted_row card.persistent.rows apdu.p2 (is_idle (asks card.session) apdu.p2) ≡ Ok row → Comes card (Delete apdu.p2) (coming_to card [] (deleted row.shelf at))
+  delete_one : (row : Registration) → deleted_row card.persistent.rows apdu.p2 (is_idle (asks card.session) apdu.p2) ≡ Ok row → Comes card (Delete apdu.p2) (coming_to card [] (row_deleted row.shelf at))
   delete_one row is =
       let parts = deleted_is (row_on card.persistent.rows apdu.p2) (is_idle (asks card.session) apdu.p2) row is in
       let there = found_there card.persistent.rows apdu.p2 row parts.0 in
       let commits = deleted_commits apdu.p2 at in
       let below : AreBelow card.persistent.next_sequence (without_row card.persistent.rows apdu.p2) =
       All-filter (λ each. not (is_on apdu.p2 each)) (λ each. each.sequence < card.persistent.next_sequence) card.persistent.rows ready.sequences in
-      subst (λ (shelf : ℕ). Comes card (Delete apdu.p2) (coming_to card [] (deleted shelf at))) (sym there.shelf_is) (record {
+      subst (λ (shelf : ℕ). Comes card (Delete apdu.p2) (coming_to card [] (row_deleted shelf at))) (sym there.shelf_is) (record {
         accepted = (there.registered, parts.1);
         passed = refl;
-        ends = first_ends card.persistent.rows (without_row card.persistent.rows apdu.p2) (deleted apdu.p2 at) commits;
-        below = first_below card.persistent.next_sequence (without_row card.persistent.rows apdu.p2) (deleted apdu.p2 at) commits below;
-        each = first_each card card.persistent.next_sequence (without_row card.persistent.rows apdu.p2) (deleted apdu.p2 at) commits (record {
+        ends = first_ends card.persistent.rows (without_row card.persistent.rows apdu.p2) (row_deleted apdu.p2 at) commits;
+        below = first_below card.persistent.next_sequence (without_row card.persistent.rows apdu.p2) (row_deleted apdu.p2 at) commits below;
+        each = first_each card card.persistent.next_sequence (without_row card.persistent.rows apdu.p2) (row_deleted apdu.p2 at) commits (record {
           are_rows = rows_without card.persistent.rows apdu.p2 ready.order.rows;
           minds = All-filter (λ each. not (is_on apdu.p2 each)) (λ each. HasMind card.boxes each.shelf) card.persistent.rows ready.order.minds;
           below = below;
           applets = λ have. All-filter (λ each. not (is_on apdu.p2 each)) (HasApplet card.boxes) card.persistent.rows have;
         });
-        fixed = first_fixed (without_row card.persistent.rows apdu.p2) (deleted apdu.p2 at) commits;
+        fixed = first_fixed (without_row card.persistent.rows apdu.p2) (row_deleted apdu.p2 at) commits;
         later = omega arith;
         brings = λ kinds. (tt, tt);
-        next = first_next card.persistent card.persistent.next_sequence (without_row card.persistent.rows apdu.p2) (deleted apdu.p2 at) commits;
+        next = first_next card.persistent card.persistent.next_sequence (without_row card.persistent.rows apdu.p2) (row_deleted apdu.p2 at) commits;
       })
 
   delete_comes : (seen : Verified) → ComesTo card (Some (Delete apdu.p2)) (applet_deleted card seen apdu)

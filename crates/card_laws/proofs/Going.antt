@@ -17,7 +17,7 @@ use Rattle.card_model.specs.file_making.Outcomes.{TreeOutcome}
 use Rattle.toolkit_model.specs.Passing.{ToolkitState, Passed, passed_rows}
 use Rattle.toolkit_model.specs.Running.{mind_on}
 use Rattle.toolkit_model.specs.Commands.{polled}
-use Rattle.toolkit_model.specs.Steps.{HaveMinds, Command, Status, Wake, IsAccepted, AreAccepted, moved, moved_by}
+use Rattle.toolkit_model.specs.Steps.{HaveMinds, ToolkitInput, Status, Wake, IsAccepted, AreAccepted, moved, moved_by}
 use Rattle.toolkit_model.specs.Installing.{InstallationsAreAccepted}
 use Rattle.toolkit_model.specs.OrderlySessions.{IsInOrder}
 use Rattle.toolkit_model.specs.Sound.{InstalledRowsAreSound}
@@ -54,13 +54,13 @@ pub wakes_now : (card : CardState) → HasOrder card → CanWake card card.persi
 wakes_now card ready = record { are_rows = ready.order.rows; minds = ready.order.minds; below = ready.sequences; applets = λ have. have }
 
 -- it goes on so whatever it tells
-told_goes : (command : Option Command) (card : CardState) (answered : Answered) (body : List ℕ) (status : StatusWord) → GoesOn command card answered → GoesOn command card (record answered { body = body; status = status })
+told_goes : (command : Option ToolkitInput) (card : CardState) (answered : Answered) (body : List ℕ) (status : StatusWord) → GoesOn command card answered → GoesOn command card (record answered { body = body; status = status })
 told_goes (Some command) card answered body status goes = record { accepted = goes.accepted; toolkit = goes.toolkit; commits = goes.commits }
 told_goes None card answered body status goes = record { toolkit = goes.toolkit; commits = goes.commits }
 
 -- The card goes on so, the next sequence number is above those of its rows, and it can wake over each state that it passes. Where a
 -- command of the toolkit was carried out, that is what the status tells.
-pub record Goes (command : Option Command) (card : CardState) (answered : Answered) : Type 0 where
+pub record Goes (command : Option ToolkitInput) (card : CardState) (answered : Answered) : Type 0 where
   pub goes : GoesOn command card answered
   pub below : AreBelow answered.state.persistent.next_sequence answered.state.persistent.rows
   pub states : All (CanWake card) answered.commits
@@ -90,7 +90,7 @@ rows_each base next [] = refl
 rows_each base next (first ∷ others) = ap (λ (rest : List (List Registration)). first ∷ rest) (rows_each base next others)
 
 -- a command of the toolkit
-pub goes_by : (card : CardState) (command : Command) (outcome : ToolkitOutcome) → Comes card command outcome → Goes (Some command) card (on_toolkit card outcome)
+pub goes_by : (card : CardState) (command : ToolkitInput) (outcome : ToolkitOutcome) → Comes card command outcome → Goes (Some command) card (on_toolkit card outcome)
 goes_by card command outcome comes =
     let last : Persistent = last_of card.persistent (states_passed card.persistent outcome) in
     let came : Passed = moved command (toolkit_of card) in
@@ -178,7 +178,7 @@ unfolding status_told telling
 status_done state selection apdu = past IsDone _ _ _ (past IsDone _ _ _ (past_given IsDone _ _ _ (λ file. (refl, refl))))
 
 module _ (installs : InstallationsAreAccepted) (sounds : InstalledRowsAreSound) (card : CardState) (ready : HasOrder card) (apdu : Apdu) where
-  abbrev Q : Option Command → Result Answered StatusWord → Type 0
+  abbrev Q : Option ToolkitInput → Result Answered StatusWord → Type 0
   Q command result = MatchResult result (λ answered. Goes command card answered) Any
 
   of_file : (outcome : Result FileOutcome StatusWord) → MatchResult outcome (λ done. HaveOtherFiles card.persistent done.passed) Any → Q None (file_tried card apdu outcome)
@@ -201,11 +201,11 @@ module _ (installs : InstallationsAreAccepted) (sounds : InstalledRowsAreSound) 
   of_tree (Err status) leaves = tt
   of_tree (Ok outcome) leaves = trees_go card ready outcome leaves
 
-  of_comes : (command : Option Command) (outcome : ToolkitOutcome) → IsSomeAnd command (λ each. Comes card each outcome) → Goes command card (on_toolkit card outcome)
+  of_comes : (command : Option ToolkitInput) (outcome : ToolkitOutcome) → IsSomeAnd command (λ each. Comes card each outcome) → Goes command card (on_toolkit card outcome)
   of_comes None outcome comes = absurd comes
   of_comes (Some command) outcome comes = goes_by card command outcome comes
 
-  of_toolkit : (command : Option Command) (outcome : Result ToolkitOutcome StatusWord) → ComesTo card command outcome → Q command (toolkit_tried card outcome)
+  of_toolkit : (command : Option ToolkitInput) (outcome : Result ToolkitOutcome StatusWord) → ComesTo card command outcome → Q command (toolkit_tried card outcome)
   unfolding and_given
   of_toolkit command (Err status) comes = tt
   of_toolkit command (Ok outcome) comes = of_comes command outcome comes
@@ -223,7 +223,7 @@ module _ (installs : InstallationsAreAccepted) (sounds : InstalledRowsAreSound) 
   of_status (Err status) is = tt
   of_status (Ok outcome) is = polled_goes outcome is
 
-  no_event : (command : Option Command) (result : Result Answered StatusWord) → Q command result → Q command (and_given result (λ answered. Ok answered))
+  no_event : (command : Option ToolkitInput) (result : Result Answered StatusWord) → Q command result → Q command (and_given result (λ answered. Ok answered))
   unfolding and_given
   no_event command (Err status) goes = tt
   no_event command (Ok answered) goes = goes
@@ -242,13 +242,13 @@ module _ (installs : InstallationsAreAccepted) (sounds : InstalledRowsAreSound) 
   carried_goes (Tree command) = no_event None _ (of_tree _ (tree_leaves card.persistent (seen_by card) card.channels (channel_of apdu.class) apdu command))
 
   -- whatever the data are cut to
-  pub by_carried : (command : Option Command) (result : Result Answered StatusWord) → Q command result → Goes (if_carried result command) card (settled card (cut_result apdu.expected result))
+  pub by_carried : (command : Option ToolkitInput) (result : Result Answered StatusWord) → Q command result → Goes (if_carried result command) card (settled card (cut_result apdu.expected result))
   unfolding and_given
   by_carried command (Err status) goes = refused_goes card ready status
   by_carried command (Ok answered) goes =
       record { goes = told_goes command card answered (cut_to apdu.expected answered.body) answered.status goes.goes; below = goes.below; states = goes.states; fixed = goes.fixed; done = goes.done }
 
-  left_by : (command : Option Command) (result : Result Answered StatusWord) → Q command result → MatchResult result (λ answered. LeavesRows command card answered) (λ status. ⊤)
+  left_by : (command : Option ToolkitInput) (result : Result Answered StatusWord) → Q command result → MatchResult result (λ answered. LeavesRows command card answered) (λ status. ⊤)
   left_by command (Err status) goes = tt
   left_by command (Ok answered) goes = record { fixed = goes.fixed; boxes = λ have k d low. (goes.states k d low).applets have }
 
@@ -265,7 +265,7 @@ told_left card ready =
 -- ---- the answer
 
 -- the same, but for the status
-pub record GoesOnWell (command : Option Command) (card : CardState) (answered : Answered) : Type 0 where
+pub record GoesOnWell (command : Option ToolkitInput) (card : CardState) (answered : Answered) : Type 0 where
   pub goes : GoesOn command card answered
   pub below : AreBelow answered.state.persistent.next_sequence answered.state.persistent.rows
   pub states : All (CanWake card) answered.commits
@@ -306,15 +306,15 @@ good_order card good = record {
 -- ---- events
 
 -- from one toolkit to the next, by a command or by none
-abbrev IsNext : Option Command → ToolkitState → ToolkitState → Type 0
+abbrev IsNext : Option ToolkitInput → ToolkitState → ToolkitState → Type 0
 IsNext (Some command) state next = IsAccepted command state × (next ≡ (moved command state).state)
 IsNext None state next = next ≡ state
 
-next_goes : (command : Option Command) (card : CardState) (answered : Answered) → GoesOn command card answered → IsNext command (toolkit_of card) (toolkit_of answered.state)
+next_goes : (command : Option ToolkitInput) (card : CardState) (answered : Answered) → GoesOn command card answered → IsNext command (toolkit_of card) (toolkit_of answered.state)
 next_goes (Some command) card answered goes = (goes.accepted, goes.toolkit)
 next_goes None card answered goes = goes.toolkit
 
-joined : (command : Option Command) (others : List Command) (state next last : ToolkitState) → IsNext command state next → AreAccepted others next → last ≡ (moved_by others next).state
+joined : (command : Option ToolkitInput) (others : List ToolkitInput) (state next last : ToolkitState) → IsNext command state next → AreAccepted others next → last ≡ (moved_by others next).state
     → AreAccepted (option_to_list command ++ others) state × (last ≡ (moved_by (option_to_list command ++ others) state).state)
 joined None others state next last is accepted moves =
     (subst (AreAccepted others) is accepted, subst (λ (from : ToolkitState). last ≡ (moved_by others from).state) is moves)
@@ -322,13 +322,13 @@ joined (Some command) others state next last is accepted moves =
     ((is.0, subst (AreAccepted others) is.1 accepted), subst (λ (from : ToolkitState). last ≡ (moved_by others from).state) is.1 moves)
 
 abbrev pub StaysInOrder : Type 0
-StaysInOrder = (commands : List Command) (state : ToolkitState) → IsInOrder state → AreAccepted commands state → IsInOrder (moved_by commands state).state
+StaysInOrder = (commands : List ToolkitInput) (state : ToolkitState) → IsInOrder state → AreAccepted commands state → IsInOrder (moved_by commands state).state
 
-next_in_order : StaysInOrder → (command : Option Command) (state next : ToolkitState) → IsInOrder state → IsNext command state next → IsInOrder next
+next_in_order : StaysInOrder → (command : Option ToolkitInput) (state next : ToolkitState) → IsInOrder state → IsNext command state next → IsInOrder next
 next_in_order stays (Some command) state next order is = subst IsInOrder (sym is.1) (stays (command ∷ []) state order (is.0, tt))
 next_in_order stays None state next order is = subst IsInOrder (sym is) order
 
-pub record StepGoes (command : Option Command) (card next : CardState) : Type 0 where
+pub record StepGoes (command : Option ToolkitInput) (card next : CardState) : Type 0 where
   pub is_next : IsNext command (toolkit_of card) (toolkit_of next)
   pub order : HasOrder next
 

@@ -17,7 +17,7 @@ use Rattle.file_model.specs.Outcomes.{last_of}
 use Rattle.file_model.specs.Selections.{IsSelection}
 use Rattle.toolkit_model.specs.Passing.{ToolkitState, Passed, passed_rows}
 use Rattle.toolkit_model.specs.Commands.{polled}
-use Rattle.toolkit_model.specs.Steps.{Command, Status, moved}
+use Rattle.toolkit_model.specs.Steps.{ToolkitInput, Status, moved}
 use Rattle.toolkit_model.specs.Installing.{InstallationsAreAccepted}
 use Rattle.toolkit_model.specs.Sound.{AreSoundRows, HasApplet, IsGoodToolkit, LeavesGood, StepsLeaveGood, InstalledRowsAreSound}
 use Rattle.card_model.specs.Answers.{Answered, settled, on_toolkit, toolkit_tried, then_polled, is_status, event_told, carried_out, carried_with, seen_by, answer_of, passed_of}
@@ -87,7 +87,7 @@ same_channels old new card same are = record {
 abbrev pub IsWell : Answered → Type 0
 IsWell answered = IsGood answered.state × All IsSoundCard answered.commits
 
-toolkit_well : StepsLeaveGood → TurnsKeepKinds → (card : CardState) → IsGood card → (command : Command) (outcome : ToolkitOutcome) → Comes card command outcome → BringsGood card.persistent.is_wide outcome.next_sequence command → IsWell (on_toolkit card outcome)
+toolkit_well : StepsLeaveGood → TurnsKeepKinds → (card : CardState) → IsGood card → (command : ToolkitInput) (outcome : ToolkitOutcome) → Comes card command outcome → BringsGood card.persistent.is_wide outcome.next_sequence command → IsWell (on_toolkit card outcome)
 toolkit_well leaves same card good command outcome comes brings =
     let wide : Bool = card.persistent.is_wide in
     let next : ℕ = outcome.next_sequence in
@@ -123,11 +123,11 @@ module _ (installs : InstallationsAreAccepted) (sounds : InstalledRowsAreSound) 
   of_lawful of_tree key (Err status) is = tt
   of_lawful of_tree key (Ok answered) is = (is.good, is.sound)
 
-  of_comes : (command : Option Command) (outcome : ToolkitOutcome) → IsSomeAnd command (λ each. Comes card each outcome) → IsWell (on_toolkit card outcome)
+  of_comes : (command : Option ToolkitInput) (outcome : ToolkitOutcome) → IsSomeAnd command (λ each. Comes card each outcome) → IsWell (on_toolkit card outcome)
   of_comes None outcome comes = absurd comes
   of_comes (Some command) outcome comes = toolkit_well leaves same card good command outcome comes (comes.brings good.kinds)
 
-  of_toolkit : (command : Option Command) (outcome : Result ToolkitOutcome StatusWord) → ComesTo card command outcome → Well (toolkit_tried card outcome)
+  of_toolkit : (command : Option ToolkitInput) (outcome : Result ToolkitOutcome StatusWord) → ComesTo card command outcome → Well (toolkit_tried card outcome)
   unfolding and_given
   of_toolkit command (Err status) comes = tt
   of_toolkit command (Ok outcome) comes = of_comes command outcome comes

@@ -15,9 +15,9 @@ use Rattle.toolkit_model.specs.toolkit_commands.declared.envelopes.Envelope.{Env
 use Rattle.toolkit_model.specs.toolkit_commands.declared.responses.Response.{Response as Reply}
 use Rattle.toolkit_model.specs.declared.faults.RowFault.{RowFault}
 use Rattle.toolkit_model.specs.Sessions.{Outstanding}
-use Rattle.toolkit_model.specs.Commands.{unfetched, unanswered, reply_to, bytes_of, pending}
+use Rattle.toolkit_model.specs.Commands.{unfetched, unanswered, reply_to, command_bytes, pending}
 use Rattle.toolkit_model.specs.Registry.{installed_row}
-use Rattle.toolkit_model.specs.Steps.{Command, Profile, Status, Report, Fetch, Respond, Delete}
+use Rattle.toolkit_model.specs.Steps.{ToolkitInput, Profile, Status, Report, Fetch, Respond, Delete}
 use Rattle.card_model.specs.Answers.{Answered, settled, told_pending, with_pending, toolkit_tried, carried_out, carried_with, answer_of, is_carried_out}
 use Rattle.card_model.proofs.CaseLemmas.{cut_result}
 use Rattle.card_model.proofs.CasesLemmas.{command_is}
@@ -73,7 +73,7 @@ fetch_so card apdu good =
     unless_so P IsRefusal _ _ _ refl (λ _.
     unless_so P IsRefusal _ _ _ refl (λ _.
     given_so P IsRefusal (unfetched card.session) _ _ refl (λ out is.
-    unless_so P IsRefusal _ _ _ (length_refused (length (bytes_of out)) (few_fetched card.session out good.session.underway.out_sendable is)) (λ _. (out, is)))))
+    unless_so P IsRefusal _ _ _ (length_refused (length (command_bytes out)) (few_fetched card.session out good.session.underway.out_sendable is)) (λ _. (out, is)))))
 
 abbrev Responds : CardState → Apdu → Type 0
 Responds card apdu = (out : Outstanding) × (reply : Reply) × (unanswered card.session ≡ Some out) × (reply_to out apdu.body ≡ Some reply)
@@ -106,19 +106,19 @@ both_told =
     named_so TellsBoth
     ((refl, refl), ((refl, refl), ((refl, refl), ((refl, refl), ((refl, refl), ((refl, refl), ((refl, refl), ((refl, refl), ((refl, refl), ((refl, refl), ((refl, refl), ((refl, refl), ((refl, refl), ((refl, refl), ((refl, refl), ((refl, refl), ((refl, refl), ((refl, refl), ((refl, refl), ((refl, refl), ((refl, refl), ((refl, refl), ((refl, refl), ((refl, refl), ((refl, refl), tt)))))))))))))))))))))))))
 
-abbrev pub IsFetch : Option Command → Type 0
+abbrev pub IsFetch : Option ToolkitInput → Type 0
 IsFetch command = (out : Outstanding) × (command ≡ Some (Fetch out))
 
-abbrev pub IsResponse : Option Command → Type 0
+abbrev pub IsResponse : Option ToolkitInput → Type 0
 IsResponse command = (out : Outstanding) × (reply : Reply) × (command ≡ Some (Respond out reply))
 
 -- By its byte, where it is carried out: FETCH is fetching, TERMINAL RESPONSE is responding, and no other is either.
-pub record Names (ins : ℕ) (command : Option Command) (status : StatusWord) : Type 0 where
+pub record Names (ins : ℕ) (command : Option ToolkitInput) (status : StatusWord) : Type 0 where
   pub fetch : ins ≡ 0x12 → is_carried_out status ≡ true → IsFetch command
   pub response : ins ≡ 0x14 → is_carried_out status ≡ true → IsResponse command
   pub other : (ins ≡ 0x12 → ⊥) → (ins ≡ 0x14 → ⊥) → LeavesUnanswered command
 
-abbrev NamesIn : CardState → ℕ → Option Command → Result Answered StatusWord → Type 0
+abbrev NamesIn : CardState → ℕ → Option ToolkitInput → Result Answered StatusWord → Type 0
 NamesIn card ins command result = Names ins command (with_pending (settled card result)).status
 
 refused_names : (card : CardState) (ins : ℕ) (status : StatusWord) → IsRefusal status → NamesIn card ins None (Err status)
@@ -126,11 +126,11 @@ refused_names card ins status is =
     let told : IsRefusal (told_pending (pending card.session) status) = told_refused (pending card.session) status is in
     record { fetch = λ same done. absurd (false≢true (sym told ∙ done)); response = λ same done. absurd (false≢true (sym told ∙ done)); other = λ no_fetch no_response. tt }
 
-other_if : (result : Result Answered StatusWord) (command : Option Command) → LeavesUnanswered command → LeavesUnanswered (if_carried result command)
+other_if : (result : Result Answered StatusWord) (command : Option ToolkitInput) → LeavesUnanswered command → LeavesUnanswered (if_carried result command)
 other_if (Ok answered) command is = is
 other_if (Err status) command is = tt
 
-other_names : (card : CardState) (ins : ℕ) (result : Result Answered StatusWord) (command : Option Command) → false ≡ (ins == 0x12) → false ≡ (ins == 0x14) → LeavesUnanswered command → NamesIn card ins (if_carried result command) result
+other_names : (card : CardState) (ins : ℕ) (result : Result Answered StatusWord) (command : Option ToolkitInput) → false ≡ (ins == 0x12) → false ≡ (ins == 0x14) → LeavesUnanswered command → NamesIn card ins (if_carried result command) result
 other_names card ins result command no_fetch no_response other = record {
   fetch = λ same done. absurd (false≢true (no_fetch ∙ eq-eqb ins 0x12 same));
   response = λ same done. absurd (false≢true (no_response ∙ eq-eqb ins 0x14 same));
@@ -185,7 +185,7 @@ module _ (card : CardState) (good : IsGood card) (apdu : Apdu) where
   carried_names (Toolkit toolkit.DeleteApplet) is = other_names card apdu.ins _ (Some (Delete apdu.p2)) is.0 is.1 tt
   carried_names _ is = other_names card apdu.ins _ None is.0 is.1 tt
 
-cut_names : (card : CardState) (ins : ℕ) (command : Option Command) (expected : Option ℕ) (result : Result Answered StatusWord) → NamesIn card ins command result → NamesIn card ins command (cut_result expected result)
+cut_names : (card : CardState) (ins : ℕ) (command : Option ToolkitInput) (expected : Option ℕ) (result : Result Answered StatusWord) → NamesIn card ins command result → NamesIn card ins command (cut_result expected result)
 unfolding and_given
 cut_names card ins command expected (Err status) names = names
 cut_names card ins command expected (Ok answered) names = names

@@ -19,8 +19,8 @@ use Rattle.toolkit_model.specs.Orderly.{asks}
 use Rattle.toolkit_model.specs.Passing.{ToolkitState, Happening, Woke, Fetched, Responded, Given, Turned, Committed, Passed, before, in_turn}
 use Rattle.toolkit_model.specs.Running.{Setting, Works, Ran, admitted, carried, committed, going_on, run_on, most_acts, mind_on, setting_of, works_of, run_of_mind, run_of_row}
 use Rattle.toolkit_model.specs.Driving.{is_idle, with_session, running, told_if, given_if, trigger_for, told_one, given_one, first_idle, catching, caught_up, driven}
-use Rattle.toolkit_model.specs.Commands.{told, with_profile, profiled, polled, Trigger, triggered_by, reported, triggered, enveloped, fetched, resumed, with_nothing_out, answered, responded, registering, installed, unregistering, deleted}
-use Rattle.toolkit_model.specs.Steps.{Command, Profile, Status, Report, Fetch, Respond, Install, Delete, Wake, moved}
+use Rattle.toolkit_model.specs.Commands.{each_told, with_profile, profiled, polled, Trigger, triggered_by, reported, triggered, enveloped, fetched, resumed, with_nothing_out, answered, responded, registering, installed, unregistering, row_deleted}
+use Rattle.toolkit_model.specs.Steps.{ToolkitInput, Profile, Status, Report, Fetch, Respond, Install, Delete, Wake, moved}
 use Rattle.toolkit_model.specs.Owing.{is_wake}
 use Rattle.card_laws.specs.Noted.{brought_by, brought, all_given, is_within, besides, notes_of}
 
@@ -128,11 +128,11 @@ profiled_noted : (bytes : List ℕ) (state : ToolkitState) → IsQuiet (profiled
 unfolding profiled
 profiled_noted bytes state =
     let start : ToolkitState = with_profile state bytes in
-    and_driven (told PROFILE_DOWNLOAD bytes start) ∙ told_all_quiet PROFILE_DOWNLOAD bytes (targets start.rows PROFILE_DOWNLOAD) start
+    and_driven (each_told PROFILE_DOWNLOAD bytes start) ∙ told_all_quiet PROFILE_DOWNLOAD bytes (targets start.rows PROFILE_DOWNLOAD) start
 
 polled_noted : (state : ToolkitState) → IsQuiet (polled state).log
 unfolding polled
-polled_noted state = and_driven (told STATUS_COMMAND [] state) ∙ told_all_quiet STATUS_COMMAND [] (targets state.rows STATUS_COMMAND) state
+polled_noted state = and_driven (each_told STATUS_COMMAND [] state) ∙ told_all_quiet STATUS_COMMAND [] (targets state.rows STATUS_COMMAND) state
 
 triggered_noted : (envelope : Envelope) (state : ToolkitState) → besides (triggered envelope state).log ≡ notes_of (Report envelope) state
 unfolding triggered
@@ -164,11 +164,11 @@ installed_noted : (row : Registration) (state : ToolkitState) → IsQuiet (insta
 unfolding installed
 installed_noted row state = and_driven (registering row state)
 
-deleted_noted : (shelf : ℕ) (state : ToolkitState) → IsQuiet (deleted shelf state).log
-unfolding deleted
+deleted_noted : (shelf : ℕ) (state : ToolkitState) → IsQuiet (row_deleted shelf state).log
+unfolding row_deleted
 deleted_noted shelf state = and_driven (unregistering shelf state)
 
-pub command_noted : (command : Command) (state : ToolkitState) → besides (moved command state).log ≡ notes_of command state
+pub command_noted : (command : ToolkitInput) (state : ToolkitState) → besides (moved command state).log ≡ notes_of command state
 command_noted (Profile bytes) state = profiled_noted bytes state
 command_noted Status state = polled_noted state
 command_noted (Report envelope) state = enveloped_noted envelope state
@@ -193,7 +193,7 @@ all_gifts : (triggers : List LateTrigger) → all_given (map (λ trigger. Given 
 all_gifts [] = refl
 all_gifts (trigger ∷ others) = ap (λ (rest : List LateTrigger). trigger ∷ rest) (all_gifts others)
 
-pub notes_give : (command : Command) (state : ToolkitState) → all_given (notes_of command state) ≡ brought command state
+pub notes_give : (command : ToolkitInput) (state : ToolkitState) → all_given (notes_of command state) ≡ brought command state
 notes_give (Profile bytes) state = refl
 notes_give Status state = refl
 notes_give (Report envelope) state = all_gifts (brought_by envelope state)
@@ -203,7 +203,7 @@ notes_give (Install row) state = refl
 notes_give (Delete shelf) state = refl
 notes_give (Wake rows minds) state = refl
 
-pub command_gives : (command : Command) (state : ToolkitState) → all_given (moved command state).log ≡ brought command state
+pub command_gives : (command : ToolkitInput) (state : ToolkitState) → all_given (moved command state).log ≡ brought command state
 command_gives command state = given_besides (moved command state).log ∙ ap all_given (command_noted command state) ∙ notes_give command state
 
 pub envelope_gives : (envelope : Envelope) (state : ToolkitState) → all_given (triggered envelope state).log ≡ brought_by envelope state
@@ -224,11 +224,11 @@ gifts_wake_none : (triggers : List LateTrigger) → list_any is_wake (map (λ tr
 gifts_wake_none [] = refl
 gifts_wake_none (trigger ∷ others) = gifts_wake_none others
 
-abbrev pub is_waking : Command → Bool
+abbrev pub is_waking : ToolkitInput → Bool
 is_waking (Wake rows minds) = true
 is_waking _ = false
 
-pub notes_wake : (command : Command) (state : ToolkitState) → list_any is_wake (notes_of command state) ≡ is_waking command
+pub notes_wake : (command : ToolkitInput) (state : ToolkitState) → list_any is_wake (notes_of command state) ≡ is_waking command
 notes_wake (Profile bytes) state = refl
 notes_wake Status state = refl
 notes_wake (Report envelope) state = gifts_wake_none (brought_by envelope state)
@@ -238,5 +238,5 @@ notes_wake (Install row) state = refl
 notes_wake (Delete shelf) state = refl
 notes_wake (Wake rows minds) state = refl
 
-pub command_wakes : (command : Command) (state : ToolkitState) → list_any is_wake (moved command state).log ≡ is_waking command
+pub command_wakes : (command : ToolkitInput) (state : ToolkitState) → list_any is_wake (moved command state).log ≡ is_waking command
 command_wakes command state = wakes_besides (moved command state).log ∙ ap (list_any is_wake) (command_noted command state) ∙ notes_wake command state

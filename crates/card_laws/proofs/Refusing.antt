@@ -4,7 +4,7 @@ use Rattle.std.specs.Prelude.{if◌then◌else◌, IfSome}
 use Rattle.update_journal.specs.uicc_types.declared.answers.StatusWord.{StatusWord}
 use Rattle.update_journal.specs.uicc_types.declared.answers.TheConstants.StatusWord.{DONE}
 use Rattle.toolkit_model.specs.Commands.{pending}
-use Rattle.toolkit_model.specs.Steps.{Command}
+use Rattle.toolkit_model.specs.Steps.{ToolkitInput}
 use Rattle.toolkit_model.specs.Installing.{InstallationsAreAccepted}
 use Rattle.toolkit_model.specs.Sound.{InstalledRowsAreSound}
 use Rattle.card_model.specs.Answers.{Answered, told_pending, with_pending, settled, tried, answer_of, is_carried_out, refusal}
@@ -22,7 +22,7 @@ if_done : (done : Bool) (word status : StatusWord) (P : Type 0) → done ≡ tru
 if_done true word status P is refused = absurd (cc)
 if_done false word status P is refused = absurd (cc)
 
-none_taken : (command : Option Command) (answered : Answered) (status : StatusWord) → IfSome command (λ each. answered.status ≡ DONE) → IfSome (pending answered.state.session) (λ count. count ≤ 255)
+none_taken : (command : Option ToolkitInput) (answered : Answered) (status : StatusWord) → IfSome command (λ each. answered.status ≡ DONE) → IfSome (pending answered.state.session) (λ count. count ≤ 255)
     → (if is_carried_out (with_pending answered).status then None else Some (with_pending answered).status) ≡ Some status → command ≡ None
 none_taken None answered status done few refused = refl
 none_taken (Some command) answered status done few refused =

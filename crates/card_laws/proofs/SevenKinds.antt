@@ -22,9 +22,9 @@ use Rattle.toolkit_model.specs.Order.{targets}
 use Rattle.toolkit_model.specs.Registry.{with_code, without_code, registers, deregisters}
 use Rattle.toolkit_model.specs.Passing.{ToolkitState, Passed, before, in_turn}
 use Rattle.toolkit_model.specs.Running.{Setting, Works, Carried, Ran, changing, taking, carried, is_admitted, is_held_by, admitted, going_on, run_on, most_acts, mind_on, with_mind, works_of, setting_of, run_of_mind, run_of_row}
-use Rattle.toolkit_model.specs.Driving.{with_session, running, is_idle, told_if, given_if, told_one, given_one, trigger_for, first_idle, catching, caught_up, settled, driven}
-use Rattle.toolkit_model.specs.Commands.{told, with_profile, profiled, polled, triggered_by, is_reported_once, reported, triggered, enveloped, fetched, resumed, with_nothing_out, answered, responded, registering, installed, unregistering, deleted}
-use Rattle.toolkit_model.specs.Steps.{Command, Profile, Status, Report, Fetch, Respond, Install, Delete, Wake, moved}
+use Rattle.toolkit_model.specs.Driving.{with_session, running, is_idle, told_if, given_if, told_one, given_one, trigger_for, first_idle, catching, caught_up, session_filled, driven}
+use Rattle.toolkit_model.specs.Commands.{each_told, with_profile, profiled, polled, triggered_by, is_reported_once, reported, triggered, enveloped, fetched, resumed, with_nothing_out, answered, responded, registering, installed, unregistering, row_deleted}
+use Rattle.toolkit_model.specs.Steps.{ToolkitInput, Profile, Status, Report, Fetch, Respond, Install, Delete, Wake, moved}
 use Rattle.toolkit_model.specs.Sound.{BringsSound}
 use Rattle.card_model.specs.States.{IsOfSevenKinds, AreOfSevenKinds}
 use Rattle.card_model.proofs.WokenLemmas.{kinds_woken}
@@ -85,13 +85,13 @@ abbrev pub Keeps : ToolkitState → Passed → Type 0
 Keeps state passed = AreOfSevenKinds state.minds → AreOfSevenKinds passed.state.minds
 
 -- a row that comes, and applets that all wake, are of the seven kinds
-abbrev pub BringsKinds : Command → Type 0
+abbrev pub BringsKinds : ToolkitInput → Type 0
 BringsKinds (Install row) = (1 ≤ row.kind) × (row.kind ≤ 7)
 BringsKinds (Wake rows minds) = AreOfSevenKinds minds
 BringsKinds _ = Unit {0}
 
 -- and they are sound
-abbrev pub BringsGood : Bool → ℕ → Command → Type 0
+abbrev pub BringsGood : Bool → ℕ → ToolkitInput → Type 0
 BringsGood wide next command = BringsSound wide next command × BringsKinds command
 
 module _ (same : TurnsKeepKinds) where
@@ -151,8 +151,8 @@ module _ (same : TurnsKeepKinds) where
   caught_keeps zero state are = are
   caught_keeps (suc count) state are = catching_keeps (caught_up count) (λ later. caught_keeps count later) state (first_idle (asks state.session) state.session.late) are
 
-  settled_keeps : (state : ToolkitState) → AreOfSevenKinds state.minds → AreOfSevenKinds (settled state).minds
-  unfolding settled
+  settled_keeps : (state : ToolkitState) → AreOfSevenKinds state.minds → AreOfSevenKinds (session_filled state).minds
+  unfolding session_filled
   settled_keeps state are = are
 
   driven_keeps : (state : ToolkitState) → Keeps state (driven state)
@@ -161,7 +161,7 @@ module _ (same : TurnsKeepKinds) where
 
   -- ---- commands
 
-  told_all_keep : (code : ℕ) (body : List ℕ) (state : ToolkitState) → Keeps state (told code body state)
+  told_all_keep : (code : ℕ) (body : List ℕ) (state : ToolkitState) → Keeps state (each_told code body state)
   told_all_keep code body state are = turns_keep (told_one code body) (λ shelf later. told_one_keeps code body shelf later) (targets state.rows code) state are
 
   profiled_keeps : (bytes : List ℕ) (state : ToolkitState) → Keeps state (profiled bytes state)
@@ -204,11 +204,11 @@ module _ (same : TurnsKeepKinds) where
   unfolding installed
   installed_keeps row state is are = driven_keeps (registering row state).state (put_there state.minds row.shelf _ is are)
 
-  deleted_keeps : (shelf : ℕ) (state : ToolkitState) → Keeps state (deleted shelf state)
-  unfolding deleted
+  deleted_keeps : (shelf : ℕ) (state : ToolkitState) → Keeps state (row_deleted shelf state)
+  unfolding row_deleted
   deleted_keeps shelf state are = driven_keeps (unregistering shelf state).state (put_there state.minds shelf None tt are)
 
-  pub moved_keeps : (command : Command) (state : ToolkitState) → BringsKinds command → Keeps state (moved command state)
+  pub moved_keeps : (command : ToolkitInput) (state : ToolkitState) → BringsKinds command → Keeps state (moved command state)
   moved_keeps (Profile bytes) state brings are = profiled_keeps bytes state are
   moved_keeps Status state brings are = polled_keeps state are
   moved_keeps (Report envelope) state brings are = enveloped_keeps envelope state are

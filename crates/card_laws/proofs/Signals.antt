@@ -14,7 +14,7 @@ use Rattle.update_journal.specs.uicc_types.declared.runs.TraceItem.{TraceItem}
 use Rattle.file_model.specs.card_layout.Persistent.{Persistent}
 use Rattle.toolkit_model.specs.Commands.{unanswered}
 use Rattle.toolkit_model.specs.Passing.{ToolkitState}
-use Rattle.toolkit_model.specs.Steps.{Command}
+use Rattle.toolkit_model.specs.Steps.{ToolkitInput}
 use Rattle.card_model.specs.Answers.{answer, is_carried_out, refusal}
 use Rattle.card_model.specs.Instructions.{is_known, has_toolkit}
 use Rattle.card_model.specs.Laws.{AnswersNeverFail}
@@ -103,15 +103,15 @@ module _ (good_order : GoodCardsHaveOrder) (goes : AnswersGoOn) (refusals : Refu
 
     fetches : IsFetch (taken is_known card bytes) → Tells (Some Fetches) (held card) (held next)
     fetches is =
-        let on = subst (λ (command : Option Command). GoesOn command card (answer card bytes)) is.1 went in
+        let on = subst (λ (command : Option ToolkitInput). GoesOn command card (answer card bytes)) is.1 went in
         (ap is_some (none_held card.session is.0 on.accepted), held_now _ on.toolkit ∙ fetched_holds is.0 (toolkit_of card))
 
     accepts : IsResponse (taken is_known card bytes) → Tells (Some Accepts) (held card) (held next)
     accepts is =
-        let on = subst (λ (command : Option Command). GoesOn command card (answer card bytes)) is.2 went in
+        let on = subst (λ (command : Option ToolkitInput). GoesOn command card (answer card bytes)) is.2 went in
         (ap is_some on.accepted, held_now _ on.toolkit ∙ ap is_some (respond_holds is.0 is.1 (toolkit_of card)))
 
-    stays : (command : Option Command) → GoesOn command card (answer card bytes) → LeavesUnanswered command → held next ≡ held card
+    stays : (command : Option ToolkitInput) → GoesOn command card (answer card bytes) → LeavesUnanswered command → held next ≡ held card
     stays None on other = held_now (toolkit_of card) on.toolkit
     stays (Some command) on other = held_now _ on.toolkit ∙ ap is_some (other_holds command (toolkit_of card) other)
 
@@ -134,7 +134,7 @@ module _ (good_order : GoodCardsHaveOrder) (goes : AnswersGoOn) (refusals : Refu
     refused_tells : is_carried_out status ≡ false → held next ≡ held card
     refused_tells is =
         let none : taken is_known card bytes ≡ None = refusals is_known card bytes status runs (good_order card good) (refused_by is) in
-        stays None (subst (λ (command : Option Command). GoesOn command card (answer card bytes)) none went) tt
+        stays None (subst (λ (command : Option ToolkitInput). GoesOn command card (answer card bytes)) none went) tt
 
     answer_tells : Tells (answer_signal bytes status) (held card) (held next)
     answer_tells = by_failure (status.0 == MEMORY_PROBLEM.0) no_failure where

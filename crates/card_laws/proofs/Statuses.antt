@@ -13,7 +13,7 @@ use Rattle.toolkit_model.specs.declared.faults.RowFault.{RowFault}
 use Rattle.toolkit_model.specs.declared.faults.RowFault.TheVariants.{BadData, NoBox, Narrow, Taken, MenuFull, Spent, NoRow, NotIdle}
 use Rattle.toolkit_model.specs.Sessions.{Outstanding, SessionState}
 use Rattle.toolkit_model.specs.Orderly.{CanBeSent}
-use Rattle.toolkit_model.specs.Commands.{unfetched, bytes_of, call_data_of}
+use Rattle.toolkit_model.specs.Commands.{unfetched, command_bytes, call_data_of}
 use Rattle.card_model.specs.Laws.{statuses}
 use Rattle.card_model.proofs.PendingLemmas.{pending_few}
 use Rattle.card_model.specs.States.{CardState, IsGood}
@@ -53,9 +53,9 @@ call_few true (Some false) = omega arith
 call_few false answer = omega arith
 
 -- a command that is fetched has 255 bytes at most
-pub few_fetched : (session : SessionState) (out : Outstanding) → IfSome session.out (λ each. CanBeSent each.command) → unfetched session ≡ Some out → length (bytes_of out) ≤ 255
+pub few_fetched : (session : SessionState) (out : Outstanding) → IfSome session.out (λ each. CanBeSent each.command) → unfetched session ≡ Some out → length (command_bytes out) ≤ 255
 few_fetched session out sent is =
-    subst (λ found. IfSome (option_map (λ (each : Outstanding). length (bytes_of each)) found) (λ count. count ≤ 255)) is (pending_few session sent)
+    subst (λ found. IfSome (option_map (λ (each : Outstanding). length (command_bytes each)) found) (λ count. count ≤ 255)) is (pending_few session sent)
 
 -- ---- the commands
 
@@ -78,8 +78,8 @@ module _ (card : CardState) (good : IsGood card) (apdu : Apdu) where
   outcome_short Fetch seen =
       past _ _ _ (known_at _ (15, omega arith, refl)) (past _ _ _ (known_at _ (3, omega arith, refl)) (
       given_so IsShort (IsStatus false) (unfetched card.session) _ _ (known_at _ (10, omega arith, refl)) (λ out is.
-      let few : length (bytes_of out) ≤ 255 = few_fetched card.session out good.session.underway.out_sendable is in
-      past _ _ _ (inl (inl (inr (inl (length (bytes_of out), few, refl))))) (omega (arith, few)))))
+      let few : length (command_bytes out) ≤ 255 = few_fetched card.session out good.session.underway.out_sendable is in
+      past _ _ _ (inl (inl (inr (inl (length (command_bytes out), few, refl))))) (omega (arith, few)))))
   outcome_short TerminalResponse seen =
       past _ _ _ (known_at _ (15, omega arith, refl)) (past _ _ _ (known_at _ (3, omega arith, refl)) (
       given_so IsShort (IsStatus false) _ _ _ (known_at _ (10, omega arith, refl)) (λ out _. given_so IsShort (IsStatus false) _ _ _ (inr (0, omega arith, refl)) (λ reply _. omega arith))))

@@ -7,7 +7,7 @@ use Rattle.std.proofs.lemmas.List.Elements.{filter_map-append}
 use Rattle.std.proofs.lemmas.List.Folds.{list_any-append}
 use Rattle.toolkit_model.specs.Passing.{ToolkitState, Happening}
 use Rattle.toolkit_model.specs.Sessions.{LateTrigger}
-use Rattle.toolkit_model.specs.Steps.{Command, Profile, Status, Report, Fetch, Respond, Install, Delete, Wake, moved, moved_by}
+use Rattle.toolkit_model.specs.Steps.{ToolkitInput, Profile, Status, Report, Fetch, Respond, Install, Delete, Wake, moved, moved_by}
 use Rattle.toolkit_model.specs.Owing.{given_in, owed, told_to, is_wake}
 use Rattle.card_model.specs.Answers.{Answered, settled, tried}
 use Rattle.card_model.specs.Instructions.{has_toolkit}
@@ -25,25 +25,25 @@ use Rattle.card_laws.proofs.Telling.{ReachAll, commands_told}
 
 -- ---- one event
 
-abbrev log_at : Option Command → ToolkitState → List Happening
+abbrev log_at : Option ToolkitInput → ToolkitState → List Happening
 log_at None state = []
 log_at (Some command) state = (moved command state).log
 
-log_joined : (command : Option Command) (others : List Command) (state next : ToolkitState) → next ≡ (moved_by (option_to_list command ++ []) state).state
+log_joined : (command : Option ToolkitInput) (others : List ToolkitInput) (state next : ToolkitState) → next ≡ (moved_by (option_to_list command ++ []) state).state
     → (moved_by (option_to_list command ++ others) state).log ≡ log_at command state ++ (moved_by others next).log
 log_joined None others state next is = sym (ap (λ (from : ToolkitState). (moved_by others from).log) is)
 log_joined (Some command) others state next is = sym (ap (λ (from : ToolkitState). (moved command state).log ++ (moved_by others from).log) is)
 
-notes_one : CommandsAreNoted → (command : Option Command) (state : ToolkitState) → besides (log_at command state) ≡ notes_at command state
+notes_one : CommandsAreNoted → (command : Option ToolkitInput) (state : ToolkitState) → besides (log_at command state) ≡ notes_at command state
 notes_one noted None state = refl
 notes_one noted (Some command) state = noted command state
 
-gives_one : EnvelopesAloneGive → (command : Option Command) (state : ToolkitState) → all_given (log_at command state) ≡ brought_at command state
+gives_one : EnvelopesAloneGive → (command : Option ToolkitInput) (state : ToolkitState) → all_given (log_at command state) ≡ brought_at command state
 gives_one gives None state = refl
 gives_one gives (Some command) state = gives command state
 
 -- a command that a card takes is no wake
-never_wakes : (command : Option Command) (answered : Answered) (state : ToolkitState) → Suits command answered → list_any is_wake (log_at command state) ≡ false
+never_wakes : (command : Option ToolkitInput) (answered : Answered) (state : ToolkitState) → Suits command answered → list_any is_wake (log_at command state) ≡ false
 never_wakes None answered state suits = refl
 never_wakes (Some (Profile bytes)) answered state suits = command_wakes (Profile bytes) state
 never_wakes (Some Status) answered state suits = command_wakes Status state

@@ -2,7 +2,7 @@
 use Rattle.std.proofs.Common.{◌≡◌, Bool, true, List, ℕ, Option, None, Result, Err, sym, subst}
 use Rattle.update_journal.specs.uicc_types.declared.answers.StatusWord.{StatusWord}
 use Rattle.file_model.specs.apdu_form.Model.{Apdu}
-use Rattle.toolkit_model.specs.Steps.{Command}
+use Rattle.toolkit_model.specs.Steps.{ToolkitInput}
 use Rattle.card_model.specs.Answers.{Answered, carried_with, tried}
 use Rattle.card_model.proofs.CaseLemmas.{cut_result, Refuses, IsRead, of_read}
 use Rattle.card_model.specs.Instructions.{has_toolkit}
@@ -15,7 +15,7 @@ module _ (knows : Instruction → Bool) (card : CardState) (bytes : List ℕ) (r
   abbrev pub carried : Apdu → Instruction → Result Answered StatusWord
   carried apdu instruction = cut_result apdu.expected (carried_with true instruction card apdu)
 
-  pub of_taken : (Q : Option Command → Result Answered StatusWord → Type 0) → Refuses (λ status. Q None (Err status))
+  pub of_taken : (Q : Option ToolkitInput → Result Answered StatusWord → Type 0) → Refuses (λ status. Q None (Err status))
       → ((apdu : Apdu) (instruction : Instruction) → IsRead knows card bytes apdu instruction → Q (if_carried (carried_with true instruction card apdu) (command_by instruction card apdu)) (carried apdu instruction))
       → Q (taken knows card bytes) (tried knows card bytes)
   of_taken Q refuses carries =

@@ -14,7 +14,7 @@ use Rattle.toolkit_model.specs.applet_trait.declared.stimuli.Act.TheVariants as 
 use Rattle.toolkit_model.specs.Sessions.{Outstanding, Sent}
 use Rattle.toolkit_model.specs.Orderly.{asks}
 use Rattle.toolkit_model.specs.Passing.{ToolkitState, ShelfTurn, Happening, Woke, Fetched, Responded, Given, Turned, Committed}
-use Rattle.toolkit_model.specs.Steps.{Command, Profile, Status, Report, Fetch, Respond, Install, Delete, Wake, IsAccepted, AreAccepted, moved, moved_by}
+use Rattle.toolkit_model.specs.Steps.{ToolkitInput, Profile, Status, Report, Fetch, Respond, Install, Delete, Wake, IsAccepted, AreAccepted, moved, moved_by}
 use Rattle.toolkit_model.specs.OrderlySessions.{IsInOrder}
 use Rattle.toolkit_model.specs.Awaiting.{Awaits, Nothing, Answer, Telling, awaited, IsTold, asked_by, awaits_after, OnTurn, OnReply, is_owner, ReachesWhoAsked}
 use Rattle.toolkit_model.specs.Owing.{is_wake}
@@ -115,11 +115,11 @@ between_told shelf held now log none reaches =
     ∙ sym (all_told shelf (awaited shelf held) (awaited shelf now) log none reaches) ∙ ap (λ (front : List Stimulus). front ++ accepted_for shelf log) (asked_tell_none shelf held)
 
 abbrev pub ReachAll : Type 0
-ReachAll = (commands : List Command) (state : ToolkitState) (shelf : ℕ) → IsInOrder state → AreAccepted commands state
+ReachAll = (commands : List ToolkitInput) (state : ToolkitState) (shelf : ℕ) → IsInOrder state → AreAccepted commands state
     → ReachesWhoAsked shelf (awaited shelf (asks state.session)) (moved_by commands state).log (awaited shelf (asks (moved_by commands state).state.session))
 
 -- nothing is accepted and nothing told at a wake
-wake_told : (shelf : ℕ) (command : Command) (state : ToolkitState) → is_waking command ≡ true → AreTold shelf (moved command state).log
+wake_told : (shelf : ℕ) (command : ToolkitInput) (state : ToolkitState) → is_waking command ≡ true → AreTold shelf (moved command state).log
 wake_told shelf (Wake rows minds) state is = refl
 wake_told shelf (Profile bytes) state is = absurd (false≢true is)
 wake_told shelf Status state is = absurd (false≢true is)
@@ -130,14 +130,14 @@ wake_told shelf (Install row) state is = absurd (false≢true is)
 wake_told shelf (Delete gone) state is = absurd (false≢true is)
 
 module _ (reach : ReachAll) (stays : StaysInOrder) (shelf : ℕ) where
-  one_told : (command : Command) (state : ToolkitState) (b : Bool) → is_waking command ≡ b → IsInOrder state → IsAccepted command state → AreTold shelf (moved command state).log
+  one_told : (command : ToolkitInput) (state : ToolkitState) (b : Bool) → is_waking command ≡ b → IsInOrder state → IsAccepted command state → AreTold shelf (moved command state).log
   one_told command state true is order accepted = wake_told shelf command state is
   one_told command state false is order accepted =
       between_told shelf (asks state.session) (asks (moved command state).state.session) (moved command state).log (command_wakes command state ∙ is)
       (subst (λ (log : List Happening). ReachesWhoAsked shelf (awaited shelf (asks state.session)) log (awaited shelf (asks (moved command state).state.session))) (append-nil (moved command state).log)
       (reach (command ∷ []) state shelf order (accepted, tt)))
 
-  pub commands_told : (commands : List Command) (state : ToolkitState) → IsInOrder state → AreAccepted commands state → AreTold shelf (moved_by commands state).log
+  pub commands_told : (commands : List ToolkitInput) (state : ToolkitState) → IsInOrder state → AreAccepted commands state → AreTold shelf (moved_by commands state).log
   commands_told [] state order accepted = refl
   commands_told (command ∷ others) state order accepted =
       told_joined shelf (moved command state).log (moved_by others (moved command state).state).log

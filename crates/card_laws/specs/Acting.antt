@@ -11,7 +11,7 @@ use Rattle.toolkit_model.specs.Timers.{Owners}
 use Rattle.toolkit_model.specs.Commands.{with_profile, registering, unregistering, woken}
 use Rattle.toolkit_model.specs.Passing.{ToolkitState, ShelfTurn, Happening, Turned, Committed}
 use Rattle.toolkit_model.specs.Running.{Setting, Works, Carried, admitted, awakened, carried, kept_on, most_acts, begins_call, mind_on, with_mind}
-use Rattle.toolkit_model.specs.Steps.{Command, Profile, Install, Delete, Wake, moved}
+use Rattle.toolkit_model.specs.Steps.{ToolkitInput, Profile, Install, Delete, Wake, moved}
 use Rattle.card_model.specs.Instructions.{has_toolkit}
 use Rattle.card_model.specs.States.{CardState}
 use Rattle.card_model.specs.Toolkit.{toolkit_of}
@@ -115,7 +115,7 @@ ActInTurn point (_ ∷ log) now = ActInTurn point log now
 
 -- the state that a command begins with: the profile is the new one, an applet that is installed is there with its row, one that is
 -- deleted is gone with its row and holds no timer, and at a wake all begin anew
-abbrev pub begins_with : Command → ToolkitState → ToolkitState
+abbrev pub begins_with : ToolkitInput → ToolkitState → ToolkitState
 begins_with (Profile bytes) state = with_profile state bytes
 begins_with (Install row) state = (registering row state).state
 begins_with (Delete shelf) state = (unregistering shelf state).state
@@ -123,11 +123,11 @@ begins_with (Wake rows minds) state = woken rows minds
 begins_with _ state = state
 
 abbrev pub AppletsActInTurn : Type 0
-AppletsActInTurn = (command : Command) (state : ToolkitState) → ActInTurn (point_of (begins_with command state)) (moved command state).log (point_of (moved command state).state)
+AppletsActInTurn = (command : ToolkitInput) (state : ToolkitState) → ActInTurn (point_of (begins_with command state)) (moved command state).log (point_of (moved command state).state)
 
 -- ---- over all that happens to a card
 
-abbrev pub begins_at : Option Command → ToolkitState → ToolkitState
+abbrev pub begins_at : Option ToolkitInput → ToolkitState → ToolkitState
 begins_at None state = state
 begins_at (Some command) state = begins_with command state
 

@@ -2,7 +2,7 @@
 use Rattle.std.specs.Prelude.{◌≡◌, ◌≤◌, ℕ, Bool, true, List, length, Some}
 use Rattle.update_journal.specs.uicc_types.Told.{AreBytes}
 use Rattle.update_journal.specs.uicc_types.declared.answers.TheConstants.StatusWord.{DONE}
-use Rattle.toolkit_model.specs.Commands.{unfetched, unanswered, as_fetched, bytes_of}
+use Rattle.toolkit_model.specs.Commands.{unfetched, unanswered, as_fetched, command_bytes}
 use Rattle.toolkit_model.specs.Sessions.{Outstanding}
 use Rattle.toolkit_model.specs.Steps.{Fetch}
 use Rattle.card_model.specs.Answers.{Answered, answer_of, is_carried_out}
@@ -15,14 +15,14 @@ use Rattle.card_laws.specs.Traces.{ins_of}
 -- The data are the bytes of the command and the status is `9000`: there is no other to be fetched. From then on the handset has to
 -- answer this one.
 pub record GivesCommand (out : Outstanding) (answered : Answered) : Type 0 where
-  pub body : answered.body ≡ bytes_of out
+  pub body : answered.body ≡ command_bytes out
   pub status : answered.status ≡ DONE
   pub awaits : unanswered answered.state.session ≡ Some (as_fetched out)
 
 -- where a card fetches a command that an answer has room for, as each that can be sent, its answer gives it
 abbrev pub FetchesGiveCommands : Type 0
 FetchesGiveCommands =
-    (knows : Instruction → Bool) (card : CardState) (bytes : List ℕ) (out : Outstanding) → has_toolkit knows ≡ true → length (bytes_of out) ≤ 256 → taken knows card bytes ≡ Some (Fetch out)
+    (knows : Instruction → Bool) (card : CardState) (bytes : List ℕ) (out : Outstanding) → has_toolkit knows ≡ true → length (command_bytes out) ≤ 256 → taken knows card bytes ≡ Some (Fetch out)
     → GivesCommand out (answer_of knows card bytes)
 
 -- the command that was outstanding is fetched

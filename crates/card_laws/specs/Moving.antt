@@ -10,7 +10,7 @@ use Rattle.toolkit_model.specs.declared.faults.RowFault.{RowFault}
 use Rattle.toolkit_model.specs.Commands.{unfetched, unanswered, reply_to}
 use Rattle.toolkit_model.specs.Passing.{Passed, passed_rows}
 use Rattle.toolkit_model.specs.Registry.{installed_row, without_row}
-use Rattle.toolkit_model.specs.Steps.{Command, Profile, Status, Report, Fetch, Respond, Install, Delete, Wake, IsAccepted, moved, moved_by}
+use Rattle.toolkit_model.specs.Steps.{ToolkitInput, Profile, Status, Report, Fetch, Respond, Install, Delete, Wake, IsAccepted, moved, moved_by}
 use Rattle.toolkit_model.specs.OrderlySessions.{IsInOrder}
 use Rattle.card_model.specs.Answers.{Answered, carried_with, answer_of, passed_of}
 use Rattle.card_model.specs.Instructions.{instruction_tried}
@@ -34,23 +34,23 @@ abbrev pub HaveFixed : List Registration → List Registration → Type 0
 HaveFixed rows now = map fixed now ≡ map fixed rows
 
 -- the rows once an applet is installed or deleted; no other command makes a row or takes one away
-abbrev pub rows_by : Command → List Registration → List Registration
+abbrev pub rows_by : ToolkitInput → List Registration → List Registration
 rows_by (Install row) rows = with_row rows row
 rows_by (Delete shelf) rows = without_row rows shelf
 rows_by _ rows = rows
 
-abbrev pub rows_after : Option Command → List Registration → List Registration
+abbrev pub rows_after : Option ToolkitInput → List Registration → List Registration
 rows_after None rows = rows
 rows_after (Some command) rows = rows_by command rows
 
 -- ---- commands
 
-abbrev pub if_row : Result Registration RowFault → Option Command
+abbrev pub if_row : Result Registration RowFault → Option ToolkitInput
 if_row (Ok row) = Some (Install row)
 if_row (Err fault) = None
 
 -- the command of the toolkit that an instruction with these data is; the others are none
-abbrev pub command_of : ToolkitCommand → CardState → Apdu → Option Command
+abbrev pub command_of : ToolkitCommand → CardState → Apdu → Option ToolkitInput
 command_of toolkit.TerminalProfile card apdu = Some (Profile apdu.body)
 command_of toolkit.Fetch card apdu = option_map (λ out. Fetch out) (unfetched card.session)
 command_of toolkit.TerminalResponse card apdu =
@@ -59,28 +59,28 @@ command_of toolkit.Envelope card apdu = option_map (λ envelope. Report envelope
 command_of toolkit.InstallApplet card apdu = if_row (installed_row card.persistent (kind_in card apdu.p2) apdu.p2 apdu.p1 apdu.body)
 command_of toolkit.DeleteApplet card apdu = Some (Delete apdu.p2)
 
-abbrev pub command_by : Instruction → CardState → Apdu → Option Command
+abbrev pub command_by : Instruction → CardState → Apdu → Option ToolkitInput
 command_by (File file.Status) card apdu = Some Status
 command_by (Toolkit command) card apdu = command_of command card apdu
 command_by _ card apdu = None
 
 -- where it is carried out
-abbrev pub if_carried : Result Answered StatusWord → Option Command → Option Command
+abbrev pub if_carried : Result Answered StatusWord → Option ToolkitInput → Option ToolkitInput
 if_carried (Ok answered) command = command
 if_carried (Err status) command = None
 
-abbrev pub taken_by : CardState → Apdu → Result Instruction StatusWord → Option Command
+abbrev pub taken_by : CardState → Apdu → Result Instruction StatusWord → Option ToolkitInput
 taken_by card apdu (Ok instruction) = if_carried (carried_with true instruction card apdu) (command_by instruction card apdu)
 taken_by card apdu (Err status) = None
 
 -- the command of the toolkit that a card takes with these bytes, where it runs applets
-abbrev pub taken : (Instruction → Bool) → CardState → List ℕ → Option Command
+abbrev pub taken : (Instruction → Bool) → CardState → List ℕ → Option ToolkitInput
 taken knows card bytes = option_and_then (λ apdu. taken_by card apdu (instruction_tried knows card.channels apdu.class apdu.ins)) (command_in bytes)
 
 -- ---- how the card goes on
 
 -- By a command of the toolkit: it is accepted, what the card has of the toolkit moves by it, and just its commits of rows are made.
-pub record GoesOnBy (command : Command) (card : CardState) (answered : Answered) : Type 0 where
+pub record GoesOnBy (command : ToolkitInput) (card : CardState) (answered : Answered) : Type 0 where
   pub accepted : IsAccepted command (toolkit_of card)
   pub toolkit : toolkit_of answered.state ≡ (moved command (toolkit_of card)).state
   pub commits : map (λ state. state.rows) answered.commits ≡ passed_rows (moved command (toolkit_of card)).log
@@ -90,13 +90,13 @@ pub record StaysAsItWas (card : CardState) (answered : Answered) : Type 0 where
   pub toolkit : toolkit_of answered.state ≡ toolkit_of card
   pub commits : All (λ state. state.rows ≡ card.persistent.rows) answered.commits
 
-abbrev pub GoesOn : Option Command → CardState → Answered → Type 0
+abbrev pub GoesOn : Option ToolkitInput → CardState → Answered → Type 0
 GoesOn (Some command) card answered = GoesOnBy command card answered
 GoesOn None card answered = StaysAsItWas card answered
 
 -- Each commit has the rows that were there, with that of an applet that is installed, or without that of one that is deleted; of these
 -- it changes the codes and what is kept for the applet alone. Each row has its box.
-pub record LeavesRows (command : Option Command) (card : CardState) (answered : Answered) : Type 0 where
+pub record LeavesRows (command : Option ToolkitInput) (card : CardState) (answered : Answered) : Type 0 where
   pub fixed : All (λ state. HaveFixed (rows_after command card.persistent.rows) state.rows) answered.commits
   pub boxes : All (HasBox card.boxes) card.persistent.rows → All (λ state. All (HasBox card.boxes) state.rows) answered.commits
 
@@ -125,7 +125,7 @@ CanHappen knows card (Breaks bytes left) = IsLeft card (passed_of knows card byt
 CanHappen knows card Restarts = ⊤
 
 -- all applets wake at a reset and after a fault
-abbrev pub taken_at : (Instruction → Bool) → CardState → Event → Option Command
+abbrev pub taken_at : (Instruction → Bool) → CardState → Event → Option ToolkitInput
 taken_at knows card (Answers bytes) = taken knows card bytes
 taken_at knows card (Breaks bytes left) = Some (Wake left.persistent.rows (boxes_left card.persistent.rows left.persistent.rows card.boxes))
 taken_at knows card Restarts = Some (Wake card.persistent.rows card.boxes)
@@ -140,7 +140,7 @@ abbrev pub AllCanHappen : (Instruction → Bool) → CardState → List Event �
 AllCanHappen knows card [] = ⊤
 AllCanHappen knows card (event ∷ events) = CanHappen knows card event × AllCanHappen knows (card_after knows card event) events
 
-abbrev pub all_taken : (Instruction → Bool) → CardState → List Event → List Command
+abbrev pub all_taken : (Instruction → Bool) → CardState → List Event → List ToolkitInput
 all_taken knows card [] = []
 all_taken knows card (event ∷ events) = option_to_list (taken_at knows card event) ++ all_taken knows (card_after knows card event) events
 

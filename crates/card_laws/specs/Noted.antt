@@ -6,7 +6,7 @@ use Rattle.toolkit_model.specs.Commands.{triggered_by, triggered, enveloped}
 use Rattle.toolkit_model.specs.Driving.{trigger_for}
 use Rattle.toolkit_model.specs.Passing.{ToolkitState, Happening, Woke, Fetched, Responded, Given, Turned, Committed}
 use Rattle.toolkit_model.specs.Sessions.{LateTrigger}
-use Rattle.toolkit_model.specs.Steps.{Command, Report, Fetch, Respond, Wake, moved}
+use Rattle.toolkit_model.specs.Steps.{ToolkitInput, Report, Fetch, Respond, Wake, moved}
 use Rattle.toolkit_model.specs.Owing.{given_in}
 use Rattle.card_model.specs.Instructions.{has_toolkit}
 use Rattle.card_model.specs.States.{CardState}
@@ -23,7 +23,7 @@ brought_by envelope state =
     map (trigger_for trigger.code trigger.body) trigger.shelves
 
 -- the other commands bring none
-abbrev pub brought : Command → ToolkitState → List LateTrigger
+abbrev pub brought : ToolkitInput → ToolkitState → List LateTrigger
 brought (Report envelope) state = brought_by envelope state
 brought _ state = []
 
@@ -39,7 +39,7 @@ EnvelopesGiveWhatTheyBring =
 
 -- no other command gives an applet an event
 abbrev pub EnvelopesAloneGive : Type 0
-EnvelopesAloneGive = (command : Command) (state : ToolkitState) → all_given (moved command state).log ≡ brought command state
+EnvelopesAloneGive = (command : ToolkitInput) (state : ToolkitState) → all_given (moved command state).log ≡ brought command state
 
 -- ---- all that is noted
 
@@ -55,7 +55,7 @@ besides log = filter (λ happening. not (is_within happening)) log
 
 -- What that is for each command: the events that an envelope brings, the command that is fetched, the one that is answered with
 -- its answer, and that all applets woke; for the others it is nothing.
-abbrev pub notes_of : Command → ToolkitState → List Happening
+abbrev pub notes_of : ToolkitInput → ToolkitState → List Happening
 notes_of (Report envelope) state = map (λ trigger. Given trigger) (brought_by envelope state)
 notes_of (Fetch out) state = Fetched out ∷ []
 notes_of (Respond out reply) state = Responded out reply ∷ []
@@ -63,11 +63,11 @@ notes_of (Wake rows minds) state = Woke ∷ []
 notes_of _ state = []
 
 abbrev pub CommandsAreNoted : Type 0
-CommandsAreNoted = (command : Command) (state : ToolkitState) → besides (moved command state).log ≡ notes_of command state
+CommandsAreNoted = (command : ToolkitInput) (state : ToolkitState) → besides (moved command state).log ≡ notes_of command state
 
 -- ---- over all that happens to a card
 
-abbrev pub notes_at : Option Command → ToolkitState → List Happening
+abbrev pub notes_at : Option ToolkitInput → ToolkitState → List Happening
 notes_at None state = []
 notes_at (Some command) state = notes_of command state
 
@@ -75,7 +75,7 @@ abbrev pub notes_in : (Instruction → Bool) → CardState → List Event → Li
 notes_in knows card [] = []
 notes_in knows card (event ∷ events) = notes_at (taken_at knows card event) (toolkit_of card) ++ notes_in knows (card_after knows card event) events
 
-abbrev pub brought_at : Option Command → ToolkitState → List LateTrigger
+abbrev pub brought_at : Option ToolkitInput → ToolkitState → List LateTrigger
 brought_at None state = []
 brought_at (Some command) state = brought command state
 

@@ -16,8 +16,8 @@ use Rattle.card_laws.specs.Refusals.{Refusal, file_meant}
 use Rattle.update_journal.specs.uicc_types.declared.answers.StatusWord.{StatusWord}
 
 -- a command on files: what it comes to in this state, with these keys verified and this file selected
-abbrev pub Command : Type 0
-Command = Persistent → Verified → Selection → Apdu → Result FileOutcome StatusWord
+abbrev pub CommandOnFiles : Type 0
+CommandOnFiles = Persistent → Verified → Selection → Apdu → Result FileOutcome StatusWord
 
 abbrev pub DoesNotHold : Refusal → Type 0
 DoesNotHold refusal = refusal.0 ≡ false
@@ -35,7 +35,7 @@ pub record IsTestedBy {X : Type 0} (refusals : List Refusal) (result : Result X 
   pub carried_out : ((outcome : X) × (result ≡ Ok outcome)) ↔ All DoesNotHold refusals
 
 -- so it is whatever the command is given
-abbrev pub IsRefusedFor : (Persistent → Verified → Selection → Apdu → List Refusal) → Command → Type 0
+abbrev pub IsRefusedFor : (Persistent → Verified → Selection → Apdu → List Refusal) → CommandOnFiles → Type 0
 IsRefusedFor refusals command = (state : Persistent) (seen : Verified) (selection : Selection) (apdu : Apdu) → IsTestedBy (refusals state seen selection apdu) (command state seen selection apdu)
 
 -- a command that makes, deletes or resizes a file: what it comes to with this selected on each channel, on this one
@@ -61,7 +61,7 @@ pub record IsAdmitted (state : Persistent) (seen : Verified) (selection : Select
   pub granted : may state op seen file ≡ true
 
 -- a command that is carried out was admitted
-abbrev pub IsDoneByLeave : Op → (Apdu → Option ℕ) → Command → Type 0
+abbrev pub IsDoneByLeave : Op → (Apdu → Option ℕ) → CommandOnFiles → Type 0
 IsDoneByLeave op short_in command =
     (state : Persistent) (seen : Verified) (selection : Selection) (apdu : Apdu) (outcome : FileOutcome)
     → IsSound state → command state seen selection apdu ≡ Ok outcome → IsAdmitted state seen selection (short_in apdu) op
@@ -73,7 +73,7 @@ pub record IsGranted (state : Persistent) (seen : Verified) (selection : Selecti
   pub granted : may state op seen file ≡ true
 
 -- a command on the life cycle of a file that is carried out was granted
-abbrev pub IsDoneByRule : Op → Command → Type 0
+abbrev pub IsDoneByRule : Op → CommandOnFiles → Type 0
 IsDoneByRule op command =
     (state : Persistent) (seen : Verified) (selection : Selection) (apdu : Apdu) (outcome : FileOutcome)
     → command state seen selection apdu ≡ Ok outcome → IsGranted state seen selection op

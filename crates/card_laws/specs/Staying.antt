@@ -1,7 +1,7 @@
 -- How long a handset has to answer a command that it fetched (ETSI TS 102 221, 11.2.4).
 use Rattle.std.specs.Prelude.{◌≡◌, Bool, true, List, ℕ, Option, Some, None, ⊤}
 use Rattle.toolkit_model.specs.Commands.{unanswered}
-use Rattle.toolkit_model.specs.Steps.{Command, Fetch, Respond, Wake}
+use Rattle.toolkit_model.specs.Steps.{ToolkitInput, Fetch, Respond, Wake}
 use Rattle.card_model.specs.Answers.{answer_of}
 use Rattle.card_model.specs.Instructions.{has_toolkit}
 use Rattle.card_model.specs.States.{CardState}
@@ -9,7 +9,7 @@ use Rattle.card_model.specs.declared.instructions.Instruction.{Instruction}
 use Rattle.card_laws.specs.Moving.{HasOrder, taken}
 
 -- neither a FETCH, nor an accepted response, nor a wake
-abbrev pub LeavesUnanswered : Option Command → Type 0
+abbrev pub LeavesUnanswered : Option ToolkitInput → Type 0
 LeavesUnanswered None = ⊤
 LeavesUnanswered (Some (Fetch out)) = ⊥
 LeavesUnanswered (Some (Respond out reply)) = ⊥

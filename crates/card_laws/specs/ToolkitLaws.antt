@@ -4,12 +4,12 @@ use Rattle.update_journal.specs.uicc_types.Told.{AreBytes}
 use Rattle.update_journal.specs.uicc_types.declared.events.TheConstants.{PROFILE_DOWNLOAD, STATUS_COMMAND}
 use Rattle.update_journal.specs.uicc_types.declared.answers.StatusWord.{StatusWord}
 use Rattle.file_model.specs.apdu_form.Model.{Apdu}
-use Rattle.toolkit_model.specs.Commands.{polled, unanswered, told, with_profile, triggered_by, triggered}
+use Rattle.toolkit_model.specs.Commands.{polled, unanswered, each_told, with_profile, triggered_by, triggered}
 use Rattle.toolkit_model.specs.Driving.{is_idle, driven}
 use Rattle.toolkit_model.specs.Orderly.{asks}
 use Rattle.toolkit_model.specs.Order.{targets}
 use Rattle.toolkit_model.specs.Passing.{Passed, before}
-use Rattle.toolkit_model.specs.Steps.{Command, Profile, Status, Report, AreAccepted, moved}
+use Rattle.toolkit_model.specs.Steps.{ToolkitInput, Profile, Status, Report, AreAccepted, moved}
 use Rattle.toolkit_model.specs.Awaiting.{awaited, ReachesWhoAsked}
 use Rattle.toolkit_model.specs.Begun.{begun}
 use Rattle.toolkit_model.specs.Fetching.{OneAtATime, AnsweredBetween}
@@ -88,19 +88,19 @@ NoEventIsLost =
 
 -- A command that the card takes tells applets of an event: first the idle ones run, each once and in the order of the event's
 -- targets, and what comes then is driving.
-pub record RunsInOrder (card : CardState) (command : Command) (first : Passed) (shelves : List ℕ) : Type 0 where
+pub record RunsInOrder (card : CardState) (command : ToolkitInput) (first : Passed) (shelves : List ℕ) : Type 0 where
   pub order : begun first.log ≡ filter (is_idle (asks card.session)) shelves
   pub begins : moved command (toolkit_of card) ≡ before first driven
 
 -- the events that an envelope brings, that of a TERMINAL PROFILE (40) and that of a STATUS (41); the other commands tell of none
-abbrev pub RunsTargets : Command → CardState → Type 0
+abbrev pub RunsTargets : ToolkitInput → CardState → Type 0
 RunsTargets (Report envelope) card = RunsInOrder card (Report envelope) (triggered envelope (toolkit_of card)) (triggered_by envelope (toolkit_of card)).shelves
 RunsTargets (Profile bytes) card =
-    RunsInOrder card (Profile bytes) (told PROFILE_DOWNLOAD bytes (with_profile (toolkit_of card) bytes)) (targets card.persistent.rows PROFILE_DOWNLOAD)
-RunsTargets Status card = RunsInOrder card Status (told STATUS_COMMAND [] (toolkit_of card)) (targets card.persistent.rows STATUS_COMMAND)
+    RunsInOrder card (Profile bytes) (each_told PROFILE_DOWNLOAD bytes (with_profile (toolkit_of card) bytes)) (targets card.persistent.rows PROFILE_DOWNLOAD)
+RunsTargets Status card = RunsInOrder card Status (each_told STATUS_COMMAND [] (toolkit_of card)) (targets card.persistent.rows STATUS_COMMAND)
 RunsTargets _ card = ⊤
 
 -- the idle applets that are told of an event run in the order of its targets, before any other
 abbrev pub IdleTargetsRunInOrder : Type 0
 IdleTargetsRunInOrder =
-    (knows : Instruction → Bool) (card : CardState) (bytes : List ℕ) (command : Command) → HasOrder card → taken knows card bytes ≡ Some command → RunsTargets command card
+    (knows : Instruction → Bool) (card : CardState) (bytes : List ℕ) (command : ToolkitInput) → HasOrder card → taken knows card bytes ≡ Some command → RunsTargets command card

@@ -7,7 +7,7 @@ use Rattle.update_journal.specs.uicc_types.declared.runs.TraceItem.{TraceItem}
 use Rattle.toolkit_model.specs.Commands.{unanswered}
 use Rattle.toolkit_model.specs.Orderly.{asks}
 use Rattle.toolkit_model.specs.Passing.{Passed}
-use Rattle.toolkit_model.specs.Steps.{Command}
+use Rattle.toolkit_model.specs.Steps.{ToolkitInput}
 use Rattle.toolkit_model.specs.Awaiting.{awaited, ReachesWhoAsked}
 use Rattle.toolkit_model.specs.Fetching.{OneAtATime, AnsweredBetween}
 use Rattle.toolkit_model.specs.Owing.{LosesNothing}
@@ -46,7 +46,7 @@ pub record KeepsToolkitLaws (old new : Machine) (events : List Event) (noted : P
   pub between : AnsweredBetween noted.log
   pub reach : (shelf : ℕ) → ReachesWhoAsked shelf (awaited shelf (asks old.card.session)) noted.log (awaited shelf (asks new.card.session))
   pub lost : (shelf : ℕ) → LosesNothing shelf (toolkit_of old.card) noted
-  pub order : (early late : List Event) (bytes : List ℕ) (command : Command) → events ≡ early ++ (Answers bytes ∷ late)
+  pub order : (early late : List Event) (bytes : List ℕ) (command : ToolkitInput) → events ≡ early ++ (Answers bytes ∷ late)
       → taken is_known (card_after_all is_known old.card early) bytes ≡ Some command → RunsTargets command (card_after_all is_known old.card early)
   pub toolkit : toolkit_of new.card ≡ noted.state
   pub in_order : HasOrder new.card

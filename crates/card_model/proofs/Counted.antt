@@ -10,7 +10,7 @@ use Rattle.file_model.specs.uicc_types.declared.runs.Step.TheVariants as step
 use Rattle.file_model.specs.uicc_types.declared.runs.TraceItem.{TraceItem}
 use Rattle.file_model.specs.Outcomes.{last_of}
 use Rattle.card_model.specs.Counts.{IsCounted, is_failure, is_cut}
-use Rattle.card_model.specs.Runs.{due, joined, armed_after, waiting_after}
+use Rattle.card_model.specs.Runs.{due, plans_joined, armed_after, waiting_after}
 
 raised_on : (m n first : ℕ) → raised_by n (raised_by m first) ≡ raised_by (m + n) first
 raised_on zero n first = let same : n ≡ 0 + n = omega arith in ap (λ (times : ℕ). raised_by times first) same
@@ -67,12 +67,12 @@ plans_counted old middle plan seen counted = given_by old middle plan seen (name
 
 pub set_in_order : (waiting : Plan) (steps more : List Step) → armed_after waiting (steps ++ more) ≡ armed_after waiting steps ++ armed_after (waiting_after waiting steps) more
 set_in_order waiting [] more = refl
-set_in_order waiting (step.Plan plan ∷ steps) more = set_in_order (joined waiting plan) steps more
+set_in_order waiting (step.Plan plan ∷ steps) more = set_in_order (plans_joined waiting plan) steps more
 set_in_order waiting (step.Apdu apdu ∷ steps) more = ap (λ later. due waiting ++ later) (set_in_order NONE steps more) ∙ sym (append_assoc (due waiting) (armed_after NONE steps) (armed_after (waiting_after NONE steps) more))
 set_in_order waiting (step.Reset ∷ steps) more = ap (λ later. due waiting ++ later) (set_in_order NONE steps more) ∙ sym (append_assoc (due waiting) (armed_after NONE steps) (armed_after (waiting_after NONE steps) more))
 
 pub wait_in_order : (waiting : Plan) (steps more : List Step) → waiting_after waiting (steps ++ more) ≡ waiting_after (waiting_after waiting steps) more
 wait_in_order waiting [] more = refl
-wait_in_order waiting (step.Plan plan ∷ steps) more = wait_in_order (joined waiting plan) steps more
+wait_in_order waiting (step.Plan plan ∷ steps) more = wait_in_order (plans_joined waiting plan) steps more
 wait_in_order waiting (step.Apdu apdu ∷ steps) more = wait_in_order NONE steps more
 wait_in_order waiting (step.Reset ∷ steps) more = wait_in_order NONE steps more

@@ -9,7 +9,7 @@ use Rattle.file_model.specs.uicc_types.declared.answers.TheConstants.StatusWord.
 use Rattle.file_model.specs.declared.selections.Selection.{Selection}
 use Rattle.file_model.proofs.ChainedLemmas.{unless_so, given_so}
 use Rattle.card_model.specs.Channels.{family}
-use Rattle.card_model.specs.Instructions.{InstructionRow, instructions, row_of, instruction_tried, is_of_tree, is_row_of_tree}
+use Rattle.card_model.specs.Instructions.{InstructionRow, instructions, row_named, instruction_tried, is_of_tree, is_row_of_tree}
 use Rattle.card_model.specs.declared.instructions.Instruction.{Instruction}
 
 -- what holds of each element of a list, as one fact
@@ -52,7 +52,7 @@ tree_named =
     named_so (λ instruction class ins. is_of_tree instruction ≡ is_row_of_tree class ins)
     (refl, (refl, (refl, (refl, (refl, (refl, (refl, (refl, (refl, (refl, (refl, (refl, (refl, (refl, (refl, (refl, (refl, (refl, (refl, (refl, (refl, (refl, (refl, (refl, (refl, tt)))))))))))))))))))))))))
 
-row_found : (knows : Instruction → Bool) (class ins : ℕ) (row : InstructionRow) → row_of knows class ins ≡ Some row → IsNamed knows class ins row.instruction
+row_found : (knows : Instruction → Bool) (class ins : ℕ) (row : InstructionRow) → row_named knows class ins ≡ Some row → IsNamed knows class ins row.instruction
 row_found knows class ins row is =
     let test : InstructionRow → Bool = λ each. each.ins == ins && each.class == class in
     let found = find_Some (λ (each : InstructionRow). knows each.instruction && test each) instructions row (sym (find-filter test (λ each. knows each.instruction) instructions) ∙ is) in
@@ -70,5 +70,5 @@ instruction_so P R knows channels class ins no_class secure no_channel no_instru
     unless_so P R _ _ _ secure (λ _.
     unless_so P R _ _ _ no_channel (λ _.
     unless_so P R _ _ _ no_instruction (λ _.
-    given_so P R (row_of knows (family class) ins) _ _ no_class (λ row is.
+    given_so P R (row_named knows (family class) ins) _ _ no_class (λ row is.
     unless_so P R _ _ _ no_channel (λ _. holds row.instruction (row_found knows (family class) ins row is)))))))

@@ -8,16 +8,16 @@ use Rattle.card_model.specs.Answers.{told_pending, is_carried_out}
 use Rattle.card_model.specs.Laws.{IsStatusOf}
 use Rattle.toolkit_model.specs.Sessions.{Outstanding, SessionState}
 use Rattle.toolkit_model.specs.Orderly.{CanBeSent}
-use Rattle.toolkit_model.specs.Commands.{bytes_of, if_fetched, pending}
+use Rattle.toolkit_model.specs.Commands.{command_bytes, if_fetched, pending}
 
-few_if : (out : Outstanding) (b : Bool) → CanBeSent out.command → IfSome (option_map (λ (each : Outstanding). length (bytes_of each)) (if b then None else Some out)) (λ count. count ≤ 255)
+few_if : (out : Outstanding) (b : Bool) → CanBeSent out.command → IfSome (option_map (λ (each : Outstanding). length (command_bytes each)) (if b then None else Some out)) (λ count. count ≤ 255)
 few_if out true sent = tt
 few_if out false sent = sent.short out.number
 
 -- a command that can be sent has 255 bytes at most
 pub pending_few : (session : SessionState) → IfSome session.out (λ out. CanBeSent out.command) → IfSome (pending session) (λ count. count ≤ 255)
 pending_few session sent = by_out session.out sent where
-  by_out : (out : Option Outstanding) → IfSome out (λ each. CanBeSent each.command) → IfSome (option_map (λ (each : Outstanding). length (bytes_of each)) (if_fetched false out)) (λ count. count ≤ 255)
+  by_out : (out : Option Outstanding) → IfSome out (λ each. CanBeSent each.command) → IfSome (option_map (λ (each : Outstanding). length (command_bytes each)) (if_fetched false out)) (λ count. count ≤ 255)
   by_out None sent = tt
   by_out (Some out) sent = few_if out out.is_fetched sent
 

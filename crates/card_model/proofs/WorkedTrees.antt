@@ -15,7 +15,7 @@ use Rattle.file_model.specs.Pins.{pin_found, presented, pin_presented, pin_verif
 use Rattle.file_model.specs.Selecting.{selecting, file_selected}
 use Rattle.file_model.specs.Selections.{selection_of, chosen_by_identifier, chosen}
 use Rattle.file_making.specs.Rooms.{room_at, free_number}
-use Rattle.file_making.specs.Templates.{template, told, asked_in}
+use Rattle.file_making.specs.Templates.{template, new_file_told, asked_in}
 use Rattle.file_making.specs.Creating.{creating, created}
 use Rattle.file_making.specs.Deleting.{deleting, deleted}
 use Rattle.file_making.specs.Resizing.{resizing, resized}
@@ -67,7 +67,7 @@ a_file_comes_and_goes : replies first_card (
     ∷ (0x00 ∷ 0xA4 ∷ 0x00 ∷ 0x0C ∷ 0x02 ∷ 0x6F ∷ 0x50 ∷ [])
     ∷ [])
     ≡ (0x90 ∷ 0x00 ∷ []) ∷ (0x90 ∷ 0x00 ∷ []) ∷ (0xFF ∷ 0xFF ∷ 0xFF ∷ 0xFF ∷ 0x90 ∷ 0x00 ∷ []) ∷ (0x6A ∷ 0x89 ∷ []) ∷ (0x90 ∷ 0x00 ∷ []) ∷ (0x90 ∷ 0x00 ∷ []) ∷ (0x6A ∷ 0x82 ∷ []) ∷ []
-unfolding refused_if given and_given command_in fields_in instruction_tried carried_out file_outcome contents_outcome tree_outcome tried answer_of woken woken_boxes channel_tried keys_seen pin_found presented pin_presented pin_verified addressed arr_found ruling_record may held_by reading binary_file read_from binary_read file_selected selecting selection_of chosen chosen_by_identifier descriptor_in descriptors_in file_found created creating deleted deleting resized resizing asked_in told template object room_at free_number
+unfolding refused_if given and_given command_in fields_in instruction_tried carried_out file_outcome contents_outcome tree_outcome tried answer_of woken woken_boxes channel_tried keys_seen pin_found presented pin_presented pin_verified addressed arr_found ruling_record may held_by reading binary_file read_from binary_read file_selected selecting selection_of chosen chosen_by_identifier descriptor_in descriptors_in file_found created creating deleted deleting resized resizing asked_in new_file_told template object room_at free_number
 a_file_comes_and_goes = refl
 
 -- it is deleted on another channel than that which has it, where no file is selected then
@@ -79,7 +79,7 @@ it_goes_from_the_other_channel : replies first_card (
     ∷ (0x01 ∷ 0xB0 ∷ 0x00 ∷ 0x00 ∷ 0x01 ∷ [])
     ∷ [])
     ≡ (0x90 ∷ 0x00 ∷ []) ∷ (0x01 ∷ 0x90 ∷ 0x00 ∷ []) ∷ (0x90 ∷ 0x00 ∷ []) ∷ (0x90 ∷ 0x00 ∷ []) ∷ (0x69 ∷ 0x86 ∷ []) ∷ []
-unfolding refused_if given and_given command_in fields_in instruction_tried carried_out file_outcome contents_outcome tree_outcome tried answer_of woken woken_boxes channel_tried keys_seen pin_found presented pin_presented pin_verified addressed arr_found ruling_record may held_by reading binary_file read_from binary_read file_selected selecting selection_of chosen chosen_by_identifier descriptor_in descriptors_in file_found created creating deleted deleting resized resizing asked_in told template object room_at free_number
+unfolding refused_if given and_given command_in fields_in instruction_tried carried_out file_outcome contents_outcome tree_outcome tried answer_of woken woken_boxes channel_tried keys_seen pin_found presented pin_presented pin_verified addressed arr_found ruling_record may held_by reading binary_file read_from binary_read file_selected selecting selection_of chosen chosen_by_identifier descriptor_in descriptors_in file_found created creating deleted deleting resized resizing asked_in new_file_told template object room_at free_number
 it_goes_from_the_other_channel = refl
 
 -- ---- a DF
@@ -94,7 +94,7 @@ a_df_goes : replies with_df (
     ∷ (0x00 ∷ 0xA4 ∷ 0x00 ∷ 0x0C ∷ 0x02 ∷ 0x7F ∷ 0x20 ∷ [])
     ∷ [])
     ≡ (0x90 ∷ 0x00 ∷ []) ∷ (0x90 ∷ 0x00 ∷ []) ∷ (0x6A ∷ 0x82 ∷ []) ∷ []
-unfolding refused_if given and_given command_in fields_in instruction_tried carried_out file_outcome contents_outcome tree_outcome tried answer_of woken woken_boxes channel_tried keys_seen pin_found presented pin_presented pin_verified addressed arr_found ruling_record may held_by reading binary_file read_from binary_read file_selected selecting selection_of chosen chosen_by_identifier descriptor_in descriptors_in file_found created creating deleted deleting resized resizing asked_in told template object room_at free_number
+unfolding refused_if given and_given command_in fields_in instruction_tried carried_out file_outcome contents_outcome tree_outcome tried answer_of woken woken_boxes channel_tried keys_seen pin_found presented pin_presented pin_verified addressed arr_found ruling_record may held_by reading binary_file read_from binary_read file_selected selecting selection_of chosen chosen_by_identifier descriptor_in descriptors_in file_found created creating deleted deleting resized resizing asked_in new_file_told template object room_at free_number
 a_df_goes = refl
 
 -- it stays while a channel has it as its current DF
@@ -107,7 +107,7 @@ a_df_in_use_stays : replies with_df (
     ∷ (0x00 ∷ 0xE4 ∷ 0x00 ∷ 0x00 ∷ 0x02 ∷ 0x7F ∷ 0x20 ∷ [])
     ∷ [])
     ≡ (0x90 ∷ 0x00 ∷ []) ∷ (0x01 ∷ 0x90 ∷ 0x00 ∷ []) ∷ (0x90 ∷ 0x00 ∷ []) ∷ (0x69 ∷ 0x85 ∷ []) ∷ (0x90 ∷ 0x00 ∷ []) ∷ (0x90 ∷ 0x00 ∷ []) ∷ []
-unfolding refused_if given and_given command_in fields_in instruction_tried carried_out file_outcome contents_outcome tree_outcome tried answer_of woken woken_boxes channel_tried keys_seen pin_found presented pin_presented pin_verified addressed arr_found ruling_record may held_by reading binary_file read_from binary_read file_selected selecting selection_of chosen chosen_by_identifier descriptor_in descriptors_in file_found created creating deleted deleting resized resizing asked_in told template object room_at free_number
+unfolding refused_if given and_given command_in fields_in instruction_tried carried_out file_outcome contents_outcome tree_outcome tried answer_of woken woken_boxes channel_tried keys_seen pin_found presented pin_presented pin_verified addressed arr_found ruling_record may held_by reading binary_file read_from binary_read file_selected selecting selection_of chosen chosen_by_identifier descriptor_in descriptors_in file_found created creating deleted deleting resized resizing asked_in new_file_told template object room_at free_number
 a_df_in_use_stays = refl
 
 -- and where the key of the administrator was not presented
@@ -117,7 +117,7 @@ a_df_is_kept : replies with_df (
     ∷ (0x80 ∷ 0xD4 ∷ 0x00 ∷ 0x00 ∷ 0x04 ∷ 0x2F ∷ 0xE2 ∷ 0x00 ∷ 0x06 ∷ [])
     ∷ [])
     ≡ (0x69 ∷ 0x82 ∷ []) ∷ (0x69 ∷ 0x82 ∷ []) ∷ (0x69 ∷ 0x82 ∷ []) ∷ []
-unfolding refused_if given and_given command_in fields_in instruction_tried carried_out file_outcome contents_outcome tree_outcome tried answer_of woken woken_boxes channel_tried keys_seen pin_found presented pin_presented pin_verified addressed arr_found ruling_record may held_by reading binary_file read_from binary_read file_selected selecting selection_of chosen chosen_by_identifier descriptor_in descriptors_in file_found created creating deleted deleting resized resizing asked_in told template object room_at free_number
+unfolding refused_if given and_given command_in fields_in instruction_tried carried_out file_outcome contents_outcome tree_outcome tried answer_of woken woken_boxes channel_tried keys_seen pin_found presented pin_presented pin_verified addressed arr_found ruling_record may held_by reading binary_file read_from binary_read file_selected selecting selection_of chosen chosen_by_identifier descriptor_in descriptors_in file_found created creating deleted deleting resized resizing asked_in new_file_told template object room_at free_number
 a_df_is_kept = refl
 
 -- ---- no room
@@ -132,7 +132,7 @@ no_room : replies full (
     ∷ (0x00 ∷ 0xE0 ∷ 0x00 ∷ 0x00 ∷ 0x10 ∷ 0x62 ∷ 0x0E ∷ 0x82 ∷ 0x02 ∷ 0x41 ∷ 0x21 ∷ 0x83 ∷ 0x02 ∷ 0x6F ∷ 0x50 ∷ 0x80 ∷ 0x02 ∷ 0x00 ∷ 0x04 ∷ 0x88 ∷ 0x00 ∷ [])
     ∷ [])
     ≡ (0x90 ∷ 0x00 ∷ []) ∷ (0x6A ∷ 0x84 ∷ []) ∷ []
-unfolding refused_if given and_given command_in fields_in instruction_tried carried_out file_outcome contents_outcome tree_outcome tried answer_of woken woken_boxes channel_tried keys_seen pin_found presented pin_presented pin_verified addressed arr_found ruling_record may held_by reading binary_file read_from binary_read file_selected selecting selection_of chosen chosen_by_identifier descriptor_in descriptors_in file_found created creating deleted deleting resized resizing asked_in told template object room_at free_number
+unfolding refused_if given and_given command_in fields_in instruction_tried carried_out file_outcome contents_outcome tree_outcome tried answer_of woken woken_boxes channel_tried keys_seen pin_found presented pin_presented pin_verified addressed arr_found ruling_record may held_by reading binary_file read_from binary_read file_selected selecting selection_of chosen chosen_by_identifier descriptor_in descriptors_in file_found created creating deleted deleting resized resizing asked_in new_file_told template object room_at free_number
 no_room = refl
 
 -- ---- classes
@@ -148,7 +148,7 @@ told_by_class : replies first_card (
     ∷ (0x00 ∷ 0xD5 ∷ 0x00 ∷ 0x00 ∷ 0x00 ∷ [])
     ∷ [])
     ≡ (0x69 ∷ 0x82 ∷ []) ∷ (0x69 ∷ 0x82 ∷ []) ∷ (0x6E ∷ 0x00 ∷ []) ∷ (0x6E ∷ 0x00 ∷ []) ∷ (0x6E ∷ 0x00 ∷ []) ∷ (0x6E ∷ 0x00 ∷ []) ∷ (0x6D ∷ 0x00 ∷ []) ∷ []
-unfolding refused_if given and_given command_in fields_in instruction_tried carried_out file_outcome contents_outcome toolkit_outcome tree_outcome tried answer_of woken woken_boxes channel_tried keys_seen pin_found presented pin_presented pin_verified addressed arr_found ruling_record may held_by reading binary_file read_from binary_read file_selected selecting selection_of chosen chosen_by_identifier descriptor_in descriptors_in file_found created creating deleted deleting resized resizing asked_in told template object room_at free_number applet_installed applet_deleted
+unfolding refused_if given and_given command_in fields_in instruction_tried carried_out file_outcome contents_outcome toolkit_outcome tree_outcome tried answer_of woken woken_boxes channel_tried keys_seen pin_found presented pin_presented pin_verified addressed arr_found ruling_record may held_by reading binary_file read_from binary_read file_selected selecting selection_of chosen chosen_by_identifier descriptor_in descriptors_in file_found created creating deleted deleting resized resizing asked_in new_file_told template object room_at free_number applet_installed applet_deleted
 told_by_class = refl
 
 -- a command on the tree of files is named by its class, on any channel, and its instruction byte; in another class the byte names none
@@ -168,5 +168,5 @@ named_by_class = refl
 -- the file, and nothing else, in one commit
 one_commit : map (λ state. state.files) (passed_of every (record first_card { verified = record { pin1 = false; pin2 = false; adm1 = true } }) (0x00 ∷ 0xE0 ∷ 0x00 ∷ 0x00 ∷ 0x10 ∷ 0x62 ∷ 0x0E ∷ 0x82 ∷ 0x02 ∷ 0x41 ∷ 0x21 ∷ 0x83 ∷ 0x02 ∷ 0x6F ∷ 0x50 ∷ 0x80 ∷ 0x02 ∷ 0x00 ∷ 0x04 ∷ 0x88 ∷ 0x00 ∷ []))
     ≡ three ∷ (three ++ ef 4 0x41 0x6F50 0 3995 4 (Bytes (replicate 4 0xFF)) ∷ []) ∷ []
-unfolding refused_if given and_given command_in fields_in instruction_tried carried_out file_outcome contents_outcome tree_outcome tried answer_of woken woken_boxes channel_tried keys_seen pin_found presented pin_presented pin_verified addressed arr_found ruling_record may held_by reading binary_file read_from binary_read file_selected selecting selection_of chosen chosen_by_identifier descriptor_in descriptors_in file_found created creating deleted deleting resized resizing asked_in told template object room_at free_number
+unfolding refused_if given and_given command_in fields_in instruction_tried carried_out file_outcome contents_outcome tree_outcome tried answer_of woken woken_boxes channel_tried keys_seen pin_found presented pin_presented pin_verified addressed arr_found ruling_record may held_by reading binary_file read_from binary_read file_selected selecting selection_of chosen chosen_by_identifier descriptor_in descriptors_in file_found created creating deleted deleting resized resizing asked_in new_file_told template object room_at free_number
 one_commit = refl

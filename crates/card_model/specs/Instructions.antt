@@ -23,39 +23,39 @@ pub record InstructionRow : Type 0 where
   pub instruction : Instruction
   pub is_basic : Bool
 
-abbrev pub row : ℕ → ℕ → Instruction → InstructionRow
-row class ins instruction = record { class = class; ins = ins; instruction = instruction; is_basic = false }
+abbrev pub instruction_row : ℕ → ℕ → Instruction → InstructionRow
+instruction_row class ins instruction = record { class = class; ins = ins; instruction = instruction; is_basic = false }
 
 abbrev pub basic_row : ℕ → ℕ → Instruction → InstructionRow
 basic_row class ins instruction = record { class = class; ins = ins; instruction = instruction; is_basic = true }
 
 abbrev pub instructions : List InstructionRow
 instructions =
-    row 0x00 0xA4 (File Select)
-    ∷ row 0x80 0xF2 (File Status)
-    ∷ row 0x00 0xB0 (File (Contents ReadBinary))
-    ∷ row 0x00 0xD6 (File (Contents UpdateBinary))
-    ∷ row 0x00 0xB2 (File (Contents ReadRecord))
-    ∷ row 0x00 0xDC (File (Contents UpdateRecord))
-    ∷ row 0x00 0xA2 (File (Contents SearchRecord))
-    ∷ row 0x80 0x32 (File (Contents Increase))
-    ∷ row 0x00 0x04 (File (Contents Deactivate))
-    ∷ row 0x00 0x44 (File (Contents Activate))
-    ∷ row 0x00 0x20 (Pin pin.Verify)
-    ∷ row 0x00 0x24 (Pin pin.Change)
-    ∷ row 0x00 0x26 (Pin pin.Disable)
-    ∷ row 0x00 0x28 (Pin pin.Enable)
-    ∷ row 0x00 0x2C (Pin pin.Unblock)
-    ∷ row 0x00 0x70 ManageChannel
+    instruction_row 0x00 0xA4 (File Select)
+    ∷ instruction_row 0x80 0xF2 (File Status)
+    ∷ instruction_row 0x00 0xB0 (File (Contents ReadBinary))
+    ∷ instruction_row 0x00 0xD6 (File (Contents UpdateBinary))
+    ∷ instruction_row 0x00 0xB2 (File (Contents ReadRecord))
+    ∷ instruction_row 0x00 0xDC (File (Contents UpdateRecord))
+    ∷ instruction_row 0x00 0xA2 (File (Contents SearchRecord))
+    ∷ instruction_row 0x80 0x32 (File (Contents Increase))
+    ∷ instruction_row 0x00 0x04 (File (Contents Deactivate))
+    ∷ instruction_row 0x00 0x44 (File (Contents Activate))
+    ∷ instruction_row 0x00 0x20 (Pin pin.Verify)
+    ∷ instruction_row 0x00 0x24 (Pin pin.Change)
+    ∷ instruction_row 0x00 0x26 (Pin pin.Disable)
+    ∷ instruction_row 0x00 0x28 (Pin pin.Enable)
+    ∷ instruction_row 0x00 0x2C (Pin pin.Unblock)
+    ∷ instruction_row 0x00 0x70 ManageChannel
     ∷ basic_row 0x80 0x10 (Toolkit TerminalProfile)
     ∷ basic_row 0x80 0x12 (Toolkit Fetch)
     ∷ basic_row 0x80 0x14 (Toolkit TerminalResponse)
     ∷ basic_row 0x80 0xC2 (Toolkit Envelope)
-    ∷ row 0xF0 0xE6 (Toolkit InstallApplet)
-    ∷ row 0xF0 0xE4 (Toolkit DeleteApplet)
-    ∷ row 0x00 0xE0 (Tree tree.Create)
-    ∷ row 0x00 0xE4 (Tree tree.Delete)
-    ∷ row 0x80 0xD4 (Tree tree.Resize)
+    ∷ instruction_row 0xF0 0xE6 (Toolkit InstallApplet)
+    ∷ instruction_row 0xF0 0xE4 (Toolkit DeleteApplet)
+    ∷ instruction_row 0x00 0xE0 (Tree tree.Create)
+    ∷ instruction_row 0x00 0xE4 (Tree tree.Delete)
+    ∷ instruction_row 0x80 0xD4 (Tree tree.Resize)
     ∷ []
 
 -- the rows of the commands that a card knows
@@ -67,8 +67,8 @@ abbrev pub has_ins : (Instruction → Bool) → ℕ → Bool
 has_ins knows ins = list_any (λ each. each.ins == ins) (rows_known knows)
 
 -- the one that has it in this class
-abbrev pub row_of : (Instruction → Bool) → ℕ → ℕ → Option InstructionRow
-row_of knows class ins = find (λ each. each.ins == ins && each.class == class) (rows_known knows)
+abbrev pub row_named : (Instruction → Bool) → ℕ → ℕ → Option InstructionRow
+row_named knows class ins = find (λ each. each.ins == ins && each.class == class) (rows_known knows)
 
 -- The command that a class and an instruction byte name. The class comes first, then the channel, then the instruction byte, and
 -- then whether it has a command in this class.
@@ -78,7 +78,7 @@ instruction_tried knows channels class ins =
     refused_if (asks_secure_messaging class) NO_SECURE_MESSAGING (
     needs (is_open channels (channel_of class)) NO_SUCH_CHANNEL (
     needs (has_ins knows ins) NO_SUCH_INSTRUCTION (
-    given (row_of knows (family class) ins) NO_SUCH_CLASS (λ found.
+    given (row_named knows (family class) ins) NO_SUCH_CLASS (λ found.
     refused_if (found.is_basic && not (channel_of class == 0)) NO_SUCH_CHANNEL (
     Ok found.instruction))))))
 

@@ -113,8 +113,8 @@ IsRun old (step ∷ more) items new =
 -- ---- planned faults
 
 -- a later plan of one kind takes the place of an earlier one
-abbrev pub joined : Plan → Plan → Plan
-joined waiting plan = record {
+abbrev pub plans_joined : Plan → Plan → Plan
+plans_joined waiting plan = record {
   cut = option_or plan.cut waiting.cut;
   fail = option_or plan.fail waiting.fail;
   read_fail = option_or plan.read_fail waiting.read_fail;
@@ -126,14 +126,14 @@ due waiting = if names_fault waiting then waiting ∷ [] else []
 
 abbrev pub armed_after : Plan → List Step → List Plan
 armed_after waiting [] = []
-armed_after waiting (step.Plan plan ∷ more) = armed_after (joined waiting plan) more
+armed_after waiting (step.Plan plan ∷ more) = armed_after (plans_joined waiting plan) more
 armed_after waiting (step.Apdu apdu ∷ more) = due waiting ++ armed_after NONE more
 armed_after waiting (step.Reset ∷ more) = due waiting ++ armed_after NONE more
 
 -- the plan that waits after some steps
 abbrev pub waiting_after : Plan → List Step → Plan
 waiting_after waiting [] = waiting
-waiting_after waiting (step.Plan plan ∷ more) = waiting_after (joined waiting plan) more
+waiting_after waiting (step.Plan plan ∷ more) = waiting_after (plans_joined waiting plan) more
 waiting_after waiting (step.Apdu apdu ∷ more) = waiting_after NONE more
 waiting_after waiting (step.Reset ∷ more) = waiting_after NONE more
 

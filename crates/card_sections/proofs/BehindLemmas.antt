@@ -3,12 +3,13 @@ use Rattle.std.proofs.Common.{◌≡◌, ℕ, Bool, true, false, List, [], ◌�
 use Rattle.std.proofs.lemmas.List.{append-nil, append_assoc}
 use Rattle.std.proofs.lemmas.List.Elements.{All-nil, All-push}
 use Rattle.script_form.specs.byte_streams.Lines.{LineList}
-use Rattle.card_sections.specs.Behind.{EndsReading, IsBadBehind, IsReading, LinesReadTo, StopsReading}
+use Rattle.card_sections.specs.Behind.{EndsReading, IsBadBehind, IsReading, LinesReadTo, StopsReading, end_for}
 use Rattle.card_sections.proofs.LineLemmas.{AreRead-more}
 use Rattle.card_sections.specs.Reading.{Finds, Follows, GivesNext, IsUnread}
 use Rattle.card_sections.specs.Script.{AreRead}
 use Rattle.card_sections.specs.declared.behind.PlayEnd.{PlayEnd}
 use Rattle.card_sections.specs.declared.behind.PlayEnd.TheVariants.{Finished, BadLine, ReadFailed, SinkFailed, ResetFailed}
+use Rattle.card_sections.specs.declared.faults.ScriptFault.{ScriptFault}
 use Rattle.card_sections.specs.declared.faults.ScriptFault.TheVariants as fault
 use Rattle.card_sections.specs.declared.script_reader.ScriptReader.{ScriptReader}
 use Rattle.script_form.specs.declared.lines.ScriptLine.{ScriptLine}
@@ -57,9 +58,13 @@ unread_is_bad may [] unread = absurd unread
 unread_is_bad may (None ∷ more) unread = tt
 unread_is_bad may (Some bytes ∷ more) unread = λ line says. absurd (unread line says)
 
--- the next line is in no form
-pub bad_in_script : (may : ScriptLine → Bool) (text : List ℕ) (found : LineList) (script : ScriptReader) (left : Option (List ℕ)) (line : ScriptLine) (number : ℕ) → GivesNext text found script left line (Err (fault.BadLine number)) → StopsReading may text found left (BadLine number)
-bad_in_script may text found script left line number gives = record { next = gives.next; parted = gives.parted; is = unread_is_bad may gives.next gives.is; counted = gives.counted; reach = gives.reach }
+-- the script itself is bad or fails
+pub in_script : (may : ScriptLine → Bool) (text : List ℕ) (found : LineList) (script : ScriptReader) (left : Option (List ℕ)) (line : ScriptLine) (why : ScriptFault) (end : PlayEnd) → end ≡ end_for why
+    → GivesNext text found script left line (Err why) → StopsReading may text found left end
+in_script may text found script left line (fault.BadLine number) end is gives = subst (StopsReading may text found left) (sym is)
+    (record { next = gives.next; parted = gives.parted; is = unread_is_bad may gives.next gives.is; counted = gives.counted; reach = gives.reach })
+in_script may text found script left line (fault.NoRoom number) end is gives = absurd gives
+in_script may text found script left line fault.ReadFailed end is gives = subst (StopsReading may text found left) (sym is) gives
 
 -- it may not stand there
 pub bad_behind : (may : ScriptLine → Bool) (text : List ℕ) (found : LineList) (script : ScriptReader) (left : Option (List ℕ)) (line : ScriptLine) (number : ℕ) → Finds text found script left line → may line ≡ false → number ≡ script.number

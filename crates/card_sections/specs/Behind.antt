@@ -7,6 +7,8 @@ use Rattle.card_sections.specs.Reading.{Finds, Follows, GoesOn}
 use Rattle.card_sections.specs.Script.{AreRead}
 use Rattle.card_sections.specs.declared.behind.PlayEnd.{PlayEnd}
 use Rattle.card_sections.specs.declared.behind.PlayEnd.TheVariants.{Finished, BadLine, ReadFailed, SinkFailed, ResetFailed}
+use Rattle.card_sections.specs.declared.faults.ScriptFault.{ScriptFault}
+use Rattle.card_sections.specs.declared.faults.ScriptFault.TheVariants as fault
 use Rattle.card_sections.specs.declared.script_reader.ScriptReader.{ScriptReader}
 use Rattle.script_form.specs.Forms.{IsLine}
 use Rattle.script_form.specs.declared.lines.ScriptLine.{ScriptLine}
@@ -24,6 +26,12 @@ StopsReading may text found left (BadLine number) = GoesOn text found left (IsBa
 StopsReading may text found left ReadFailed = IsTextCutShort text found left
 StopsReading may text found left SinkFailed = ⊥
 StopsReading may text found left ResetFailed = ⊥
+
+-- why a script is read no further
+abbrev pub end_for : ScriptFault → PlayEnd
+end_for (fault.BadLine number) = BadLine number
+end_for (fault.NoRoom number) = BadLine number
+end_for fault.ReadFailed = ReadFailed
 
 -- what the search for a line behind `start` comes to: it is in its place then, or no more lines are read
 abbrev pub GivesLine : (ScriptLine → Bool) → List ℕ → LineList → ScriptReader → Option (List ℕ) → ScriptLine → Result (Unit {0}) PlayEnd → Type 0

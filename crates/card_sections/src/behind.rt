@@ -2,7 +2,7 @@
 ghost use Rattle.std.specs.Prelude.{◌≡◌, ◌≢◌, ◌<◌, ◌+◌, Bool, List, ℕ, Err, OnOk};
 ghost use Rattle.script_form.specs.byte_streams.Lines.{LineList};
 ghost use Rattle.script_form.specs.byte_streams.Reading.{IsWithin};
-ghost use Rattle.card_sections.specs.Behind.{GivesLine};
+ghost use Rattle.card_sections.specs.Behind.{GivesLine, end_for as end_of_fault};
 ghost use Rattle.card_sections.specs.Reading.{Follows, line_count, reading, room_of};
 ghost use Rattle.script_form.specs.Bounds.{IsBounded};
 ghost use Rattle.script_form.specs.declared.lines.ScriptLine.{ScriptLine as AnyLine};
@@ -49,8 +49,16 @@ pub fn read_behind<R: Source>(
     match script.next(source, line) {
         Ok(true) => Ok(()),
         Ok(false) => Err(PlayEnd::Finished),
-        Err(ScriptFault::BadLine(number)) => Err(PlayEnd::BadLine(number)),
-        Err(ScriptFault::NoRoom(number)) => Err(PlayEnd::BadLine(number)),
-        Err(ScriptFault::ReadFailed) => Err(PlayEnd::ReadFailed),
+        Err(fault) => Err(end_for(fault)),
+    }
+}
+
+/// Why a run ends whose script is read no further.
+pub fn end_for(fault: ScriptFault) -> PlayEnd
+    ensures { result ≡ end_of_fault fault }
+{
+    match fault {
+        ScriptFault::BadLine(number) | ScriptFault::NoRoom(number) => PlayEnd::BadLine(number),
+        ScriptFault::ReadFailed => PlayEnd::ReadFailed,
     }
 }

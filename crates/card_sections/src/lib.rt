@@ -7,7 +7,7 @@ mod laws;
 mod script_reader;
 mod sections;
 
-pub use behind::{PlayEnd, read_behind};
+pub use behind::{PlayEnd, end_for, read_behind};
 pub use faults::ScriptFault;
 pub use laws::rows_have_boxes;
 pub use script_reader::ScriptReader;

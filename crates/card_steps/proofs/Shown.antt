@@ -6,7 +6,7 @@ use Rattle.std.specs.Io.KnownBytes.{append_known}
 use Rattle.script_form.specs.byte_streams.Streams.{TakesFront}
 use Rattle.card_core.specs.card_model.Counts.{IsCounted}
 use Rattle.card_core.specs.card_model.Laws.{PlansAreCounted}
-use Rattle.card_core.specs.card_model.Runs.{armed_after, due, joined}
+use Rattle.card_core.specs.card_model.Runs.{armed_after, due, plans_joined}
 use Rattle.card_steps.proofs.CardLemmas.{bare_reply}
 use Rattle.card_steps.proofs.Delivered.{off_counted}
 use Rattle.card_steps.proofs.StepLemmas.{ToldFront, WithPlan, counted_after, idle_counted, in_one_line, none_waits, text_of_one, text_of_two, told_front, told_more, with_command}
@@ -146,10 +146,10 @@ failure_cut_off before from set sent after taken now plans told with_it counts e
     }
 
 -- a plan
-pub plan_shows : (before : List ℕ) (from to : End) (taken : Option (List ℕ)) (plan : Plan) → taken ≡ Some before → to ≡ record from { waiting = joined from.waiting plan }
+pub plan_shows : (before : List ℕ) (from to : End) (taken : Option (List ℕ)) (plan : Plan) → taken ≡ Some before → to ≡ record from { waiting = plans_joined from.waiting plan }
     → ShowsAny (Ok tt) before (step.Plan plan) (moment_at from taken) (moment_at to taken)
 plan_shows before from to taken plan told joins =
-    let later : End = record from { waiting = joined from.waiting plan } in
+    let later : End = record from { waiting = plans_joined from.waiting plan } in
     subst (λ (e : End). ShowsAny (Ok tt) before (step.Plan plan) (moment_at from taken) (moment_at e taken)) (sym joins)
     ([], record { may = (refl, refl); written = told ∙ ap Some (sym (append-nil before)); counted = idle_counted from.parts.meter; waits = refl })
 

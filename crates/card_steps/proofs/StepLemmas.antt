@@ -10,7 +10,7 @@ use Rattle.card_steps.specs.declared.steps.ResetOutcome.{ResetOutcome}
 use Rattle.card_steps.specs.declared.steps.ResetOutcome.TheVariants as restart
 use Rattle.card_core.specs.card_model.Counts.{IsCounted}
 use Rattle.card_core.specs.card_model.Laws.{PlansAreCounted}
-use Rattle.card_core.specs.card_model.Runs.{StepGives, armed_after, due, joined, waiting_after}
+use Rattle.card_core.specs.card_model.Runs.{StepGives, armed_after, due, plans_joined, waiting_after}
 use Rattle.card_core.specs.card_model.States.{Machine, powered, unpowered, restarted}
 use Rattle.script_form.specs.Traces.{trace_text}
 use Rattle.script_form.specs.declared.trace.TraceLine.TheVariants as line
@@ -263,10 +263,10 @@ restart_failed_broken before old from set sent after taken now waiting left plan
 
 -- ---- a plan
 
-pub plans_more : (before : List ℕ) (old : Machine) (from to : End) (taken : Option (List ℕ)) (plan : Plan) → machine_of from.parts ≡ Some old → taken ≡ Some before → to ≡ record from { waiting = joined from.waiting plan }
+pub plans_more : (before : List ℕ) (old : Machine) (from to : End) (taken : Option (List ℕ)) (plan : Plan) → machine_of from.parts ≡ Some old → taken ≡ Some before → to ≡ record from { waiting = plans_joined from.waiting plan }
     → TakesStep old before (step.Plan plan) (moment_at from taken) (moment_at to taken)
 plans_more before old from to taken plan is told joins =
-    let later : End = record from { waiting = joined from.waiting plan } in
+    let later : End = record from { waiting = plans_joined from.waiting plan } in
     subst (λ (e : End). TakesStep old before (step.Plan plan) (moment_at from taken) (moment_at e taken)) (sym joins) (record {
       machine = old;
       shown = [];

@@ -1,7 +1,7 @@
 //! A card at its end of a link.
 ghost use Rattle.std.specs.Prelude.{◌≡◌, ◌↔◌, false, [], Err, IsErrOf, OnErr};
 ghost use Rattle.card_core.specs.Cards.{parts_of, IsCardReady};
-ghost use Rattle.card_core.specs.card_model.Runs.{joined as plans_joined};
+ghost use Rattle.card_core.specs.card_model.Runs.{plans_joined};
 ghost use Rattle.card_steps.specs.Ends.{TakesCommand, TakesReset, reply_for, with_plan_set, without_plan};
 ghost use Rattle.card_steps.specs.Stepping.{seen};
 ghost use Rattle.script_form.specs.uicc_types.Counts.{CountsFailure, names_fault as is_named};

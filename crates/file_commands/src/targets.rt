@@ -3,7 +3,7 @@ ghost use Rattle.std.specs.Prelude.{◌≡◌, ◌≢◌, true, IfOk, IfErr};
 ghost use Rattle.file_model.specs.Files.{descriptors_of};
 ghost use Rattle.file_model.specs.Selections.{IsSelection};
 ghost use Rattle.file_model.specs.Outcomes.{addressed, pointer_before, worked_on, is_deactivated};
-ghost use Rattle.file_model.specs.Binaries.{has_short, has_binary_parameters, short_in_p1, offset_of, binary_file};
+ghost use Rattle.file_model.specs.Binaries.{p1_has_short, has_binary_parameters, short_in_p1, offset_of, binary_file};
 ghost use Rattle.file_tree.specs.Tables.{IsCardTable, IsNumbered};
 ghost use Rattle.file_commands.specs.Commands.{IsBinaryTarget};
 
@@ -12,7 +12,7 @@ use file_model::{Command, Loaded, StatusWord};
 use file_tree::{Descriptor, Selection, Wanted, current_ef, first_file};
 
 fn has_short(command: &Command<'_>) -> bool
-    ensures { result ≡ has_short command.now.p1 }
+    ensures { result ≡ p1_has_short command.now.p1 }
 {
     command.p1 >= 0x80
 }

@@ -17,7 +17,7 @@ use Rattle.file_model.specs.Fcp.{rule_object}
 use Rattle.file_model.specs.declared.descriptors.RuleReference.{RuleReference}
 use Rattle.file_making.specs.declared.asked.NewFile.{NewFile}
 use Rattle.file_making.specs.declared.asked.NewFile.TheVariants.{Df, Ef}
-use Rattle.file_making.specs.Templates.{ef_kind_bytes, short_value, template, told, asked_in, has_short_records, may_be_made, may_rule, IsShortRule, IsInRange}
+use Rattle.file_making.specs.Templates.{ef_kind_bytes, short_value, template, new_file_told, asked_in, has_short_records, may_be_made, may_rule, IsShortRule, IsInRange}
 
 -- a short file identifier in the upper five bits
 eighth : (n : ℕ) → n * 8 / 8 ≡ n
@@ -56,8 +56,8 @@ IsLowSize (Transparent size) = size < 2 ^ 16
 IsLowSize (Linear width count) = ⊤
 IsLowSize (Cyclic width count) = ⊤
 
-told_none : (id : FileId) (shape : Shape) (rule : Option RuleReference) → id.0 < 2 ^ 16 → IsLowSize shape → IsShortRule rule → told (spelled id shape rule []) ≡ Ef id shape 0 rule
-unfolding told object
+told_none : (id : FileId) (shape : Shape) (rule : Option RuleReference) → id.0 < 2 ^ 16 → IsLowSize shape → IsShortRule rule → new_file_told (spelled id shape rule []) ≡ Ef id shape 0 rule
+unfolding new_file_told object
 told_none id (Transparent size) None low size_low _ = rw (from_be_bytes-to_be_bytes_2 id.0 low, from_be_bytes-to_be_bytes_2 size size_low) refl
 told_none id (Transparent size) (Some rule) low size_low arr_low = rw (from_be_bytes-to_be_bytes_2 id.0 low, from_be_bytes-to_be_bytes_2 size size_low, from_be_bytes-to_be_bytes_2 rule.arr.0 arr_low) refl
 told_none id (Linear width count) None low _ _ = rw (from_be_bytes-to_be_bytes_2 id.0 low) refl
@@ -65,8 +65,8 @@ told_none id (Linear width count) (Some rule) low _ arr_low = rw (from_be_bytes-
 told_none id (Cyclic width count) None low _ _ = rw (from_be_bytes-to_be_bytes_2 id.0 low) refl
 told_none id (Cyclic width count) (Some rule) low _ arr_low = rw (from_be_bytes-to_be_bytes_2 id.0 low, from_be_bytes-to_be_bytes_2 rule.arr.0 arr_low) refl
 
-told_some : (id : FileId) (shape : Shape) (rule : Option RuleReference) (byte : ℕ) → id.0 < 2 ^ 16 → IsLowSize shape → IsShortRule rule → told (spelled id shape rule (byte ∷ [])) ≡ Ef id shape (byte / 8) rule
-unfolding told object
+told_some : (id : FileId) (shape : Shape) (rule : Option RuleReference) (byte : ℕ) → id.0 < 2 ^ 16 → IsLowSize shape → IsShortRule rule → new_file_told (spelled id shape rule (byte ∷ [])) ≡ Ef id shape (byte / 8) rule
+unfolding new_file_told object
 told_some id (Transparent size) None byte low size_low _ = rw (from_be_bytes-to_be_bytes_2 id.0 low, from_be_bytes-to_be_bytes_2 size size_low) refl
 told_some id (Transparent size) (Some rule) byte low size_low arr_low = rw (from_be_bytes-to_be_bytes_2 id.0 low, from_be_bytes-to_be_bytes_2 size size_low, from_be_bytes-to_be_bytes_2 rule.arr.0 arr_low) refl
 told_some id (Linear width count) None byte low _ _ = rw (from_be_bytes-to_be_bytes_2 id.0 low) refl
@@ -79,22 +79,22 @@ low_size (Transparent size) is = let low : size ≤ 32767 = leb-true size 32767 
 low_size (Linear width count) is = tt
 low_size (Cyclic width count) is = tt
 
-df_back : (id : FileId) → id.0 < 2 ^ 16 → told (template (Df id)) ≡ Df id
-unfolding told template object
+df_back : (id : FileId) → id.0 < 2 ^ 16 → new_file_told (template (Df id)) ≡ Df id
+unfolding new_file_told template object
 df_back id low = rw (from_be_bytes-to_be_bytes_2 id.0 low) refl
 
-ef_back : (id : FileId) (shape : Shape) (short : ℕ) (rule : Option RuleReference) → id.0 < 2 ^ 16 → IsLowSize shape → IsShortRule rule → told (template (Ef id shape short rule)) ≡ Ef id shape short rule
+ef_back : (id : FileId) (shape : Shape) (short : ℕ) (rule : Option RuleReference) → id.0 < 2 ^ 16 → IsLowSize shape → IsShortRule rule → new_file_told (template (Ef id shape short rule)) ≡ Ef id shape short rule
 unfolding template
-ef_back id shape short rule low size arr = ⊎_elim {C = told (spelled id shape rule (short_value short)) ≡ Ef id shape short rule}
+ef_back id shape short rule low size arr = ⊎_elim {C = new_file_told (spelled id shape rule (short_value short)) ≡ Ef id shape short rule}
     (λ zero.
-    ap (λ (bytes : List ℕ). told (spelled id shape rule bytes)) (cond-true (short == 0) [] (short * 8 ∷ []) (eq-eqb short 0 zero))
+    ap (λ (bytes : List ℕ). new_file_told (spelled id shape rule bytes)) (cond-true (short == 0) [] (short * 8 ∷ []) (eq-eqb short 0 zero))
     ∙ told_none id shape rule low size arr ∙ ap (λ (s : ℕ). Ef id shape s rule) (sym zero))
     (λ some.
-    ap (λ (bytes : List ℕ). told (spelled id shape rule bytes)) (cond-false (short == 0) [] (short * 8 ∷ []) (ne_eqb short 0 some))
+    ap (λ (bytes : List ℕ). new_file_told (spelled id shape rule bytes)) (cond-false (short == 0) [] (short * 8 ∷ []) (ne_eqb short 0 some))
     ∙ told_some id shape rule (short * 8) low size arr ∙ ap (λ (s : ℕ). Ef id shape s rule) (eighth short))
     (cases_eq short 0)
 
-pub told_back : (file : NewFile) → may_be_made file ≡ true → IsInRange file → told (template file) ≡ file
+pub told_back : (file : NewFile) → may_be_made file ≡ true → IsInRange file → new_file_told (template file) ≡ file
 told_back (Df id) may range = df_back id range
 told_back (Ef id shape short rule) may range =
     ef_back id shape short rule range.0 (low_size shape (parts_of id shape short rule may).second) range.1
@@ -104,16 +104,16 @@ told_back (Ef id shape short rule) may range =
 pub asked_found : (bytes : List ℕ) (file : NewFile) → asked_in bytes ≡ Some file → (may_be_made file ≡ true) × (bytes ≡ template file)
 unfolding asked_in
 asked_found bytes file is =
-    let test = cond_some (may_be_made (told bytes) && bytes_eq (template (told bytes)) bytes) (told bytes) file is in
-    let parts = and_parts (may_be_made (told bytes)) (bytes_eq (template (told bytes)) bytes) test.0 in
-    let same : template (told bytes) ≡ bytes = (bytes_eq-Decides (template (told bytes)) bytes).0 parts.1 in
+    let test = cond_some (may_be_made (new_file_told bytes) && bytes_eq (template (new_file_told bytes)) bytes) (new_file_told bytes) file is in
+    let parts = and_parts (may_be_made (new_file_told bytes)) (bytes_eq (template (new_file_told bytes)) bytes) test.0 in
+    let same : template (new_file_told bytes) ≡ bytes = (bytes_eq-Decides (template (new_file_told bytes)) bytes).0 parts.1 in
     (subst (λ (f : NewFile). may_be_made f ≡ true) test.1 parts.0, sym same ∙ ap template test.1)
 
 pub asked_only : (bytes : List ℕ) (file : NewFile) → may_be_made file ≡ true → IsInRange file → bytes ≡ template file → asked_in bytes ≡ Some file
 unfolding asked_in
 asked_only bytes file may range is =
-    let back : told bytes ≡ file = ap told is ∙ told_back file may range in
-    let spelled : template (told bytes) ≡ bytes = ap template back ∙ sym is in
-    cond-true (may_be_made (told bytes) && bytes_eq (template (told bytes)) bytes) (Some (told bytes)) None
-    (and_from (may_be_made (told bytes)) (bytes_eq (template (told bytes)) bytes) (subst (λ (f : NewFile). may_be_made f ≡ true) (sym back) may) ((bytes_eq-Decides (template (told bytes)) bytes).1 spelled))
+    let back : new_file_told bytes ≡ file = ap new_file_told is ∙ told_back file may range in
+    let spelled : template (new_file_told bytes) ≡ bytes = ap template back ∙ sym is in
+    cond-true (may_be_made (new_file_told bytes) && bytes_eq (template (new_file_told bytes)) bytes) (Some (new_file_told bytes)) None
+    (and_from (may_be_made (new_file_told bytes)) (bytes_eq (template (new_file_told bytes)) bytes) (subst (λ (f : NewFile). may_be_made f ≡ true) (sym back) may) ((bytes_eq-Decides (template (new_file_told bytes)) bytes).1 spelled))
     ∙ ap Some back

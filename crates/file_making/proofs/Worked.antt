@@ -20,7 +20,7 @@ use Rattle.file_model.specs.Outcomes.{addressed}
 use Rattle.file_model.specs.Selections.{selection_of, chosen_by_identifier}
 use Rattle.file_making.specs.declared.asked.NewFile.TheVariants.{Ef}
 use Rattle.file_making.specs.Rooms.{room_at, free_number}
-use Rattle.file_making.specs.Templates.{template, told, asked_in}
+use Rattle.file_making.specs.Templates.{template, new_file_told, asked_in}
 use Rattle.file_making.specs.Outcomes.{TreeOutcome, all_without_ef}
 use Rattle.file_making.specs.Creating.{creating, created}
 use Rattle.file_making.specs.Deleting.{deleting, deleted}
@@ -85,7 +85,7 @@ abbrev four_bytes : List ℕ
 four_bytes = 0x62 ∷ 0x0E ∷ 0x82 ∷ 0x02 ∷ 0x41 ∷ 0x21 ∷ 0x83 ∷ 0x02 ∷ 0x6F ∷ 0x50 ∷ 0x80 ∷ 0x02 ∷ 0x00 ∷ 0x04 ∷ 0x88 ∷ 0x00 ∷ []
 
 it_is_read : asked_in four_bytes ≡ Some (Ef (record { 0 = 0x6F50 }) (Transparent 4) 0 None)
-unfolding asked_in told template object
+unfolding asked_in new_file_told template object
 it_is_read = refl
 
 abbrev made : File
@@ -94,7 +94,7 @@ made = ef 4 0x41 0x6F50 0 3995 4 (Bytes (replicate 4 0xFF))
 -- it comes behind the last file, and is selected
 it_is_created : created card admin at_mf 0 (create four_bytes)
     ≡ Ok (record { channels = channels (at_ef 0 4) None; passed = with_files (three ++ made ∷ []) ∷ [] })
-unfolding created creating refused_if given asked_in told template object room_at free_number file_found descriptors_in descriptor_in selection_of
+unfolding created creating refused_if given asked_in new_file_told template object room_at free_number file_found descriptors_in descriptor_in selection_of
 it_is_created = refl
 
 abbrev with_made : Persistent
@@ -102,7 +102,7 @@ with_made = with_files (three ++ made ∷ [])
 
 -- but once
 it_is_there_already : created with_made admin at_mf 0 (create four_bytes) ≡ Err FILE_ALREADY_THERE
-unfolding created refused_if given asked_in told template object file_found descriptors_in descriptor_in
+unfolding created refused_if given asked_in new_file_told template object file_found descriptors_in descriptor_in
 it_is_there_already = refl
 
 -- with two bytes more it moves behind itself, and what it held comes with it
@@ -153,7 +153,7 @@ with_df = with_files (three ++ df ∷ [])
 
 a_df_is_created : created card admin at_mf 0 (create (0x62 ∷ 0x08 ∷ 0x82 ∷ 0x02 ∷ 0x78 ∷ 0x21 ∷ 0x83 ∷ 0x02 ∷ 0x7F ∷ 0x20 ∷ []))
     ≡ Ok (record { channels = channels (at_df 4) None; passed = with_df ∷ [] })
-unfolding created creating refused_if given asked_in told template object room_at free_number file_found descriptors_in descriptor_in selection_of
+unfolding created creating refused_if given asked_in new_file_told template object room_at free_number file_found descriptors_in descriptor_in selection_of
 a_df_is_created = refl
 
 a_df_is_deleted : deleted with_df admin at_mf 0 (delete (0x7F ∷ 0x20 ∷ [])) ≡ Ok (record { channels = at_mf; passed = card ∷ [] })
@@ -201,7 +201,7 @@ abbrev full : Persistent
 full = with_files (mf ∷ ef 1 0x41 0x6F01 0 3968 32767 (Bytes []) ∷ ef 2 0x41 0x6F02 0 36735 26753 (Bytes []) ∷ [])
 
 no_room : created full admin at_mf 0 (create four_bytes) ≡ Err NO_ROOM
-unfolding created refused_if given asked_in told template object room_at free_number file_found descriptors_in descriptor_in
+unfolding created refused_if given asked_in new_file_told template object room_at free_number file_found descriptors_in descriptor_in
 no_room = refl
 
 no_room_to_grow : resized full admin at_mf 0 (resize (0x6F ∷ 0x02 ∷ 0x7F ∷ 0xFF ∷ [])) ≡ Err NO_ROOM
@@ -217,7 +217,7 @@ unfolding free_number
 the_last_number = refl
 
 no_number_is_left : created (many 127) admin at_mf 0 (create (0x62 ∷ 0x08 ∷ 0x82 ∷ 0x02 ∷ 0x78 ∷ 0x21 ∷ 0x83 ∷ 0x02 ∷ 0x7F ∷ 0x20 ∷ [])) ≡ Err NO_ROOM
-unfolding created refused_if given asked_in told template object room_at free_number file_found descriptors_in descriptor_in
+unfolding created refused_if given asked_in new_file_told template object room_at free_number file_found descriptors_in descriptor_in
 no_number_is_left = refl
 
 -- a narrow card has 2,048 bytes more
@@ -267,27 +267,27 @@ is_wrong bytes = created card admin at_mf 0 (create bytes)
 -- four records of three bytes in a ring, with the short file identifier 5 and a rule
 a_cyclic_file : asked_in (0x62 ∷ 0x17 ∷ 0x82 ∷ 0x05 ∷ 0x46 ∷ 0x21 ∷ 0x00 ∷ 0x03 ∷ 0x04 ∷ 0x83 ∷ 0x02 ∷ 0x6F ∷ 0x51 ∷ 0x8B ∷ 0x03 ∷ 0x6F ∷ 0x06 ∷ 0x02 ∷ 0x80 ∷ 0x02 ∷ 0x00 ∷ 0x0C ∷ 0x88 ∷ 0x01 ∷ 0x28 ∷ [])
     ≡ Some (Ef (record { 0 = 0x6F51 }) (Cyclic 3 4) 5 (Some (record { arr = record { 0 = 0x6F06 }; number = 2 })))
-unfolding asked_in told template object
+unfolding asked_in new_file_told template object
 a_cyclic_file = refl
 
 -- the size of a file with records is their length times their number
 a_wrong_size : is_wrong (0x62 ∷ 0x11 ∷ 0x82 ∷ 0x05 ∷ 0x42 ∷ 0x21 ∷ 0x00 ∷ 0x03 ∷ 0x04 ∷ 0x83 ∷ 0x02 ∷ 0x6F ∷ 0x51 ∷ 0x80 ∷ 0x02 ∷ 0x00 ∷ 0x0D ∷ 0x88 ∷ 0x00 ∷ []) ≡ Err WRONG_DATA
-unfolding created refused_if given asked_in told template object
+unfolding created refused_if given asked_in new_file_told template object
 a_wrong_size = refl
 
 -- the short file identifier is there also where it is none
 no_short_object : is_wrong (0x62 ∷ 0x0C ∷ 0x82 ∷ 0x02 ∷ 0x41 ∷ 0x21 ∷ 0x83 ∷ 0x02 ∷ 0x6F ∷ 0x50 ∷ 0x80 ∷ 0x02 ∷ 0x00 ∷ 0x04 ∷ []) ≡ Err WRONG_DATA
-unfolding created refused_if given asked_in told template object
+unfolding created refused_if given asked_in new_file_told template object
 no_short_object = refl
 
 -- a second MF
 no_second_mf : is_wrong (0x62 ∷ 0x08 ∷ 0x82 ∷ 0x02 ∷ 0x78 ∷ 0x21 ∷ 0x83 ∷ 0x02 ∷ 0x3F ∷ 0x00 ∷ []) ≡ Err WRONG_DATA
-unfolding created refused_if given asked_in told template object
+unfolding created refused_if given asked_in new_file_told template object
 no_second_mf = refl
 
 -- a short file identifier that another EF of the DF has
 a_short_that_is_there : is_wrong (0x62 ∷ 0x0F ∷ 0x82 ∷ 0x02 ∷ 0x41 ∷ 0x21 ∷ 0x83 ∷ 0x02 ∷ 0x6F ∷ 0x50 ∷ 0x80 ∷ 0x02 ∷ 0x00 ∷ 0x04 ∷ 0x88 ∷ 0x01 ∷ 0x10 ∷ []) ≡ Err FILE_ALREADY_THERE
-unfolding created refused_if given asked_in told template object file_found descriptors_in descriptor_in
+unfolding created refused_if given asked_in new_file_told template object file_found descriptors_in descriptor_in
 a_short_that_is_there = refl
 
 -- ---- parameters and lengths

@@ -34,13 +34,13 @@ abbrev pub short_value : ℕ → List ℕ
 short_value short = if short == 0 then [] else short * 8 ∷ []
 
 -- the file descriptor and the identifier; of an EF also the rule, if it has one, the size, and the short file identifier
-abbrev pub objects_of : NewFile → List ℕ
-objects_of (Df id) = object 0x82 df_kind_bytes ++ object 0x83 (two_bytes id.0)
-objects_of (Ef id shape short rule) =
+abbrev pub template_objects : NewFile → List ℕ
+template_objects (Df id) = object 0x82 df_kind_bytes ++ object 0x83 (two_bytes id.0)
+template_objects (Ef id shape short rule) =
     object 0x82 (ef_kind_bytes shape) ++ object 0x83 (two_bytes id.0) ++ rule_object rule ++ object 0x80 (two_bytes (size_of shape)) ++ object 0x88 (short_value short)
 
 unfoldable pub template : NewFile → List ℕ
-template file = object 0x62 (objects_of file)
+template file = object 0x62 (template_objects file)
 
 -- ---- which files may be asked for
 
@@ -97,12 +97,12 @@ abbrev pub short_told : List ℕ → ℕ → ℕ
 short_told bytes at = if slice_index bytes (at + 3) == 0 then 0 else slice_index bytes (at + 4) / 8
 
 -- what the bytes at these places say, whether they are a template or not
-unfoldable pub told : List ℕ → NewFile
-told bytes =
+unfoldable pub new_file_told : List ℕ → NewFile
+new_file_told bytes =
     let id : FileId = record { 0 = number_at bytes (id_place bytes) } in
     let behind : ℕ = id_place bytes + 2 in
     if slice_index bytes 4 == df_kind then Df id else Ef id (shape_told bytes (size_place bytes behind)) (short_told bytes (size_place bytes behind)) (rule_told bytes behind)
 
 -- the file that these bytes ask for: they are written just as its template is, and it may be asked for
 unfoldable pub asked_in : List ℕ → Option NewFile
-asked_in bytes = if may_be_made (told bytes) && bytes_eq (template (told bytes)) bytes then Some (told bytes) else None
+asked_in bytes = if may_be_made (new_file_told bytes) && bytes_eq (template (new_file_told bytes)) bytes then Some (new_file_told bytes) else None

@@ -4,7 +4,7 @@ ghost use Rattle.std.specs.Prelude.{◌≡◌, ◌+◌, ◌≤◌, ◌++◌, len
 ghost use Rattle.file_model.specs.Objects.{object};
 ghost use Rattle.file_model.specs.card_layout.Decoding.{number_at};
 ghost use Rattle.file_model.specs.Fcp.{rule_object};
-ghost use Rattle.file_making.specs.Templates.{ef_kind_bytes, short_value, objects_of, template, may_rule, has_short_records, may_be_made, IsInRange, id_place, rule_told, size_place, shape_told, short_told, told, asked_in};
+ghost use Rattle.file_making.specs.Templates.{ef_kind_bytes, short_value, template_objects, template, may_rule, has_short_records, may_be_made, IsInRange, id_place, rule_told, size_place, shape_told, short_told, new_file_told, asked_in};
 
 use crate::asked::NewFile;
 use card_layout::kinds::{self, CYCLIC, DF, LINEAR, TRANSPARENT};
@@ -80,7 +80,7 @@ fn put_short(out: &mut TemplateBytes, short: u8)
 
 fn spell_objects(file: &NewFile) -> TemplateBytes
     requires { IsTrue (may_be_made file.now) }
-    ensures value { result ≡ objects_of file.now }
+    ensures value { result ≡ template_objects file.now }
     ensures long { length result ≤ 23 }
 {
     let mut objects = TemplateBytes::new();
@@ -241,9 +241,9 @@ fn short_told(bytes: &[u8], at: usize) -> u8
 }
 
 // What the bytes at the places of a template say, whether they are one or not.
-#[tactic(auto, unfolding(crate::specs::Templates::told))]
+#[tactic(auto, unfolding(crate::specs::Templates::new_file_told))]
 fn told(bytes: &[u8]) -> NewFile
-    ensures { result ≡ told bytes.now }
+    ensures { result ≡ new_file_told bytes.now }
 {
     let place = id_place(bytes);
     let id = FileId(number_at(bytes, place));

@@ -19,19 +19,19 @@ use Rattle.file_model.specs.Outcomes.{FileOutcome, has_data, has_le_alone, addre
 -- ---- which file, and where in it
 
 -- b8 of P1 says that the other bits are 00 and a short file identifier
-abbrev pub has_short : ℕ → Bool
-has_short p1 = nat_le 0x80 p1
+abbrev pub p1_has_short : ℕ → Bool
+p1_has_short p1 = nat_le 0x80 p1
 
 -- a short file identifier of 1 to 30, or no such bit
 abbrev pub has_binary_parameters : Apdu → Bool
-has_binary_parameters apdu = not (has_short apdu.p1) || nat_le 0x81 apdu.p1 && nat_le apdu.p1 0x9E
+has_binary_parameters apdu = not (p1_has_short apdu.p1) || nat_le 0x81 apdu.p1 && nat_le apdu.p1 0x9E
 
 abbrev pub short_in_p1 : Apdu → Option ℕ
-short_in_p1 apdu = if has_short apdu.p1 then Some (apdu.p1 - 0x80) else None
+short_in_p1 apdu = if p1_has_short apdu.p1 then Some (apdu.p1 - 0x80) else None
 
 -- the offset: P2 behind a short file identifier, else P1 and P2
 abbrev pub offset_of : Apdu → ℕ
-offset_of apdu = if has_short apdu.p1 then apdu.p2 else apdu.p1 * 256 + apdu.p2
+offset_of apdu = if p1_has_short apdu.p1 then apdu.p2 else apdu.p1 * 256 + apdu.p2
 
 -- ---- before access is tested
 

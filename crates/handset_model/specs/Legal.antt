@@ -78,10 +78,10 @@ entries_of (PowerCut ∷ h) = Seen item.Cut ∷ entries_of h
 entries_of (FoundOff ∷ h) = Seen item.Off ∷ entries_of h
 
 -- what is seen of the card in a trace
-abbrev pub seen : List TraceEntry → List TraceItem
-seen [] = []
-seen (Seen shown ∷ others) = shown ∷ seen others
-seen (Shown note ∷ others) = seen others
+abbrev pub items_seen : List TraceEntry → List TraceItem
+items_seen [] = []
+items_seen (Seen shown ∷ others) = shown ∷ items_seen others
+items_seen (Shown note ∷ others) = items_seen others
 
 pub record IsOf (lines : List HandsetLine) (trace : List TraceEntry) (history : List Happened) : Type 0 where
   pub orderly : IsOrderly history

@@ -9,7 +9,7 @@ use Rattle.handset_model.specs.toolkit_commands.Reading.{proactive_of, details_f
 use Rattle.handset_model.specs.toolkit_commands.declared.commands.Details.{Details}
 use Rattle.handset_model.specs.toolkit_commands.declared.commands.Proactive.{Proactive}
 use Rattle.handset_model.specs.toolkit_commands.declared.faults.ProactiveFault.{ProactiveFault}
-use Rattle.card_steps.specs.toolkit_model.Commands.{bytes_of, as_fetched, unanswered}
+use Rattle.card_steps.specs.toolkit_model.Commands.{command_bytes, as_fetched, unanswered}
 use Rattle.card_steps.specs.toolkit_model.Sessions.{Outstanding}
 use Rattle.handset_model.specs.History.{Happened, Sent, Answered, as_held, brought, held_by, held, held_after, kind_of, kind_of_report, announced, announced_by, is_silent, known}
 use Rattle.handset_model.specs.Rules.{asked, answered_at, answered, fetched}
@@ -37,8 +37,8 @@ use Rattle.phone_runs.proofs.Exchanging.{answer_to, next, stays_ready, tells, le
 -- the bytes of an answer are those of a command that the handset has to answer from then on
 pub record Brings (card : CardState) (answer : Answer) : Type 0 where
   pub out : Outstanding
-  pub short : length (bytes_of out) ≤ 255
-  pub body : answer.body ≡ bytes_of out
+  pub short : length (command_bytes out) ≤ 255
+  pub body : answer.body ≡ command_bytes out
   pub status : answer.status ≡ DONE
   pub awaits : unanswered card.session ≡ Some (as_fetched out)
 

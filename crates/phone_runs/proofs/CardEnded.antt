@@ -6,7 +6,7 @@ use Rattle.card_steps.specs.card_model.States.{Machine}
 use Rattle.card_steps.proofs.RunLaws.{run_ends, run_of, run_one, run_then}
 use Rattle.card_steps.specs.Stepping.{BreaksOff, Moment}
 use Rattle.card_steps.specs.declared.steps.StepEnd.TheVariants.{SinkFailed, ResetFailed}
-use Rattle.handset_model.specs.Legal.{Seen, Shown, seen}
+use Rattle.handset_model.specs.Legal.{Seen, Shown, items_seen}
 use Rattle.handset_model.specs.Rules.{asked}
 use Rattle.handset_model.specs.Sending.{apdu_of}
 use Rattle.handset_model.specs.declared.commands.Command.{Command}
@@ -25,14 +25,14 @@ use Rattle.phone_runs.specs.Runs.{Beginning, BreaksIn, BreaksInNote, BreaksInSte
 
 -- ---- what is seen
 
-seen_items : (items : List TraceItem) → seen (map Seen items) ≡ items
+seen_items : (items : List TraceItem) → items_seen (map Seen items) ≡ items
 seen_items [] = refl
 seen_items (one ∷ items) = ap (λ more. one ∷ more) (seen_items items)
 
-seen_with : (log : List Event) (items : List TraceItem) → seen (trace_with log items) ≡ shown log ++ items
+seen_with : (log : List Event) (items : List TraceItem) → items_seen (trace_with log items) ≡ shown log ++ items
 seen_with log items = seen-append (trace log) (map Seen items) ∙ ap (λ more. shown log ++ more) (seen_items items)
 
-seen_noted : (log : List Event) (note : Note) → seen (trace log ++ Shown note ∷ []) ≡ shown log
+seen_noted : (log : List Event) (note : Note) → items_seen (trace log ++ Shown note ∷ []) ≡ shown log
 seen_noted log note = seen-append (trace log) (Shown note ∷ []) ∙ append-nil (shown log)
 
 -- ---- runs
@@ -41,13 +41,13 @@ run_gives : (first old new : Machine) (log : List Event) (step : Step) (items : 
 run_gives first old new log step items run gives =
     run_of (steps log ++ step ∷ []) first new (shown log ++ items) (run_then (steps log) (step ∷ []) first old new (shown log) items run.run (run_one old new step items gives))
 
-run_seen : (first new : Machine) (log : List Event) (steps_so : List Step) (items : List TraceItem) → IsRun first steps_so (shown log ++ items) new → IsRun first steps_so (seen (trace_with log items)) new
+run_seen : (first new : Machine) (log : List Event) (steps_so : List Step) (items : List TraceItem) → IsRun first steps_so (shown log ++ items) new → IsRun first steps_so (items_seen (trace_with log items)) new
 run_seen first new log steps_so items run = subst (λ i. IsRun first steps_so i new) (sym (seen_with log items)) run
 
-run_given : (first old new : Machine) (log : List Event) (step : Step) (items : List TraceItem) → IsPhoneRun first log old → StepGives old step items new → IsRun first (steps log ++ step ∷ []) (seen (trace_with log items)) new
+run_given : (first old new : Machine) (log : List Event) (step : Step) (items : List TraceItem) → IsPhoneRun first log old → StepGives old step items new → IsRun first (steps log ++ step ∷ []) (items_seen (trace_with log items)) new
 run_given first old new log step items run gives = run_seen first new log (steps log ++ step ∷ []) items (run_gives first old new log step items run gives)
 
-run_ended : (first old new : Machine) (log : List Event) (step : Step) (items : List TraceItem) → IsPhoneRun first log old → StepEnds old step items new → IsRun first (steps log ++ step ∷ []) (seen (trace_with log items)) new
+run_ended : (first old new : Machine) (log : List Event) (step : Step) (items : List TraceItem) → IsPhoneRun first log old → StepEnds old step items new → IsRun first (steps log ++ step ∷ []) (items_seen (trace_with log items)) new
 run_ended first old new log step items run ends =
     run_seen first new log (steps log ++ step ∷ []) items (run_ends (steps log) step first old new (shown log) items run.run ends)
 
@@ -70,7 +70,7 @@ command_of_card given log old command now broken run shows due (inr taken) = inl
   stands = broken.stands;
 })
 
-reset_run : (first old new : Machine) (log : List Event) (items : List TraceItem) (due set : List Plan) → IsPhoneRun first log old → BreaksOff old step.Reset items due set new → IsRun first (steps log ++ step.Reset ∷ []) (seen (trace_with log items)) new
+reset_run : (first old new : Machine) (log : List Event) (items : List TraceItem) (due set : List Plan) → IsPhoneRun first log old → BreaksOff old step.Reset items due set new → IsRun first (steps log ++ step.Reset ∷ []) (items_seen (trace_with log items)) new
 reset_run first old new log items due set run (inl gives, same) = run_given first old new log step.Reset items run gives
 reset_run first old new log items due set run (inr ends, same) = run_ended first old new log step.Reset items run ends
 

@@ -30,7 +30,7 @@ use Rattle.handset_model.specs.uicc_types.declared.runs.TraceItem.TheVariants as
 use Rattle.phone_runs.proofs.Lawful.{is_of}
 use Rattle.phone_runs.proofs.Logging.{lines_reset, lines_sent, orderly_reset, orderly_sent, text-append, trace_noted, trace_reset, trace_sent, with_reply, with_reset}
 use Rattle.phone_runs.specs.Laws.{EndsAreBegun, ShowsBegun, ShowsTrace}
-use Rattle.phone_runs.specs.Logs.{Event, Happens, PhoneLine, heard, history, lines, lines_back, trace}
+use Rattle.phone_runs.specs.Logs.{Event, Happens, PhoneLine, heard, history, log_lines, lines_back, trace}
 use Rattle.phone_runs.specs.Runs.{Beginning, BreaksIn, BreaksInNote, BreaksInStep, FailsSo}
 use Rattle.phone_runs.specs.Traces.{entries_text, note_line}
 
@@ -58,7 +58,7 @@ front_of_pending pending front cut = (
 
 -- ---- traces
 
-begun_by : (log later : List Event) (entries : List TraceEntry) → lines_back later ≡ lines_back log → IsOrderly (history later) → trace later ≡ entries → IsBegun (heard (lines log)) entries
+begun_by : (log later : List Event) (entries : List TraceEntry) → lines_back later ≡ lines_back log → IsOrderly (history later) → trace later ≡ entries → IsBegun (heard (log_lines log)) entries
 begun_by log later entries same orderly is = inl (record {
   history = history later;
   is_of = record { orderly = orderly; lines_are = (is_of later orderly).lines_are ∙ ap (λ told. heard (reverse told)) same; trace_is = is };
@@ -80,7 +80,7 @@ replied_by true old new apdu items (inr (inr lost)) = record { outcome = reply.C
 replied_by false old new apdu items none = record { outcome = reply.Off; answer = any_answer; shows = none.seen }
 
 pub command_begun : (log : List Event) (command : Command) (old new : Machine) (items : List TraceItem) (due set : List Plan) → asked (history log) ≡ Transmit command → IsOrderly (history log)
-    → BreaksOff old (step.Apdu (apdu_of command)) items due set new → IsBegun (heard (lines log)) (trace log ++ map Seen items)
+    → BreaksOff old (step.Apdu (apdu_of command)) items due set new → IsBegun (heard (log_lines log)) (trace log ++ map Seen items)
 command_begun log command old new items due set is orderly (inl alone) =
     begun_by log (Happens (Sent command) ∷ log) _ refl (is, orderly)
     (reverse-append (Seen (item.Command (apdu_of command)) ∷ []) (entries_of (history log)) ∙ ap (λ i. trace log ++ map Seen i) (sym alone.0))
@@ -89,11 +89,11 @@ command_begun log command old new items due set is orderly (inr whole) =
     begun_by log (with_reply command replied.outcome replied.answer log) _ (lines_sent command replied.outcome replied.answer log) (orderly_sent command replied.outcome replied.answer log is orderly)
     (trace_sent command replied.outcome replied.answer log ∙ ap (λ i. trace log ++ map Seen i) (sym replied.shows))
 
-pub stopped_at : (log : List Event) (items : List TraceItem) → asked (history log) ≡ ResetCard → IsOrderly (history log) → items ≡ item.EepromFailed ∷ [] → IsBegun (heard (lines log)) (trace log ++ map Seen items)
+pub stopped_at : (log : List Event) (items : List TraceItem) → asked (history log) ≡ ResetCard → IsOrderly (history log) → items ≡ item.EepromFailed ∷ [] → IsBegun (heard (log_lines log)) (trace log ++ map Seen items)
 stopped_at log items is orderly seen = inr (record { history = history log; before = trace log; is_of = is_of log orderly; resets = is; stopped = ap (λ i. trace log ++ map Seen i) seen })
 
 pub reset_begun : (log : List Event) (old new : Machine) (items : List TraceItem) (due set : List Plan) → asked (history log) ≡ ResetCard → IsOrderly (history log) → BreaksOff old step.Reset items due set new
-    → IsBegun (heard (lines log)) (trace log ++ map Seen items)
+    → IsBegun (heard (log_lines log)) (trace log ++ map Seen items)
 reset_begun log old new items due set is orderly (inl (inl done), same) =
     begun_by log (with_reset ended.Done log) _ (lines_reset ended.Done log) (orderly_reset ended.Done log is orderly) (trace_reset ended.Done log ∙ ap (λ i. trace log ++ map Seen i) (sym done.seen))
 reset_begun log old new items due set is orderly (inl (inr cut), same) =
@@ -102,7 +102,7 @@ reset_begun log old new items due set is orderly (inr fails, same) = stopped_at 
 
 -- ---- ends
 
-pub shows_step : (given : Beginning) (log : List Event) (old : Machine) (s : _) (now : Moment) → (broken : BreaksInStep given log old s now) → IsBegun (heard (lines log)) (trace log ++ map Seen broken.pending) → ShowsTrace given (lines_back log) (trace log ++ map Seen broken.pending) now
+pub shows_step : (given : Beginning) (log : List Event) (old : Machine) (s : _) (now : Moment) → (broken : BreaksInStep given log old s now) → IsBegun (heard (log_lines log)) (trace log ++ map Seen broken.pending) → ShowsTrace given (lines_back log) (trace log ++ map Seen broken.pending) now
 shows_step given log old s now broken begun = record {
   begun = begun;
   front = entries_text (trace log) ++ broken.front;

@@ -17,9 +17,9 @@ use Rattle.handset_model.specs.toolkit_commands.Envelopes.{envelope_of}
 use Rattle.handset_model.specs.toolkit_commands.Responses.{response_of}
 use Rattle.handset_model.specs.toolkit_commands.declared.commands.Details.{Details}
 use Rattle.handset_model.specs.toolkit_commands.declared.responses.Response.{Response}
-use Rattle.card_steps.specs.toolkit_model.Commands.{bytes_of, unfetched, unanswered, pending, fetched, responded, reply_to}
+use Rattle.card_steps.specs.toolkit_model.Commands.{command_bytes, unfetched, unanswered, pending, fetched, responded, reply_to}
 use Rattle.card_steps.specs.toolkit_model.Sessions.{Outstanding}
-use Rattle.card_steps.specs.toolkit_model.Steps.{Command as ToolkitCommand, Fetch}
+use Rattle.card_steps.specs.toolkit_model.Steps.{ToolkitInput, Fetch}
 use Rattle.handset_model.specs.Sending.{response_objects, apdu_of}
 use Rattle.handset_model.specs.History.{announced_by}
 use Rattle.handset_model.specs.declared.commands.Command.{Command}
@@ -187,7 +187,7 @@ answer_to card command = record { body = (answer card (apdu_of command)).body; s
 abbrev pub next : CardState → Command → CardState
 next card command = (answer card (apdu_of command)).state
 
-other_carried : (came : Result Answered StatusWord) (command : Option ToolkitCommand) → LeavesUnanswered command → LeavesUnanswered (if_carried came command)
+other_carried : (came : Result Answered StatusWord) (command : Option ToolkitInput) → LeavesUnanswered command → LeavesUnanswered (if_carried came command)
 other_carried (Ok answered) command leaves = leaves
 other_carried (Err status) command leaves = tt
 
@@ -210,8 +210,8 @@ few_pending : (card : CardState) → HasOrder card → IfSome (pending card.sess
 few_pending card order = pending_few card.session order.order.session.underway.out_sendable
 
 -- and what waits to be fetched
-pub few_waiting : (card : CardState) → HasOrder card → (out : Outstanding) → unfetched card.session ≡ Some out → length (bytes_of out) ≤ 255
-few_waiting card order out is = subst (λ found. IfSome (option_map (λ (each : Outstanding). length (bytes_of each)) found) (λ count. count ≤ 255)) is (few_pending card order)
+pub few_waiting : (card : CardState) → HasOrder card → (out : Outstanding) → unfetched card.session ≡ Some out → length (command_bytes out) ≤ 255
+few_waiting card order out is = subst (λ found. IfSome (option_map (λ (each : Outstanding). length (command_bytes each)) found) (λ count. count ≤ 255)) is (few_pending card order)
 
 module _ (card : CardState) (ready : CanServe card) (command : Command) where
   pub stays_ready : EventsGoOn → CanServe (next card command)
@@ -245,24 +245,24 @@ length_fits bytes size is = by_zero (size == 0) where
   by_zero true = refl
   by_zero false = or_true (size == 256) (size == length bytes) (eq-eqb size (length bytes) (sym is))
 
-fetch_done : (card : CardState) (size : ℕ) (out : Outstanding) → unfetched card.session ≡ Some out → length (bytes_of out) ≡ size
-    → command_fetched card (parts_of (sent.Fetch size)) ≡ Ok (coming_to card (bytes_of out) (fetched out (toolkit_of card)))
+fetch_done : (card : CardState) (size : ℕ) (out : Outstanding) → unfetched card.session ≡ Some out → length (command_bytes out) ≡ size
+    → command_fetched card (parts_of (sent.Fetch size)) ≡ Ok (coming_to card (command_bytes out) (fetched out (toolkit_of card)))
 unfolding command_fetched
 fetch_done card size out waits is =
     past_unless _ WRONG_PARAMETERS _ refl
     ∙ past_unless _ WRONG_LENGTH _ refl
     ∙ past_given (unfetched card.session) out CONDITIONS_NOT_SATISFIED _ waits
-    ∙ past_unless (is_length_of (bytes_of out) (ne_of size)) (other_length (length (bytes_of out))) _ (length_fits (bytes_of out) size is)
+    ∙ past_unless (is_length_of (command_bytes out) (ne_of size)) (other_length (length (command_bytes out))) _ (length_fits (command_bytes out) size is)
 
 -- the command that waits
 pub record Waits (card : CardState) (size : ℕ) : Type 0 where
   pub out : Outstanding
   pub unfetched_is : unfetched card.session ≡ Some out
-  pub length_is : length (bytes_of out) ≡ size
+  pub length_is : length (command_bytes out) ≡ size
 
 pub waits_so : (card : CardState) (size : ℕ) → Announces card size → Waits card size
 waits_so card size is = by_out (unfetched card.session) refl is where
-  by_out : (found : Option Outstanding) → unfetched card.session ≡ found → option_map (λ (each : Outstanding). length (bytes_of each)) found ≡ Some size → Waits card size
+  by_out : (found : Option Outstanding) → unfetched card.session ≡ found → option_map (λ (each : Outstanding). length (command_bytes each)) found ≡ Some size → Waits card size
   by_out None same counted = absurd (cc)
   by_out (Some out) same counted = record { out = out; unfetched_is = same; length_is = cc }
 

@@ -11,7 +11,7 @@ use Rattle.handset_model.specs.uicc_types.declared.runs.TraceItem.{TraceItem}
 use Rattle.handset_model.specs.uicc_types.declared.runs.TraceItem.TheVariants as item
 use Rattle.handset_model.specs.script_form.declared.handset.HandsetLine.{HandsetLine}
 use Rattle.handset_model.specs.History.{Happened, Said, Sent, Answered, Noted, Restarted, PowerCut, FoundOff}
-use Rattle.handset_model.specs.Legal.{TraceEntry, Seen, Shown, IsOrderly, IsOf, IsHandsetStopped, entries_of, seen}
+use Rattle.handset_model.specs.Legal.{TraceEntry, Seen, Shown, IsOrderly, IsOf, IsHandsetStopped, entries_of, items_seen}
 use Rattle.handset_model.specs.Rules.{asked}
 use Rattle.handset_model.specs.Sending.{apdu_of}
 use Rattle.handset_model.specs.declared.commands.Command.{Command}
@@ -108,7 +108,7 @@ onto (Restarted ∷ h) rest = onto h (item.Reset ∷ rest)
 onto (PowerCut ∷ h) rest = onto h (item.Cut ∷ rest)
 onto (FoundOff ∷ h) rest = onto h (item.Off ∷ rest)
 
-seen_onto : (h : List Happened) (later : List TraceEntry) → seen (reverse_aux (entries_of h) later) ≡ onto h (seen later)
+seen_onto : (h : List Happened) (later : List TraceEntry) → items_seen (reverse_aux (entries_of h) later) ≡ onto h (items_seen later)
 seen_onto [] later = refl
 seen_onto (Said heard ∷ h) later = seen_onto h later
 seen_onto (Sent command ∷ h) later = seen_onto h (Seen (item.Command (apdu_of command)) ∷ later)
@@ -301,12 +301,12 @@ module _ (goes : EventsGoOn) (others : OthersLeaveUnanswered) (reads : DetailsAr
     ends_served (PowerCut ∷ h) new whole reached = reached.all_served tt
     ends_served (FoundOff ∷ h) new whole reached = reached.all_served tt
 
-    history_served : (h : List Happened) (new : Machine) (steps : List Step) (lines : List HandsetLine) (trace : List TraceEntry) → IsOf lines trace h → IsRun first steps (seen trace) new → AreServed (seen trace)
+    history_served : (h : List Happened) (new : Machine) (steps : List Step) (lines : List HandsetLine) (trace : List TraceEntry) → IsOf lines trace h → IsRun first steps (items_seen trace) new → AreServed (items_seen trace)
     history_served h new steps lines trace is run =
-        let same : seen trace ≡ onto h [] = ap seen (sym is.trace_is) ∙ seen_onto h [] in
+        let same : items_seen trace ≡ onto h [] = ap items_seen (sym is.trace_is) ∙ seen_onto h [] in
         subst AreServed (sym same) (ends_served h new (onto h []) (reach h [] new steps is.orderly (subst (λ (items : List TraceItem). IsRun first steps items new) same run)))
 
-    seen-append : (entries others : List TraceEntry) → seen (entries ++ others) ≡ seen entries ++ seen others
+    seen-append : (entries others : List TraceEntry) → items_seen (entries ++ others) ≡ items_seen entries ++ items_seen others
     seen-append [] others = refl
     seen-append (Seen shown ∷ entries) others = ap (λ later. shown ∷ later) (seen-append entries others)
     seen-append (Shown note ∷ entries) others = seen-append entries others
@@ -321,17 +321,17 @@ module _ (goes : EventsGoOn) (others : OthersLeaveUnanswered) (reads : DetailsAr
     onto-append (PowerCut ∷ h) rest others = onto-append h (item.Cut ∷ rest) others
     onto-append (FoundOff ∷ h) rest others = onto-append h (item.Off ∷ rest) others
 
-    stopped_served : (new : Machine) (steps : List Step) (lines : List HandsetLine) (trace : List TraceEntry) → IsHandsetStopped lines trace → IsRun first steps (seen trace) new → AreServed (seen trace)
+    stopped_served : (new : Machine) (steps : List Step) (lines : List HandsetLine) (trace : List TraceEntry) → IsHandsetStopped lines trace → IsRun first steps (items_seen trace) new → AreServed (items_seen trace)
     stopped_served new steps lines trace stopped run =
         let h : List Happened = stopped.history in
-        let same : seen trace ≡ onto h (item.EepromFailed ∷ []) =
-        ap seen stopped.stopped ∙ seen-append stopped.before (Seen item.EepromFailed ∷ [])
-        ∙ ap (λ items. items ++ item.EepromFailed ∷ []) (ap seen (sym stopped.is_of.trace_is) ∙ seen_onto h []) ∙ onto-append h [] (item.EepromFailed ∷ []) in
+        let same : items_seen trace ≡ onto h (item.EepromFailed ∷ []) =
+        ap items_seen stopped.stopped ∙ seen-append stopped.before (Seen item.EepromFailed ∷ [])
+        ∙ ap (λ items. items ++ item.EepromFailed ∷ []) (ap items_seen (sym stopped.is_of.trace_is) ∙ seen_onto h []) ∙ onto-append h [] (item.EepromFailed ∷ []) in
         let at = at_rest h _ new _ (other (asked h) ResetCard stopped.resets (λ awaits. absurd (cc)))
         (reach h (item.EepromFailed ∷ []) new steps stopped.is_of.orderly (subst (λ (items : List TraceItem). IsRun first steps items new) same run)) in
         subst AreServed (sym same) (at.all_served tt)
 
-    pub all_served : (new : Machine) (steps : List Step) (lines : List HandsetLine) (trace : List TraceEntry) → KeepsToRules lines trace → IsRun first steps (seen trace) new → AreServed (seen trace)
+    pub all_served : (new : Machine) (steps : List Step) (lines : List HandsetLine) (trace : List TraceEntry) → KeepsToRules lines trace → IsRun first steps (items_seen trace) new → AreServed (items_seen trace)
     all_served new steps lines trace (inl legal) run = history_served legal.history new steps lines trace legal.is_of run
     all_served new steps lines trace (inr (inl underway)) run = history_served underway.history new steps lines trace underway.is_of run
     all_served new steps lines trace (inr (inr stopped)) run = stopped_served new steps lines trace stopped run

@@ -5,7 +5,7 @@ use Rattle.card_steps.proofs.RunLaws.{run_of}
 use Rattle.handset_model.specs.History.{Said, Sent, Answered, Noted, Restarted, PowerCut, FoundOff}
 use Rattle.handset_model.specs.Legal.{IsOf, IsOrderly, lines_of}
 use Rattle.phone_runs.specs.Laws.{RunsAreBegun, RunsAreLegal, RunsAreOfTheCard}
-use Rattle.phone_runs.specs.Logs.{Event, Happens, Plans, PhoneLine, Hears, Arms, heard, history, lines, lines_back, trace}
+use Rattle.phone_runs.specs.Logs.{Event, Happens, Plans, PhoneLine, Hears, Arms, heard, history, log_lines, lines_back, trace}
 
 -- what is heard of lines and of others behind them
 heard-append : (first more : List PhoneLine) → heard (first ++ more) ≡ heard first ++ heard more
@@ -33,7 +33,7 @@ heard_back (Happens PowerCut ∷ log) = heard_back log
 heard_back (Happens FoundOff ∷ log) = heard_back log
 heard_back (Plans plan ∷ log) = heard_back log
 
-pub is_of : (log : List Event) → IsOrderly (history log) → IsOf (heard (lines log)) (trace log) (history log)
+pub is_of : (log : List Event) → IsOrderly (history log) → IsOf (heard (log_lines log)) (trace log) (history log)
 is_of log orderly = record {
   orderly = orderly;
   lines_are = ap reverse (sym (heard_back log)) ∙ sym (heard-reverse (lines_back log));

@@ -14,7 +14,7 @@ use Rattle.handset_model.specs.Rules.{asked}
 use Rattle.handset_model.specs.declared.known.Duty.{Duty}
 use Rattle.handset_model.specs.declared.known.Duty.TheVariants.{Rest, Transmit, Await, Show, ResetCard}
 use Rattle.phone_runs.specs.LoadRuns.{FailsAmid, IsCountedRun, IsLoading, all_heard, entry_line}
-use Rattle.phone_runs.specs.Logs.{Arms, Event, Happens, Hears, PhoneLine, Plans, cut_steps, history, lines, lines_back, shown, steps, steps_back, trace}
+use Rattle.phone_runs.specs.Logs.{Arms, Event, Happens, Hears, PhoneLine, Plans, cut_steps, history, log_lines, lines_back, shown, steps, steps_back, trace}
 use Rattle.phone_runs.specs.Runs.{Beginning, RunEnds, Rests}
 use Rattle.phone_runs.specs.Traces.{entries_text, entry_text}
 use Rattle.handset_model.specs.script_form.Traces.{trace_text}
@@ -48,7 +48,7 @@ pub loads_on : (made : List HandsetLine) (given : Beginning) (before others : Li
 loads_on made given before others line phone phone_then from to taken loading further = record {
   log = further.log;
   parted = ap (λ (back : List PhoneLine). reverse back ++ all_heard others) further.lines_are ∙ told_more (lines_back loading.log) line others
-      ∙ ap (λ (l : List HandsetLine). lines loading.log ++ all_heard l) (sym taken) ∙ loading.parted;
+      ∙ ap (λ (l : List HandsetLine). log_lines loading.log ++ all_heard l) (sym taken) ∙ loading.parted;
   at = further.at;
   rests = further.done;
 }
@@ -58,7 +58,7 @@ pub fails_amid : (made : List HandsetLine) (given : Beginning) (before others : 
 fails_amid made given before others line phone from to taken loading ended = record {
   told = Hears line ∷ lines_back loading.log;
   others = others;
-  parted = told_more (lines_back loading.log) line others ∙ ap (λ (l : List HandsetLine). lines loading.log ++ all_heard l) (sym taken) ∙ loading.parted;
+  parted = told_more (lines_back loading.log) line others ∙ ap (λ (l : List HandsetLine). log_lines loading.log ++ all_heard l) (sym taken) ∙ loading.parted;
   ended = ended;
 }
 
@@ -120,7 +120,7 @@ none_armed (step.Plan plan ∷ taken) plan_nothing = absurd plan_nothing.0
 reverse_twice : (back : List PhoneLine) (told : List PhoneLine) → reverse back ≡ told → back ≡ reverse told
 reverse_twice back told same = sym (reverse-reverse back) ∙ ap reverse same
 
-plans_nothing : (made : List HandsetLine) (log : List Event) → lines log ≡ all_heard made → plan_given (steps log) ≡ []
+plans_nothing : (made : List HandsetLine) (log : List Event) → log_lines log ≡ all_heard made → plan_given (steps log) ≡ []
 plans_nothing made log told =
     none_armed (steps log)
     (every-reverse PlansNothing (steps_back log)
@@ -147,7 +147,7 @@ text_is given text entries none written =
 pub counts_run : CountsAreThoseOfTheLines → (made : List HandsetLine) (given : Beginning) (phone : Kept) (parts : CardParts) (text : List ℕ) (waiting : Plan) (counts : Counts) → given.before ≡ [] → counts ≡ counted_in text
     → IsLoading made given [] phone (moment parts (Some text) waiting) → IsCountedRun made given counts (moment parts (Some text) waiting)
 counts_run law made given phone parts text waiting counts none are loading =
-    let told = sym (append-nil (lines loading.log)) ∙ loading.parted in
+    let told = sym (append-nil (log_lines loading.log)) ∙ loading.parted in
     record {
       log = loading.log;
       machine = loading.at.machine;

@@ -4,7 +4,7 @@ use Rattle.std.proofs.lemmas.List.{append-nil, reverse-append}
 use Rattle.std.proofs.lemmas.List.Concat.{flat_map-append}
 use Rattle.card_steps.specs.card_model.Counts.{IsCounted}
 use Rattle.card_steps.specs.card_model.Laws.{CountsJoin, PlansAreSetInOrder}
-use Rattle.card_steps.specs.card_model.Runs.{plan_given, armed_after, joined, waiting_after}
+use Rattle.card_steps.specs.card_model.Runs.{plan_given, armed_after, plans_joined, waiting_after}
 use Rattle.card_steps.specs.card_model.States.{Machine}
 use Rattle.card_steps.specs.Ends.{End, moment_at}
 use Rattle.card_steps.proofs.RunLaws.{calm_before, calm_behind, run_one, run_then}
@@ -17,7 +17,7 @@ use Rattle.card_steps.specs.declared.steps.Restarted.TheVariants as ended
 use Rattle.card_steps.specs.declared.steps.StepEnd.{StepEnd}
 use Rattle.card_steps.specs.declared.steps.StepEnd.TheVariants.{SinkFailed, ResetFailed}
 use Rattle.handset_model.specs.History.{Said, Sent, Noted}
-use Rattle.handset_model.specs.Legal.{IsOrderly, TraceEntry, Seen, Shown, entries_of, seen}
+use Rattle.handset_model.specs.Legal.{IsOrderly, TraceEntry, Seen, Shown, entries_of, items_seen}
 use Rattle.handset_model.specs.Rules.{asked}
 use Rattle.handset_model.specs.Sending.{apdu_of}
 use Rattle.handset_model.specs.declared.commands.Command.{Command}
@@ -41,7 +41,7 @@ use Rattle.phone_runs.specs.Traces.{entries_text, entry_text, note_line}
 
 -- ---- traces behind traces
 
-pub seen-append : (one more : List TraceEntry) → seen (one ++ more) ≡ seen one ++ seen more
+pub seen-append : (one more : List TraceEntry) → items_seen (one ++ more) ≡ items_seen one ++ items_seen more
 seen-append [] more = refl
 seen-append (Seen item ∷ one) more = ap (λ s. item ∷ s) (seen-append one more)
 seen-append (Shown note ∷ one) more = seen-append one more
@@ -171,7 +171,7 @@ pub sends_on : (command : Command) (outcome : Reply) (answer : Answer) (log : Li
     → GoesOnBy log (with_reply command outcome answer log) (step.Apdu (apdu_of command)) (exchanged (apdu_of command) answer outcome)
 sends_on command outcome answer log is = record {
   steps_are = steps_sent command outcome answer log;
-  shown_is = ap seen (trace_sent command outcome answer log) ∙ seen-append (trace log) (sent_entries command outcome answer);
+  shown_is = ap items_seen (trace_sent command outcome answer log) ∙ seen-append (trace log) (sent_entries command outcome answer);
   text_is = ap entries_text (trace_sent command outcome answer log) ∙ text-append (trace log) (sent_entries command outcome answer);
   orderly = orderly_sent command outcome answer log is;
   in_turn = λ in_turn. in_turn;
@@ -221,7 +221,7 @@ pub orderly_reset : (outcome : AReset) (log : List Event) → asked (history log
 orderly_reset ended.Done log is orderly = (is, orderly)
 orderly_reset ended.Cut log is orderly = (inr is, orderly)
 
-resets_seen : (outcome : AReset) → seen (reset_entries outcome) ≡ restarted_by outcome
+resets_seen : (outcome : AReset) → items_seen (reset_entries outcome) ≡ restarted_by outcome
 resets_seen ended.Done = refl
 resets_seen ended.Cut = refl
 
@@ -236,7 +236,7 @@ lines_reset ended.Cut log = refl
 pub resets_on : (outcome : AReset) (log : List Event) → asked (history log) ≡ ResetCard → GoesOnBy log (with_reset outcome log) step.Reset (restarted_by outcome)
 resets_on outcome log is = record {
   steps_are = steps_reset outcome log is;
-  shown_is = ap seen (trace_reset outcome log) ∙ seen-append (trace log) (reset_entries outcome) ∙ ap (λ i. shown log ++ i) (resets_seen outcome);
+  shown_is = ap items_seen (trace_reset outcome log) ∙ seen-append (trace log) (reset_entries outcome) ∙ ap (λ i. shown log ++ i) (resets_seen outcome);
   text_is = ap entries_text (trace_reset outcome log) ∙ text-append (trace log) (reset_entries outcome) ∙ ap (λ t. entries_text (trace log) ++ t) (resets_text outcome);
   orderly = orderly_reset outcome log is;
   in_turn = λ in_turn. in_turn;
@@ -263,7 +263,7 @@ pub trace_noted : (note : Note) (log : List Event) → trace (Happens (Noted not
 trace_noted note log = reverse-append (Shown note ∷ []) (entries_of (history log))
 
 pub shown_noted : (note : Note) (log : List Event) → shown (Happens (Noted note) ∷ log) ≡ shown log
-shown_noted note log = ap seen (trace_noted note log) ∙ seen-append (trace log) (Shown note ∷ []) ∙ append-nil (shown log)
+shown_noted note log = ap items_seen (trace_noted note log) ∙ seen-append (trace log) (Shown note ∷ []) ∙ append-nil (shown log)
 
 pub text_noted : (note : Note) (log : List Event) → entries_text (trace (Happens (Noted note) ∷ log)) ≡ entries_text (trace log) ++ note_line note
 text_noted note log = ap entries_text (trace_noted note log) ∙ text-append (trace log) (Shown note ∷ []) ∙ ap (λ t. entries_text (trace log) ++ t) (append-nil (note_line note))
@@ -327,7 +327,7 @@ steps_planned plan log = reverse-append (step.Plan plan ∷ []) (steps_back log)
 
 -- faults are planned
 plans_so : PlansAreSetInOrder → (given : Beginning) (log : List Event) (plan : Plan) (phone : Kept) (now : Moment) → asked (history log) ≡ Rest → IsAt given log phone now
-    → IsAt given (Plans plan ∷ log) phone (record now { waiting = joined now.waiting plan })
+    → IsAt given (Plans plan ∷ log) phone (record now { waiting = plans_joined now.waiting plan })
 plans_so order given log plan phone now rest at = record {
   machine = at.machine;
   run = record {
@@ -341,11 +341,11 @@ plans_so order given log plan phone now rest at = record {
   told = at.told;
   written = at.written;
   counted = subst (λ l. IsCounted given.meter now.meter l (shown log)) (sym (append-nil (plan_given (steps log))) ∙ sym (order NONE (steps log) (step.Plan plan ∷ [])).0 ∙ ap (λ s. plan_given s) (sym (steps_planned plan log))) at.counted;
-  waits = ap (λ w. joined w plan) at.waits ∙ sym (order NONE (steps log) (step.Plan plan ∷ [])).1 ∙ ap (λ s. waiting_after NONE s) (sym (steps_planned plan log));
+  waits = ap (λ w. plans_joined w plan) at.waits ∙ sym (order NONE (steps log) (step.Plan plan ∷ [])).1 ∙ ap (λ s. waiting_after NONE s) (sym (steps_planned plan log));
   rests = at.rests;
 }
 
-pub plans_line : PlansAreSetInOrder → (given : Beginning) (log : List Event) (plan : Plan) (phone : Kept) (from to : End) (taken : Option (List ℕ)) → asked (history log) ≡ Rest → to ≡ record from { waiting = joined from.waiting plan }
+pub plans_line : PlansAreSetInOrder → (given : Beginning) (log : List Event) (plan : Plan) (phone : Kept) (from to : End) (taken : Option (List ℕ)) → asked (history log) ≡ Rest → to ≡ record from { waiting = plans_joined from.waiting plan }
     → IsAt given log phone (moment_at from taken) → IsAt given (Plans plan ∷ log) phone (moment_at to taken)
 plans_line order given log plan phone from to taken rest joins at =
     subst (λ (e : End). IsAt given (Plans plan ∷ log) phone (moment_at e taken)) (sym joins) (plans_so order given log plan phone (moment_at from taken) rest at)

@@ -11,7 +11,7 @@ use Rattle.card_steps.specs.card_model.States.{Machine}
 use Rattle.card_steps.proofs.RunLaws.{run_of, run_one}
 use Rattle.card_steps.specs.Runs.{GoesOn}
 use Rattle.handset_model.specs.History.{Said, Sent, Answered, Noted, Restarted, PowerCut, FoundOff}
-use Rattle.handset_model.specs.Legal.{IsAsked, IsOrderly, TraceEntry, Seen, Shown, entries_of, seen}
+use Rattle.handset_model.specs.Legal.{IsAsked, IsOrderly, TraceEntry, Seen, Shown, entries_of, items_seen}
 use Rattle.handset_model.specs.Rules.{asked}
 use Rattle.handset_model.specs.Sending.{apdu_of}
 use Rattle.handset_model.specs.declared.commands.Command.{Command}
@@ -78,7 +78,7 @@ entries_on (Plans plan ∷ later) = entries_on later
 
 -- and what is seen of the card
 abbrev items_on : List Event → List TraceItem
-items_on later = seen (entries_on later)
+items_on later = items_seen (entries_on later)
 
 -- ---- from newest first to oldest first
 
@@ -459,7 +459,7 @@ module _ (runs : RunsAreOne) where
 
   onward : (first : Machine) (told : List PhoneLine) (log : List Event) (now : Machine) → IsPhoneUndisturbed first told log now → Onward [] first (reverse log) now
   onward first told log now run =
-      let items : items_on (reverse log) ≡ shown log = ap seen (entries_onto log []) in
+      let items : items_on (reverse log) ≡ shown log = ap items_seen (entries_onto log []) in
       record {
         follows = follows_onto log [] run.run.orderly run.run.in_turn tt;
         run = subst (λ s. GoesOn first s (items_on (reverse log)) now) (sym (steps_onto log [])) (subst (λ i. GoesOn first (steps log) i now) (sym items) run.run.run);

@@ -9,7 +9,7 @@ use Rattle.handset_model.specs.comprehension_tlv.Writing.{shortest_length, tagge
 use Rattle.handset_model.specs.comprehension_tlv.declared.faults.TlvFault.{TlvFault}
 use Rattle.handset_model.specs.toolkit_commands.Matching.{IsCommand}
 use Rattle.handset_model.specs.toolkit_commands.Reading.{TypeRow, row_of_type, lacks_one, needed_by, by_row, by_details, details_in, three, command_among, in_list, in_template, list_of, or_tlv, proactive_of, no_details, details_found, value}
-use Rattle.handset_model.specs.toolkit_commands.Responses.{names, with_result, response_among, response_of}
+use Rattle.handset_model.specs.toolkit_commands.Responses.{are_details, with_result, response_among, response_of}
 use Rattle.handset_model.specs.toolkit_commands.Table.{details_of, spelled}
 use Rattle.handset_model.specs.toolkit_commands.Values.{◌>>=◌, is_pair}
 use Rattle.handset_model.specs.toolkit_commands.declared.commands.Details.{Details}
@@ -80,7 +80,7 @@ with_reply details (reply.Started timer) = refl
 with_reply details (reply.Left timer value) = refl
 with_reply details (reply.NotRunning timer) = refl
 
-named_so : (details : Details) → names details (Some (details.number ∷ details.kind ∷ details.qualifier ∷ [])) ≡ true
+named_so : (details : Details) → are_details details (Some (details.number ∷ details.kind ∷ details.qualifier ∷ [])) ≡ true
 named_so details =
     and_from ((details.number == details.number) && (details.kind == details.kind)) (details.qualifier == details.qualifier) (and_from (details.number == details.number) (details.kind == details.kind) (eq-eqb details.number details.number refl) (eq-eqb details.kind details.kind refl)) (eq-eqb details.qualifier details.qualifier refl)
 

@@ -6,7 +6,7 @@ use Rattle.handset_model.specs.byte_streams.Lines.{LineList}
 use Rattle.handset_model.specs.byte_streams.Streams.{TakesFront}
 use Rattle.card_steps.specs.card_model.Counts.{IsCounted}
 use Rattle.card_steps.specs.card_model.Laws.{CountsJoin, PlansAreSetInOrder}
-use Rattle.card_steps.specs.card_model.Runs.{plan_given, armed_after, joined, waiting_after}
+use Rattle.card_steps.specs.card_model.Runs.{plan_given, armed_after, plans_joined, waiting_after}
 use Rattle.card_sections.specs.Behind.{StopsReading}
 use Rattle.card_sections.specs.Reading.{Finds, Follows}
 use Rattle.card_sections.specs.declared.behind.PlayEnd.{PlayEnd}
@@ -212,7 +212,7 @@ end_again given told other now end same ended = subst (λ t. ShowsEnd given t no
 pub line_heard : (given : Outset) (log : List Event) (line : HandsetLine) (old new : Kept) (now : Moment) → asked (history log) ≡ Rest → new ≡ kept (Said line ∷ history log) → IsShowing given log old now → IsShowing given (Happens (Said line) ∷ log) new now
 line_heard given log line old new now rest keeps at = record { happens = record { orderly = (rest, at.happens.orderly); in_turn = at.happens.in_turn; may = at.happens.may }; keeps = keeps; written = at.written; counted = at.counted; waits = at.waits }
 
-plan_so : PlansAreSetInOrder → (given : Outset) (log : List Event) (plan : Plan) (phone : Kept) (now : Moment) → asked (history log) ≡ Rest → IsShowing given log phone now → IsShowing given (Plans plan ∷ log) phone (record now { waiting = joined now.waiting plan })
+plan_so : PlansAreSetInOrder → (given : Outset) (log : List Event) (plan : Plan) (phone : Kept) (now : Moment) → asked (history log) ≡ Rest → IsShowing given log phone now → IsShowing given (Plans plan ∷ log) phone (record now { waiting = plans_joined now.waiting plan })
 plan_so order given log plan phone now rest at = record {
   happens = record {
     orderly = at.happens.orderly;
@@ -223,10 +223,10 @@ plan_so order given log plan phone now rest at = record {
   keeps = at.keeps;
   written = at.written;
   counted = subst (λ l. IsCounted given.meter now.meter l (shown log)) (sym (append-nil (plan_given (steps log))) ∙ sym (order NONE (steps log) (step.Plan plan ∷ [])).0 ∙ ap (λ s. plan_given s) (sym (steps_planned plan log))) at.counted;
-  waits = ap (λ w. joined w plan) at.waits ∙ sym (order NONE (steps log) (step.Plan plan ∷ [])).1 ∙ ap (λ s. waiting_after NONE s) (sym (steps_planned plan log));
+  waits = ap (λ w. plans_joined w plan) at.waits ∙ sym (order NONE (steps log) (step.Plan plan ∷ [])).1 ∙ ap (λ s. waiting_after NONE s) (sym (steps_planned plan log));
 }
 
-pub plan_heard : PlansAreSetInOrder → (given : Outset) (log : List Event) (plan : Plan) (phone : Kept) (from to : End) (taken : Option (List ℕ)) → asked (history log) ≡ Rest → to ≡ record from { waiting = joined from.waiting plan }
+pub plan_heard : PlansAreSetInOrder → (given : Outset) (log : List Event) (plan : Plan) (phone : Kept) (from to : End) (taken : Option (List ℕ)) → asked (history log) ≡ Rest → to ≡ record from { waiting = plans_joined from.waiting plan }
     → IsShowing given log phone (moment_at from taken) → ShowsAll given (lines_back (Plans plan ∷ log)) phone (moment_at to taken)
 plan_heard order given log plan phone from to taken rest joins at = record {
   log = Plans plan ∷ log;

@@ -21,10 +21,10 @@ use Rattle.handset_model.specs.toolkit_commands.Reading.{proactive_of, list_of, 
 use Rattle.handset_model.specs.toolkit_commands.Responses.{response_of}
 use Rattle.card_steps.specs.toolkit_model.Profiles.{allowed, allowed_event, consulted}
 use Rattle.card_steps.specs.applet_trait.Minds.{AppletState, fresh}
-use Rattle.card_steps.specs.applet_trait.Tables.{number_of, row_from}
+use Rattle.card_steps.specs.applet_trait.Tables.{address_digits, row_from}
 use Rattle.card_steps.specs.applet_trait.Turns.{act}
 use Rattle.card_steps.specs.toolkit_model.Commands.{profiled, fetched, answered, responded}
-use Rattle.card_steps.specs.toolkit_model.Driving.{told_one, given_one, caught_up, wanted, settled as filled_up, driven}
+use Rattle.card_steps.specs.toolkit_model.Driving.{told_one, given_one, caught_up, wanted, session_filled as filled_up, driven}
 use Rattle.card_steps.specs.toolkit_model.Order.{trigger_order}
 use Rattle.card_steps.specs.toolkit_model.Orderly.{asks}
 use Rattle.card_steps.specs.toolkit_model.Running.{run_on, run_of_row}
@@ -33,7 +33,7 @@ use Rattle.card_steps.specs.file_model.Files.{descriptor_in, descriptors_in, fil
 use Rattle.card_steps.specs.file_model.Selecting.{selecting, file_selected}
 use Rattle.card_steps.specs.file_model.Selections.{selection_of, chosen_by_identifier, chosen}
 use Rattle.handset_model.specs.History.{Happened, Said, Sent, Answered, Noted, known}
-use Rattle.handset_model.specs.Legal.{TraceEntry, IsLegal, entries_of, seen}
+use Rattle.handset_model.specs.Legal.{TraceEntry, IsLegal, entries_of, items_seen}
 use Rattle.handset_model.specs.Rules.{settled}
 use Rattle.handset_model.specs.Sending.{apdu_of}
 use Rattle.handset_model.specs.declared.commands.Command.TheVariants as sent
@@ -123,8 +123,8 @@ exchange old apdu body status more back new body_is status_is rest = inl (record
   seen = refl;
 })
 
-run : IsRun (powered card) steps (seen trace) (powered after_response)
-unfolding refused_if given and_given command_in fields_in instruction_tried carried_out file_outcome toolkit_outcome tried answer_of woken woken_boxes descriptor_in descriptors_in file_found selection_of chosen_by_identifier chosen selecting file_selected profile_taken command_fetched response_taken profiled fetched answered responded told_one given_one caught_up wanted filled_up driven trigger_order asks run_on run_of_row act number_of row_from allowed allowed_event consulted tagged response_of apdu_of Reading.tag_at Reading.length_at Reading.value_at Reading.object_at Reading.outline_within Reading.outline_at Reading.template_of
+run : IsRun (powered card) steps (items_seen trace) (powered after_response)
+unfolding refused_if given and_given command_in fields_in instruction_tried carried_out file_outcome toolkit_outcome tried answer_of woken woken_boxes descriptor_in descriptors_in file_found selection_of chosen_by_identifier chosen selecting file_selected profile_taken command_fetched response_taken profiled fetched answered responded told_one given_one caught_up wanted filled_up driven trigger_order asks run_on run_of_row act address_digits row_from allowed allowed_event consulted tagged response_of apdu_of Reading.tag_at Reading.length_at Reading.value_at Reading.object_at Reading.outline_within Reading.outline_at Reading.template_of
 run =
     exchange card (apdu_of sent.SelectMf) [] (record { 0 = 0x9000 }) _ _ _ refl refl (
     exchange after_select (apdu_of sent.SendProfile) [] (record { 0 = 0x9110 }) _ _ _ refl refl (
@@ -135,7 +135,7 @@ run =
 
 -- a FETCH that was not announced is refused, and a response too where nothing was fetched: so the law needs the handset's rules
 unannounced : map (λ (apdu : List ℕ). (answer card apdu).status) (apdu_of (sent.Fetch 16) ∷ respond ∷ []) ≡ CONDITIONS_NOT_SATISFIED ∷ CONDITIONS_NOT_SATISFIED ∷ []
-unfolding refused_if given and_given command_in fields_in instruction_tried carried_out file_outcome toolkit_outcome tried answer_of woken woken_boxes descriptor_in descriptors_in file_found selection_of chosen_by_identifier chosen selecting file_selected profile_taken command_fetched response_taken profiled fetched answered responded told_one given_one caught_up wanted filled_up driven trigger_order asks run_on run_of_row act number_of row_from allowed allowed_event consulted tagged response_of apdu_of Reading.tag_at Reading.length_at Reading.value_at Reading.object_at Reading.outline_within Reading.outline_at Reading.template_of
+unfolding refused_if given and_given command_in fields_in instruction_tried carried_out file_outcome toolkit_outcome tried answer_of woken woken_boxes descriptor_in descriptors_in file_found selection_of chosen_by_identifier chosen selecting file_selected profile_taken command_fetched response_taken profiled fetched answered responded told_one given_one caught_up wanted filled_up driven trigger_order asks run_on run_of_row act address_digits row_from allowed allowed_event consulted tagged response_of apdu_of Reading.tag_at Reading.length_at Reading.value_at Reading.object_at Reading.outline_within Reading.outline_at Reading.template_of
 unannounced = refl
 
 refused : IsServing CONDITIONS_NOT_SATISFIED → ⊥
@@ -144,7 +144,7 @@ refused (inr (inl is)) = absurd (omega (arith, is))
 refused (inr (inr is)) = absurd (omega (arith, ap (λ (status : StatusWord). status.0) is))
 
 -- so are the four commands of this run, two of which the law speaks of
-served : AreServed (seen trace)
+served : AreServed (items_seen trace)
 unfolding apdu_of
 served = ((λ is. absurd (false≢true is)), ((λ is. absurd (false≢true is)), ((λ is. inl refl), ((λ is. inl refl), tt))))
 

@@ -6,7 +6,7 @@ use Rattle.handset_model.specs.uicc_types.declared.runs.Step.{Step}
 use Rattle.handset_model.specs.uicc_types.declared.runs.TraceItem.{TraceItem}
 use Rattle.handset_model.specs.uicc_types.declared.runs.TraceItem.TheVariants as item
 use Rattle.handset_model.specs.script_form.declared.handset.HandsetLine.{HandsetLine}
-use Rattle.handset_model.specs.Legal.{TraceEntry, seen, IsLegal, IsBegun}
+use Rattle.handset_model.specs.Legal.{TraceEntry, items_seen, IsLegal, IsBegun}
 use Rattle.card_steps.specs.card_layout.Persistent.{Persistent}
 use Rattle.card_steps.specs.file_model.Laws.{IsSoundCard}
 use Rattle.card_steps.specs.toolkit_model.Model.{AppletState}
@@ -42,12 +42,12 @@ KeepsToRules lines trace = IsLegal lines trace ⊎ IsBegun lines trace
 -- RESPONSE of the handset is answered `9000`, `91XX` or `6581`, or power is lost in it.
 abbrev pub HandsetsAreServed : Type 0
 HandsetsAreServed =
-    (old new : Machine) (steps : List Step) (lines : List HandsetLine) (trace : List TraceEntry) → IsGood old.card → old.on ≡ true → KeepsToRules lines trace → IsRun old steps (seen trace) new
-    → AreServed (seen trace)
+    (old new : Machine) (steps : List Step) (lines : List HandsetLine) (trace : List TraceEntry) → IsGood old.card → old.on ≡ true → KeepsToRules lines trace → IsRun old steps (items_seen trace) new
+    → AreServed (items_seen trace)
 
 -- so from a card that just woke
 abbrev pub HandsetsAreServedFromStart : Type 0
 HandsetsAreServedFromStart =
     (persistent : Persistent) (boxes : List (Option AppletState)) (new : Machine) (steps : List Step) (lines : List HandsetLine) (trace : List TraceEntry)
-    → IsSoundCard persistent → length boxes ≡ 32 → All (HasBox boxes) persistent.rows → AreOfSevenKinds boxes → KeepsToRules lines trace → IsRun (powered (woken persistent boxes)) steps (seen trace) new
-    → AreServed (seen trace)
+    → IsSoundCard persistent → length boxes ≡ 32 → All (HasBox boxes) persistent.rows → AreOfSevenKinds boxes → KeepsToRules lines trace → IsRun (powered (woken persistent boxes)) steps (items_seen trace) new
+    → AreServed (items_seen trace)

@@ -5,12 +5,12 @@ use Rattle.card_steps.specs.card_model.States.{Machine}
 use Rattle.card_steps.specs.Stepping.{Moment}
 use Rattle.card_steps.specs.declared.steps.StepEnd.{StepEnd}
 use Rattle.card_steps.specs.declared.steps.StepEnd.TheVariants.{SinkFailed, ResetFailed}
-use Rattle.handset_model.specs.Legal.{IsBegun, IsLegal, TraceEntry, Seen, Shown, seen}
+use Rattle.handset_model.specs.Legal.{IsBegun, IsLegal, TraceEntry, Seen, Shown, items_seen}
 use Rattle.handset_model.specs.Rules.{asked}
 use Rattle.handset_model.specs.Sending.{apdu_of}
 use Rattle.handset_model.specs.declared.known.Duty.{Duty}
 use Rattle.handset_model.specs.declared.known.Duty.TheVariants.{Rest, Transmit, Await, Show, ResetCard}
-use Rattle.phone_runs.specs.Logs.{Event, PhoneLine, heard, history, lines, shown, steps, trace}
+use Rattle.phone_runs.specs.Logs.{Event, PhoneLine, heard, history, log_lines, shown, steps, trace}
 use Rattle.phone_runs.specs.Runs.{Beginning, BreaksIn, RunEnds, IsPhoneRun}
 use Rattle.phone_runs.specs.Traces.{entries_text}
 use Rattle.card_laws.specs.Faults.{ShowsNoCut, ShowsNoFailure}
@@ -22,11 +22,11 @@ use Rattle.handset_model.specs.uicc_types.declared.runs.TraceItem.TheVariants as
 
 -- where nothing more is asked for, the trace is the one that the rules of the handset ask for
 abbrev pub RunsAreLegal : Type 0
-RunsAreLegal = (first now : Machine) (log : List Event) → IsPhoneRun first log now → asked (history log) ≡ Rest → IsLegal (heard (lines log)) (trace log)
+RunsAreLegal = (first now : Machine) (log : List Event) → IsPhoneRun first log now → asked (history log) ≡ Rest → IsLegal (heard (log_lines log)) (trace log)
 
 -- at any place it is the beginning of such a one
 abbrev pub RunsAreBegun : Type 0
-RunsAreBegun = (first now : Machine) (log : List Event) → IsPhoneRun first log now → IsBegun (heard (lines log)) (trace log)
+RunsAreBegun = (first now : Machine) (log : List Event) → IsPhoneRun first log now → IsBegun (heard (log_lines log)) (trace log)
 
 -- the trace without its notes is that of a run of the card
 abbrev pub RunsAreOfTheCard : Type 0
@@ -58,13 +58,13 @@ trace_with log items = trace log ++ map Seen items
 -- holds for good at its end.
 pub record ShowsRun (given : Beginning) (told : List PhoneLine) (entries : List TraceEntry) (steps : List Step) (machine : Machine) (now : Moment) : Type 0 where
   pub shows : ShowsTrace given told entries now
-  pub run : IsRun given.first steps (seen entries) machine
+  pub run : IsRun given.first steps (items_seen entries) machine
   pub stands : now.held ≡ Some machine.card.persistent
 
 -- The same, where the line of a command stands behind it, which the card was not sent.
 pub record ShowsUnsent (given : Beginning) (told : List PhoneLine) (entries : List TraceEntry) (apdu : List ℕ) (steps : List Step) (machine : Machine) (now : Moment) : Type 0 where
   pub shows : ShowsTrace given told (entries ++ Seen (item.Command apdu) ∷ []) now
-  pub run : IsRun given.first steps (seen entries) machine
+  pub run : IsRun given.first steps (items_seen entries) machine
   pub stands : now.held ≡ Some machine.card.persistent
 
 -- The sink failed: in a command that the card took, or in the line of one before it was sent; in a reset; in a note.
@@ -92,7 +92,7 @@ EndsAreOfTheCard = (given : Beginning) (told : List PhoneLine) (now : Moment) (e
 -- lost.
 pub record IsPhoneUndisturbed (first : Machine) (told : List PhoneLine) (log : List Event) (now : Machine) : Type 0 where
   pub run : IsPhoneRun first log now
-  pub lines_are : lines log ≡ told
+  pub lines_are : log_lines log ≡ told
   pub rests : asked (history log) ≡ Rest
   pub failures : ShowsNoFailure (shown log)
   pub cuts : ShowsNoCut (shown log)

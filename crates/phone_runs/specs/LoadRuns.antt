@@ -10,7 +10,7 @@ use Rattle.handset_model.specs.Legal.{TraceEntry, Seen, Shown}
 use Rattle.handset_model.specs.Rules.{asked}
 use Rattle.handset_model.specs.declared.known.Duty.TheVariants.{Rest}
 use Rattle.phone_runs.specs.declared.counting.MemoryFailed.{MemoryFailed}
-use Rattle.phone_runs.specs.Logs.{Event, Hears, PhoneLine, history, lines, shown, trace}
+use Rattle.phone_runs.specs.Logs.{Event, Hears, PhoneLine, history, log_lines, shown, trace}
 use Rattle.phone_runs.specs.Runs.{Beginning, RunEnds, IsAt, IsPhoneRun}
 use Rattle.handset_model.specs.script_form.declared.handset.HandsetLine.{HandsetLine}
 use Rattle.handset_model.specs.script_form.declared.trace.TraceLine.{TraceLine}
@@ -34,7 +34,7 @@ pub record IsCountedRun (made : List HandsetLine) (given : Beginning) (counts : 
   pub log : List Event
   pub machine : Machine
   pub run : IsPhoneRun given.first log machine
-  pub lines_are : lines log ≡ all_heard made
+  pub lines_are : log_lines log ≡ all_heard made
   pub rests : asked (history log) ≡ Rest
   pub counts_are : counts ≡ counts_of (map entry_line (trace log))
   pub stands : now.held ≡ Some machine.card.persistent
@@ -51,7 +51,7 @@ pub record FailsAmid (made : List HandsetLine) (given : Beginning) (now : Moment
 -- these lines are still to come, and the others were carried out
 pub record IsLoading (made : List HandsetLine) (given : Beginning) (others : List HandsetLine) (phone : Kept) (now : Moment) : Type 0 where
   pub log : List Event
-  pub parted : lines log ++ all_heard others ≡ all_heard made
+  pub parted : log_lines log ++ all_heard others ≡ all_heard made
   pub at : IsAt given log phone now
   pub rests : asked (history log) ≡ Rest
 

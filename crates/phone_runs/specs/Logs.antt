@@ -1,7 +1,7 @@
 -- What happened in a run of a handset, newest first: to the handset, and what was planned of the memory's faults.
 use Rattle.std.specs.Prelude.{◌≡◌, List, [], ◌∷◌, ◌++◌, reverse}
 use Rattle.handset_model.specs.History.{Happened, Said, Sent, Answered, Noted, Restarted, PowerCut, FoundOff}
-use Rattle.handset_model.specs.Legal.{TraceEntry, entries_of, seen}
+use Rattle.handset_model.specs.Legal.{TraceEntry, entries_of, items_seen}
 use Rattle.handset_model.specs.Rules.{asked}
 use Rattle.handset_model.specs.Sending.{apdu_of}
 use Rattle.handset_model.specs.declared.known.Duty.{Duty}
@@ -64,8 +64,8 @@ AreInTurn (Plans plan ∷ log) = (asked (history log) ≡ Rest) × AreInTurn log
 
 -- ---- the same from the first to the last
 
-abbrev pub lines : List Event → List PhoneLine
-lines log = reverse (lines_back log)
+abbrev pub log_lines : List Event → List PhoneLine
+log_lines log = reverse (lines_back log)
 
 abbrev pub steps : List Event → List Step
 steps log = reverse (steps_back log)
@@ -75,7 +75,7 @@ trace log = reverse (entries_of (history log))
 
 -- what is seen of the card in it
 abbrev pub shown : List Event → List TraceItem
-shown log = seen (trace log)
+shown log = items_seen (trace log)
 
 -- the lines that the handset hears
 abbrev pub heard : List PhoneLine → List HandsetLine

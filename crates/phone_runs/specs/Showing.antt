@@ -20,7 +20,7 @@ use Rattle.handset_model.specs.declared.known.Duty.{Duty}
 use Rattle.handset_model.specs.declared.known.Duty.TheVariants.{Rest, Transmit, Await, Show, ResetCard}
 use Rattle.phone_runs.specs.Effects.{may_be_heard}
 use Rattle.phone_runs.specs.Lines.{AreServed, told_back}
-use Rattle.phone_runs.specs.Logs.{Event, PhoneLine, AreInTurn, heard, history, lines, lines_back, shown, steps, trace}
+use Rattle.phone_runs.specs.Logs.{Event, PhoneLine, AreInTurn, heard, history, log_lines, lines_back, shown, steps, trace}
 use Rattle.phone_runs.specs.Traces.{entries_text, note_line}
 use Rattle.handset_model.specs.script_form.declared.handset.Note.{Note}
 use Rattle.handset_model.specs.script_form.declared.lines.ScriptLine.{ScriptLine}
@@ -168,7 +168,7 @@ pub record PhoneShows (text : List ℕ) (opening : List ScriptLine) (given : Out
   pub are_served : AreServed opening found played
   pub told : lines_back log ≡ told_back played
   pub happens : MayHappen given.is_on log now.is_on
-  pub legal : IsLegal (heard (lines log)) (trace log)
+  pub legal : IsLegal (heard (log_lines log)) (trace log)
   pub cause : StopsReading may_be_heard text found left end
   pub written : now.taken ≡ Some (given.before ++ entries_text (trace log))
   pub counted : IsCounted given.meter now.meter (plan_given (steps log)) (shown log)

@@ -27,7 +27,7 @@ use Rattle.proactive_handler.specs.layout_standing.Fitting.{ShareNoCallControl}
 use Rattle.toolkit_model.specs.Sound.{InstalledRowsAreSound}
 use Rattle.toolkit_model.specs.declared.faults.RowFault.{RowFault}
 use Rattle.toolkit_model.specs.declared.faults.RowFault.TheVariants.{BadData, NoBox, Narrow, Taken, MenuFull, Spent}
-use Rattle.toolkit_model.specs.Registry.{given, faulty_if, is_on, is_taken, is_menu_full, last_sequence, installed_row}
+use Rattle.toolkit_model.specs.Registry.{unless_missing, faulty_if, is_on, is_taken, is_menu_full, last_sequence, installed_row}
 use Rattle.card_model.specs.Toolkit.{has_shelf, row_or_status}
 use Rattle.session_commands.specs.Trying.{install_tried}
 
@@ -90,7 +90,7 @@ made false true c d new row is = cc is
 made true b c d new row is = cc is
 
 by_found : (state : Persistent) (found : Option Installation) (kind : Option ℕ) (shelf priority : ℕ) (row : Registration)
-    → given found BadData (λ installation. given kind NoBox (λ known.
+    → unless_missing found BadData (λ installation. unless_missing kind NoBox (λ known.
     let each = new_row state shelf priority known installation in
     faulty_if (needs_wide each && not state.is_wide) Narrow (faulty_if (is_taken state.rows each) Taken (faulty_if (is_menu_full state.rows each) MenuFull (faulty_if (state.next_sequence == last_sequence) Spent (Ok each)))))) ≡ Ok row
     → IsNew state kind row

@@ -10,7 +10,7 @@ use Rattle.file_model.specs.card_layout.Memory.{IsMounted}
 use Rattle.file_model.specs.card_layout.States.{rows_of}
 use Rattle.proactive_handler.specs.card_memory.Laws.{TablesTellStates}
 use Rattle.toolkit_model.specs.Passing.{ToolkitState, Passed, passed_rows}
-use Rattle.toolkit_model.specs.Steps.{Command, IsAccepted, AreAccepted, moved, moved_by}
+use Rattle.toolkit_model.specs.Steps.{ToolkitInput, IsAccepted, AreAccepted, moved, moved_by}
 use Rattle.toolkit_model.specs.OrderlySessions.{IsInOrder}
 use Rattle.proactive_handler.specs.Runs.{StopsAt}
 use Rattle.proactive_handler.specs.Steps.{Scene, toolkit, IsDone, MovesTo}
@@ -67,7 +67,7 @@ module _ (card : CardState) (old : Scene) (has : HasToolkit old card) where
 -- ---- order
 
 abbrev pub StaysInOrder : Type 0
-StaysInOrder = (commands : List Command) (state : ToolkitState) → IsInOrder state → AreAccepted commands state → IsInOrder (moved_by commands state).state
+StaysInOrder = (commands : List ToolkitInput) (state : ToolkitState) → IsInOrder state → AreAccepted commands state → IsInOrder (moved_by commands state).state
 
-pub order_after : StaysInOrder → (command : Command) (state new : ToolkitState) → IsInOrder state → IsAccepted command state → new ≡ (moved command state).state → IsInOrder new
+pub order_after : StaysInOrder → (command : ToolkitInput) (state new : ToolkitState) → IsInOrder state → IsAccepted command state → new ≡ (moved command state).state → IsInOrder new
 order_after law command state new order accepted is = subst IsInOrder (sym is) (law (command ∷ []) state order (accepted, tt))

@@ -27,10 +27,10 @@ use Rattle.file_model.specs.Outcomes.{has_no_data}
 use Rattle.toolkit_model.specs.Timers.{without}
 use Rattle.toolkit_model.specs.Passing.{ToolkitState, passed_rows}
 use Rattle.toolkit_model.specs.declared.faults.RowFault.TheVariants.{NoRow, NotIdle}
-use Rattle.toolkit_model.specs.Registry.{given, faulty_if, is_on, row_on, without_row, deleted_row}
+use Rattle.toolkit_model.specs.Registry.{unless_missing, faulty_if, is_on, row_on, without_row, deleted_row}
 use Rattle.toolkit_model.specs.Running.{mind_on, with_mind}
 use Rattle.toolkit_model.specs.Driving.{driven}
-use Rattle.toolkit_model.specs.Commands.{unregistering, deleted}
+use Rattle.toolkit_model.specs.Commands.{unregistering, row_deleted}
 use Rattle.proactive_handler.specs.Boxes.{kinds_of}
 use Rattle.proactive_handler.proofs.Joining.{both_done, second_stops}
 use Rattle.proactive_handler.specs.Moved.{HasRowsOf}
@@ -57,7 +57,7 @@ is_low : (shelf : ℕ) → nat_le shelf 31 ≡ true → shelf < 32
 is_low shelf is = grind (arith, nat_tests, is)
 
 found_goes : (rows : List Registration) (idle : Bool) (shelf : ℕ) (row : Registration) (found : Option Registration) → row_on rows shelf ≡ found → nat_le shelf 31 ≡ true
-    → row_or_status (given found NoRow (λ r. faulty_if (not idle) NotIdle (Ok r))) ≡ Ok row → IsIdleRow rows idle shelf row
+    → row_or_status (unless_missing found NoRow (λ r. faulty_if (not idle) NotIdle (Ok r))) ≡ Ok row → IsIdleRow rows idle shelf row
 found_goes rows idle shelf row None is low goes = cc goes
 found_goes rows true shelf row (Some other) is low goes =
     let same : other ≡ row = cc goes in
@@ -140,18 +140,18 @@ rows_without law old new shelf ascend is = is ∙ law (rows_alone old) shelf asc
 -- ---- and then the end of the command
 
 module _ (shelf : ℕ) (old mid : Scene) where
-  pub removed_stops : {X : Type 0} (r : Result X StoreFault) → IsErr r → StopsAt (rows_of old.memory.table ∷ passed_rows (unregistering shelf (toolkit old)).log) old.memory mid.memory → MovesTo (deleted shelf (toolkit old)) old mid r
-  unfolding deleted
+  pub removed_stops : {X : Type 0} (r : Result X StoreFault) → IsErr r → StopsAt (rows_of old.memory.table ∷ passed_rows (unregistering shelf (toolkit old)).log) old.memory mid.memory → MovesTo (row_deleted shelf (toolkit old)) old mid r
+  unfolding row_deleted
   removed_stops r err stop = step_stops (unregistering shelf (toolkit old)) driven old mid r err stop
 
-  pub removed_done : (new : Scene) → IsDone (unregistering shelf (toolkit old)) old mid → IsDone (driven (toolkit mid)) mid new → IsDone (deleted shelf (toolkit old)) old new
-  unfolding deleted
+  pub removed_done : (new : Scene) → IsDone (unregistering shelf (toolkit old)) old mid → IsDone (driven (toolkit mid)) mid new → IsDone (row_deleted shelf (toolkit old)) old new
+  unfolding row_deleted
   removed_done new done last = both_done (unregistering shelf (toolkit old)) driven old mid new done last
 
   -- a fault stopped the end, whatever became of the minds
   pub removed_then_stops : (new : Scene) → IsDone (unregistering shelf (toolkit old)) old mid → StopsAt (rows_of mid.memory.table ∷ passed_rows (driven (toolkit mid)).log) mid.memory new.memory
-      → StopsAt (rows_of old.memory.table ∷ passed_rows (deleted shelf (toolkit old)).log) old.memory new.memory
-  unfolding deleted
+      → StopsAt (rows_of old.memory.table ∷ passed_rows (row_deleted shelf (toolkit old)).log) old.memory new.memory
+  unfolding row_deleted
   removed_then_stops new done stop = second_stops (unregistering shelf (toolkit old)) driven old mid new done stop
 
 -- ---- the boxes, where a fault stopped it

@@ -13,7 +13,7 @@ use Rattle.proactive_handler.specs.card_memory.Model.{HasRowOn}
 use Rattle.toolkit_model.specs.Sessions.{Sent, SessionState}
 use Rattle.toolkit_model.specs.Orderly.{asks, IsRegistered}
 use Rattle.toolkit_model.specs.Driving.{is_idle}
-use Rattle.toolkit_model.specs.Commands.{deleted}
+use Rattle.toolkit_model.specs.Commands.{row_deleted}
 use Rattle.card_model.specs.States.{CardState}
 use Rattle.card_model.specs.Toolkit.{toolkit_of, coming_to, applet_deleted}
 use Rattle.proactive_handler.specs.Steps.{Scene}
@@ -32,10 +32,10 @@ module _ (card : CardState) (old : Scene) (has : HasToolkit old card) (seen : Ve
   pub delete_not : (status : StatusWord) → delete_tried (rows_of old.memory.table) (is_idle (asks old.session) apdu.p2) seen apdu ≡ Err status → applet_deleted card seen apdu ≡ Err status
   delete_not status is = delete_refused card seen apdu status (card_tried ∙ is)
 
-  pub delete_at : IsAllowed (rows_of old.memory.table) (is_idle (asks old.session) apdu.p2) seen apdu → applet_deleted card seen apdu ≡ Ok (coming_to card [] (deleted apdu.p2 (toolkit_of card)))
+  pub delete_at : IsAllowed (rows_of old.memory.table) (is_idle (asks old.session) apdu.p2) seen apdu → applet_deleted card seen apdu ≡ Ok (coming_to card [] (row_deleted apdu.p2 (toolkit_of card)))
   delete_at allowed =
       delete_goes card seen apdu allowed.row (card_tried ∙ allowed.goes)
-      ∙ ap (λ (n : ℕ). Ok (coming_to card [] (deleted n (toolkit_of card)))) (may_go (rows_of old.memory.table) (is_idle (asks old.session) apdu.p2) seen apdu allowed.row allowed.goes).on_it
+      ∙ ap (λ (n : ℕ). Ok (coming_to card [] (row_deleted n (toolkit_of card)))) (may_go (rows_of old.memory.table) (is_idle (asks old.session) apdu.p2) seen apdu allowed.row allowed.goes).on_it
 
 row_at : RowsComeFromEntries → StatesAreOfTables → (table : Loaded) (idle : Bool) (seen : Verified) (apdu : Apdu) → IsAllowed (rows_of table) idle seen apdu → (shelf : ℕ) → shelf ≡ apdu.p2 → HasRowOn table shelf
 row_at come tables table idle seen apdu allowed shelf same =

@@ -20,7 +20,7 @@ use Rattle.toolkit_model.specs.Orderly.{asks}
 use Rattle.toolkit_model.specs.Registry.{is_on, with_changed, with_code, without_code, registers, deregisters, without_row}
 use Rattle.toolkit_model.specs.Passing.{ToolkitState, Passed}
 use Rattle.toolkit_model.specs.Running.{Setting, Works, Carried, Ran, changing, taking, carried, is_admitted, is_held_by, admitted, going_on, run_on, most_acts, mind_on, works_of, setting_of, run_of_mind, run_of_row}
-use Rattle.toolkit_model.specs.Driving.{first_idle, catching, caught_up, settled, driven}
+use Rattle.toolkit_model.specs.Driving.{first_idle, catching, caught_up, session_filled, driven}
 use Rattle.proactive_handler.specs.Boxes.{kinds_of}
 use Rattle.session_commands.specs.Deleting.{HasNoRow}
 
@@ -104,8 +104,8 @@ module _ (shelf : ℕ) where
   caught_lacks zero state lacks = lacks
   caught_lacks (suc count) state lacks = catching_lacks (caught_up count) (λ later there. caught_lacks count later there) state (first_idle (asks state.session) state.session.late) lacks
 
-  settled_lacks : (state : ToolkitState) → Lacks state.rows → Lacks (settled state).rows
-  unfolding settled
+  settled_lacks : (state : ToolkitState) → Lacks state.rows → Lacks (session_filled state).rows
+  unfolding session_filled
   settled_lacks state lacks = lacks
 
   pub driven_lacks : (state : ToolkitState) → Lacks state.rows → Lacks (driven state).state.rows

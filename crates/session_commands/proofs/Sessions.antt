@@ -11,7 +11,7 @@ use Rattle.toolkit_model.specs.Sessions.{Outstanding, SessionState}
 use Rattle.toolkit_model.specs.Passing.{ToolkitState}
 use Rattle.proactive_handler.proofs.CountingLemmas.{counts_none}
 use Rattle.proactive_handler.specs.Steps.{Scene}
-use Rattle.toolkit_model.specs.Commands.{unfetched, unanswered, pending, bytes_of, as_fetched, fetched}
+use Rattle.toolkit_model.specs.Commands.{unfetched, unanswered, pending, command_bytes, as_fetched, fetched}
 use Rattle.card_model.specs.States.{CardState}
 use Rattle.card_model.specs.Toolkit.{toolkit_of, coming_to, command_fetched, response_taken}
 use Rattle.session_commands.specs.Carrying.{HasToolkit, HasCome}
@@ -34,10 +34,10 @@ counted f (Some out) is = refl
 -- what passes the tests is there to be fetched
 pub fetch_out : (session : SessionState) (count : Option ℕ) (apdu : Apdu) (done : Unit) → count ≡ pending session → fetch_tried count apdu ≡ Ok done → is_some (unfetched session) ≡ true
 fetch_out session count apdu done is goes =
-    counted (λ out. length (bytes_of out)) (unfetched session) (ap (λ (o : Option ℕ). is_some o) (sym is) ∙ fetch_there count apdu done goes)
+    counted (λ out. length (command_bytes out)) (unfetched session) (ap (λ (o : Option ℕ). is_some o) (sym is) ∙ fetch_there count apdu done goes)
 
 pub fetch_at : (card : CardState) (session : SessionState) (count : Option ℕ) (apdu : Apdu) (done : Unit) (out : Outstanding) → card.session ≡ session → count ≡ pending session → unfetched session ≡ Some out → fetch_tried count apdu ≡ Ok done
-    → command_fetched card apdu ≡ Ok (coming_to card (bytes_of out) (fetched out (toolkit_of card)))
+    → command_fetched card apdu ≡ Ok (coming_to card (command_bytes out) (fetched out (toolkit_of card)))
 fetch_at card session count apdu done out same is there goes =
     fetch_goes card apdu out done (ap (λ (s : SessionState). unfetched s) same ∙ there) (ap (λ (s : SessionState). fetch_tried (pending s) apdu) same ∙ ap (λ (n : Option ℕ). fetch_tried n apdu) (sym is) ∙ goes)
 

@@ -20,7 +20,7 @@ use Rattle.toolkit_model.specs.Sessions.{Outstanding}
 use Rattle.toolkit_model.specs.Orderly.{asks}
 use Rattle.toolkit_model.specs.Driving.{is_idle}
 use Rattle.toolkit_model.specs.Registry.{installed_row, deleted_row}
-use Rattle.toolkit_model.specs.Commands.{profiled, enveloped, is_busy, call_data, unfetched, unanswered, pending, bytes_of, fetched, responded, installed, deleted}
+use Rattle.toolkit_model.specs.Commands.{profiled, enveloped, is_busy, call_data, unfetched, unanswered, pending, command_bytes, fetched, responded, installed, row_deleted}
 use Rattle.card_model.specs.States.{CardState}
 use Rattle.card_model.specs.Toolkit.{ToolkitOutcome, toolkit_of, coming_to, has_shelf, row_or_status, kind_in, profile_taken, command_fetched, response_taken, envelope_taken, applet_installed, applet_deleted}
 use Rattle.session_commands.specs.Trying.{data_tried, fetch_tried, response_given, response_tried, envelope_given, envelope_tried, install_tried, delete_tried}
@@ -59,10 +59,10 @@ profile_goes card apdu done is = profile_is card apdu ∙ goes_then (data_tried 
 
 module _ {Y : Type 0} (wanted : ℕ → Bool) (f : Outstanding → Y) where
   abbrev fetch_chain : Bool → Bool → Option Outstanding → Result Y StatusWord
-  fetch_chain zero le out = refused_if zero WRONG_PARAMETERS (refused_if le WRONG_LENGTH (given out CONDITIONS_NOT_SATISFIED (λ o. refused_if (not (wanted (length (bytes_of o)))) (other_length (length (bytes_of o))) (Ok (f o)))))
+  fetch_chain zero le out = refused_if zero WRONG_PARAMETERS (refused_if le WRONG_LENGTH (given out CONDITIONS_NOT_SATISFIED (λ o. refused_if (not (wanted (length (command_bytes o)))) (other_length (length (command_bytes o))) (Ok (f o)))))
 
   abbrev fetch_tests : Bool → Bool → Option Outstanding → Result Unit StatusWord
-  fetch_tests zero le out = refused_if zero WRONG_PARAMETERS (refused_if le WRONG_LENGTH (given (option_map (λ o. length (bytes_of o)) out) CONDITIONS_NOT_SATISFIED (λ count. refused_if (not (wanted count)) (other_length count) (Ok tt))))
+  fetch_tests zero le out = refused_if zero WRONG_PARAMETERS (refused_if le WRONG_LENGTH (given (option_map (λ o. length (command_bytes o)) out) CONDITIONS_NOT_SATISFIED (λ count. refused_if (not (wanted count)) (other_length count) (Ok tt))))
 
   last_test : (b : Bool) (status : StatusWord) (y : Y) → refused_if b status (Ok y) ≡ and_given {X = Unit} (refused_if b status (Ok tt)) (λ done. Ok y)
   unfolding refused_if and_given
@@ -74,24 +74,24 @@ module _ {Y : Type 0} (wanted : ℕ → Bool) (f : Outstanding → Y) where
   fetch_alike true le out = refl
   fetch_alike false true out = refl
   fetch_alike false false None = refl
-  fetch_alike false false (Some o) = last_test (not (wanted (length (bytes_of o)))) (other_length (length (bytes_of o))) (f o)
+  fetch_alike false false (Some o) = last_test (not (wanted (length (command_bytes o)))) (other_length (length (command_bytes o))) (f o)
 
-fetch_is : (card : CardState) (apdu : Apdu) → command_fetched card apdu ≡ and_given (fetch_tried (pending card.session) apdu) (λ done. given (unfetched card.session) CONDITIONS_NOT_SATISFIED (λ out. Ok (coming_to card (bytes_of out) (fetched out (toolkit_of card)))))
+fetch_is : (card : CardState) (apdu : Apdu) → command_fetched card apdu ≡ and_given (fetch_tried (pending card.session) apdu) (λ done. given (unfetched card.session) CONDITIONS_NOT_SATISFIED (λ out. Ok (coming_to card (command_bytes out) (fetched out (toolkit_of card)))))
 unfolding command_fetched fetch_tried
 fetch_is card apdu =
-    fetch_alike (λ count. unwrap_or apdu.expected 0 == 256 || unwrap_or apdu.expected 0 == count) (λ out. coming_to card (bytes_of out) (fetched out (toolkit_of card)))
+    fetch_alike (λ count. unwrap_or apdu.expected 0 == 256 || unwrap_or apdu.expected 0 == count) (λ out. coming_to card (command_bytes out) (fetched out (toolkit_of card)))
     (not (has_no_parameters apdu)) (not (has_le_alone apdu)) (unfetched card.session)
 
 pub fetch_refused : (card : CardState) (apdu : Apdu) (status : StatusWord) → fetch_tried (pending card.session) apdu ≡ Err status → command_fetched card apdu ≡ Err status
 fetch_refused card apdu status is =
-    fetch_is card apdu ∙ refused_then (fetch_tried (pending card.session) apdu) (λ done. given (unfetched card.session) CONDITIONS_NOT_SATISFIED (λ out. Ok (coming_to card (bytes_of out) (fetched out (toolkit_of card))))) status is
+    fetch_is card apdu ∙ refused_then (fetch_tried (pending card.session) apdu) (λ done. given (unfetched card.session) CONDITIONS_NOT_SATISFIED (λ out. Ok (coming_to card (command_bytes out) (fetched out (toolkit_of card))))) status is
 
 pub fetch_goes : (card : CardState) (apdu : Apdu) (out : Outstanding) (done : Unit) → unfetched card.session ≡ Some out → fetch_tried (pending card.session) apdu ≡ Ok done
-    → command_fetched card apdu ≡ Ok (coming_to card (bytes_of out) (fetched out (toolkit_of card)))
+    → command_fetched card apdu ≡ Ok (coming_to card (command_bytes out) (fetched out (toolkit_of card)))
 unfolding given
 fetch_goes card apdu out done there is =
-    fetch_is card apdu ∙ goes_then (fetch_tried (pending card.session) apdu) (λ d. given (unfetched card.session) CONDITIONS_NOT_SATISFIED (λ o. Ok (coming_to card (bytes_of o) (fetched o (toolkit_of card))))) done is
-    ∙ ap (λ o. given o CONDITIONS_NOT_SATISFIED (λ each. Ok (coming_to card (bytes_of each) (fetched each (toolkit_of card))))) there
+    fetch_is card apdu ∙ goes_then (fetch_tried (pending card.session) apdu) (λ d. given (unfetched card.session) CONDITIONS_NOT_SATISFIED (λ o. Ok (coming_to card (command_bytes o) (fetched o (toolkit_of card))))) done is
+    ∙ ap (λ o. given o CONDITIONS_NOT_SATISFIED (λ each. Ok (coming_to card (command_bytes each) (fetched each (toolkit_of card))))) there
 
 none_refused : (zero le : Bool) (status : StatusWord) (wanted : ℕ → Bool) (done : Unit {0}) → refused_if {X = Unit {0}} zero WRONG_PARAMETERS (refused_if le WRONG_LENGTH (given {X = ℕ} {Y = Unit {0}} None CONDITIONS_NOT_SATISFIED (λ count. refused_if (not (wanted count)) (other_length count) (Ok tt)))) ≡ Ok done → false ≡ true
 unfolding refused_if given
@@ -209,16 +209,16 @@ install_refused card seen apdu status is = install_is card seen apdu ∙ refused
 pub install_goes : (card : CardState) (seen : Verified) (apdu : Apdu) (row : Registration) → install_tried card.persistent (kind_in card apdu.p2) seen apdu ≡ Ok row → applet_installed card seen apdu ≡ Ok (installed_by card row)
 install_goes card seen apdu row is = install_is card seen apdu ∙ goes_then (install_tried card.persistent (kind_in card apdu.p2) seen apdu) (λ r. Ok (installed_by card r)) row is
 
-delete_is : (card : CardState) (seen : Verified) (apdu : Apdu) → applet_deleted card seen apdu ≡ and_given (delete_tried card.persistent.rows (is_idle (asks card.session) apdu.p2) seen apdu) (λ row. Ok (coming_to card [] (deleted row.shelf (toolkit_of card))))
+delete_is : (card : CardState) (seen : Verified) (apdu : Apdu) → applet_deleted card seen apdu ≡ and_given (delete_tried card.persistent.rows (is_idle (asks card.session) apdu.p2) seen apdu) (λ row. Ok (coming_to card [] (row_deleted row.shelf (toolkit_of card))))
 unfolding applet_deleted delete_tried
 delete_is card seen apdu =
-    three_then (not (apdu.p1 == 0x00 && has_shelf apdu)) (not (has_no_data apdu)) (not seen.adm1) (row_or_status (deleted_row card.persistent.rows apdu.p2 (is_idle (asks card.session) apdu.p2))) (λ row. Ok (coming_to card [] (deleted row.shelf (toolkit_of card))))
+    three_then (not (apdu.p1 == 0x00 && has_shelf apdu)) (not (has_no_data apdu)) (not seen.adm1) (row_or_status (deleted_row card.persistent.rows apdu.p2 (is_idle (asks card.session) apdu.p2))) (λ row. Ok (coming_to card [] (row_deleted row.shelf (toolkit_of card))))
 
 pub delete_refused : (card : CardState) (seen : Verified) (apdu : Apdu) (status : StatusWord) → delete_tried card.persistent.rows (is_idle (asks card.session) apdu.p2) seen apdu ≡ Err status → applet_deleted card seen apdu ≡ Err status
 delete_refused card seen apdu status is =
-    delete_is card seen apdu ∙ refused_then (delete_tried card.persistent.rows (is_idle (asks card.session) apdu.p2) seen apdu) (λ row. Ok (coming_to card [] (deleted row.shelf (toolkit_of card)))) status is
+    delete_is card seen apdu ∙ refused_then (delete_tried card.persistent.rows (is_idle (asks card.session) apdu.p2) seen apdu) (λ row. Ok (coming_to card [] (row_deleted row.shelf (toolkit_of card)))) status is
 
 pub delete_goes : (card : CardState) (seen : Verified) (apdu : Apdu) (row : Registration) → delete_tried card.persistent.rows (is_idle (asks card.session) apdu.p2) seen apdu ≡ Ok row
-    → applet_deleted card seen apdu ≡ Ok (coming_to card [] (deleted row.shelf (toolkit_of card)))
+    → applet_deleted card seen apdu ≡ Ok (coming_to card [] (row_deleted row.shelf (toolkit_of card)))
 delete_goes card seen apdu row is =
-    delete_is card seen apdu ∙ goes_then (delete_tried card.persistent.rows (is_idle (asks card.session) apdu.p2) seen apdu) (λ r. Ok (coming_to card [] (deleted r.shelf (toolkit_of card)))) row is
+    delete_is card seen apdu ∙ goes_then (delete_tried card.persistent.rows (is_idle (asks card.session) apdu.p2) seen apdu) (λ r. Ok (coming_to card [] (row_deleted r.shelf (toolkit_of card)))) row is

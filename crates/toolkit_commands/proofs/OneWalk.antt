@@ -7,7 +7,7 @@ use Rattle.comprehension_tlv.specs.Reading.{◌>>=◌, first_value, objects_of}
 use Rattle.comprehension_tlv.specs.declared.faults.TlvFault.{TlvFault}
 use Rattle.comprehension_tlv.proofs.Finding.{value_fits}
 use Rattle.comprehension_tlv.proofs.Steps.{IsBytes}
-use Rattle.toolkit_commands.specs.Responses.{item_among, one_or, names, with_result, response_among, response_of, text_after}
+use Rattle.toolkit_commands.specs.Responses.{item_among, one_or, are_details, with_result, response_among, response_of, text_after}
 use Rattle.toolkit_commands.specs.declared.commands.Details.{Details}
 use Rattle.toolkit_commands.specs.declared.responses.Response.{Response}
 use Rattle.toolkit_commands.specs.declared.tags.TheConstants.{COMMAND_DETAILS, RESULT, TEXT_STRING, ITEM_IDENTIFIER}
@@ -87,8 +87,8 @@ module _ (objects : List Object) where
 
   answers : (details : Details) → response_from details all ≡ response_among details (Ok objects)
   answers details =
-      ap (λ (d : Option (List ℕ)). cond (names details d) (answer_with all all.result) None) details_are
-      ∙ ap (λ (r : Option Response). cond (names details (first_value COMMAND_DETAILS objects)) r None)
+      ap (λ (d : Option (List ℕ)). cond (are_details details d) (answer_with all all.result) None) details_are
+      ∙ ap (λ (r : Option Response). cond (are_details details (first_value COMMAND_DETAILS objects)) r None)
       (ap (answer_with all) result_is ∙ with_same (first_value RESULT objects))
 
 abbrev pub answered : Details → Option Values → Option Response
@@ -123,7 +123,7 @@ pub reply_fits : (details : Details) (bytes : List ℕ) (found : Values) (result
     → option_map replied (result_ok result) ≡ response_from details found → IfOk result (λ reply. length reply.text.now ≤ length bytes - 1)
 reply_fits details bytes found (Err mismatch) all there is = tt
 reply_fits details bytes found (Ok reply) all there is =
-    subst (λ (t : List ℕ). length t ≤ length bytes - 1) (sym (text_of (names details found.details) found.result is))
+    subst (λ (t : List ℕ). length t ≤ length bytes - 1) (sym (text_of (are_details details found.details) found.result is))
     (after_fits found.text (length bytes) (value_fits TEXT_STRING bytes found.text all (text_value (objects_of bytes) found there))) where
       text_of : (named : Bool) (value : Option (List ℕ)) → Some (replied reply) ≡ cond named (answer_with found value) None → reply.text.now ≡ text_after found.text
       text_of false value is = cc is

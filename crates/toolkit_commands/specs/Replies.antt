@@ -3,7 +3,7 @@
 use Rattle.std.specs.Prelude.{ℕ, List, [], ◌∷◌, Option, Some, None, Result, Ok, Err, unwrap_or, option_copied, ◌==◌, if◌then◌else◌}
 use Rattle.comprehension_tlv.specs.Model.{Object}
 use Rattle.comprehension_tlv.specs.declared.faults.TlvFault.{TlvFault}
-use Rattle.toolkit_commands.specs.Responses.{names, text_after}
+use Rattle.toolkit_commands.specs.Responses.{are_details, text_after}
 use Rattle.toolkit_commands.specs.declared.commands.Details.{Details}
 use Rattle.toolkit_commands.specs.declared.responses.Response.{Response}
 use Rattle.toolkit_commands.specs.declared.tags.TheConstants.{COMMAND_DETAILS, RESULT, TEXT_STRING, ITEM_IDENTIFIER}
@@ -71,4 +71,4 @@ answer_with found _ = None
 
 -- what they answer to the command with these details
 abbrev pub response_from : Details → Values → Option Response
-response_from details found = if names details found.details then answer_with found found.result else None
+response_from details found = if are_details details found.details then answer_with found found.result else None

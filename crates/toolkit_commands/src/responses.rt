@@ -3,7 +3,7 @@ ghost use Rattle.std.specs.Prelude.{◌≡◌, ◌≤◌, ◌-◌, length, IfOk,
 ghost use Rattle.std.specs.Result.{result_ok};
 ghost use Rattle.comprehension_tlv.specs.Reading.{objects_of};
 ghost use Rattle.comprehension_tlv.specs.Seen.{object_of};
-ghost use Rattle.toolkit_commands.specs.Responses.{names, response_of, text_after};
+ghost use Rattle.toolkit_commands.specs.Responses.{are_details, response_of, text_after};
 ghost use Rattle.toolkit_commands.specs.Replies.{replied, first_of, item_of, with_object, values_of, values_in, response_from};
 
 use crate::Details;
@@ -109,7 +109,7 @@ fn found_in(bytes: &[u8]) -> Result<Found<'_>, Mismatch>
 
 // Whether the details object is that of the command.
 fn is_named(found: Option<&[u8]>, details: &Details) -> bool
-    ensures { result ≡ names details.now (option_copied found.entry) }
+    ensures { result ≡ are_details details.now (option_copied found.entry) }
 {
     match found {
         Some([number, kind, qualifier]) => {

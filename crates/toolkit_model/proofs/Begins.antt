@@ -15,7 +15,7 @@ use Rattle.toolkit_model.specs.Orderly.{IsRegistered, asks}
 use Rattle.toolkit_model.specs.Order.{targets}
 use Rattle.toolkit_model.specs.Passing.{ToolkitState, Happening, Woke, Fetched, Responded, Given, Turned, Committed, Passed, noting, before, in_turn}
 use Rattle.toolkit_model.specs.Driving.{is_idle, running, kept_late, told_if, given_if, trigger_for, told_one, given_one, driven}
-use Rattle.toolkit_model.specs.Commands.{told, triggered_by, reported, triggered, enveloped}
+use Rattle.toolkit_model.specs.Commands.{each_told, triggered_by, reported, triggered, enveloped}
 use Rattle.toolkit_model.specs.Steps.{HasMind}
 use Rattle.toolkit_model.specs.OrderlySessions.{IsInOrder}
 use Rattle.toolkit_model.specs.Turns.{IsInner, IsCommit}
@@ -155,7 +155,7 @@ have_minds : (state : ToolkitState) (shelves : List ℕ) → IsReady state → A
 have_minds state shelves ready there =
     All-weaker (IsRegistered state.rows) (HasMind state.minds) (λ shelf. All-contains (HasMind state.minds) (map (λ row. row.shelf) state.rows) shelf ready.minds) shelves there
 
-pub told_begin : (code : ℕ) (body : List ℕ) (state : ToolkitState) → IsInOrder state → begun (told code body state).log ≡ filter (is_idle (asks state.session)) (targets state.rows code)
+pub told_begin : (code : ℕ) (body : List ℕ) (state : ToolkitState) → IsInOrder state → begun (each_told code body state).log ≡ filter (is_idle (asks state.session)) (targets state.rows code)
 told_begin code body state is =
     let ready = (good_from state is).ready in
     let to = ordered_targets state.rows code ready.rows_are in

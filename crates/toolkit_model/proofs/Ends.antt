@@ -8,7 +8,7 @@ use Rattle.toolkit_model.specs.Sessions.{Sent, LateTrigger}
 use Rattle.toolkit_model.specs.Orderly.{asks}
 use Rattle.toolkit_model.specs.Passing.{ToolkitState}
 use Rattle.applet_trait.specs.declared.stimuli.Stimulus.TheVariants.{Event}
-use Rattle.toolkit_model.specs.Driving.{is_idle, with_session, running, behind, first_idle, catching, caught_up, settled, driven}
+use Rattle.toolkit_model.specs.Driving.{is_idle, with_session, running, behind, first_idle, catching, caught_up, session_filled, driven}
 use Rattle.toolkit_model.proofs.Late.{taken_out}
 use Rattle.toolkit_model.proofs.Settled.{WaitsBehind, settled_behind, settled_asks, settled_late}
 use Rattle.toolkit_model.proofs.Asks.{run_late}
@@ -46,7 +46,7 @@ unfolding driven
 driven_suspends state =
     let caught = (caught_up (length state.session.late) state).state in
     let ends : AreSuspended caught = caught_up_ends (length state.session.late) state (omega arith) in
-    subst (λ (asked : List Sent). All (λ trigger. is_idle asked trigger.shelf ≡ false) (settled caught).session.late) (sym (settled_asks caught))
+    subst (λ (asked : List Sent). All (λ trigger. is_idle asked trigger.shelf ≡ false) (session_filled caught).session.late) (sym (settled_asks caught))
     (subst (All (λ (trigger : LateTrigger). is_idle (asks caught.session) trigger.shelf ≡ false)) (sym (settled_late caught)) ends)
 
 pub driven_behind : (state : ToolkitState) → WaitsBehind (driven state).state.session

@@ -19,7 +19,7 @@ use Rattle.toolkit_model.specs.Passing.{ToolkitState, Happening, Woke, Fetched, 
 use Rattle.toolkit_model.specs.Running.{run_of_row}
 use Rattle.toolkit_model.specs.Driving.{is_idle, with_session, running, behind, first_idle}
 use Rattle.toolkit_model.specs.Commands.{fetched, resumed, with_nothing_out, answered}
-use Rattle.toolkit_model.specs.Steps.{HasMind, Command, AreAccepted, moved_by}
+use Rattle.toolkit_model.specs.Steps.{HasMind, ToolkitInput, AreAccepted, moved_by}
 use Rattle.toolkit_model.specs.OrderlySessions.{IsInOrder}
 use Rattle.toolkit_model.specs.Turns.{IsInner, IsCommit}
 use Rattle.toolkit_model.specs.Owing.{counts, owed, given_in, event_of, told_in, given_to, told_to, is_wake, LosesNothing}
@@ -267,5 +267,5 @@ losing_nothing shelf = record {
   wakes = λ state rows minds free none. cc;
 }
 
-pub nothing_lost : HasLaws → (commands : List Command) (state : ToolkitState) (shelf : ℕ) → IsInOrder state → AreAccepted commands state → LosesNothing shelf state (moved_by commands state)
+pub nothing_lost : HasLaws → (commands : List ToolkitInput) (state : ToolkitState) (shelf : ℕ) → IsInOrder state → AreAccepted commands state → LosesNothing shelf state (moved_by commands state)
 nothing_lost laws commands state shelf is accepted = (commands_move laws (losing_nothing shelf) commands state accepted (good_from state is)).moved

@@ -10,9 +10,9 @@ use Rattle.applet_trait.specs.Minds.{AppletState}
 use Rattle.toolkit_model.specs.Sessions.{Outstanding, Sent, SessionState}
 use Rattle.toolkit_model.specs.Passing.{ToolkitState, Happening, Woke, Fetched, Responded, Given, Turned, Committed, Passed}
 use Rattle.toolkit_model.specs.Running.{run_of_row, sending}
-use Rattle.toolkit_model.specs.Driving.{with_session, wanted, front_out, next_out, filled, settled}
+use Rattle.toolkit_model.specs.Driving.{with_session, wanted, front_out, next_out, filled, session_filled}
 use Rattle.toolkit_model.specs.Commands.{as_fetched, if_fetched, unfetched, unanswered, fetched, resumed, with_nothing_out, answered, woken}
-use Rattle.toolkit_model.specs.Steps.{Command, AreAccepted, moved_by}
+use Rattle.toolkit_model.specs.Steps.{ToolkitInput, AreAccepted, moved_by}
 use Rattle.toolkit_model.specs.OrderlySessions.{IsInOrder}
 use Rattle.toolkit_model.specs.Turns.{IsCommit}
 use Rattle.toolkit_model.specs.Fetching.{OneAtATime, is_end, AnsweredBetween}
@@ -127,8 +127,8 @@ filled_unanswered : (rows : List Registration) (session : SessionState) (out : O
 filled_unanswered rows session (Some out) is = refl
 filled_unanswered rows session None is = ap (if_fetched true) is ∙ sym (next_unanswered session (wanted session.profile rows session.announced) is)
 
-settled_follows : (state : ToolkitState) → unanswered state.session ≡ unanswered (settled state).session
-unfolding settled
+settled_follows : (state : ToolkitState) → unanswered state.session ≡ unanswered (session_filled state).session
+unfolding session_filled
 settled_follows state = filled_unanswered state.rows state.session state.session.out refl
 
 woken_follows : (rows : List Registration) (minds : List (Option AppletState)) → None ≡ unanswered (woken rows minds).session
@@ -153,7 +153,7 @@ fetching = record {
   wakes = λ state rows minds free. woken_follows rows minds;
 }
 
-pub fetched_one_at_a_time : HasLaws → (commands : List Command) (state : ToolkitState) → IsInOrder state → AreAccepted commands state → OneAtATime (unanswered state.session) (moved_by commands state).log
+pub fetched_one_at_a_time : HasLaws → (commands : List ToolkitInput) (state : ToolkitState) → IsInOrder state → AreAccepted commands state → OneAtATime (unanswered state.session) (moved_by commands state).log
 fetched_one_at_a_time laws commands state is accepted =
     let after = moved_by commands state in
     one_from (unanswered state.session) (unanswered after.state.session) after.log (commands_move laws fetching commands state accepted (good_from state is)).moved

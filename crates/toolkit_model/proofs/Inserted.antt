@@ -12,7 +12,7 @@ use Rattle.card_layout.specs.Sections.{Installation, is_installation, is_code, a
 use Rattle.applet_trait.specs.Minds.{AppletState}
 use Rattle.toolkit_model.specs.declared.faults.RowFault.{RowFault}
 use Rattle.toolkit_model.specs.declared.faults.RowFault.TheVariants.{BadData, NoBox, Narrow, Taken, MenuFull, Spent}
-use Rattle.toolkit_model.specs.Registry.{faulty_if, given, is_on, is_taken, is_menu_full, last_sequence, installed_row}
+use Rattle.toolkit_model.specs.Registry.{faulty_if, unless_missing, is_on, is_taken, is_menu_full, last_sequence, installed_row}
 use Rattle.toolkit_model.specs.Running.{mind_on}
 use Rattle.toolkit_model.specs.Steps.{AreRows, HasMind}
 use Rattle.toolkit_model.specs.Installing.{kind_on, InstallationsAreAccepted}
@@ -100,7 +100,7 @@ pub unless_passed : {A : Type 0} (bad : Bool) (fault : RowFault) (next : Result 
 unless_passed true fault next x is = cc
 unless_passed false fault next x is = (refl, is)
 
-pub given_passed : {A B : Type 0} (found : Option A) (fault : RowFault) (next : A → Result B RowFault) (y : B) → given found fault next ≡ Ok y → (x : A) × (found ≡ Some x) × (next x ≡ Ok y)
+pub given_passed : {A B : Type 0} (found : Option A) (fault : RowFault) (next : A → Result B RowFault) (y : B) → unless_missing found fault next ≡ Ok y → (x : A) × (found ≡ Some x) × (next x ≡ Ok y)
 given_passed None fault next y is = cc
 given_passed (Some x) fault next y is = (x, refl, is)
 
@@ -166,7 +166,7 @@ module _ (card : Persistent) where
   if_wide row = faulty_if (needs_wide row && not card.is_wide) Narrow (if_free row)
 
   abbrev pub if_there : Option ℕ → ℕ → ℕ → Installation → Result Registration RowFault
-  if_there kind shelf priority found = given kind NoBox (λ known. if_wide (new_row card shelf priority known found))
+  if_there kind shelf priority found = unless_missing kind NoBox (λ known. if_wide (new_row card shelf priority known found))
 
   row_answered : (kind : Option ℕ) (shelf priority : ℕ) (content : List ℕ) (row : Registration) → installed_row card kind shelf priority content ≡ Ok row → IsAnswered card kind shelf row
   row_answered kind shelf priority content row is =

@@ -22,7 +22,7 @@ use Rattle.toolkit_model.specs.Sessions.{Outstanding}
 use Rattle.toolkit_model.specs.Passing.{ToolkitState, Passed}
 use Rattle.toolkit_model.specs.Registry.{is_on, row_on, without_row, with_code, without_code, registers, deregisters}
 use Rattle.toolkit_model.specs.Running.{Setting, Works, Carried, Ran, is_admitted, admitted, is_held_by, carried, changing, taking, going_on, run_on, most_acts, setting_of, works_of, mind_on, with_mind, run_of_mind, run_of_row}
-use Rattle.toolkit_model.specs.Driving.{settled}
+use Rattle.toolkit_model.specs.Driving.{session_filled}
 use Rattle.toolkit_model.specs.Commands.{fetched, resumed, with_nothing_out, answered, registering, unregistering, woken_mind, woken_box, woken, woken_boxes}
 use Rattle.toolkit_model.specs.Kinds.{AreOfKinds, IsOfKinds, KindsStay, WakesKeepKinds}
 use Rattle.toolkit_model.specs.Owing.{is_wake}
@@ -181,8 +181,8 @@ unregistering_stays shelf state are =
     (λ k d low. eqb-false (get_or left k d).shelf shelf (not-true (is_on shelf (get_or left k d)) (filter_passes (λ row. not (is_on shelf row)) state.rows k d low)))
     (All-filter (λ row. not (is_on shelf row)) (HasKind state.minds) state.rows are)
 
-pub settled_stays : (state : ToolkitState) → IsOfKinds state → IsOfKinds (settled state)
-unfolding settled
+pub settled_stays : (state : ToolkitState) → IsOfKinds state → IsOfKinds (session_filled state)
+unfolding session_filled
 settled_stays state are = are
 
 pub fetched_stays : (out : Outstanding) (state : ToolkitState) → IsOfKinds state → IsOfKinds (fetched out state).state

@@ -22,8 +22,8 @@ use Rattle.toolkit_model.specs.Order.{trigger_order, targets}
 use Rattle.toolkit_model.specs.Registry.{item_of}
 use Rattle.toolkit_model.specs.Passing.{ToolkitState, Passed, unmoved, before, in_turn}
 use Rattle.toolkit_model.specs.Driving.{is_idle, with_session, given_one, driven}
-use Rattle.toolkit_model.specs.Commands.{told, with_profile, profiled, polled, selected, holders, triggered_by, late_places, is_busy, is_reported_once, forgetting, reported, triggered, enveloped, unfetched, fetched, unanswered, answered, responded, registering, installed, unregistering, deleted, woken}
-use Rattle.toolkit_model.specs.Steps.{AreRows, Command, Profile, Status, Report, Fetch, Respond, Install, Delete, Wake, IsAccepted, moved, AreAccepted, moved_by}
+use Rattle.toolkit_model.specs.Commands.{each_told, with_profile, profiled, polled, selected, holders, triggered_by, late_places, is_busy, is_reported_once, forgetting, reported, triggered, enveloped, unfetched, fetched, unanswered, answered, responded, registering, installed, unregistering, row_deleted, woken}
+use Rattle.toolkit_model.specs.Steps.{AreRows, ToolkitInput, Profile, Status, Report, Fetch, Respond, Install, Delete, Wake, IsAccepted, moved, AreAccepted, moved_by}
 use Rattle.toolkit_model.proofs.StepsLemmas.{apart_of}
 use Rattle.toolkit_model.proofs.Ordered.{order_is_exact}
 use Rattle.toolkit_model.proofs.Ready.{IsReady}
@@ -102,7 +102,7 @@ reported_before (Envelopes.Menu item) state = record { rows = refl; asked = refl
 reported_before (Envelopes.CallControl address) state = record { rows = refl; asked = refl; late = refl; minds = refl }
 reported_before (Envelopes.Timer timer) state = record { rows = refl; asked = refl; late = refl; minds = refl }
 
-reported_moves : {Brings : Command → Type 0} {R : ToolkitState → Passed → Type 0} → IsStepping Brings R → (envelope : Envelope) (state : ToolkitState) → IsReady state → Drives R state (unmoved (reported envelope state))
+reported_moves : {Brings : ToolkitInput → Type 0} {R : ToolkitState → Passed → Type 0} → IsStepping Brings R → (envelope : Envelope) (state : ToolkitState) → IsReady state → Drives R state (unmoved (reported envelope state))
 reported_moves {R} is (Envelopes.Event code body) state ready =
     cond_both (is_reported_once code) (with_session state (forgetting code state.session)) state (λ (after : ToolkitState). Drives R state (unmoved after))
     (λ h. record { moved = is.reports state code; ready = forgetting_ready state code ready })
@@ -124,7 +124,7 @@ pub record IsGood (state : ToolkitState) : Type 0 where
   pub suspends : AreSuspended state
   pub behind : WaitsBehind state.session
 
-triggered_moves : HasLaws → {Brings : Command → Type 0} {R : ToolkitState → Passed → Type 0} → IsStepping Brings R → (envelope : Envelope) (state : ToolkitState) → is_busy envelope state ≡ false → IsGood state
+triggered_moves : HasLaws → {Brings : ToolkitInput → Type 0} {R : ToolkitState → Passed → Type 0} → IsStepping Brings R → (envelope : Envelope) (state : ToolkitState) → is_busy envelope state ≡ false → IsGood state
     → Drives R state (triggered envelope state)
 unfolding triggered
 triggered_moves laws is envelope state free good =
@@ -152,43 +152,43 @@ nothing_late state shelf idle suspends =
     All-weaker (λ trigger. is_idle (asks state.session) trigger.shelf ≡ false) (λ trigger. trigger.shelf ≢ shelf)
     (λ trigger busy same. cc (sym busy ∙ ap (is_idle (asks state.session)) same ∙ idle)) state.session.late suspends
 
-profiled_moves : HasLaws → {Brings : Command → Type 0} {R : ToolkitState → Passed → Type 0} → IsStepping Brings R → (bytes : List ℕ) (state : ToolkitState) → IsReady state → Drives R state (profiled bytes state)
+profiled_moves : HasLaws → {Brings : ToolkitInput → Type 0} {R : ToolkitState → Passed → Type 0} → IsStepping Brings R → (bytes : List ℕ) (state : ToolkitState) → IsReady state → Drives R state (profiled bytes state)
 unfolding profiled
 profiled_moves laws is bytes state ready =
     let start = with_profile state bytes in
     let now = profile_ready state bytes ready in
     let all = told_all_move laws is PROFILE_DOWNLOAD bytes (targets start.rows PROFILE_DOWNLOAD) start now (ordered_targets start.rows PROFILE_DOWNLOAD now.rows_are).registered (inl refl) in
-    let first = told PROFILE_DOWNLOAD bytes start in
+    let first = each_told PROFILE_DOWNLOAD bytes start in
     let rest = and_driven laws is start first all.moved all.ready in
     record { moved = is.joined state (unmoved start) (before first driven) (is.profiles state bytes) rest.moved; ready = rest.ready }
 
-polled_moves : HasLaws → {Brings : Command → Type 0} {R : ToolkitState → Passed → Type 0} → IsStepping Brings R → (state : ToolkitState) → IsReady state → Drives R state (polled state)
+polled_moves : HasLaws → {Brings : ToolkitInput → Type 0} {R : ToolkitState → Passed → Type 0} → IsStepping Brings R → (state : ToolkitState) → IsReady state → Drives R state (polled state)
 unfolding polled
 polled_moves laws is state ready =
     let all = told_all_move laws is STATUS_COMMAND [] (targets state.rows STATUS_COMMAND) state ready (ordered_targets state.rows STATUS_COMMAND ready.rows_are).registered (inr refl) in
-    and_driven laws is state (told STATUS_COMMAND [] state) all.moved all.ready
+    and_driven laws is state (each_told STATUS_COMMAND [] state) all.moved all.ready
 
-enveloped_moves : HasLaws → {Brings : Command → Type 0} {R : ToolkitState → Passed → Type 0} → IsStepping Brings R → (envelope : Envelope) (state : ToolkitState) → is_busy envelope state ≡ false → IsGood state → Drives R state (enveloped envelope state)
+enveloped_moves : HasLaws → {Brings : ToolkitInput → Type 0} {R : ToolkitState → Passed → Type 0} → IsStepping Brings R → (envelope : Envelope) (state : ToolkitState) → is_busy envelope state ≡ false → IsGood state → Drives R state (enveloped envelope state)
 unfolding enveloped
 enveloped_moves laws is envelope state free good =
     let first = triggered_moves laws is envelope state free good in
     and_driven laws is state (triggered envelope state) first.moved first.ready
 
-responded_moves : HasLaws → {Brings : Command → Type 0} {R : ToolkitState → Passed → Type 0} → IsStepping Brings R → (out : Outstanding) (reply : Reply) (state : ToolkitState) → unanswered state.session ≡ Some out → IsReady state → Drives R state (responded out reply state)
+responded_moves : HasLaws → {Brings : ToolkitInput → Type 0} {R : ToolkitState → Passed → Type 0} → IsStepping Brings R → (out : Outstanding) (reply : Reply) (state : ToolkitState) → unanswered state.session ≡ Some out → IsReady state → Drives R state (responded out reply state)
 unfolding responded
 responded_moves laws is out reply state held ready =
     and_driven laws is state (answered out reply state) (is.answers state out reply ready held) (answered_ready laws.any laws.proper state out reply held ready)
 
-installed_moves : HasLaws → {Brings : Command → Type 0} {R : ToolkitState → Passed → Type 0} → IsStepping Brings R → (row : Registration) (state : ToolkitState) → IsAccepted (Install row) state → Brings (Install row) → IsReady state → Drives R state (installed row state)
+installed_moves : HasLaws → {Brings : ToolkitInput → Type 0} {R : ToolkitState → Passed → Type 0} → IsStepping Brings R → (row : Registration) (state : ToolkitState) → IsAccepted (Install row) state → Brings (Install row) → IsReady state → Drives R state (installed row state)
 unfolding installed
 installed_moves laws is row state accepted brings ready = and_driven laws is state (registering row state) (is.registers state row accepted brings) (registering_ready row state accepted.0 accepted.1 ready)
 
-deleted_moves : HasLaws → {Brings : Command → Type 0} {R : ToolkitState → Passed → Type 0} → IsStepping Brings R → (shelf : ℕ) (state : ToolkitState) → is_idle (asks state.session) shelf ≡ true → IsGood state → Drives R state (deleted shelf state)
-unfolding deleted
+deleted_moves : HasLaws → {Brings : ToolkitInput → Type 0} {R : ToolkitState → Passed → Type 0} → IsStepping Brings R → (shelf : ℕ) (state : ToolkitState) → is_idle (asks state.session) shelf ≡ true → IsGood state → Drives R state (row_deleted shelf state)
+unfolding row_deleted
 deleted_moves laws is shelf state idle good =
     and_driven laws is state (unregistering shelf state) (is.unregisters state shelf good.ready idle) (unregistering_ready shelf state idle (nothing_late state shelf idle good.suspends) good.ready)
 
-pub command_moves : HasLaws → {Brings : Command → Type 0} {R : ToolkitState → Passed → Type 0} → IsStepping Brings R → (command : Command) (state : ToolkitState) → IsAccepted command state → Brings command → IsGood state → Drives R state (moved command state)
+pub command_moves : HasLaws → {Brings : ToolkitInput → Type 0} {R : ToolkitState → Passed → Type 0} → IsStepping Brings R → (command : ToolkitInput) (state : ToolkitState) → IsAccepted command state → Brings command → IsGood state → Drives R state (moved command state)
 command_moves laws is (Profile bytes) state accepted brings good = profiled_moves laws is bytes state good.ready
 command_moves laws is Status state accepted brings good = polled_moves laws is state good.ready
 command_moves laws is (Report envelope) state accepted brings good = enveloped_moves laws is envelope state accepted good
@@ -227,11 +227,11 @@ after_driving first ready = record { ready = ready; suspends = driven_suspends f
 
 profiled_good : (bytes : List ℕ) (state : ToolkitState) → IsReady (profiled bytes state).state → IsGood (profiled bytes state).state
 unfolding profiled
-profiled_good bytes state ready = after_driving (told PROFILE_DOWNLOAD bytes (with_profile state bytes)) ready
+profiled_good bytes state ready = after_driving (each_told PROFILE_DOWNLOAD bytes (with_profile state bytes)) ready
 
 polled_good : (state : ToolkitState) → IsReady (polled state).state → IsGood (polled state).state
 unfolding polled
-polled_good state ready = after_driving (told STATUS_COMMAND [] state) ready
+polled_good state ready = after_driving (each_told STATUS_COMMAND [] state) ready
 
 enveloped_good : (envelope : Envelope) (state : ToolkitState) → IsReady (enveloped envelope state).state → IsGood (enveloped envelope state).state
 unfolding enveloped
@@ -245,8 +245,8 @@ installed_good : (row : Registration) (state : ToolkitState) → IsReady (instal
 unfolding installed
 installed_good row state ready = after_driving (registering row state) ready
 
-deleted_good : (shelf : ℕ) (state : ToolkitState) → IsReady (deleted shelf state).state → IsGood (deleted shelf state).state
-unfolding deleted
+deleted_good : (shelf : ℕ) (state : ToolkitState) → IsReady (row_deleted shelf state).state → IsGood (row_deleted shelf state).state
+unfolding row_deleted
 deleted_good shelf state ready = after_driving (unregistering shelf state) ready
 
 fetched_late : (out : Outstanding) (state : ToolkitState) → (fetched out state).state.session.late ≡ state.session.late
@@ -269,7 +269,7 @@ woken_good : (rows : List Registration) (minds : List (Option AppletState)) → 
 unfolding woken
 woken_good rows minds ready = record { ready = ready; suspends = All-nil (λ trigger. is_idle (asks (woken rows minds).session) trigger.shelf ≡ false); behind = λ none. refl }
 
-good_if_ready : (command : Command) (state : ToolkitState) → IsAccepted command state → IsGood state → IsReady (moved command state).state → IsGood (moved command state).state
+good_if_ready : (command : ToolkitInput) (state : ToolkitState) → IsAccepted command state → IsGood state → IsReady (moved command state).state → IsGood (moved command state).state
 good_if_ready (Profile bytes) state accepted good ready = profiled_good bytes state ready
 good_if_ready Status state accepted good ready = polled_good state ready
 good_if_ready (Report envelope) state accepted good ready = enveloped_good envelope state ready
@@ -279,7 +279,7 @@ good_if_ready (Install row) state accepted good ready = installed_good row state
 good_if_ready (Delete shelf) state accepted good ready = deleted_good shelf state ready
 good_if_ready (Wake rows minds) state accepted good ready = woken_good rows minds ready
 
-pub stays_good : HasLaws → (command : Command) (state : ToolkitState) → IsAccepted command state → IsGood state → IsGood (moved command state).state
+pub stays_good : HasLaws → (command : ToolkitInput) (state : ToolkitState) → IsAccepted command state → IsGood state → IsGood (moved command state).state
 stays_good laws command state accepted good = good_if_ready command state accepted good (command_moves laws anything command state accepted tt good).ready
 
 -- ---- several commands
@@ -288,7 +288,7 @@ pub record Run (R : ToolkitState → Passed → Type 0) (state : ToolkitState) (
   pub moved : R state passed
   pub good : IsGood passed.state
 
-pub commands_move : HasLaws → {R : ToolkitState → Passed → Type 0} → IsStepping Freely R → (commands : List Command) (state : ToolkitState) → AreAccepted commands state → IsGood state → Run R state (moved_by commands state)
+pub commands_move : HasLaws → {R : ToolkitState → Passed → Type 0} → IsStepping Freely R → (commands : List ToolkitInput) (state : ToolkitState) → AreAccepted commands state → IsGood state → Run R state (moved_by commands state)
 commands_move laws is [] state accepted good = record { moved = is.still state; good = good }
 commands_move laws is (command ∷ others) state accepted good =
     let step = moved command state in

@@ -10,7 +10,7 @@ use Rattle.toolkit_model.specs.Sessions.{Sent}
 use Rattle.toolkit_model.specs.Orderly.{asks, IsSuspended}
 use Rattle.toolkit_model.specs.Passing.{ToolkitState}
 use Rattle.toolkit_model.specs.Driving.{is_idle, driven}
-use Rattle.toolkit_model.specs.Steps.{Command, AreAccepted, moved_by, HasMind}
+use Rattle.toolkit_model.specs.Steps.{ToolkitInput, AreAccepted, moved_by, HasMind}
 use Rattle.toolkit_model.specs.OrderlySessions.{IsInOrder, IsDriven}
 use Rattle.toolkit_model.proofs.Ordered.{there_code}
 use Rattle.toolkit_model.proofs.Stepping.{HasLaws, AreSuspended}
@@ -44,7 +44,7 @@ order_from state good = record {
   minds = all_unmapped (HasMind state.minds) (λ row. row.shelf) state.rows good.ready.minds;
 }
 
-pub stay_in_order : HasLaws → (commands : List Command) (state : ToolkitState) → IsInOrder state → AreAccepted commands state → IsInOrder (moved_by commands state).state
+pub stay_in_order : HasLaws → (commands : List ToolkitInput) (state : ToolkitState) → IsInOrder state → AreAccepted commands state → IsInOrder (moved_by commands state).state
 stay_in_order laws commands state is accepted = order_from (moved_by commands state).state (commands_move laws anything commands state accepted (good_from state is)).good
 
 pub driving_is_done : (state : ToolkitState) → IsDriven (driven state).state.session

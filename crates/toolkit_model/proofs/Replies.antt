@@ -18,7 +18,7 @@ use Rattle.toolkit_model.specs.Passing.{ToolkitState, ShelfTurn, Happening, Woke
 use Rattle.toolkit_model.specs.Running.{run_of_row, sending}
 use Rattle.toolkit_model.specs.Driving.{is_idle, with_session, running, first_idle}
 use Rattle.toolkit_model.specs.Commands.{with_profile, unanswered, fetched, resumed, with_nothing_out, answered, unregistering, woken}
-use Rattle.toolkit_model.specs.Steps.{HasMind, Command, AreAccepted, moved_by}
+use Rattle.toolkit_model.specs.Steps.{HasMind, ToolkitInput, AreAccepted, moved_by}
 use Rattle.toolkit_model.specs.OrderlySessions.{IsInOrder}
 use Rattle.toolkit_model.specs.Turns.{IsInner, IsCommit}
 use Rattle.toolkit_model.specs.Awaiting.{Awaits, Nothing, Answer, Telling, awaited, IsNoResponse, IsTold, asked_by, awaits_after, OnTurn, OnReply, is_owner, ReachesWhoAsked}
@@ -313,6 +313,6 @@ reaching shelf = record {
   wakes = λ state rows minds free. woken_reaches shelf rows minds;
 }
 
-pub responses_reach : HasLaws → (commands : List Command) (state : ToolkitState) (shelf : ℕ) → IsInOrder state → AreAccepted commands state
+pub responses_reach : HasLaws → (commands : List ToolkitInput) (state : ToolkitState) (shelf : ℕ) → IsInOrder state → AreAccepted commands state
     → ReachesWhoAsked shelf (awaited shelf (asks state.session)) (moved_by commands state).log (awaited shelf (asks (moved_by commands state).state.session))
 responses_reach laws commands state shelf is accepted = (commands_move laws (reaching shelf) commands state accepted (good_from state is)).moved

@@ -19,7 +19,7 @@ use Rattle.toolkit_model.specs.Passing.{ToolkitState}
 use Rattle.toolkit_model.specs.Order.{is_for}
 use Rattle.toolkit_model.specs.Registry.{item_of, menu_of}
 use Rattle.toolkit_model.specs.Running.{putting_out}
-use Rattle.toolkit_model.specs.Driving.{download_codes, events_for, menu_title, half_a_minute, or_else, if_allowed, event_list_wanted, menu_wanted, polling_wanted, wanted, announcing, front_out, next_out, filled, settled}
+use Rattle.toolkit_model.specs.Driving.{download_codes, events_for, menu_title, half_a_minute, or_else, if_allowed, event_list_wanted, menu_wanted, polling_wanted, wanted, announcing, front_out, next_out, filled, session_filled}
 use Rattle.toolkit_model.specs.Steps.{AreRows}
 use Rattle.toolkit_model.proofs.Ready.{IsReady}
 
@@ -135,8 +135,8 @@ filled_ready short rows session (Some out) is are underway = underway
 filled_ready short rows session None is are underway =
     next_ready rows session (wanted session.profile rows session.announced) is (wanted_sent short session.profile rows session.announced are) underway
 
-pub settled_ready : ShortFits → (state : ToolkitState) → IsReady state → IsReady (settled state)
-unfolding settled
+pub settled_ready : ShortFits → (state : ToolkitState) → IsReady state → IsReady (session_filled state)
+unfolding session_filled
 settled_ready short state ready = record { underway = filled_ready short state.rows state.session state.session.out refl ready.rows_are ready.underway; rows_are = ready.rows_are; minds = ready.minds }
 
 -- commands wait only behind an outstanding one
@@ -155,8 +155,8 @@ filled_behind : (rows : List Registration) (session : SessionState) (out : Optio
 filled_behind rows session (Some out) is = λ none. cc
 filled_behind rows session None is = next_behind session (wanted session.profile rows session.announced)
 
-pub settled_behind : (state : ToolkitState) → WaitsBehind (settled state).session
-unfolding settled
+pub settled_behind : (state : ToolkitState) → WaitsBehind (session_filled state).session
+unfolding session_filled
 settled_behind state = filled_behind state.rows state.session state.session.out refl
 
 -- the same applets ask, and the same triggers are late
@@ -172,8 +172,8 @@ filled_asks : (rows : List Registration) (session : SessionState) (out : Option 
 filled_asks rows session (Some out) is = refl
 filled_asks rows session None is = next_asks session (wanted session.profile rows session.announced) is
 
-pub settled_asks : (state : ToolkitState) → asks (settled state).session ≡ asks state.session
-unfolding settled
+pub settled_asks : (state : ToolkitState) → asks (session_filled state).session ≡ asks state.session
+unfolding session_filled
 settled_asks state = filled_asks state.rows state.session state.session.out refl
 
 front_late : (session : SessionState) (waiting : List Sent) → (front_out waiting session).late ≡ session.late
@@ -188,6 +188,6 @@ filled_late : (rows : List Registration) (session : SessionState) (out : Option 
 filled_late rows session (Some out) = refl
 filled_late rows session None = next_late session (wanted session.profile rows session.announced)
 
-pub settled_late : (state : ToolkitState) → (settled state).session.late ≡ state.session.late
-unfolding settled
+pub settled_late : (state : ToolkitState) → (session_filled state).session.late ≡ state.session.late
+unfolding session_filled
 settled_late state = filled_late state.rows state.session state.session.out

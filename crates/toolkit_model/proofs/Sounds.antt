@@ -33,7 +33,7 @@ use Rattle.toolkit_model.specs.Sessions.{Outstanding, LateTrigger}
 use Rattle.toolkit_model.specs.Passing.{ToolkitState, Happening, Committed, Passed, noting, rows_in, passed_rows}
 use Rattle.toolkit_model.specs.Registry.{faulty_if, is_on, is_taken, is_menu_full, last_sequence, is_answered, is_registered, without_row, with_changed, with_code, without_code, with_kept, registers, deregisters}
 use Rattle.toolkit_model.specs.Running.{Setting, Works, Carried, Ran, is_admitted, admitted, is_held_by, carried, changing, taking, committed, going_on, run_on, most_acts, setting_of, works_of, mind_on, run_of_mind, run_of_row}
-use Rattle.toolkit_model.specs.Driving.{running, settled}
+use Rattle.toolkit_model.specs.Driving.{running, session_filled}
 use Rattle.toolkit_model.specs.Commands.{fetched, resumed, with_nothing_out, answered, registering, unregistering, woken_box, woken, woken_boxes}
 use Rattle.toolkit_model.specs.Steps.{AreRows, Install, IsAccepted, moved}
 use Rattle.toolkit_model.specs.Kinds.{AreOfKinds, IsOfKinds}
@@ -323,8 +323,8 @@ module _ (wide : Bool) (next : ℕ) where
   running_stands : SameKind → (trigger : LateTrigger) (state : ToolkitState) → Stands state → StandsAfter (running trigger state)
   running_stands same trigger state stands = run_stands same trigger.shelf (Event trigger.code trigger.body) false state stands
 
-  settled_stands : (state : ToolkitState) → Stands state → Stands (settled state)
-  unfolding settled
+  settled_stands : (state : ToolkitState) → Stands state → Stands (session_filled state)
+  unfolding session_filled
   settled_stands state stands = record { rows = stands.rows; shelves = stands.shelves; kinds = stands.kinds }
 
   fetched_stands : (out : Outstanding) (state : ToolkitState) → Stands state → StandsAfter (fetched out state)
@@ -436,7 +436,7 @@ module _ (wide : Bool) (next : ℕ) where
         record { state = after.state; commits = after.commits };
     given_late = λ state trigger ready busy stands. record { state = same_stands state _ refl refl stands; commits = All-nil Sound };
     caught = λ state found ready first stands. running_stands same found.0 _ (same_stands state _ refl refl stands);
-    settles = λ state ready stands. quiet (settled state) (settled_stands state stands);
+    settles = λ state ready stands. quiet (session_filled state) (settled_stands state stands);
     profiles = λ state bytes stands. quiet _ (same_stands state _ refl refl stands);
     reports = λ state code stands. quiet _ (same_stands state _ refl refl stands);
     fetches = λ state out ready is stands. fetched_stands out state stands;

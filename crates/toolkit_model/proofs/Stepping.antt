@@ -11,9 +11,9 @@ use Rattle.applet_trait.specs.Minds.{AppletState}
 use Rattle.toolkit_model.specs.Sessions.{Outstanding, Sent, LateTrigger}
 use Rattle.toolkit_model.specs.Orderly.{IsRegistered, asks}
 use Rattle.toolkit_model.specs.Passing.{ToolkitState, Given, Woke, Passed, unmoved, noting, before, in_turn}
-use Rattle.toolkit_model.specs.Driving.{is_idle, with_session, running, kept_late, told_if, given_if, trigger_for, told_one, given_one, first_idle, catching, caught_up, settled, driven}
+use Rattle.toolkit_model.specs.Driving.{is_idle, with_session, running, kept_late, told_if, given_if, trigger_for, told_one, given_one, first_idle, catching, caught_up, session_filled, driven}
 use Rattle.toolkit_model.specs.Commands.{with_profile, forgetting, unfetched, fetched, unanswered, answered, registering, unregistering, woken}
-use Rattle.toolkit_model.specs.Steps.{Command, Install, Wake, IsAccepted, moved}
+use Rattle.toolkit_model.specs.Steps.{ToolkitInput, Install, Wake, IsAccepted, moved}
 use Rattle.toolkit_model.proofs.Logs.{AnyNumber, SendsProper}
 use Rattle.toolkit_model.proofs.Ready.{IsReady, run_is, run_ready, shelves_of, placed_now}
 use Rattle.toolkit_model.proofs.Late.{taken_out, late_asks, kept_ready, caught_ready}
@@ -35,12 +35,12 @@ abbrev pub IsOwn : ℕ → Type 0
 IsOwn code = (code ≡ PROFILE_DOWNLOAD) ⊎ (code ≡ STATUS_COMMAND)
 
 -- whatever a command brings
-abbrev pub Freely : Command → Type 0
+abbrev pub Freely : ToolkitInput → Type 0
 Freely command = Unit {0}
 
 -- Where a command brings such a row or such rows and applets, what holds of a step: of each smallest one, and of two that follow
 -- one another.
-pub record IsStepping (Brings : Command → Type 0) (R : ToolkitState → Passed → Type 0) : Type 0 where
+pub record IsStepping (Brings : ToolkitInput → Type 0) (R : ToolkitState → Passed → Type 0) : Type 0 where
   pub still : (state : ToolkitState) → R state (unmoved state)
   pub joined : (state : ToolkitState) (first second : Passed) → R state first → R first.state second → R state (noting first.log second)
   pub ran : (state : ToolkitState) (trigger : LateTrigger) → IsReady state → is_idle (asks state.session) trigger.shelf ≡ true → IsRegistered state.rows trigger.shelf → IsOwn trigger.code → R state (running trigger state)
@@ -50,7 +50,7 @@ pub record IsStepping (Brings : Command → Type 0) (R : ToolkitState → Passed
       → R state (noting (Given trigger ∷ []) (kept_late trigger state))
   pub caught : (state : ToolkitState) (found : LateTrigger × List LateTrigger) → IsReady state → first_idle (asks state.session) state.session.late ≡ Some found
       → R state (running found.0 (with_session state (record state.session { late = found.1 })))
-  pub settles : (state : ToolkitState) → IsReady state → R state (unmoved (settled state))
+  pub settles : (state : ToolkitState) → IsReady state → R state (unmoved (session_filled state))
   pub profiles : (state : ToolkitState) (bytes : List ℕ) → R state (unmoved (with_profile state bytes))
   pub reports : (state : ToolkitState) (code : ℕ) → R state (unmoved (with_session state (forgetting code state.session)))
   pub fetches : (state : ToolkitState) (out : Outstanding) → IsReady state → unfetched state.session ≡ Some out → R state (fetched out state)
@@ -72,7 +72,7 @@ run_shelves state trigger ready registered =
     let run = run_is trigger.shelf (Event trigger.code trigger.body) false state in
     (run.placed (shelves_of state) registered (placed_now state ready)).shelves_are
 
-told_moves : HasLaws → {Brings : Command → Type 0} {R : ToolkitState → Passed → Type 0} → IsStepping Brings R → (trigger : LateTrigger) (state : ToolkitState) (b : Bool) → is_idle (asks state.session) trigger.shelf ≡ b
+told_moves : HasLaws → {Brings : ToolkitInput → Type 0} {R : ToolkitState → Passed → Type 0} → IsStepping Brings R → (trigger : LateTrigger) (state : ToolkitState) (b : Bool) → is_idle (asks state.session) trigger.shelf ≡ b
     → IsReady state → IsRegistered state.rows trigger.shelf → IsOwn trigger.code → Moves R state (told_if b trigger state)
 told_moves laws is trigger state true idle ready registered own = record {
   moved = is.ran state trigger ready idle registered own;
@@ -81,7 +81,7 @@ told_moves laws is trigger state true idle ready registered own = record {
 }
 told_moves laws is trigger state false idle ready registered own = record { moved = is.still state; ready = ready; shelves = refl }
 
-pub told_one_moves : HasLaws → {Brings : Command → Type 0} {R : ToolkitState → Passed → Type 0} → IsStepping Brings R → (code : ℕ) (body : List ℕ) (shelf : ℕ) (state : ToolkitState)
+pub told_one_moves : HasLaws → {Brings : ToolkitInput → Type 0} {R : ToolkitState → Passed → Type 0} → IsStepping Brings R → (code : ℕ) (body : List ℕ) (shelf : ℕ) (state : ToolkitState)
     → IsReady state → IsRegistered state.rows shelf → IsOwn code → Moves R state (told_one code body shelf state)
 unfolding told_one
 told_one_moves laws is code body shelf state ready registered own = told_moves laws is (trigger_for code body shelf) state (is_idle (asks state.session) shelf) refl ready registered own
@@ -90,7 +90,7 @@ moved_registered : (state after : ToolkitState) (shelves : List ℕ) → shelves
 moved_registered state after shelves same = subst (λ (there : List ℕ). All (Contains there) shelves) (sym same)
 
 -- several are told
-pub told_all_move : HasLaws → {Brings : Command → Type 0} {R : ToolkitState → Passed → Type 0} → IsStepping Brings R → (code : ℕ) (body : List ℕ) (shelves : List ℕ) (state : ToolkitState)
+pub told_all_move : HasLaws → {Brings : ToolkitInput → Type 0} {R : ToolkitState → Passed → Type 0} → IsStepping Brings R → (code : ℕ) (body : List ℕ) (shelves : List ℕ) (state : ToolkitState)
     → IsReady state → All (IsRegistered state.rows) shelves → IsOwn code → Moves R state (in_turn (told_one code body) shelves state)
 told_all_move laws is code body [] state ready registered own = record { moved = is.still state; ready = ready; shelves = refl }
 told_all_move laws is code body (shelf ∷ others) state ready registered own =
@@ -121,7 +121,7 @@ idle_others asked shelf others idle = ap (λ (idle : Bool). cond (not idle) (she
 busy_others : (asked : List Sent) (shelf : ℕ) (others : List ℕ) → is_idle asked shelf ≡ false → suspended asked (shelf ∷ others) ≡ shelf ∷ suspended asked others
 busy_others asked shelf others busy = ap (λ (idle : Bool). cond (not idle) (shelf ∷ suspended asked others) (suspended asked others)) busy
 
-given_idle : HasLaws → {Brings : Command → Type 0} {R : ToolkitState → Passed → Type 0} → IsStepping Brings R → (trigger : LateTrigger) (others : List ℕ) (state : ToolkitState) → is_idle (asks state.session) trigger.shelf ≡ true
+given_idle : HasLaws → {Brings : ToolkitInput → Type 0} {R : ToolkitState → Passed → Type 0} → IsStepping Brings R → (trigger : LateTrigger) (others : List ℕ) (state : ToolkitState) → is_idle (asks state.session) trigger.shelf ≡ true
     → IsReady state → AreSuspended state → IsRegistered state.rows trigger.shelf → All (λ other. trigger.shelf ≢ other) others → HasPlaces state (trigger.shelf ∷ others)
     → Gives R others state (noting (Given trigger ∷ []) (running trigger state))
 given_idle laws is trigger others state idle ready suspends registered apart places =
@@ -142,7 +142,7 @@ given_idle laws is trigger others state idle ready suspends registered apart pla
       places = omega (arith, ap length late, ap length still, ap length fewer, places);
     }
 
-given_busy : HasLaws → {Brings : Command → Type 0} {R : ToolkitState → Passed → Type 0} → IsStepping Brings R → (trigger : LateTrigger) (others : List ℕ) (state : ToolkitState) → is_idle (asks state.session) trigger.shelf ≡ false
+given_busy : HasLaws → {Brings : ToolkitInput → Type 0} {R : ToolkitState → Passed → Type 0} → IsStepping Brings R → (trigger : LateTrigger) (others : List ℕ) (state : ToolkitState) → is_idle (asks state.session) trigger.shelf ≡ false
     → IsReady state → AreSuspended state → IsRegistered state.rows trigger.shelf → HasPlaces state (trigger.shelf ∷ others)
     → Gives R others state (noting (Given trigger ∷ []) (kept_late trigger state))
 given_busy laws is trigger others state busy ready suspends registered places =
@@ -161,13 +161,13 @@ given_busy laws is trigger others state busy ready suspends registered places =
       places = omega (arith, longer, ap length more, ap (λ (asked : List Sent). length (suspended asked others)) asked, places);
     }
 
-given_either : HasLaws → {Brings : Command → Type 0} {R : ToolkitState → Passed → Type 0} → IsStepping Brings R → (trigger : LateTrigger) (others : List ℕ) (state : ToolkitState) (b : Bool) → is_idle (asks state.session) trigger.shelf ≡ b
+given_either : HasLaws → {Brings : ToolkitInput → Type 0} {R : ToolkitState → Passed → Type 0} → IsStepping Brings R → (trigger : LateTrigger) (others : List ℕ) (state : ToolkitState) (b : Bool) → is_idle (asks state.session) trigger.shelf ≡ b
     → IsReady state → AreSuspended state → IsRegistered state.rows trigger.shelf → All (λ other. trigger.shelf ≢ other) others → HasPlaces state (trigger.shelf ∷ others)
     → Gives R others state (noting (Given trigger ∷ []) (given_if b trigger state))
 given_either laws is trigger others state true idle ready suspends registered apart places = given_idle laws is trigger others state idle ready suspends registered apart places
 given_either laws is trigger others state false busy ready suspends registered apart places = given_busy laws is trigger others state busy ready suspends registered places
 
-given_one_moves : HasLaws → {Brings : Command → Type 0} {R : ToolkitState → Passed → Type 0} → IsStepping Brings R → (code : ℕ) (body : List ℕ) (shelf : ℕ) (others : List ℕ) (state : ToolkitState)
+given_one_moves : HasLaws → {Brings : ToolkitInput → Type 0} {R : ToolkitState → Passed → Type 0} → IsStepping Brings R → (code : ℕ) (body : List ℕ) (shelf : ℕ) (others : List ℕ) (state : ToolkitState)
     → IsReady state → AreSuspended state → IsRegistered state.rows shelf → All (λ other. shelf ≢ other) others → HasPlaces state (shelf ∷ others)
     → Gives R others state (given_one code body shelf state)
 unfolding given_one
@@ -179,7 +179,7 @@ pub record GaveAll (R : ToolkitState → Passed → Type 0) (state : ToolkitStat
   pub moves : Moves R state passed
   pub suspends : AreSuspended passed.state
 
-pub given_all_move : HasLaws → {Brings : Command → Type 0} {R : ToolkitState → Passed → Type 0} → IsStepping Brings R → (code : ℕ) (body : List ℕ) (shelves : List ℕ) (state : ToolkitState)
+pub given_all_move : HasLaws → {Brings : ToolkitInput → Type 0} {R : ToolkitState → Passed → Type 0} → IsStepping Brings R → (code : ℕ) (body : List ℕ) (shelves : List ℕ) (state : ToolkitState)
     → IsReady state → AreSuspended state → All (IsRegistered state.rows) shelves → AllPairs (λ a b. a ≢ b) shelves → HasPlaces state shelves
     → GaveAll R state (in_turn (given_one code body) shelves state)
 given_all_move laws is code body [] state ready suspends registered apart places =
@@ -200,7 +200,7 @@ given_all_move laws is code body (shelf ∷ others) state ready suspends registe
 
 -- ---- driving
 
-caught_moves : HasLaws → {Brings : Command → Type 0} {R : ToolkitState → Passed → Type 0} → IsStepping Brings R → (state : ToolkitState) (found : LateTrigger × List LateTrigger) → first_idle (asks state.session) state.session.late ≡ Some found
+caught_moves : HasLaws → {Brings : ToolkitInput → Type 0} {R : ToolkitState → Passed → Type 0} → IsStepping Brings R → (state : ToolkitState) (found : LateTrigger × List LateTrigger) → first_idle (asks state.session) state.session.late ≡ Some found
     → IsReady state → IsReady (running found.0 (with_session state (record state.session { late = found.1 }))).state
 caught_moves laws is state found first ready =
     let left = with_session state (record state.session { late = found.1 }) in
@@ -214,7 +214,7 @@ pub record Drives (R : ToolkitState → Passed → Type 0) (state : ToolkitState
   pub moved : R state passed
   pub ready : IsReady passed.state
 
-catching_moves : HasLaws → {Brings : Command → Type 0} {R : ToolkitState → Passed → Type 0} → IsStepping Brings R → (next : ToolkitState → Passed) (state : ToolkitState) (found : Option (LateTrigger × List LateTrigger))
+catching_moves : HasLaws → {Brings : ToolkitInput → Type 0} {R : ToolkitState → Passed → Type 0} → IsStepping Brings R → (next : ToolkitState → Passed) (state : ToolkitState) (found : Option (LateTrigger × List LateTrigger))
     → first_idle (asks state.session) state.session.late ≡ found → IsReady state → ((later : ToolkitState) → IsReady later → Drives R later (next later)) → Drives R state (catching next state found)
 catching_moves laws is next state None first ready more = record { moved = is.still state; ready = ready }
 catching_moves laws is next state (Some found) first ready more =
@@ -222,24 +222,24 @@ catching_moves laws is next state (Some found) first ready more =
     let rest = more step.state (caught_moves laws is state found first ready) in
     record { moved = is.joined state step (next step.state) (is.caught state found ready first) rest.moved; ready = rest.ready }
 
-pub caught_up_moves : HasLaws → {Brings : Command → Type 0} {R : ToolkitState → Passed → Type 0} → IsStepping Brings R → (count : ℕ) (state : ToolkitState) → IsReady state → Drives R state (caught_up count state)
+pub caught_up_moves : HasLaws → {Brings : ToolkitInput → Type 0} {R : ToolkitState → Passed → Type 0} → IsStepping Brings R → (count : ℕ) (state : ToolkitState) → IsReady state → Drives R state (caught_up count state)
 unfolding caught_up
 caught_up_moves laws is zero state ready = record { moved = is.still state; ready = ready }
 caught_up_moves laws is (suc count) state ready =
     catching_moves laws is (caught_up count) state (first_idle (asks state.session) state.session.late) refl ready (caught_up_moves laws is count)
 
-pub driven_moves : HasLaws → {Brings : Command → Type 0} {R : ToolkitState → Passed → Type 0} → IsStepping Brings R → (state : ToolkitState) → IsReady state → Drives R state (driven state)
+pub driven_moves : HasLaws → {Brings : ToolkitInput → Type 0} {R : ToolkitState → Passed → Type 0} → IsStepping Brings R → (state : ToolkitState) → IsReady state → Drives R state (driven state)
 unfolding driven
 driven_moves laws is state ready =
     let first = caught_up (length state.session.late) state in
     let caught = caught_up_moves laws is (length state.session.late) state ready in
     record {
-      moved = is.joined state first (unmoved (settled first.state)) caught.moved (is.settles first.state caught.ready);
+      moved = is.joined state first (unmoved (session_filled first.state)) caught.moved (is.settles first.state caught.ready);
       ready = settled_ready laws.short first.state caught.ready;
     }
 
 -- a step and then driving
-pub and_driven : HasLaws → {Brings : Command → Type 0} {R : ToolkitState → Passed → Type 0} → IsStepping Brings R → (state : ToolkitState) (first : Passed) → R state first → IsReady first.state → Drives R state (before first driven)
+pub and_driven : HasLaws → {Brings : ToolkitInput → Type 0} {R : ToolkitState → Passed → Type 0} → IsStepping Brings R → (state : ToolkitState) (first : Passed) → R state first → IsReady first.state → Drives R state (before first driven)
 and_driven laws is state first moved ready =
     let rest = driven_moves laws is first.state ready in
     record { moved = is.joined state first (driven first.state) moved rest.moved; ready = rest.ready }

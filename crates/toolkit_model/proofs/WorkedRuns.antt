@@ -10,7 +10,7 @@ use Rattle.applet_trait.specs.declared.stimuli.Stimulus.TheVariants.{Event}
 use Rattle.applet_trait.specs.declared.stimuli.Act.{Act}
 use Rattle.applet_trait.specs.declared.stimuli.Act.TheVariants.{Done, Send}
 use Rattle.applet_trait.specs.Minds.{fresh}
-use Rattle.applet_trait.specs.Tables.{number_of, row_from}
+use Rattle.applet_trait.specs.Tables.{address_digits, row_from}
 use Rattle.applet_trait.specs.Turns.{act}
 use Rattle.toolkit_model.specs.Sessions.{Sent, fresh_session}
 use Rattle.toolkit_model.specs.Passing.{ToolkitState, Passed, turns}
@@ -48,25 +48,25 @@ shows = 0x41 ∷ 0x01 ∷ 0x41 ∷ 0x45 ∷ 0x01 ∷ 0x42 ∷ []
 -- a run that STATUS began sends, and the command waits
 sends_at_status :
     CameTo (run_of_row 6 (Event 0x41 []) false (card able shows)) ((Send (DisplayText (0x41 ∷ [])), true) ∷ []) (record { shelf = 6; command = DisplayText (0x41 ∷ []) } ∷ [])
-unfolding act number_of row_from allowed consulted tagged run_on run_of_row
+unfolding act address_digits row_from allowed consulted tagged run_on run_of_row
 sends_at_status = record { all = refl; waiting = refl }
 
 -- one that call control began doesn't: the applet is refused, and nothing waits
 is_refused_in_a_call :
     CameTo (run_of_row 6 (Event 0x45 []) false (card able shows)) ((Send (DisplayText (0x42 ∷ [])), false) ∷ (Done, false) ∷ []) []
-unfolding act number_of row_from allowed consulted tagged run_on run_of_row
+unfolding act address_digits row_from allowed consulted tagged run_on run_of_row
 is_refused_in_a_call = record { all = refl; waiting = refl }
 
 -- nor one without a terminal profile
 is_refused_without_a_profile :
     CameTo (run_of_row 6 (Event 0x41 []) false (card None shows)) ((Send (DisplayText (0x41 ∷ [])), false) ∷ (Done, false) ∷ []) []
-unfolding act number_of row_from allowed consulted tagged run_on run_of_row
+unfolding act address_digits row_from allowed consulted tagged run_on run_of_row
 is_refused_without_a_profile = record { all = refl; waiting = refl }
 
 -- nor one with a profile in which the bit of DISPLAY TEXT is clear
 is_refused_without_its_bit :
     CameTo (run_of_row 6 (Event 0x41 []) false (card less_able shows)) ((Send (DisplayText (0x41 ∷ [])), false) ∷ (Done, false) ∷ []) []
-unfolding act number_of row_from allowed consulted tagged run_on run_of_row
+unfolding act address_digits row_from allowed consulted tagged run_on run_of_row
 is_refused_without_its_bit = record { all = refl; waiting = refl }
 
 -- it registers at STATUS, so many times for the same event
@@ -75,7 +75,7 @@ registers_often times = flat_map {X = ℕ} (λ time. 0x41 ∷ 0x07 ∷ 0x03 ∷ 
 
 -- a card keeps 64 bytes at most, a table of 21 rows: such a run ends by itself
 ends_by_itself : length (turns (run_of_row 6 (Event 0x41 []) false (card able (registers_often 21))).log) ≡ 22
-unfolding act number_of row_from allowed consulted tagged run_on run_of_row
+unfolding act address_digits row_from allowed consulted tagged run_on run_of_row
 ends_by_itself = refl
 
 -- A table that no card keeps, being too long, shows where a run ends that doesn't by itself: it registers 33 times, 31 times
@@ -90,5 +90,5 @@ record Has32Acts (passed : Passed) : Type 0 where
   anew : mind_on passed.state.minds 6 ≡ Some (fresh 7 registers)
 
 has_32_acts : Has32Acts (run_of_row 6 (Event 0x41 []) false (card able registers))
-unfolding act number_of row_from allowed consulted tagged run_on run_of_row
+unfolding act address_digits row_from allowed consulted tagged run_on run_of_row
 has_32_acts = record { all = refl; codes = refl; anew = refl }

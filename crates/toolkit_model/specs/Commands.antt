@@ -27,17 +27,17 @@ use Rattle.toolkit_model.specs.Driving.{is_idle, with_session, told_one, given_o
 -- ---- TERMINAL PROFILE and STATUS
 
 -- the applets that are registered for an event of the card's own
-abbrev pub told : ℕ → List ℕ → ToolkitState → Passed
-told code body state = in_turn (told_one code body) (targets state.rows code) state
+abbrev pub each_told : ℕ → List ℕ → ToolkitState → Passed
+each_told code body state = in_turn (told_one code body) (targets state.rows code) state
 
 abbrev pub with_profile : ToolkitState → List ℕ → ToolkitState
 with_profile state bytes = with_session state (record state.session { profile = Some (consulted bytes) })
 
 unfoldable pub profiled : List ℕ → ToolkitState → Passed
-profiled bytes state = before (told PROFILE_DOWNLOAD bytes (with_profile state bytes)) driven
+profiled bytes state = before (each_told PROFILE_DOWNLOAD bytes (with_profile state bytes)) driven
 
 unfoldable pub polled : ToolkitState → Passed
-polled state = before (told STATUS_COMMAND [] state) driven
+polled state = before (each_told STATUS_COMMAND [] state) driven
 
 -- ---- ENVELOPE
 
@@ -134,12 +134,12 @@ unfetched session = if_fetched false session.out
 abbrev pub unanswered : SessionState → Option Outstanding
 unanswered session = if_fetched true session.out
 
-abbrev pub bytes_of : Outstanding → List ℕ
-bytes_of out = spelled out.command out.number
+abbrev pub command_bytes : Outstanding → List ℕ
+command_bytes out = spelled out.command out.number
 
 -- how many bytes there are to fetch
 abbrev pub pending : SessionState → Option ℕ
-pending session = option_map (λ out. length (bytes_of out)) (unfetched session)
+pending session = option_map (λ out. length (command_bytes out)) (unfetched session)
 
 abbrev pub as_fetched : Outstanding → Outstanding
 as_fetched out = record out { is_fetched = true }
@@ -195,8 +195,8 @@ unregistering shelf state =
       log = Committed rows ∷ [];
     }
 
-unfoldable pub deleted : ℕ → ToolkitState → Passed
-deleted shelf state = before (unregistering shelf state) driven
+unfoldable pub row_deleted : ℕ → ToolkitState → Passed
+row_deleted shelf state = before (unregistering shelf state) driven
 
 -- ---- after a reset
 

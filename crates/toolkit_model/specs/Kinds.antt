@@ -6,7 +6,7 @@ use Rattle.applet_trait.specs.Minds.{AppletState}
 use Rattle.toolkit_model.specs.Passing.{ToolkitState}
 use Rattle.toolkit_model.specs.Running.{mind_on}
 use Rattle.toolkit_model.specs.Commands.{woken}
-use Rattle.toolkit_model.specs.Steps.{Command, AreAccepted, moved_by}
+use Rattle.toolkit_model.specs.Steps.{ToolkitInput, AreAccepted, moved_by}
 use Rattle.toolkit_model.specs.OrderlySessions.{IsInOrder}
 use Rattle.toolkit_model.specs.Owing.{is_wake}
 
@@ -20,7 +20,7 @@ IsOfKinds state = AreOfKinds state.rows state.minds
 -- it stays so while no applet wakes
 abbrev pub KindsStay : Type 0
 KindsStay =
-    (commands : List Command) (state : ToolkitState) → IsInOrder state → AreAccepted commands state → list_any is_wake (moved_by commands state).log ≡ false
+    (commands : List ToolkitInput) (state : ToolkitState) → IsInOrder state → AreAccepted commands state → list_any is_wake (moved_by commands state).log ≡ false
     → IsOfKinds state → IsOfKinds (moved_by commands state).state
 
 -- and so it does when all wake

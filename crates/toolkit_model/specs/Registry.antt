@@ -16,9 +16,9 @@ faulty_if true fault next = Err fault
 faulty_if false fault next = next
 
 -- what has to be there
-abbrev pub given : {A B : Type 0} → Option A → RowFault → (A → Result B RowFault) → Result B RowFault
-given None fault next = Err fault
-given (Some x) fault next = next x
+abbrev pub unless_missing : {A B : Type 0} → Option A → RowFault → (A → Result B RowFault) → Result B RowFault
+unless_missing None fault next = Err fault
+unless_missing (Some x) fault next = next x
 
 abbrev pub is_on : ℕ → Registration → Bool
 is_on shelf row = row.shelf == shelf
@@ -46,8 +46,8 @@ last_sequence = 65535
 -- INSTALL: the row of an applet of this kind, or of none, with these data
 abbrev pub installed_row : Persistent → Option ℕ → ℕ → ℕ → List ℕ → Result Registration RowFault
 installed_row state kind shelf priority content =
-    given (installation_of content) BadData (λ installation.
-    given kind NoBox (λ known.
+    unless_missing (installation_of content) BadData (λ installation.
+    unless_missing kind NoBox (λ known.
     let row = new_row state shelf priority known installation in
     faulty_if (needs_wide row && not state.is_wide) Narrow (
     faulty_if (is_taken state.rows row) Taken (
@@ -57,7 +57,7 @@ installed_row state kind shelf priority content =
 
 -- DELETE: the row that goes, if its applet is idle
 abbrev pub deleted_row : List Registration → ℕ → Bool → Result Registration RowFault
-deleted_row rows shelf is_idle = given (row_on rows shelf) NoRow (λ row. faulty_if (not is_idle) NotIdle (Ok row))
+deleted_row rows shelf is_idle = unless_missing (row_on rows shelf) NoRow (λ row. faulty_if (not is_idle) NotIdle (Ok row))
 
 abbrev pub without_row : List Registration → ℕ → List Registration
 without_row rows shelf = filter (λ row. not (is_on shelf row)) rows

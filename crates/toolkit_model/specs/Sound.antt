@@ -9,7 +9,7 @@ use Rattle.toolkit_model.specs.Orderly.{IsOrderly}
 use Rattle.toolkit_model.specs.Passing.{ToolkitState, Passed, passed_rows}
 use Rattle.toolkit_model.specs.Registry.{installed_row}
 use Rattle.toolkit_model.specs.Running.{mind_on}
-use Rattle.toolkit_model.specs.Steps.{Command, Install, Wake, IsAccepted, moved}
+use Rattle.toolkit_model.specs.Steps.{ToolkitInput, Install, Wake, IsAccepted, moved}
 
 -- Rows that a card may keep, as its layout asks: on a wide card or not, with sequence numbers below the next one.
 pub record AreSoundRows (wide : Bool) (next : ℕ) (rows : List Registration) : Type 0 where
@@ -33,7 +33,7 @@ pub record IsGoodToolkit (wide : Bool) (next : ℕ) (state : ToolkitState) : Typ
   pub session : IsOrderly state.rows state.session
 
 -- a row that comes, and rows and applets over which all wake, are such too
-abbrev pub BringsSound : Bool → ℕ → Command → Type 0
+abbrev pub BringsSound : Bool → ℕ → ToolkitInput → Type 0
 BringsSound wide next (Install row) = IsSoundRow wide next row
 BringsSound wide next (Wake rows minds) = IsSoundToolkit wide next rows minds
 BringsSound wide next _ = Unit {0}
@@ -46,7 +46,7 @@ pub record LeavesGood (wide : Bool) (next : ℕ) (passed : Passed) : Type 0 wher
 -- the next sequence number may rise
 abbrev pub StepsLeaveGood : Type 0
 StepsLeaveGood =
-    (wide : Bool) (next later : ℕ) (command : Command) (state : ToolkitState)
+    (wide : Bool) (next later : ℕ) (command : ToolkitInput) (state : ToolkitState)
     → IsGoodToolkit wide next state → next ≤ later → IsAccepted command state → BringsSound wide later command → LeavesGood wide later (moved command state)
 
 -- the row that INSTALL answers, for one of 32 shelves and with a priority of 1 or more, where the applets are of the seven kinds

@@ -11,7 +11,7 @@ use Rattle.toolkit_model.specs.Passing.{ToolkitState, Woke, Passed, in_turn}
 use Rattle.toolkit_model.specs.Registry.{is_taken}
 use Rattle.toolkit_model.specs.Running.{mind_on}
 use Rattle.toolkit_model.specs.Driving.{is_idle}
-use Rattle.toolkit_model.specs.Commands.{profiled, polled, enveloped, is_busy, unfetched, fetched, unanswered, responded, installed, deleted, woken}
+use Rattle.toolkit_model.specs.Commands.{profiled, polled, enveloped, is_busy, unfetched, fetched, unanswered, responded, installed, row_deleted, woken}
 
 -- Rows that a card may have, as far as the toolkit goes: they stand by their shelves, no two sequence numbers are the same, and
 -- the menu has room for their texts.
@@ -23,15 +23,15 @@ pub record AreRows (rows : List Registration) : Type 0 where
 
 -- A command of the handset, with what was read of it, or a wake over rows and applets as they were left: after a reset, and
 -- after a failure of the memory or the power.
-pub data Command : Type 0 where
-  Profile : List ℕ → Command
-  Status : Command
-  Report : Envelope → Command
-  Fetch : Outstanding → Command
-  Respond : Outstanding → Reply → Command
-  Install : Registration → Command
-  Delete : ℕ → Command
-  Wake : List Registration → List (Option AppletState) → Command
+pub data ToolkitInput : Type 0 where
+  Profile : List ℕ → ToolkitInput
+  Status : ToolkitInput
+  Report : Envelope → ToolkitInput
+  Fetch : Outstanding → ToolkitInput
+  Respond : Outstanding → Reply → ToolkitInput
+  Install : Registration → ToolkitInput
+  Delete : ℕ → ToolkitInput
+  Wake : List Registration → List (Option AppletState) → ToolkitInput
 
 -- there is an applet on the shelf
 abbrev pub HasMind : List (Option AppletState) → ℕ → Type 0
@@ -42,7 +42,7 @@ abbrev pub HaveMinds : List Registration → List (Option AppletState) → Type 
 HaveMinds rows minds = All (λ row. HasMind minds row.shelf) rows
 
 -- the command is accepted
-abbrev pub IsAccepted : Command → ToolkitState → Type 0
+abbrev pub IsAccepted : ToolkitInput → ToolkitState → Type 0
 IsAccepted (Profile bytes) state = Unit {0}
 IsAccepted Status state = Unit {0}
 IsAccepted (Report envelope) state = is_busy envelope state ≡ false
@@ -53,20 +53,20 @@ IsAccepted (Delete shelf) state = IsRegistered state.rows shelf × (is_idle (ask
 IsAccepted (Wake rows minds) state = AreRows rows × HaveMinds rows minds
 
 -- what it makes of the state
-abbrev pub moved : Command → ToolkitState → Passed
+abbrev pub moved : ToolkitInput → ToolkitState → Passed
 moved (Profile bytes) state = profiled bytes state
 moved Status state = polled state
 moved (Report envelope) state = enveloped envelope state
 moved (Fetch out) state = fetched out state
 moved (Respond out reply) state = responded out reply state
 moved (Install row) state = installed row state
-moved (Delete shelf) state = deleted shelf state
+moved (Delete shelf) state = row_deleted shelf state
 moved (Wake rows minds) state = record { state = woken rows minds; log = Woke ∷ [] }
 
 -- commands, one after the other
-abbrev pub AreAccepted : List Command → ToolkitState → Type 0
+abbrev pub AreAccepted : List ToolkitInput → ToolkitState → Type 0
 AreAccepted [] state = Unit {0}
 AreAccepted (command ∷ others) state = IsAccepted command state × AreAccepted others (moved command state).state
 
-abbrev pub moved_by : List Command → ToolkitState → Passed
+abbrev pub moved_by : List ToolkitInput → ToolkitState → Passed
 moved_by commands state = in_turn moved commands state

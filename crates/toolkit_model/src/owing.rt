@@ -1,7 +1,7 @@
 //! No event is lost.
 ghost use Rattle.std.specs.Prelude.{ℕ, List};
 ghost use Rattle.toolkit_model.specs.Passing.{ToolkitState};
-ghost use Rattle.toolkit_model.specs.Steps.{Command, AreAccepted, moved_by};
+ghost use Rattle.toolkit_model.specs.Steps.{ToolkitInput, AreAccepted, moved_by};
 ghost use Rattle.toolkit_model.specs.OrderlySessions.{IsInOrder};
 ghost use Rattle.toolkit_model.specs.Owing.{LosesNothing};
 
@@ -12,7 +12,7 @@ use toolkit_commands::lengths_of_commands;
 /// envelopes gave it is, in this order, what it was told of and what is late for it then. The events of a terminal profile and
 /// of STATUS, of which the card also tells by itself, are left out.
 pub fn no_event_is_lost()
-    ensures { (commands : List Command) (state : ToolkitState) (shelf : ℕ) → IsInOrder state
+    ensures { (commands : List ToolkitInput) (state : ToolkitState) (shelf : ℕ) → IsInOrder state
         → AreAccepted commands state
         → LosesNothing shelf state (moved_by commands state) }
 {

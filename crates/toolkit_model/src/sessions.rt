@@ -2,7 +2,7 @@
 ghost use Rattle.std.specs.Prelude.{List};
 ghost use Rattle.toolkit_model.specs.Passing.{ToolkitState};
 ghost use Rattle.toolkit_model.specs.Driving.{driven};
-ghost use Rattle.toolkit_model.specs.Steps.{Command, AreAccepted, moved_by};
+ghost use Rattle.toolkit_model.specs.Steps.{ToolkitInput, AreAccepted, moved_by};
 ghost use Rattle.toolkit_model.specs.OrderlySessions.{IsInOrder, IsDriven};
 
 use applet_trait::commands_are_proper;
@@ -12,7 +12,7 @@ use toolkit_commands::lengths_of_commands;
 /// be sent and is asked by registered applets, late triggers are for applets that wait for an answer and at most 16, timers
 /// belong to registered applets, and without a terminal profile nothing is asked.
 pub fn sessions_stay_in_order()
-    ensures { (commands : List Command) (state : ToolkitState) → IsInOrder state → AreAccepted commands state
+    ensures { (commands : List ToolkitInput) (state : ToolkitState) → IsInOrder state → AreAccepted commands state
         → IsInOrder (moved_by commands state).state }
 {
     lengths_of_commands();

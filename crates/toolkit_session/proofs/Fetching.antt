@@ -5,7 +5,7 @@ use Rattle.std.specs.Option.{option_map}
 use Rattle.toolkit_model.specs.toolkit_commands.declared.commands.Details.{Details}
 use Rattle.toolkit_model.specs.toolkit_commands.Table.{details_of}
 use Rattle.toolkit_model.specs.Sessions.{Outstanding, SessionState}
-use Rattle.toolkit_model.specs.Commands.{if_fetched, unanswered, pending, bytes_of}
+use Rattle.toolkit_model.specs.Commands.{if_fetched, unanswered, pending, command_bytes}
 
 -- ---- how many bytes are to be fetched, and which command is to be answered
 
@@ -18,9 +18,9 @@ mapped_if f true x = refl
 mapped_if f false x = refl
 
 abbrev pub length_of : Outstanding → ℕ
-length_of out = length (bytes_of out)
+length_of out = length (command_bytes out)
 
-pub pending_is : (session : SessionState) (out : Outstanding) → session.out ≡ Some out → pending session ≡ (if out.is_fetched then None else Some (length (bytes_of out)))
+pub pending_is : (session : SessionState) (out : Outstanding) → session.out ≡ Some out → pending session ≡ (if out.is_fetched then None else Some (length (command_bytes out)))
 pending_is session out is = ap (λ (o : Option Outstanding). option_map length_of (if_fetched false o)) is ∙ mapped_unless length_of out.is_fetched out
 
 pub pending_none : (session : SessionState) → session.out ≡ None → pending session ≡ None

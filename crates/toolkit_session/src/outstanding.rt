@@ -3,7 +3,7 @@ ghost use Rattle.std.specs.Prelude.{◌≡◌, ◌==◌, false, length, if◌the
 ghost use Rattle.std.specs.List.{list_any};
 ghost use Rattle.toolkit_model.specs.toolkit_commands.Table.{details_of as details_of_command};
 ghost use Rattle.toolkit_model.specs.Orderly.{CanBeSent, sent_by};
-ghost use Rattle.toolkit_model.specs.Commands.{bytes_of, as_fetched};
+ghost use Rattle.toolkit_model.specs.Commands.{command_bytes, as_fetched};
 ghost use Rattle.kept_triggers.specs.Commands.{command_of};
 ghost use Rattle.toolkit_session.specs.Spelled.{IsSpelled, shelf_of};
 
@@ -88,7 +88,7 @@ impl Outstanding {
 
     /// How many bytes there are to fetch, where the handset didn't fetch them yet.
     pub(crate) fn unfetched(&self) -> Option<u8>
-        ensures { result ≡ (if self.now.is_fetched then None else Some (length (bytes_of self.now))) }
+        ensures { result ≡ (if self.now.is_fetched then None else Some (length (command_bytes self.now))) }
     {
         if self.is_fetched {
             None
@@ -111,7 +111,7 @@ impl Outstanding {
 
     /// Answers its bytes, and is fetched then.
     pub(crate) fn fetch(&mut self, answer: &mut Answer)
-        ensures body { answer.new.body ≡ bytes_of self.old }
+        ensures body { answer.new.body ≡ command_bytes self.old }
         ensures status { answer.new.status ≡ StatusWord.DONE }
         ensures state { self.new ≡ as_fetched self.old }
     {

@@ -7,7 +7,7 @@ ghost use Rattle.toolkit_model.specs.toolkit_commands.Table.{details_of};
 ghost use Rattle.toolkit_model.specs.Sessions.{fresh_session};
 ghost use Rattle.toolkit_model.specs.Orderly.{asks, owned};
 ghost use Rattle.toolkit_model.specs.Driving.{is_idle};
-ghost use Rattle.toolkit_model.specs.Commands.{is_reported_once, forgetting, late_places, unfetched, unanswered, pending, bytes_of, as_fetched};
+ghost use Rattle.toolkit_model.specs.Commands.{is_reported_once, forgetting, late_places, unfetched, unanswered, pending, command_bytes, as_fetched};
 ghost use Rattle.toolkit_session.specs.Spelled.{shelf_of};
 
 use crate::announced::Announced;
@@ -151,7 +151,7 @@ impl Session {
     /// FETCH: answers the bytes of the outstanding command with `9000`, and marks it fetched.
     pub fn fetch(&mut self, out: &mut Answer)
         requires { is_some (unfetched self.old) ≡ true }
-        ensures body { IfSome (unfetched self.old) (λ command. out.new.body ≡ bytes_of command) }
+        ensures body { IfSome (unfetched self.old) (λ command. out.new.body ≡ command_bytes command) }
         ensures status { out.new.status ≡ StatusWord.DONE }
         ensures state { IfSome (unfetched self.old) (λ command. self.new
             ≡ record self.old { out = Some (as_fetched command) }) }

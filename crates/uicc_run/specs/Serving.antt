@@ -17,7 +17,7 @@ use Rattle.phone_runs.specs.Effects.{phone_lines}
 use Rattle.phone_runs.specs.Laws.{EndIsOfTheCard, ShowsBegun}
 use Rattle.phone_runs.specs.handset_model.Rules.{asked}
 use Rattle.phone_runs.specs.handset_model.declared.known.Duty.TheVariants.{Rest}
-use Rattle.phone_runs.specs.Logs.{Event, heard, history, lines as lines_of, shown, steps, trace}
+use Rattle.phone_runs.specs.Logs.{Event, heard, history, log_lines, shown, steps, trace}
 use Rattle.phone_runs.specs.Runs.{Beginning, RunEnds, IsPhoneRun}
 use Rattle.phone_runs.specs.Traces.{entries_text}
 use Rattle.card_steps.specs.script_form.declared.lines.ScriptLine.{ScriptLine}
@@ -39,7 +39,7 @@ pub record EndsServing (given : Given) (left : Option (List ℕ)) (end : PlayEnd
   pub log : List Event
   pub machine : Machine
   pub lines_are : IsPlayed given found section played start
-  pub told : lines_of log ≡ phone_lines played
+  pub told : log_lines log ≡ phone_lines played
   pub run : IsPhoneRun (first_machine start given.boxes) log machine
   pub rests : asked (history log) ≡ Rest
   pub legal : IsLegal (heard (phone_lines played)) (trace log)

@@ -1,4 +1,4 @@
-use Rattle.card_sections.proofs.BehindLemmas.{bad_in_script}
+use Rattle.card_sections.proofs.BehindLemmas.{in_script}
 use Rattle.card_sections.proofs.behind.read_behind.Goals as goal
 
 pub returns-in-Ok-true-clause-gives : goal.returns-in-Ok-true-clause-gives
@@ -11,17 +11,6 @@ returns-in-Ok-false-clause-gives g c = λ may text found follows.
     let next = rw c.in-Ok-false.field-0-test at c.in-Ok-false.ensures.next in
     (next text found follows).0
 
-pub returns-in-Err-BadLine-clause-gives : goal.returns-in-Err-BadLine-clause-gives
-returns-in-Err-BadLine-clause-gives g c = λ may text found follows.
-    let next = rw c.in-Err-BadLine.field-0-is at c.in-Err-BadLine.ensures.next in
-    bad_in_script may text found c.next.new.self (g.R.Source.left c.next.new.source) c.next.new.line _ (next text found follows)
-
-pub returns-in-Err-NoRoom-clause-gives : goal.returns-in-Err-NoRoom-clause-gives
-returns-in-Err-NoRoom-clause-gives g c = λ may text found follows.
-    let next = rw c.in-Err-NoRoom.field-0-is at c.in-Err-NoRoom.ensures.next in
-    absurd (next text found follows)
-
-pub returns-in-Err-ReadFailed-clause-gives : goal.returns-in-Err-ReadFailed-clause-gives
-returns-in-Err-ReadFailed-clause-gives g c = λ may text found follows.
-    let next = rw c.in-Err-ReadFailed.field-0-is at c.in-Err-ReadFailed.ensures.next in
-    next text found follows
+pub returns-in-Err-clause-gives : goal.returns-in-Err-clause-gives
+returns-in-Err-clause-gives g c = λ may text found follows.
+    in_script may text found c.next.new.self (g.R.Source.left c.next.new.source) c.next.new.line c.in-Err.fault c.end_for.result c.end_for.ensures (c.in-Err.ensures.next text found follows)

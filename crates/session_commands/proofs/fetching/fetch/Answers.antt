@@ -1,6 +1,6 @@
 use Rattle.std.proofs.Common.{◌≡◌, refl, sym, ◌∙◌, Some}
 use Rattle.file_model.specs.card_layout.Memory.{memory}
-use Rattle.toolkit_model.specs.Commands.{unfetched, as_fetched, bytes_of}
+use Rattle.toolkit_model.specs.Commands.{unfetched, as_fetched, command_bytes}
 use Rattle.toolkit_model.specs.Steps.{Fetch}
 use Rattle.toolkit_model.specs.applet_trait.Minds.{minds_of}
 use Rattle.proactive_handler.specs.Steps.{scene, toolkit}
@@ -21,8 +21,8 @@ returns-in-Ok-clause-carries g c =
     let old = (scene (memory g.S.Store c.args.store.now c.args.loaded.now) c.args.index.now c.args.session.now (minds_of g.B.Applet.mind c.args.cast.now)) in
     done_carries (command_fetched card c.args.command.now) c.fetch.new.out old (scene (memory g.S.Store c.args.store.now c.args.loaded.now) c.args.index.now c.fetch.new.self (minds_of g.B.Applet.mind c.args.cast.now)) tt _
     (fetch_at card c.args.session.now c.unfetched.result c.args.command.now c.in-Ok.field-0 there.0 has.session_is c.unfetched.ensures there.1 goes)
-    (of_some (unfetched c.args.session.now) (λ out. c.fetch.new.out.body ≡ bytes_of out) there.0 there.1 c.fetch.ensures.body) c.fetch.ensures.status
-    (fetched_comes card old c.fetch.new.self (bytes_of there.0) there.0 has
+    (of_some (unfetched c.args.session.now) (λ out. c.fetch.new.out.body ≡ command_bytes out) there.0 there.1 c.fetch.ensures.body) c.fetch.ensures.status
+    (fetched_comes card old c.fetch.new.self (command_bytes there.0) there.0 has
     (of_some (unfetched c.args.session.now) (λ out. c.fetch.new.self ≡ record c.args.session.now { out = Some (as_fetched out) }) there.0 there.1 c.fetch.ensures.state))
 
 pub returns-in-Ok-clause-order : goal.returns-in-Ok-clause-order
