@@ -126,7 +126,8 @@ refused_names card ins status is =
     let told : IsRefusal (told_pending (pending card.session) status) = told_refused (pending card.session) status is in
     record { fetch = λ same done. absurd (false≢true (sym told ∙ done)); response = λ same done. absurd (false≢true (sym told ∙ done)); other = λ no_fetch no_response. tt }
 
-other_if : (result : Result Answered StatusWord) (command : Option ToolkitInput) → LeavesUnanswered command → LeavesUnanswered (if_carried result command)
+-- a command that is carried out or not leaves unanswered what it leaves where it is
+pub other_if : (result : Result Answered StatusWord) (command : Option ToolkitInput) → LeavesUnanswered command → LeavesUnanswered (if_carried result command)
 other_if (Ok answered) command is = is
 other_if (Err status) command is = tt
 

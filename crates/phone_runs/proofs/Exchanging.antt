@@ -19,7 +19,7 @@ use Rattle.handset_model.specs.toolkit_commands.declared.commands.Details.{Detai
 use Rattle.handset_model.specs.toolkit_commands.declared.responses.Response.{Response}
 use Rattle.card_steps.specs.toolkit_model.Commands.{command_bytes, unfetched, unanswered, pending, fetched, responded, reply_to}
 use Rattle.card_steps.specs.toolkit_model.Sessions.{Outstanding}
-use Rattle.card_steps.specs.toolkit_model.Steps.{ToolkitInput, Fetch}
+use Rattle.card_steps.specs.toolkit_model.Steps.{Fetch}
 use Rattle.handset_model.specs.Sending.{response_objects, apdu_of}
 use Rattle.handset_model.specs.History.{announced_by}
 use Rattle.handset_model.specs.declared.commands.Command.{Command}
@@ -40,7 +40,7 @@ use Rattle.card_laws.specs.Fetching.{FetchesGiveCommands}
 use Rattle.card_laws.specs.ToolkitLaws.{EventsGoOn}
 use Rattle.card_laws.specs.Moving.{HasOrder, Answers, if_carried, command_by, taken}
 use Rattle.card_laws.specs.Staying.{LeavesUnanswered, OthersLeaveUnanswered}
-use Rattle.card_laws.proofs.Naming.{report_leaves}
+use Rattle.card_laws.proofs.Naming.{other_if, report_leaves}
 use Rattle.phone_runs.specs.Exchanges.{ResponsesAreRead, CanServe, Announces, AnnouncedCommandsAreFetched, ResponsesAreTaken}
 use Rattle.phone_runs.proofs.Receiving.{past_unless, past_given, instruction_of, parts_of, carried, comes, answer_so, taken_so}
 
@@ -187,10 +187,6 @@ answer_to card command = record { body = (answer card (apdu_of command)).body; s
 abbrev pub next : CardState → Command → CardState
 next card command = (answer card (apdu_of command)).state
 
-other_carried : (came : Result Answered StatusWord) (command : Option ToolkitInput) → LeavesUnanswered command → LeavesUnanswered (if_carried came command)
-other_carried (Ok answered) command leaves = leaves
-other_carried (Err status) command leaves = tt
-
 -- neither FETCH nor TERMINAL RESPONSE
 abbrev pub IsAnother : Command → Type 0
 IsAnother (sent.Fetch size) = ⊥
@@ -198,12 +194,12 @@ IsAnother (sent.Respond details reply) = ⊥
 IsAnother _ = ⊤
 
 another_leaves : (card : CardState) (command : Command) → IsAnother command → LeavesUnanswered (if_carried (carried card command) (command_by (instruction_of command) card (parts_of command)))
-another_leaves card sent.SelectMf another = other_carried (carried card sent.SelectMf) None tt
-another_leaves card sent.SendProfile another = other_carried (carried card sent.SendProfile) (command_by (Toolkit toolkit.TerminalProfile) card (parts_of sent.SendProfile)) tt
+another_leaves card sent.SelectMf another = other_if (carried card sent.SelectMf) None tt
+another_leaves card sent.SendProfile another = other_if (carried card sent.SendProfile) (command_by (Toolkit toolkit.TerminalProfile) card (parts_of sent.SendProfile)) tt
 another_leaves card (sent.Fetch size) another = absurd another
 another_leaves card (sent.Respond details reply) another = absurd another
-another_leaves card (sent.Tell report) another = other_carried (carried card (sent.Tell report)) _ (report_leaves (envelope_of (parts_of (sent.Tell report)).body))
-another_leaves card sent.AskStatus another = other_carried (carried card sent.AskStatus) (command_by (File file.Status) card (parts_of sent.AskStatus)) tt
+another_leaves card (sent.Tell report) another = other_if (carried card (sent.Tell report)) _ (report_leaves (envelope_of (parts_of (sent.Tell report)).body))
+another_leaves card sent.AskStatus another = other_if (carried card sent.AskStatus) (command_by (File file.Status) card (parts_of sent.AskStatus)) tt
 
 -- what is pending is short
 few_pending : (card : CardState) → HasOrder card → IfSome (pending card.session) (λ n. n ≤ 255)
