@@ -1,8 +1,5 @@
 -- What bytes are read as, they are.
-use Rattle.std.proofs.Common.{◌≡◌, ℕ, ◌+◌, ◌<◌, ◌≤◌, suc, Bool, true, false, List, [], ◌∷◌, ◌++◌, length, take, Option, Some, None, refl, sym, ◌∙◌, ap, arith}
-use Rattle.std.specs.Prelude.{◌==◌, ◌≢◌, ◌%◌, if◌then◌else◌, IfSome, option_map, slice_index, drop}
-use Rattle.std.proofs.Math.Nat.{mod-eq_of_lt}
-use Rattle.std.proofs.Math.Seq.{drop-cons}
+use Rattle.std.proofs.Common.{◌≡◌, ℕ, ◌+◌, ◌<◌, ◌≤◌, suc, Bool, true, false, List, [], ◌∷◌, ◌++◌, length, take, Option, Some, None, refl, sym, ◌∙◌, ap, arith, ◌==◌, ◌≢◌, ◌%◌, if◌then◌else◌, IfSome, option_map, slice_index, drop, mod-eq_of_lt, drop-cons}
 use Rattle.std.proofs.lemmas.Bool.{eqb-true, eqb-false}
 use Rattle.std.proofs.lemmas.List.{length-take-le, append-nil, take-append-drop, drop_all}
 use Rattle.uicc_types.specs.Told.{AreBytes}

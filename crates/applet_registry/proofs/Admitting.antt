@@ -1,6 +1,5 @@
 -- What is read of an installation, and the row that comes of it.
-use Rattle.std.proofs.Common.{◌≡◌, ℕ, Bool, true, false, List, Option, Some, None, sym, ◌∙◌, ap}
-use Rattle.std.specs.Prelude.{◌==◌, ◌&&◌, not, Result, Ok, Err}
+use Rattle.std.proofs.Common.{◌≡◌, ℕ, Bool, true, false, List, Option, Some, None, sym, ◌∙◌, ap, ◌==◌, ◌&&◌, not, Result, Ok, Err}
 use Rattle.toolkit_model.specs.card_layout.declared.entries.Row.{Row}
 use Rattle.toolkit_model.specs.card_layout.declared.entries.Loaded.{Loaded}
 use Rattle.toolkit_model.specs.card_layout.declared.installation.Installed.{Installed}

@@ -1,6 +1,5 @@
 -- The targets of rows some of which go or are registered no longer.
-use Rattle.std.proofs.Common.{◌≡◌, refl, sym, ap, ◌∙◌, ℕ, Bool, true, false, ◌||◌, cond, List, [], ◌∷◌, map, filter, arith, subst}
-use Rattle.std.specs.Prelude.{◌≢◌, ◌==◌, not, All, AllPairs}
+use Rattle.std.proofs.Common.{◌≡◌, refl, sym, ap, ◌∙◌, ℕ, Bool, true, false, ◌||◌, cond, List, [], ◌∷◌, map, filter, arith, subst, ◌≢◌, ◌==◌, not, All, AllPairs}
 use Rattle.std.specs.List.{list_any}
 use Rattle.std.proofs.lemmas.Bool.Decides.{nat_tests}
 use Rattle.std.proofs.lemmas.List.Elements.{All-head, All-tail}

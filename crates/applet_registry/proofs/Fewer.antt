@@ -1,6 +1,5 @@
 -- A shelf that is taken out where it stands first.
-use Rattle.std.proofs.Common.{◌≡◌, refl, sym, ap, ◌∙◌, ℕ, suc, ◌+◌, ◌-◌, ◌≤◌, ◌<◌, Bool, true, false, cond, List, [], ◌∷◌, map, remove, length, arith, Option, Some, None, subst}
-use Rattle.std.specs.Prelude.{◌==◌, IfSome}
+use Rattle.std.proofs.Common.{◌≡◌, refl, sym, ap, ◌∙◌, ℕ, suc, ◌+◌, ◌-◌, ◌≤◌, ◌<◌, Bool, true, false, cond, List, [], ◌∷◌, map, remove, length, arith, Option, Some, None, subst, ◌==◌, IfSome}
 use Rattle.std.specs.List.{position_from}
 use Rattle.toolkit_model.specs.uicc_types.declared.identifiers.Shelf.{Shelf}
 use Rattle.applet_registry.specs.Indexes.{left_by}

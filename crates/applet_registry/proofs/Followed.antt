@@ -1,6 +1,5 @@
 -- An index that follows changes of the rows.
-use Rattle.std.proofs.Common.{◌≡◌, refl, sym, ap, ◌∙◌, ⊎_elim, ℕ, Bool, true, false, List, [], ◌∷◌, subst}
-use Rattle.std.specs.Prelude.{◌==◌, ◌&&◌, not, Ok}
+use Rattle.std.proofs.Common.{◌≡◌, refl, sym, ap, ◌∙◌, ⊎_elim, ℕ, Bool, true, false, List, [], ◌∷◌, subst, ◌==◌, ◌&&◌, not, Ok}
 use Rattle.std.proofs.lemmas.Bool.{cases_eq}
 use Rattle.toolkit_model.specs.card_layout.Persistent.{Registration}
 use Rattle.toolkit_model.specs.card_layout.Sections.{is_code}

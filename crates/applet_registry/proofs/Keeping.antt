@@ -1,6 +1,5 @@
 -- What holds of the rows of a card through each of their changes.
-use Rattle.std.proofs.Common.{◌≡◌, refl, sym, ℕ, ◌≤◌, ◌<◌, Bool, cond, List, [], ◌∷◌, map, filter, length, arith, subst}
-use Rattle.std.specs.Prelude.{◌≢◌, ◌==◌, not, All, AllPairs, Contains, count_by}
+use Rattle.std.proofs.Common.{◌≡◌, refl, sym, ℕ, ◌≤◌, ◌<◌, Bool, cond, List, [], ◌∷◌, map, filter, length, arith, subst, ◌≢◌, ◌==◌, not, All, AllPairs, Contains, count_by}
 use Rattle.std.specs.List.{list_any}
 use Rattle.std.proofs.lemmas.List.Elements.{All-filter, All-map, All-weaker, All-contains_itself}
 use Rattle.std.proofs.lemmas.List.Kept.{AllPairs-filter}

@@ -1,6 +1,5 @@
 -- The rows of a table and the registrations that they stand for.
-use Rattle.std.proofs.Common.{◌≡◌, ℕ, suc, ◌+◌, ◌≤◌, Bool, true, false, cond, List, [], ◌∷◌, ◌++◌, append_assoc, length, map, filter, drop, get_or, Option, Some, None, refl, sym, ◌∙◌, ap, arith, drop-cons}
-use Rattle.std.specs.Prelude.{◌↔◌, ◌≢◌, ◌&&◌, ◌||◌, not, find, count_by, slice_get, option_and_then, is_some}
+use Rattle.std.proofs.Common.{◌≡◌, ℕ, suc, ◌+◌, ◌≤◌, Bool, true, false, cond, List, [], ◌∷◌, ◌++◌, append_assoc, length, map, filter, drop, get_or, Option, Some, None, refl, sym, ◌∙◌, ap, arith, drop-cons, ◌↔◌, ◌≢◌, ◌&&◌, ◌||◌, not, find, count_by, slice_get, option_and_then, is_some}
 use Rattle.std.specs.List.{list_any, enumerate_from}
 use Rattle.std.proofs.lemmas.List.{length-map}
 use Rattle.std.proofs.lemmas.List.Sums.{length-filter}

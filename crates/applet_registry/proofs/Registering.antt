@@ -1,11 +1,9 @@
 -- A row that is registered for one more code.
-use Rattle.std.proofs.Common.{◌≡◌, refl, sym, ap, ◌∙◌, ℕ, ⊎_elim, Bool, true, false, ◌||◌, cond, List, [], ◌∷◌, map, filter, arith, subst, Option, Some, None}
-use Rattle.std.specs.Prelude.{◌≢◌, ◌==◌, ◌&&◌, not, All, AllPairs, Contains, find}
+use Rattle.std.proofs.Common.{◌≡◌, refl, sym, ap, ◌∙◌, ℕ, ⊎_elim, Bool, true, false, ◌||◌, cond, List, [], ◌∷◌, map, filter, arith, subst, Option, Some, None, ◌≢◌, ◌==◌, ◌&&◌, not, All, AllPairs, Contains, find, eqb-true}
 use Rattle.std.specs.Option.{option_map_or, option_map}
 use Rattle.std.specs.List.{list_any}
 use Rattle.std.proofs.lemmas.Bool.Decides.{nat_tests}
 use Rattle.std.proofs.lemmas.List.Elements.{Contains-append_cases}
-use Rattle.std.proofs.lemmas.Bool.{eqb-true}
 use Rattle.toolkit_model.proofs.uicc_types.PairLemmas.{pairs_head, pairs_tail}
 use Rattle.toolkit_model.proofs.uicc_types.MemberLemmas.{only_there}
 use Rattle.toolkit_model.specs.card_layout.Persistent.{Registration}

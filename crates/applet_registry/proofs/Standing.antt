@@ -1,7 +1,6 @@
 -- What an index stands for when one of its lists changes, or each of them.
 use Rattle.toolkit_model.specs.uicc_types.declared.events.TheConstants.{MT_CALL, CALL_CONNECTED, CALL_DISCONNECTED, LOCATION_STATUS, USER_ACTIVITY, IDLE_SCREEN, LANGUAGE_SELECTION, DATA_AVAILABLE, CHANNEL_STATUS, PROFILE_DOWNLOAD, STATUS_COMMAND, CALL_CONTROL}
-use Rattle.std.proofs.Common.{◌≡◌, refl, sym, ap, ◌∙◌, ℕ, zero, suc, ◌<◌, false, List, [], ◌∷◌, map, filter, length, get_or, arith, subst, ⊎_elim, Option, Some, None}
-use Rattle.std.specs.Prelude.{◌≢◌, ◌==◌, Contains, All, find, option_map, slice_index_or, slice_set}
+use Rattle.std.proofs.Common.{◌≡◌, refl, sym, ap, ◌∙◌, ℕ, zero, suc, ◌<◌, false, List, [], ◌∷◌, map, filter, length, get_or, arith, subst, ⊎_elim, Option, Some, None, ◌≢◌, ◌==◌, Contains, All, find, option_map, slice_index_or, slice_set}
 use Rattle.std.specs.Option.{option_map_or}
 use Rattle.std.proofs.lemmas.List.Elements.{All-head, All-tail, All-weaker, All-contains, All-map}
 use Rattle.std.proofs.lemmas.Grind.{common_steps}

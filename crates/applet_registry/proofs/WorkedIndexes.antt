@@ -1,6 +1,5 @@
 -- Changes of the rows of a card that may be made, worked out: the laws have something to say.
-use Rattle.std.proofs.Common.{◌≡◌, refl, ℕ, ◌<◌, ◌≤◌, List, [], ◌∷◌, length, arith}
-use Rattle.std.specs.Prelude.{◌≢◌, Contains}
+use Rattle.std.proofs.Common.{◌≡◌, refl, ℕ, ◌<◌, ◌≤◌, List, [], ◌∷◌, length, arith, ◌≢◌, Contains}
 use Rattle.std.proofs.lemmas.List.Elements.{All-nil, All-cons}
 use Rattle.toolkit_model.proofs.uicc_types.PairLemmas.{pairs_nil, pairs_cons}
 use Rattle.toolkit_model.specs.card_layout.Persistent.{Registration}

@@ -1,12 +1,11 @@
 -- Each turn of each kind is a lawful one.
-use Rattle.std.specs.Prelude.{◌≡◌, ℕ, Bool, true, false, List, [], ◌∷◌, Option, Some, None, codes, if◌then◌else◌}
-use Rattle.std.proofs.Common.{refl, lit≤}
+use Rattle.std.proofs.Common.{◌≡◌, ℕ, Bool, true, false, List, [], ◌∷◌, Option, Some, None, codes, if◌then◌else◌, refl, lit≤}
 use Rattle.toolkit_commands.specs.Table.{HasWritableTime}
 use Rattle.applet_trait.specs.declared.stimuli.Stimulus.{Stimulus}
 use Rattle.applet_trait.specs.declared.stimuli.Stimulus.TheVariants.{Event, Response, Went, Refused, Timer}
 use Rattle.applet_trait.specs.declared.stimuli.Act.{Act}
 use Rattle.applet_trait.specs.declared.stimuli.Act.TheVariants.{Done, Send, Keep, Register, Deregister, TakeTimer, FreeTimer, Answer}
-use Rattle.applet_trait.specs.Minds.{AppletState, Turn, turn, done, keeping, none_asked, kept_after}
+use Rattle.applet_trait.specs.Minds.{AppletState, Turn, turn, done, keeping, no_longer_asking, kept_after}
 use Rattle.applet_trait.specs.Tables.{greeter, menu, clock, five_minutes, expired, watcher, located, barrier, typed, notebook, opened, table, next_or_done, at_row, acting, ActionRow, show}
 use Rattle.applet_trait.specs.Turns.{act, by_kind}
 use Rattle.applet_trait.specs.Laws.{IsLawful}
@@ -117,4 +116,4 @@ by_kind_lawful kind mind stimulus none =
 
 pub act_lawful : (mind : AppletState) (stimulus : Stimulus) → IsLawful mind.kind (kept_after stimulus mind.asked mind.kept) (act mind stimulus)
 unfolding act
-act_lawful mind stimulus = by_kind_lawful mind.kind (none_asked mind stimulus) stimulus refl
+act_lawful mind stimulus = by_kind_lawful mind.kind (no_longer_asking mind stimulus) stimulus refl

@@ -1,10 +1,9 @@
 -- Each command that is sent is a proper one.
-use Rattle.std.specs.Prelude.{ℕ, Bool, true, false, List, [], ◌∷◌, Option, Some, None, if◌then◌else◌}
-use Rattle.std.proofs.Common.{refl, lit≤, rules}
+use Rattle.std.proofs.Common.{ℕ, Bool, true, false, List, [], ◌∷◌, Option, Some, None, if◌then◌else◌, refl, lit≤, rules}
 use Rattle.applet_trait.specs.declared.stimuli.Stimulus.{Stimulus}
 use Rattle.applet_trait.specs.declared.stimuli.Stimulus.TheVariants.{Event, Response, Went, Refused, Timer}
 use Rattle.applet_trait.specs.declared.stimuli.Act.{Act}
-use Rattle.applet_trait.specs.Minds.{AppletState, Turn, turn, done, none_asked}
+use Rattle.applet_trait.specs.Minds.{AppletState, Turn, turn, done, no_longer_asking}
 use Rattle.applet_trait.specs.Tables.{greeter, menu, text_or_tone, clock, five_minutes, expired, watcher, located, barrier, typed, notebook, opened, table, next_or_done, at_row, acting, ActionRow}
 use Rattle.applet_trait.specs.Turns.{act, by_kind}
 use Rattle.applet_trait.specs.Laws.{IsTimer, GivesTimer, IsProperAct}
@@ -116,4 +115,4 @@ by_kind_proper kind mind stimulus gives =
 
 pub act_proper : (mind : AppletState) (stimulus : Stimulus) → GivesTimer stimulus → IsProperAct (act mind stimulus).does
 unfolding act
-act_proper mind stimulus gives = (by_kind_proper mind.kind (none_asked mind stimulus) stimulus gives).proper
+act_proper mind stimulus gives = (by_kind_proper mind.kind (no_longer_asking mind stimulus) stimulus gives).proper

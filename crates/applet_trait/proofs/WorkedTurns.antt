@@ -1,6 +1,5 @@
 -- The definitions, computed on examples.
-use Rattle.std.proofs.Common.{◌≡◌, ℕ, List, [], ◌∷◌, Option, Some, None, true, false, refl}
-use Rattle.std.specs.Prelude.{codes}
+use Rattle.std.proofs.Common.{◌≡◌, ℕ, List, [], ◌∷◌, Option, Some, None, true, false, refl, codes}
 use Rattle.toolkit_commands.specs.comprehension_tlv.Reading as Reading
 use Rattle.toolkit_commands.specs.Envelopes.{value_in}
 use Rattle.toolkit_commands.specs.declared.commands.Proactive.TheVariants.{PlayTone}

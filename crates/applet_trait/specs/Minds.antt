@@ -50,5 +50,5 @@ kept_after Went asked kept = unwrap_or asked kept
 kept_after _ asked kept = kept
 
 -- whatever the stimulus, no bytes are asked for any more
-abbrev pub none_asked : AppletState → Stimulus → AppletState
-none_asked mind stimulus = record mind { kept = kept_after stimulus mind.asked mind.kept; asked = None }
+abbrev pub no_longer_asking : AppletState → Stimulus → AppletState
+no_longer_asking mind stimulus = record mind { kept = kept_after stimulus mind.asked mind.kept; asked = None }

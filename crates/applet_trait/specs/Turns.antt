@@ -1,7 +1,7 @@
 -- What an applet of each kind does at a stimulus.
 use Rattle.std.specs.Prelude.{ℕ, ◌==◌, if◌then◌else◌}
 use Rattle.applet_trait.specs.declared.stimuli.Stimulus.{Stimulus}
-use Rattle.applet_trait.specs.Minds.{AppletState, Turn, done, none_asked}
+use Rattle.applet_trait.specs.Minds.{AppletState, Turn, done, no_longer_asking}
 use Rattle.applet_trait.specs.Tables.{greeter, menu, clock, watcher, barrier, notebook, table}
 
 -- the table of a kind
@@ -18,4 +18,4 @@ by_kind kind mind stimulus =
 
 -- the act and the next mind
 unfoldable pub act : AppletState → Stimulus → Turn
-act mind stimulus = by_kind mind.kind (none_asked mind stimulus) stimulus
+act mind stimulus = by_kind mind.kind (no_longer_asking mind stimulus) stimulus

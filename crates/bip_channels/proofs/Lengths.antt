@@ -1,6 +1,5 @@
 -- How long an object is.
-use Rattle.std.proofs.Common.{ℕ, ◌+◌, ◌<◌, ◌≤◌, List, ◌++◌, length, arith}
-use Rattle.std.proofs.lemmas.List.{length-append}
+use Rattle.std.proofs.Common.{ℕ, ◌+◌, ◌<◌, ◌≤◌, List, ◌++◌, length, arith, length-append}
 use Rattle.toolkit_commands.specs.comprehension_tlv.Writing.{tagged}
 use Rattle.toolkit_commands.proofs.Sizes.{long_tagged}
 

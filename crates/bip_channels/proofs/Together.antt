@@ -1,6 +1,5 @@
 -- What is kept of all channels does as they do, and they stay sound.
-use Rattle.std.proofs.Common.{◌≡◌, refl, sym, ap, subst, ◌∙◌, ℕ, ◌+◌, ◌-◌, Bool, true, false, cond, ◌&&◌, not, leb, List, [], ◌∷◌, ◌++◌, map, get_or, set, Option, Some, None, Result, Ok, Err}
-use Rattle.std.specs.Prelude.{position, is_none, nat_lt}
+use Rattle.std.proofs.Common.{◌≡◌, refl, sym, ap, subst, ◌∙◌, ℕ, ◌+◌, ◌-◌, Bool, true, false, cond, ◌&&◌, not, leb, List, [], ◌∷◌, ◌++◌, map, get_or, set, Option, Some, None, Result, Ok, Err, position, is_none, nat_lt}
 use Rattle.std.specs.List.{position_or_len}
 use Rattle.std.proofs.Math.ListN.{get_or-map}
 use Rattle.std.proofs.lemmas.List.{map-set, length-map}

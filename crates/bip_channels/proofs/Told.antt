@@ -1,7 +1,5 @@
 -- What a channel tells of all that happened on it.
-use Rattle.std.proofs.Common.{◌≡◌, refl, sym, ap, ◌∙◌, ℕ, zero, suc, ◌+◌, ◌-◌, ◌≤◌, Bool, true, false, cond, eqb, List, [], ◌∷◌, ◌++◌, length, take, drop, Option, Some, None, is_none, arith, append_assoc, get_or, set}
-use Rattle.std.specs.Prelude.{position}
-use Rattle.std.proofs.Math.Seq.{take-add}
+use Rattle.std.proofs.Common.{◌≡◌, refl, sym, ap, ◌∙◌, ℕ, zero, suc, ◌+◌, ◌-◌, ◌≤◌, Bool, true, false, cond, eqb, List, [], ◌∷◌, ◌++◌, length, take, drop, Option, Some, None, is_none, arith, append_assoc, get_or, set, position, take-add}
 use Rattle.std.proofs.lemmas.List.{append-nil, take-append-le, take-append-drop, get_or-set_same}
 use Rattle.bip_channels.specs.declared.commands.BipCommand.TheVariants.{OpenChannel, CloseChannel}
 use Rattle.bip_channels.specs.Rules.{is_available, fits, moved, received}

@@ -1,6 +1,5 @@
 -- Where lines lead, and why a script is carried out to its end, or stops at one line alone.
-use Rattle.std.proofs.Common.{◌≡◌, ℕ, ◌+◌, List, [], ◌∷◌, ◌++◌, length, Option, Some, None, refl, sym, ap, ◌∙◌, subst}
-use Rattle.std.specs.Prelude.{option_and_then}
+use Rattle.std.proofs.Common.{◌≡◌, ℕ, ◌+◌, List, [], ◌∷◌, ◌++◌, length, Option, Some, None, refl, sym, ap, ◌∙◌, subst, option_and_then}
 use Rattle.bip_runs.specs.Places.{moved, moved_by}
 use Rattle.bip_runs.specs.Scripts.{IsFirstBadBip, IsGoodBip}
 use Rattle.bip_runs.specs.Serving.{EndsServing, IsBadAt, IsUnstarted}

@@ -1,7 +1,5 @@
 -- The definitions, computed on scripts.
-use Rattle.std.proofs.Common.{◌≡◌, ℕ, List, [], ◌∷◌, ◌++◌, Some, None, refl}
-use Rattle.std.specs.List.{flat_map}
-use Rattle.std.specs.Prelude.{codes}
+use Rattle.std.proofs.Common.{◌≡◌, ℕ, List, [], ◌∷◌, ◌++◌, Some, None, refl, codes, flat_map}
 use Rattle.bip_channels.specs.comprehension_tlv.Reading.{template_of, value_at, length_at, tag_at, object_at, outline_at, outline_within}
 use Rattle.bip_channels.specs.comprehension_tlv.Writing.{tagged}
 use Rattle.bip_channels.specs.toolkit_commands.Reading.{list_of, details_found}

@@ -1,6 +1,5 @@
 -- A search of rows from the first on.
-use Rattle.std.proofs.Common.{◌≡◌, ℕ, ◌+◌, Bool, true, false, ◌&&◌, List, [], ◌∷◌, Option, Some, None, refl, ap, sym, ◌∙◌, nat_le, if◌then◌else◌}
-use Rattle.std.specs.Prelude.{find, ◌==◌}
+use Rattle.std.proofs.Common.{◌≡◌, ℕ, ◌+◌, Bool, true, false, ◌&&◌, List, [], ◌∷◌, Option, Some, None, refl, ap, sym, ◌∙◌, nat_le, if◌then◌else◌, find, ◌==◌}
 use Rattle.std.specs.List.{enumerate_from}
 use Rattle.applet_trait.specs.Tables.{ActionRow, row_from}
 

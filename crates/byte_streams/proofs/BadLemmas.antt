@@ -1,9 +1,8 @@
 -- Lines that are bad for their length or their place, and bytes in which no line is known.
-use Rattle.std.proofs.Common.{◌≡◌, ℕ, ◌+◌, ◌-◌, ◌<◌, ◌≤◌, ◌⊎◌, ◌&&◌, min, true, false, cond, eqb, leb, List, [], ◌∷◌, ◌++◌, length, take, get_or, Some, None, suc, inl, inr, refl, ap, subst, ◌∙◌, arith}
+use Rattle.std.proofs.Common.{◌≡◌, ℕ, ◌+◌, ◌-◌, ◌<◌, ◌≤◌, ◌⊎◌, ◌&&◌, min, true, false, cond, eqb, leb, List, [], ◌∷◌, ◌++◌, length, take, get_or, Some, None, suc, inl, inr, refl, ap, subst, ◌∙◌, arith, append-nil, length-append, length-take}
 use Rattle.std.specs.List.{onto_first}
 use Rattle.std.specs.Str.Lines.{strip_carriage_return}
 use Rattle.std.proofs.lemmas.Bool.{cases_lt, le-ltb, lt-leb, ne_eqb}
-use Rattle.std.proofs.lemmas.List.{append-nil, length-append, length-take}
 use Rattle.std.proofs.lemmas.List.Splits.{slice_split-cons_no}
 use Rattle.byte_streams.specs.Lines.{admitted, known_within, last_line, lines_of, lines_within, parts}
 use Rattle.byte_streams.specs.declared.limits.TheConstants.{LONGEST_LINE}

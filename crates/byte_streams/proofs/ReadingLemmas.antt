@@ -1,12 +1,10 @@
--- What is still to come after each step of a reader.
-use Rattle.std.proofs.Common.{◌≡◌, ℕ, ◌⊎◌, Bool, true, false, cond, List, [], ◌∷◌, ◌++◌, Option, Some, None, inl, inr, refl, sym, ap, subst, ◌∙◌, append_assoc, arith}
+-- Where a reader begins, and what is still to come after each of its steps.
+use Rattle.std.proofs.Common.{◌≡◌, ℕ, ◌⊎◌, Bool, true, false, cond, List, [], ◌∷◌, ◌++◌, Option, Some, None, inl, inr, refl, sym, ap, subst, ◌∙◌, append_assoc, arith, ◌+◌, append-nil}
 use Rattle.std.proofs.lemmas.Bool.{false≢true}
-use Rattle.std.proofs.lemmas.List.{append-nil}
 use Rattle.byte_streams.specs.Lines.{LineList, begun_line, known, known_within, last_line, lines_within}
 use Rattle.byte_streams.specs.Reading.{HasRead, IsSpent, Reading, Stays, bytes_left, lines_left, pending, IsReadOut, IsTaken, IsTakenFor, IsWithin, at_start}
 use Rattle.byte_streams.specs.ReaderSteps.{Continues, PassesLine}
 use Rattle.byte_streams.proofs.LineLemmas.{lines_of_at}
-use Rattle.std.specs.Prelude.{◌≡◌, ◌+◌, ℕ, List, [], Option, Some, refl}
 use Rattle.byte_streams.specs.declared.limits.TheConstants.{MOST_BYTES}
 
 -- before anything was taken, the source has the whole text, and no line was handed out

@@ -1,6 +1,5 @@
 -- How much a reader has taken of a text.
-use Rattle.std.proofs.Common.{◌≡◌, ◌≢◌, ℕ, ◌+◌, ◌≤◌, ◌<◌, ◌⊎◌, min, Bool, true, false, List, [], ◌∷◌, ◌++◌, length, Option, Some, None, inl, inr, refl, sym, ap, subst, ◌∙◌, append_assoc, arith}
-use Rattle.std.proofs.lemmas.List.{append-nil, length-append, length-drop}
+use Rattle.std.proofs.Common.{◌≡◌, ◌≢◌, ℕ, ◌+◌, ◌≤◌, ◌<◌, ◌⊎◌, min, Bool, true, false, List, [], ◌∷◌, ◌++◌, length, Option, Some, None, inl, inr, refl, sym, ap, subst, ◌∙◌, append_assoc, arith, append-nil, length-append, length-drop}
 use Rattle.byte_streams.specs.Lines.{LineList, known}
 use Rattle.byte_streams.specs.Reading.{HasRead, IsReadOut, IsSpent, IsTakenFor, IsWithin, OnLine, Reading, UsesRoom}
 use Rattle.byte_streams.specs.ReaderSteps.{Continues, after_line}

@@ -1,6 +1,5 @@
 -- The definition of lines, computed on small texts.
-use Rattle.std.proofs.Common.{◌≡◌, [], ◌∷◌, ◌++◌, replicate, Some, None, refl}
-use Rattle.std.specs.Prelude.{codes}
+use Rattle.std.proofs.Common.{◌≡◌, [], ◌∷◌, ◌++◌, replicate, Some, None, refl, codes}
 use Rattle.byte_streams.specs.Lines.{known, known_within, lines, lines_within}
 
 nothing : lines [] ≡ []

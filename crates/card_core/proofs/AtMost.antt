@@ -1,6 +1,5 @@
 -- Commits that are at most so many, and what stands behind those that were done.
-use Rattle.std.proofs.Common.{◌≡◌, ◌⊎◌, inl, inr, ℕ, zero, suc, ◌+◌, ◌<◌, ◌≤◌, List, [], ◌∷◌, length, Option, Some, None, option_map, Result, Ok, Err, refl, sym, ◌∙◌, ap, subst, ⊎_elim, arith}
-use Rattle.std.specs.Prelude.{Contains, IsSomeAnd, slice_index_or}
+use Rattle.std.proofs.Common.{◌≡◌, ◌⊎◌, inl, inr, ℕ, zero, suc, ◌+◌, ◌<◌, ◌≤◌, List, [], ◌∷◌, length, Option, Some, None, option_map, Result, Ok, Err, refl, sym, ◌∙◌, ap, subst, ⊎_elim, arith, Contains, IsSomeAnd, slice_index_or}
 use Rattle.std.proofs.lemmas.List.{get_or_read_under}
 use Rattle.file_model.specs.uicc_types.Counts.{raised_by}
 use Rattle.file_model.specs.store_form.declared.store.StoreFault.{StoreFault}

@@ -1,6 +1,5 @@
 -- What a fault in a command of the toolkit leaves of the card.
-use Rattle.std.proofs.Common.{◌==◌, ◌≡◌, ◌≢◌, ◌⊎◌, inl, inr, ⊎_elim, ℕ, ◌<◌, ◌+◌, zero, suc, true, false, List, [], ◌∷◌, map, length, Option, Some, None, option_map, Result, Ok, Err, refl, sym, ◌∙◌, ap, subst, arith}
-use Rattle.std.specs.Prelude.{All, IfSome, IsSomeAnd, is_none, slice_index_or}
+use Rattle.std.proofs.Common.{◌==◌, ◌≡◌, ◌≢◌, ◌⊎◌, inl, inr, ⊎_elim, ℕ, ◌<◌, ◌+◌, zero, suc, true, false, List, [], ◌∷◌, map, length, Option, Some, None, option_map, Result, Ok, Err, refl, sym, ◌∙◌, ap, subst, arith, All, IfSome, IsSomeAnd, is_none, slice_index_or}
 use Rattle.std.proofs.lemmas.Bool.{false≢true, true≢false, eqb-true}
 use Rattle.std.proofs.lemmas.List.{length-map}
 use Rattle.std.proofs.lemmas.List.Elements.{Contains-get_or}
@@ -9,10 +8,10 @@ use Rattle.file_model.proofs.uicc_types.NumberedLemmas.{all_unmapped}
 use Rattle.file_model.specs.uicc_types.declared.answers.StatusWord.{StatusWord}
 use Rattle.file_model.specs.uicc_types.declared.identifiers.Shelf.{Shelf}
 use Rattle.file_model.specs.apdu_form.Model.{Apdu}
-use Rattle.file_model.specs.card_layout.Persistent.{Registration, Persistent}
+use Rattle.file_model.specs.card_layout.Persistent.{Registration, Persistent, Pin}
 use Rattle.file_model.specs.card_layout.StateLaws.{RowsAreEntries}
-use Rattle.file_model.specs.card_layout.States.{rows_of}
-use Rattle.proactive_handler.specs.card_memory.Laws.{IsTold}
+use Rattle.file_model.specs.card_layout.States.{rows_of, pins_of}
+use Rattle.proactive_handler.specs.card_memory.Laws.{IsTold, TablesTellStates}
 use Rattle.toolkit_model.specs.Model.{AppletState}
 use Rattle.toolkit_model.specs.Passing.{passed_rows}
 use Rattle.proactive_handler.specs.Boxes.{kinds_of}
@@ -22,28 +21,21 @@ use Rattle.card_model.specs.Toolkit.{ToolkitOutcome, states_passed, with_rows, t
 use Rattle.card_model.specs.declared.instructions.Instruction.TheVariants.{Toolkit}
 use Rattle.card_model.specs.declared.instructions.ToolkitCommand.{ToolkitCommand}
 use Rattle.card_model.specs.declared.instructions.ToolkitCommand.TheVariants.{DeleteApplet}
-use Rattle.card_laws.specs.Moving.{HaveFixed, command_by, rows_after}
-use Rattle.session_commands.specs.Carrying.{IsToolkitCutShort, state_at}
+use Rattle.card_laws.specs.Moving.{HaveFixed, command_by, rows_after, HasOrder, LeavesRows}
+use Rattle.session_commands.specs.Carrying.{IsToolkitCutShort, state_at, HasToolkit, Carries}
 use Rattle.session_commands.specs.Deleting.{HasNoRow, LeavesUnregistered}
-use Rattle.card_core.specs.Cards.{held_by, card_with, card_due, boxes_kept}
+use Rattle.card_core.specs.Cards.{held_by, card_with, card_due, boxes_kept, card_of}
 use Rattle.card_core.specs.Parts.{CardParts}
 use Rattle.card_core.proofs.Boxes.{at, kind_of, box_kept, kept_at, kept_there, kept_beside, kept_gone, length-kept, IsLeftSo, boxes_left_so}
-use Rattle.card_core.proofs.Shelves.{same_shelves, Loses, lost, none_there}
+use Rattle.card_core.proofs.Shelves.{same_shelves, Loses, lost, none_there, deleted_had}
 use Rattle.file_model.specs.uicc_types.declared.answers.Answer.{Answer}
 use Rattle.file_model.specs.store_form.declared.store.StoreFault.{StoreFault}
 use Rattle.file_model.specs.declared.rules.Verified.{Verified}
-use Rattle.file_model.specs.card_layout.Persistent.{Pin}
 use Rattle.file_model.specs.card_layout.Standing.{Agrees}
-use Rattle.file_model.specs.card_layout.States.{pins_of}
-use Rattle.proactive_handler.specs.card_memory.Laws.{TablesTellStates}
 use Rattle.file_model.specs.Access.{keys_seen}
 use Rattle.file_model.specs.Chains.{and_given}
 use Rattle.card_model.specs.Answers.{Answered, settled, carried_out, on_toolkit, toolkit_tried, seen_by}
 use Rattle.card_laws.specs.ToolkitLaws.{CommandsLeaveRows}
-use Rattle.card_laws.specs.Moving.{HasOrder, LeavesRows}
-use Rattle.session_commands.specs.Carrying.{HasToolkit, Carries}
-use Rattle.card_core.specs.Cards.{card_of}
-use Rattle.card_core.proofs.Shelves.{deleted_had}
 use Rattle.card_core.proofs.Standing.{if_card}
 use Rattle.card_core.proofs.Carried.{scene_of, is_delete, LeavesBy, by_toolkit, has_toolkit_of, rows_left}
 

@@ -1,6 +1,5 @@
 -- The conditions of the keys, from the slots of the PINs.
-use Rattle.std.proofs.Common.{◌≡◌, ◌≢◌, ℕ, ◌==◌, ◌&&◌, ◌||◌, not, Bool, true, false, List, [], ◌∷◌, map, Some, refl, sym, ◌∙◌, ap, arith}
-use Rattle.std.specs.Prelude.{length, slice_get, slice_index_or}
+use Rattle.std.proofs.Common.{◌≡◌, ◌≢◌, ℕ, ◌==◌, ◌&&◌, ◌||◌, not, Bool, true, false, List, [], ◌∷◌, map, Some, refl, sym, ◌∙◌, ap, arith, length, slice_get, slice_index_or}
 use Rattle.std.proofs.Math.Bool.{or-false}
 use Rattle.std.proofs.lemmas.Bool.{eq-eqb, eqb-true, eqb-false, false_from_ne_true}
 use Rattle.file_model.specs.uicc_types.declared.keys.TheConstants.{PIN_1, PIN_2, ADM_1}

@@ -1,6 +1,5 @@
 -- How often a command commits, and that the bytes stay where it doesn't: from its parts to the whole.
-use Rattle.std.proofs.Common.{◌≡◌, ◌⊎◌, inl, inr, ℕ, ◌==◌, true, false, List, [], ◌++◌, length, Bool, Option, Some, None, option_map, Result, Ok, sym, ◌∙◌, ap, subst}
-use Rattle.std.specs.Prelude.{IfSome}
+use Rattle.std.proofs.Common.{◌≡◌, ◌⊎◌, inl, inr, ℕ, ◌==◌, true, false, List, [], ◌++◌, length, Bool, Option, Some, None, option_map, Result, Ok, sym, ◌∙◌, ap, subst, IfSome}
 use Rattle.std.proofs.lemmas.Bool.{false≢true}
 use Rattle.std.proofs.lemmas.Result.{on_ok_weaker, on_err_weaker}
 use Rattle.file_model.proofs.uicc_types.OptionalLemmas.{on_ok, on_err}

@@ -1,6 +1,5 @@
 -- What stays lawful where a command changed entries of files, or of PINs.
-use Rattle.std.proofs.Common.{◌≡◌, ℕ, true, List, Option, Some, None, refl, sym, ◌∙◌, ap, subst}
-use Rattle.std.specs.Prelude.{All, IfSome, IsSomeAnd, is_some, length, slice_index_or}
+use Rattle.std.proofs.Common.{◌≡◌, ℕ, true, List, Option, Some, None, refl, sym, ◌∙◌, ap, subst, All, IfSome, IsSomeAnd, is_some, length, slice_index_or}
 use Rattle.std.proofs.lemmas.Bool.{false≢true}
 use Rattle.toolkit_model.specs.applet_trait.Minds.{AppletState}
 use Rattle.file_model.specs.card_layout.declared.entries.Loaded.{Loaded}

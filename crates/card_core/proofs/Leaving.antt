@@ -1,6 +1,5 @@
 -- What a command comes to over a good card, and what a fault in it leaves.
-use Rattle.std.proofs.Common.{◌≡◌, ◌⊎◌, inr, ℕ, zero, arith, Bool, true, List, [], Option, Some, None, option_map, refl, sym, ◌∙◌, ap, subst}
-use Rattle.std.specs.Prelude.{IfSome, IsSomeAnd, is_some, Result, Ok, Err, MatchResult, OnOk, OnErr}
+use Rattle.std.proofs.Common.{◌≡◌, ◌⊎◌, inr, ℕ, zero, arith, Bool, true, List, [], Option, Some, None, option_map, refl, sym, ◌∙◌, ap, subst, IfSome, IsSomeAnd, is_some, Result, Ok, Err, MatchResult, OnOk, OnErr}
 use Rattle.std.proofs.lemmas.Bool.{false≢true}
 use Rattle.std.proofs.lemmas.Option.{IfSome_then}
 use Rattle.file_model.specs.uicc_types.declared.answers.Answer.{Answer}

@@ -1,6 +1,5 @@
 -- What a command does, from what it does by its level.
-use Rattle.std.proofs.Common.{◌≡◌, false, [], Result, refl}
-use Rattle.std.specs.Prelude.{IsOk, OnOk, true}
+use Rattle.std.proofs.Common.{◌≡◌, false, [], Result, refl, IsOk, OnOk, true}
 use Rattle.std.proofs.lemmas.Bool.{false≢true}
 use Rattle.file_model.proofs.uicc_types.OptionalLemmas.{on_ok}
 use Rattle.file_model.specs.uicc_types.declared.answers.Answer.{Answer}

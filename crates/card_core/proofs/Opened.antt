@@ -1,6 +1,5 @@
 -- The card that is opened.
-use Rattle.std.proofs.Common.{◌≡◌, ◌≤◌, ◌-◌, ℕ, zero, suc, true, false, List, ◌∷◌, ◌++◌, length, map, replicate, Option, Some, None, option_map, refl, sym, ◌∙◌, ap, subst, arith}
-use Rattle.std.specs.Prelude.{IfSome, All, is_some}
+use Rattle.std.proofs.Common.{◌≡◌, ◌≤◌, ◌-◌, ℕ, zero, suc, true, false, List, ◌∷◌, ◌++◌, length, map, replicate, Option, Some, None, option_map, refl, sym, ◌∙◌, ap, subst, arith, IfSome, All, is_some}
 use Rattle.std.proofs.lemmas.List.{map-append, length-map, length-append, length-replicate}
 use Rattle.file_model.proofs.uicc_types.OptionalLemmas.{is_some-map, if_some_at}
 use Rattle.toolkit_model.specs.applet_trait.Minds.{AppletState, minds_of}

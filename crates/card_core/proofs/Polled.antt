@@ -1,6 +1,5 @@
 -- What comes of telling the applets of STATUS.
-use Rattle.std.proofs.Common.{◌≡◌, inl, false, [], ◌∷◌, length, Some, None, Result, Ok, Err, refl, sym, ◌∙◌, ap, subst}
-use Rattle.std.specs.Prelude.{All, IfSome, IsSomeAnd, is_some, IsOk}
+use Rattle.std.proofs.Common.{◌≡◌, inl, false, [], ◌∷◌, length, Some, None, Result, Ok, Err, refl, sym, ◌∙◌, ap, subst, All, IfSome, IsSomeAnd, is_some, IsOk}
 use Rattle.std.proofs.lemmas.Bool.{false≢true}
 use Rattle.file_model.proofs.uicc_types.NumberedLemmas.{all_unmapped}
 use Rattle.file_model.specs.uicc_types.declared.answers.Answer.{Answer}

@@ -1,7 +1,5 @@
 -- Refusals that need nothing of what the store holds.
-use Rattle.std.proofs.Common.{◌≡◌, ℕ, Bool, true, false, List, Option, Some, None, refl, sym, ap, subst}
-use Rattle.std.specs.Prelude.{◌≢◌, Result, Ok, Err, OnOk}
-use Rattle.std.proofs.lemmas.Bool.{true≢false}
+use Rattle.std.proofs.Common.{◌≡◌, ℕ, Bool, true, false, List, Option, Some, None, refl, sym, ap, subst, ◌≢◌, Result, Ok, Err, OnOk, true≢false}
 use Rattle.file_model.specs.uicc_types.declared.answers.StatusWord.{StatusWord}
 use Rattle.file_model.specs.uicc_types.declared.answers.TheConstants.StatusWord.{MEMORY_PROBLEM, WRONG_LENGTH}
 use Rattle.file_model.specs.store_form.declared.store.StoreFault.{StoreFault}

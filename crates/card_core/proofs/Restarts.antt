@@ -1,6 +1,5 @@
 -- What a card is when it is started again.
-use Rattle.std.proofs.Common.{◌≡◌, ℕ, Bool, true, false, List, length, Option, Some, None, option_map, refl, sym, ◌∙◌, ap, subst}
-use Rattle.std.specs.Prelude.{IfSome, IsSomeAnd, is_none, ◌&&◌, ◌==◌, All, slice_index_or, if◌then◌else◌, Result, Ok, Err}
+use Rattle.std.proofs.Common.{◌≡◌, ℕ, Bool, true, false, List, length, Option, Some, None, option_map, refl, sym, ◌∙◌, ap, subst, IfSome, IsSomeAnd, is_none, ◌&&◌, ◌==◌, All, slice_index_or, if◌then◌else◌, Result, Ok, Err}
 use Rattle.std.proofs.lemmas.Bool.{false≢true, true≢false}
 use Rattle.file_model.specs.uicc_types.Counts.{Meter, raised, names_fault, armed}
 use Rattle.file_model.specs.uicc_types.declared.plans.Plan.{Plan}
@@ -17,7 +16,7 @@ use Rattle.file_model.specs.declared.selections.Selection.{Selection}
 use Rattle.toolkit_model.specs.Model.{SessionState, fresh_session}
 use Rattle.card_model.specs.States.{CardState, HasBox, IsGood, row_on, woken_mind, woken_boxes, woken, restarted, basic_channel_alone, nothing_verified}
 use Rattle.card_model.specs.Laws.{RestartsAreGood}
-use Rattle.card_model.proofs.WokenLemmas.{length-woken_boxes, has_box_woken, woken_again, woken_at}
+use Rattle.card_model.proofs.WokenLemmas.{length-woken_boxes, has_box_woken, woken_again, woken_at, fresh_is_orderly}
 use Rattle.card_opening.specs.Starts.{HoldsCard, IsReadAgain}
 use Rattle.card_opening.specs.layout_mount.Mounted.{HasRead}
 use Rattle.proactive_handler.specs.card_memory.Laws.{TablesTellStates}
@@ -28,7 +27,6 @@ use Rattle.toolkit_model.specs.Running.{mind_on}
 use Rattle.proactive_handler.specs.applet_registry.Indexes.{StandsFor}
 use Rattle.card_core.specs.Cards.{memory_of, held_by, boxes_kept, card_with, card_of, card_due, RunsToolkit, IsSet, IsRunning, IsCardReady}
 use Rattle.card_core.specs.Laws.{TablesHaveRows}
-use Rattle.card_model.proofs.WokenLemmas.{fresh_is_orderly}
 use Rattle.card_core.proofs.Boxes.{at, box_kept, kept_at, kept_there}
 use Rattle.card_core.proofs.Shelves.{at_it}
 use Rattle.file_model.specs.uicc_types.declared.identifiers.Shelf.{Shelf}

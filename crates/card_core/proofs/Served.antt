@@ -1,10 +1,8 @@
 -- What stays of a card that serves its applets, whatever its store tells.
-use Rattle.std.proofs.Common.{◌≡◌, ◌≢◌, ⊎_elim, ℕ, ◌<◌, true, false, List, [], ◌∷◌, length, Option, Some, None, option_map, Result, Ok, Err, refl, sym, ◌∙◌, ap, subst, arith}
-use Rattle.std.specs.Prelude.{All, IfSome, IsSomeAnd, is_some, slice_index_or}
+use Rattle.std.proofs.Common.{◌≡◌, ◌≢◌, ⊎_elim, ℕ, ◌<◌, true, false, List, [], ◌∷◌, length, Option, Some, None, option_map, Result, Ok, Err, refl, sym, ◌∙◌, ap, subst, arith, All, IfSome, IsSomeAnd, is_some, slice_index_or, get_or-set_other}
 use Rattle.std.specs.Result.{result_ok}
 use Rattle.std.proofs.lemmas.Bool.{false≢true, true≢false}
 use Rattle.std.proofs.lemmas.Option.{same_Some}
-use Rattle.std.proofs.lemmas.List.{get_or-set_other}
 use Rattle.std.proofs.lemmas.List.Elements.{All-cons, All-head, All-tail}
 use Rattle.file_model.proofs.uicc_types.NumberedLemmas.{all_unmapped}
 use Rattle.file_model.proofs.uicc_types.OptionalLemmas.{is_some-map}
@@ -13,9 +11,9 @@ use Rattle.file_model.specs.uicc_types.declared.answers.StatusWord.{StatusWord}
 use Rattle.file_model.specs.store_form.declared.store.StoreFault.{StoreFault}
 use Rattle.file_model.specs.apdu_form.Model.{Apdu}
 use Rattle.file_model.specs.card_layout.declared.entries.Loaded.{Loaded}
-use Rattle.file_model.specs.card_layout.Persistent.{Registration, Persistent}
+use Rattle.file_model.specs.card_layout.Persistent.{Registration, Persistent, Pin}
 use Rattle.file_model.specs.card_layout.Standing.{standing, Agrees}
-use Rattle.file_model.specs.card_layout.States.{rows_of}
+use Rattle.file_model.specs.card_layout.States.{rows_of, pins_of}
 use Rattle.proactive_handler.specs.card_memory.Laws.{IsTold, TablesTellStates}
 use Rattle.card_opening.specs.Starts.{HoldsCard}
 use Rattle.file_model.specs.Outcomes.{last_of}
@@ -29,7 +27,7 @@ use Rattle.card_model.specs.declared.instructions.ToolkitCommand.{ToolkitCommand
 use Rattle.card_laws.specs.Moving.{HasOrder}
 use Rattle.proactive_handler.specs.Steps.{Scene}
 use Rattle.session_commands.specs.Deleting.{HasNoRow}
-use Rattle.session_commands.specs.Carrying.{Carries, HasCome, IsToolkitCutShort}
+use Rattle.session_commands.specs.Carrying.{Carries, HasCome, IsToolkitCutShort, HasToolkit}
 use Rattle.card_core.specs.Cards.{held_by, card_with, card_of, card_due, IsSet, IsRunning}
 use Rattle.card_core.specs.Commands.{KindsKept}
 use Rattle.card_core.specs.Laws.{TablesHaveRows}
@@ -38,12 +36,9 @@ use Rattle.card_core.proofs.Boxes.{at, kind_of}
 use Rattle.card_core.proofs.Broken.{kind_at}
 use Rattle.card_core.proofs.Standing.{card_told, if_card}
 use Rattle.file_model.specs.declared.rules.Verified.{Verified}
-use Rattle.file_model.specs.card_layout.Persistent.{Pin}
-use Rattle.file_model.specs.card_layout.States.{pins_of}
 use Rattle.file_model.specs.Access.{keys_seen}
 use Rattle.card_model.specs.Answers.{seen_by}
 use Rattle.card_laws.specs.ToolkitLaws.{CommandsLeaveRows}
-use Rattle.session_commands.specs.Carrying.{HasToolkit}
 use Rattle.card_core.proofs.Carried.{scene_of, has_toolkit_of, rows_left}
 
 -- ---- the order

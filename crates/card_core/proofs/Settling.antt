@@ -1,7 +1,5 @@
 -- From what a command on files, on PINs or on channels comes to, to what the card comes to.
-use Rattle.std.proofs.Common.{◌≡◌, ℕ, ◌+◌, ◌≤◌, arith, false, List, [], ◌∷◌, length, Option, Some, None, refl, sym, ◌∙◌, ap, subst}
-use Rattle.std.specs.Prelude.{IfSome, IsSomeAnd, Contains, Result, Ok, Err, OnErr, unwrap_or, slice_set}
-use Rattle.std.specs.Option.{option_to_list}
+use Rattle.std.proofs.Common.{◌≡◌, ℕ, ◌+◌, ◌≤◌, arith, false, List, [], ◌∷◌, length, Option, Some, None, refl, sym, ◌∙◌, ap, subst, IfSome, IsSomeAnd, Contains, Result, Ok, Err, OnErr, unwrap_or, slice_set, option_to_list}
 use Rattle.std.proofs.lemmas.List.{set-get_or, length-map}
 use Rattle.file_model.proofs.uicc_types.OptionalLemmas.{if_some_at}
 use Rattle.file_model.proofs.uicc_types.NumberedLemmas.{nil_mapped}

@@ -1,6 +1,5 @@
 -- What a card stands for, from its parts.
-use Rattle.std.proofs.Common.{◌≡◌, Bool, true, false, List, Option, Some, None, option_map, refl, sym, ◌∙◌, ap, subst}
-use Rattle.std.specs.Prelude.{IfSome, is_some}
+use Rattle.std.proofs.Common.{◌≡◌, Bool, true, false, List, Option, Some, None, option_map, refl, sym, ◌∙◌, ap, subst, IfSome, is_some}
 use Rattle.file_model.proofs.uicc_types.OptionalLemmas.{is_some-map, if_some_at}
 use Rattle.file_model.specs.declared.rules.Verified.{Verified}
 use Rattle.toolkit_model.specs.applet_trait.Minds.{AppletState}

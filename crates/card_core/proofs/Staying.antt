@@ -1,8 +1,5 @@
 -- What a command leaves as it was.
-use Rattle.std.proofs.Common.{◌≡◌, inl, inr, ℕ, Bool, true, false, List, Option, None, sym, ◌∙◌, ap, ◌≢◌, refl, subst}
-use Rattle.std.specs.Prelude.{slice_set, Result, Ok, Err, OnOk, MatchResult}
-use Rattle.std.proofs.lemmas.Bool.{true≢false}
-use Rattle.std.proofs.lemmas.List.{get_or-set_other}
+use Rattle.std.proofs.Common.{◌≡◌, inl, inr, ℕ, Bool, true, false, List, Option, None, sym, ◌∙◌, ap, ◌≢◌, refl, subst, slice_set, Result, Ok, Err, OnOk, MatchResult, true≢false, get_or-set_other}
 use Rattle.file_model.specs.uicc_types.declared.answers.Answer.{Answer}
 use Rattle.file_model.specs.uicc_types.declared.answers.StatusWord.{StatusWord}
 use Rattle.file_model.specs.store_form.declared.store.StoreFault.{StoreFault}

@@ -1,6 +1,5 @@
 -- From a command that is carried out to the command as it is tried.
-use Rattle.std.proofs.Common.{◌≡◌, Bool, true, false, refl, [], ◌∷◌, Option, sym, ap, subst}
-use Rattle.std.specs.Prelude.{IfSome, IsSomeAnd, Result, Ok, Err}
+use Rattle.std.proofs.Common.{◌≡◌, Bool, true, false, refl, [], ◌∷◌, Option, sym, ap, subst, IfSome, IsSomeAnd, Result, Ok, Err}
 use Rattle.file_model.specs.uicc_types.declared.answers.Answer.{Answer}
 use Rattle.file_model.specs.uicc_types.declared.answers.StatusWord.{StatusWord}
 use Rattle.file_model.specs.store_form.declared.store.StoreFault.{StoreFault}

@@ -18,6 +18,5 @@ pub use Rattle.card_model.specs as card_model
 pub use Rattle.card_opening.specs as card_opening
 pub use Rattle.file_making.specs as file_making
 pub use Rattle.file_model.specs as file_model
-pub use Rattle.card_opening.specs.layout_mount
 pub use Rattle.toolkit_model.specs.toolkit_commands
 pub use Rattle.toolkit_model.specs as toolkit_model

@@ -1,9 +1,5 @@
 -- Applets change by the turns that are noted alone.
-use Rattle.std.proofs.Common.{◌≡◌, ℕ, zero, suc, ◌+◌, Bool, true, false, List, [], ◌∷◌, ◌++◌, length, Option, Some, None, refl, sym, subst, arith}
-use Rattle.std.specs.Prelude.{◌==◌, if◌then◌else◌, is_some}
-use Rattle.std.specs.Option.{option_to_list}
-use Rattle.std.proofs.lemmas.Bool.{eq-eqb, ne_eqb}
-use Rattle.std.proofs.lemmas.List.{set-set}
+use Rattle.std.proofs.Common.{◌≡◌, ℕ, zero, suc, ◌+◌, Bool, true, false, List, [], ◌∷◌, ◌++◌, length, Option, Some, None, refl, sym, subst, arith, ◌==◌, if◌then◌else◌, is_some, option_to_list, eq-eqb, ne_eqb, set-set}
 use Rattle.update_journal.specs.uicc_types.declared.events.TheConstants.{PROFILE_DOWNLOAD, STATUS_COMMAND}
 use Rattle.file_model.specs.card_layout.Persistent.{Registration}
 use Rattle.toolkit_model.specs.toolkit_commands.declared.commands.Proactive.{Proactive}
@@ -19,8 +15,8 @@ use Rattle.toolkit_model.specs.Order.{targets}
 use Rattle.toolkit_model.specs.Orderly.{asks}
 use Rattle.toolkit_model.specs.Passing.{ToolkitState, ShelfTurn, Happening, Woke, Fetched, Responded, Given, Turned, Committed, Passed, before, in_turn}
 use Rattle.toolkit_model.specs.Running.{Setting, Works, Ran, admitted, carried, going_on, run_on, most_acts, mind_on, with_mind, sending, setting_of, works_of, run_of_mind, run_of_row}
-use Rattle.toolkit_model.specs.Driving.{is_idle, with_session, running, told_if, given_if, trigger_for, told_one, given_one, first_idle, catching, caught_up, wanted, front_out, next_out, filled, session_filled, driven}
-use Rattle.toolkit_model.specs.Commands.{each_told, with_profile, profiled, polled, Trigger, triggered_by, is_reported_once, forgetting, reported, triggered, enveloped, fetched, resumed, with_nothing_out, answered, responded, registering, installed, unregistering, row_deleted}
+use Rattle.toolkit_model.specs.Driving.{is_idle, with_session, running, told_if, given_if, trigger_for, told_one, given_one, first_idle, catching, caught_up, wanted, front_out, next_out, filled, with_next_command, driven}
+use Rattle.toolkit_model.specs.Commands.{registered_told, with_profile, profiled, polled, Trigger, triggered_by, is_reported_once, forgetting, reported, triggered, enveloped, fetched, resumed, with_nothing_out, answered, responded, registering, installed, unregistering, delete_carried}
 use Rattle.toolkit_model.specs.Steps.{ToolkitInput, Profile, Status, Report, Fetch, Respond, Install, Delete, Wake, moved, moved_by}
 use Rattle.card_model.specs.Instructions.{has_toolkit}
 use Rattle.card_model.specs.States.{CardState}
@@ -198,15 +194,15 @@ filled_point : (rows : List Registration) (minds : Minds) (session : SessionStat
 filled_point rows minds session (Some out) = refl
 filled_point rows minds session None = next_point rows minds session (wanted session.profile rows session.announced)
 
-settled_point : (state : ToolkitState) → point_of (session_filled state) ≡ point_of state
-unfolding session_filled
+settled_point : (state : ToolkitState) → point_of (with_next_command state) ≡ point_of state
+unfolding with_next_command
 settled_point state = filled_point state.rows state.minds state.session state.session.out
 
 driven_acts : (state : ToolkitState) → Moves state (driven state)
 unfolding driven
 driven_acts state =
     let first : Passed = caught_up (length state.session.late) state in
-    act_joined (point_of state) (point_of first.state) (point_of (session_filled first.state)) first.log [] (caught_acts (length state.session.late) state) (settled_point first.state)
+    act_joined (point_of state) (point_of first.state) (point_of (with_next_command first.state)) first.log [] (caught_acts (length state.session.late) state) (settled_point first.state)
 
 and_driven : (from : Point) (first : Passed) → ActInTurn from first.log (point_of first.state) → ActInTurn from (before first driven).log (point_of (before first driven).state)
 and_driven from first acts = acts_before from first (driven first.state) acts (driven_acts first.state)
@@ -217,11 +213,11 @@ profiled_acts : (bytes : List ℕ) (state : ToolkitState) → Moves (with_profil
 unfolding profiled
 profiled_acts bytes state =
     let start : ToolkitState = with_profile state bytes in
-    and_driven (point_of start) (each_told PROFILE_DOWNLOAD bytes start) (in_turn_acts (told_one PROFILE_DOWNLOAD bytes) (told_one_acts PROFILE_DOWNLOAD bytes) (targets start.rows PROFILE_DOWNLOAD) start)
+    and_driven (point_of start) (registered_told PROFILE_DOWNLOAD bytes start) (in_turn_acts (told_one PROFILE_DOWNLOAD bytes) (told_one_acts PROFILE_DOWNLOAD bytes) (targets start.rows PROFILE_DOWNLOAD) start)
 
 polled_acts : (state : ToolkitState) → Moves state (polled state)
 unfolding polled
-polled_acts state = and_driven (point_of state) (each_told STATUS_COMMAND [] state) (in_turn_acts (told_one STATUS_COMMAND []) (told_one_acts STATUS_COMMAND []) (targets state.rows STATUS_COMMAND) state)
+polled_acts state = and_driven (point_of state) (registered_told STATUS_COMMAND [] state) (in_turn_acts (told_one STATUS_COMMAND []) (told_one_acts STATUS_COMMAND []) (targets state.rows STATUS_COMMAND) state)
 
 once_point : (b : Bool) (code : ℕ) (state : ToolkitState) → point_of (if b then with_session state (forgetting code state.session) else state) ≡ point_of state
 once_point true code state = refl
@@ -269,8 +265,8 @@ installed_acts : (row : Registration) (state : ToolkitState) → CommandActs (In
 unfolding installed
 installed_acts row state = and_driven (point_of (begins_with (Install row) state)) (registering row state) (refl, refl)
 
-deleted_acts : (shelf : ℕ) (state : ToolkitState) → CommandActs (Delete shelf) state (row_deleted shelf state)
-unfolding row_deleted
+deleted_acts : (shelf : ℕ) (state : ToolkitState) → CommandActs (Delete shelf) state (delete_carried shelf state)
+unfolding delete_carried
 deleted_acts shelf state = and_driven (point_of (begins_with (Delete shelf) state)) (unregistering shelf state) (refl, refl)
 
 pub command_acts : (command : ToolkitInput) (state : ToolkitState) → CommandActs command state (moved command state)

@@ -1,6 +1,5 @@
 -- What the status of an answer tells of the command that there is to fetch.
-use Rattle.std.proofs.Common.{◌≡◌, ◌⊎◌, inl, inr, ℕ, ◌+◌, ◌≤◌, Bool, true, false, List, [], ◌∷◌, Option, Some, None, Result, Ok, Err, refl, sym, ◌∙◌, ap, subst, arith}
-use Rattle.std.specs.Prelude.{◌==◌, ◌/◌, ◌||◌, not, if◌then◌else◌, MatchResult, Contains}
+use Rattle.std.proofs.Common.{◌≡◌, ◌⊎◌, inl, inr, ℕ, ◌+◌, ◌≤◌, Bool, true, false, List, [], ◌∷◌, Option, Some, None, Result, Ok, Err, refl, sym, ◌∙◌, ap, subst, arith, ◌==◌, ◌/◌, ◌||◌, not, if◌then◌else◌, MatchResult, Contains}
 use Rattle.std.specs.List.{list_all}
 use Rattle.std.proofs.lemmas.Bool.{false≢true, eq-eqb, ne_eqb, not-true}
 use Rattle.update_journal.specs.uicc_types.Told.{AreBytes}
@@ -28,8 +27,7 @@ use Rattle.file_model.specs.declared.commands.PinCommand.{PinCommand}
 use Rattle.card_model.specs.file_making.declared.commands.TreeCommand.{TreeCommand}
 use Rattle.file_model.specs.Commands.{file_outcome, pin_outcome}
 use Rattle.card_model.specs.file_making.Commands.{tree_outcome}
-use Rattle.card_model.proofs.CaseLemmas.{cut_so}
-use Rattle.card_model.proofs.CasesLemmas.{command_is}
+use Rattle.card_model.proofs.CaseLemmas.{cut_so, command_is}
 use Rattle.card_model.proofs.Lawful.{channel_low, selected_is, managed_lawful}
 use Rattle.card_model.specs.Laws.{statuses}
 use Rattle.card_laws.specs.Announcing.{TellsWhatWaits}

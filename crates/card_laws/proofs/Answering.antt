@@ -1,6 +1,6 @@
 -- The laws of answers where applets run, from what each command comes to.
-use Rattle.std.proofs.Common.{◌≡◌, inl, inr, ℕ, ◌≤◌, Bool, true, false, List, [], ◌∷◌, ◌++◌, map, length, Option, Some, Result, Ok, Err, refl, sym, ◌∙◌, ap, subst, arith}
-use Rattle.std.specs.Prelude.{MatchResult, MatchBool, IfSome, ⊤}
+use Rattle.std.proofs.Common.{◌≡◌, inl, inr, ℕ, ◌≤◌, Bool, true, false, List, [], ◌∷◌, ◌++◌, map, length, Option, Some, Result, Ok, Err, refl, sym, ◌∙◌, ap, subst, arith, MatchResult, MatchBool, IfSome}
+use Rattle.std.specs.Prelude.{⊤}
 use Rattle.std.proofs.lemmas.Bool.{false≢true}
 use Rattle.update_journal.specs.uicc_types.Told.{AreBytes}
 use Rattle.update_journal.specs.uicc_types.declared.answers.StatusWord.{StatusWord}
@@ -17,13 +17,11 @@ use Rattle.toolkit_model.specs.Passing.{passed_rows}
 use Rattle.card_model.specs.Answers.{Answered, refused, settled, told_pending, with_pending, on_toolkit, file_tried, toolkit_tried, then_polled, selection_on, carried_out, carried_with, cut_answer, seen_by, tried, answer_of, is_carried_out, refusal}
 use Rattle.card_model.specs.Chained.{Any}
 use Rattle.card_model.specs.Channels.{family, channel_of}
-use Rattle.card_model.proofs.CaseLemmas.{cut_so}
-use Rattle.card_model.proofs.CasesLemmas.{cut_low, command_is}
+use Rattle.card_model.proofs.CaseLemmas.{cut_so, cut_low, command_is}
 use Rattle.card_model.specs.Instructions.{has_toolkit, is_of_tree}
 use Rattle.card_model.proofs.NamingLemmas.{tree_named}
 use Rattle.card_model.specs.Laws.{ChangesOneThing, ChangesAtMostTries, is_of_tree_named, key_named, IsStatusOf, IsLawfulAnswer, CommandsAreLawful, PlainRefusalsChangeTriesAndMarkAlone}
-use Rattle.card_model.proofs.PendingLemmas.{pending_few}
-use Rattle.card_model.proofs.PendingLemmas.{told_so, told_same}
+use Rattle.card_model.proofs.PendingLemmas.{pending_few, told_so, told_same}
 use Rattle.card_model.specs.States.{CardState, IsGood}
 use Rattle.card_model.specs.Toolkit.{ToolkitOutcome, toolkit_of, coming_to, with_rows, states_passed}
 use Rattle.card_model.specs.declared.instructions.Instruction.{Instruction}

@@ -1,8 +1,7 @@
 -- What a card answers where it takes a command of the toolkit: to FETCH the command that is fetched. It never takes a wake.
-use Rattle.std.proofs.Common.{◌≡◌, ◌≤◌, ℕ, Bool, true, false, List, length, Option, Some, None, Result, Ok, Err, refl, sym, ◌∙◌, ap, subst, arith}
-use Rattle.std.specs.Prelude.{⊤, ◌==◌, ◌||◌, MatchResult, option_map, option_and_then, take, unwrap_or}
+use Rattle.std.proofs.Common.{◌≡◌, ◌≤◌, ℕ, Bool, true, false, List, length, Option, Some, None, Result, Ok, Err, refl, sym, ◌∙◌, ap, subst, arith, ◌==◌, ◌||◌, MatchResult, option_map, option_and_then, take, unwrap_or, take_all}
+use Rattle.std.specs.Prelude.{⊤}
 use Rattle.std.proofs.lemmas.Bool.{eqb-true, not-false}
-use Rattle.std.proofs.lemmas.List.{take_all}
 use Rattle.update_journal.specs.uicc_types.Told.{AreBytes}
 use Rattle.update_journal.specs.uicc_types.declared.answers.StatusWord.{StatusWord}
 use Rattle.update_journal.specs.uicc_types.declared.answers.TheConstants.StatusWord.{DONE}
@@ -21,8 +20,7 @@ use Rattle.toolkit_model.specs.Steps.{ToolkitInput, Profile, Status, Report, Fet
 use Rattle.card_model.specs.Answers.{Answered, settled, told_pending, with_pending, on_toolkit, toolkit_tried, carried_out, carried_with, cut_answer, tried, answer_of, is_carried_out}
 use Rattle.card_model.specs.Chained.{Any}
 use Rattle.card_model.proofs.ChainedLemmas.{past}
-use Rattle.card_model.proofs.CaseLemmas.{cut_result}
-use Rattle.card_model.proofs.CasesLemmas.{all_so}
+use Rattle.card_model.proofs.CaseLemmas.{cut_result, all_so}
 use Rattle.card_model.specs.Instructions.{has_toolkit}
 use Rattle.card_model.specs.States.{CardState, IsGood}
 use Rattle.card_model.specs.Toolkit.{ToolkitOutcome, toolkit_of, coming_to, is_length_of, kind_in, command_fetched, toolkit_outcome}

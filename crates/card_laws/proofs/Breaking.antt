@@ -1,6 +1,5 @@
 -- What boxes a fault leaves.
-use Rattle.std.proofs.Common.{◌≡◌, ℕ, zero, suc, ◌+◌, add-zero, Bool, true, false, List, [], ◌∷◌, map, Option, None, refl, sym, ◌∙◌, ap, subst, arith}
-use Rattle.std.specs.Prelude.{◌&&◌, if◌then◌else◌, is_some, is_none, slice_index_or, IfSome}
+use Rattle.std.proofs.Common.{◌≡◌, ℕ, zero, suc, ◌+◌, add-zero, Bool, true, false, List, [], ◌∷◌, map, Option, None, refl, sym, ◌∙◌, ap, subst, arith, ◌&&◌, if◌then◌else◌, is_some, is_none, slice_index_or, IfSome}
 use Rattle.std.specs.List.{enumerate_from}
 use Rattle.std.proofs.lemmas.Bool.{false≢true}
 use Rattle.std.proofs.lemmas.List.{get_or_default}

@@ -1,6 +1,5 @@
 -- What each command of the toolkit comes to: it is accepted, and moves the toolkit of the card.
-use Rattle.std.proofs.Common.{◌≡◌, ℕ, ◌+◌, ◌<◌, Bool, true, false, List, [], ◌∷◌, map, Option, Some, None, Result, Ok, Err, refl, sym, ◌∙◌, ap, subst, arith, ◌≤◌}
-use Rattle.std.specs.Prelude.{All, Contains, IfOk, IsSomeAnd, MatchResult, ◌==◌, not, ◌&&◌, option_map, option_and_then, IfSome, nat_le}
+use Rattle.std.proofs.Common.{◌≡◌, ℕ, ◌+◌, ◌<◌, Bool, true, false, List, [], ◌∷◌, map, Option, Some, None, Result, Ok, Err, refl, sym, ◌∙◌, ap, subst, arith, ◌≤◌, All, Contains, IfOk, IsSomeAnd, MatchResult, ◌==◌, not, ◌&&◌, option_map, option_and_then, IfSome, nat_le}
 use Rattle.std.proofs.lemmas.Bool.{eqb-true, leb-true, and_parts, not-false}
 use Rattle.std.proofs.lemmas.List.Elements.{All-nil, All-cons, All-head, All-tail, All-filter}
 use Rattle.update_journal.proofs.uicc_types.FindingLemmas.{find_Some}
@@ -22,7 +21,7 @@ use Rattle.toolkit_model.specs.Passing.{ToolkitState, Passed, passed_rows}
 use Rattle.toolkit_model.specs.Registry.{faulty_if, unless_missing, is_on, row_on, is_taken, is_menu_full, last_sequence, installed_row, deleted_row, without_row}
 use Rattle.toolkit_model.specs.Running.{mind_on}
 use Rattle.toolkit_model.specs.Driving.{is_idle}
-use Rattle.toolkit_model.specs.Commands.{unfetched, unanswered, reply_to, is_busy, command_bytes, call_data, fetched, responded, enveloped, installed, row_deleted}
+use Rattle.toolkit_model.specs.Commands.{unfetched, unanswered, reply_to, is_busy, command_bytes, call_data, fetched, responded, enveloped, installed, delete_carried}
 use Rattle.toolkit_model.specs.Steps.{AreRows, HasMind, HaveMinds, ToolkitInput, Profile, Report, Fetch, Respond, Install, Delete, IsAccepted, moved}
 use Rattle.toolkit_model.specs.Installing.{InstallationsAreAccepted}
 use Rattle.toolkit_model.specs.Sound.{HasApplet, InstalledRowsAreSound}
@@ -261,28 +260,28 @@ module _ (installs : InstallationsAreAccepted) (sounds : InstalledRowsAreSound) 
       subst (λ found. P (if_row found) (record { body = []; passed = installed row at; next_sequence = card.persistent.next_sequence + 1 })) (sym is) (install_one row (leb-true 1 apdu.p1 both.0) (omega (arith, low)) is)))))
 
   -- a row that goes
-  delete_one : (row : Registration) → deleted_row card.persistent.rows apdu.p2 (is_idle (asks card.session) apdu.p2) ≡ Ok row → Comes card (Delete apdu.p2) (coming_to card [] (row_deleted row.shelf at))
+  delete_one : (row : Registration) → deleted_row card.persistent.rows apdu.p2 (is_idle (asks card.session) apdu.p2) ≡ Ok row → Comes card (Delete apdu.p2) (coming_to card [] (delete_carried row.shelf at))
   delete_one row is =
       let parts = deleted_is (row_on card.persistent.rows apdu.p2) (is_idle (asks card.session) apdu.p2) row is in
       let there = found_there card.persistent.rows apdu.p2 row parts.0 in
       let commits = deleted_commits apdu.p2 at in
       let below : AreBelow card.persistent.next_sequence (without_row card.persistent.rows apdu.p2) =
       All-filter (λ each. not (is_on apdu.p2 each)) (λ each. each.sequence < card.persistent.next_sequence) card.persistent.rows ready.sequences in
-      subst (λ (shelf : ℕ). Comes card (Delete apdu.p2) (coming_to card [] (row_deleted shelf at))) (sym there.shelf_is) (record {
+      subst (λ (shelf : ℕ). Comes card (Delete apdu.p2) (coming_to card [] (delete_carried shelf at))) (sym there.shelf_is) (record {
         accepted = (there.registered, parts.1);
         passed = refl;
-        ends = first_ends card.persistent.rows (without_row card.persistent.rows apdu.p2) (row_deleted apdu.p2 at) commits;
-        below = first_below card.persistent.next_sequence (without_row card.persistent.rows apdu.p2) (row_deleted apdu.p2 at) commits below;
-        each = first_each card card.persistent.next_sequence (without_row card.persistent.rows apdu.p2) (row_deleted apdu.p2 at) commits (record {
+        ends = first_ends card.persistent.rows (without_row card.persistent.rows apdu.p2) (delete_carried apdu.p2 at) commits;
+        below = first_below card.persistent.next_sequence (without_row card.persistent.rows apdu.p2) (delete_carried apdu.p2 at) commits below;
+        each = first_each card card.persistent.next_sequence (without_row card.persistent.rows apdu.p2) (delete_carried apdu.p2 at) commits (record {
           are_rows = rows_without card.persistent.rows apdu.p2 ready.order.rows;
           minds = All-filter (λ each. not (is_on apdu.p2 each)) (λ each. HasMind card.boxes each.shelf) card.persistent.rows ready.order.minds;
           below = below;
           applets = λ have. All-filter (λ each. not (is_on apdu.p2 each)) (HasApplet card.boxes) card.persistent.rows have;
         });
-        fixed = first_fixed (without_row card.persistent.rows apdu.p2) (row_deleted apdu.p2 at) commits;
+        fixed = first_fixed (without_row card.persistent.rows apdu.p2) (delete_carried apdu.p2 at) commits;
         later = omega arith;
         brings = λ kinds. (tt, tt);
-        next = first_next card.persistent card.persistent.next_sequence (without_row card.persistent.rows apdu.p2) (row_deleted apdu.p2 at) commits;
+        next = first_next card.persistent card.persistent.next_sequence (without_row card.persistent.rows apdu.p2) (delete_carried apdu.p2 at) commits;
       })
 
   delete_comes : (seen : Verified) → ComesTo card (Some (Delete apdu.p2)) (applet_deleted card seen apdu)

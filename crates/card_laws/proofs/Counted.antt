@@ -1,6 +1,5 @@
 -- What isn't counted isn't seen, and what isn't seen isn't counted.
-use Rattle.std.proofs.Common.{◌≡◌, ℕ, ◌≤◌, ◌-◌, ◌^◌, zero, suc, Bool, true, false, List, [], ◌∷◌, refl, ◌∙◌, ap, arith}
-use Rattle.std.specs.Prelude.{All, cond, count_by}
+use Rattle.std.proofs.Common.{◌≡◌, ℕ, ◌≤◌, ◌-◌, ◌^◌, zero, suc, Bool, true, false, List, [], ◌∷◌, refl, ◌∙◌, ap, arith, All, cond, count_by}
 use Rattle.std.proofs.lemmas.List.Elements.{All-cons, All-head, All-nil, All-tail}
 use Rattle.std.proofs.lemmas.List.Sums.{sum_by-cons}
 use Rattle.card_model.specs.Counts.{is_cut, is_failure}

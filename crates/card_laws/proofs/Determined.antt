@@ -1,6 +1,5 @@
 -- Two runs of the same steps from the same card, in both of which no fault is seen, are one.
-use Rattle.std.proofs.Common.{◌≡◌, Bool, true, false, List, [], ◌∷◌, ◌++◌, sym, ap, ◌∙◌, subst, inl, inr}
-use Rattle.std.specs.Prelude.{ℕ, MatchBool}
+use Rattle.std.proofs.Common.{◌≡◌, Bool, true, false, List, [], ◌∷◌, ◌++◌, sym, ap, ◌∙◌, subst, inl, inr, ℕ, MatchBool}
 use Rattle.std.proofs.lemmas.List.Elements.{All-head, All-tail}
 use Rattle.update_journal.proofs.uicc_types.MemberLemmas.{front_of, back_of}
 use Rattle.card_model.specs.Runs.{Commands, Exchanges, IsRun, MeetsNoPower, Restarts, StepGives, StepEnds}

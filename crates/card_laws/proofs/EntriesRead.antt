@@ -1,10 +1,8 @@
 -- Pieces that are read were spelled so.
-use Rattle.std.proofs.Common.{◌≡◌, ℕ, suc, zero, ◌^◌, ◌<◌, ◌≤◌, Bool, true, false, List, [], ◌∷◌, ◌++◌, length, take, drop, get_or, Some, None, refl, sym, ap, ◌∙◌, subst, arith, append_assoc}
-use Rattle.std.specs.Prelude.{◌&&◌, nat_le, if◌then◌else◌, option_map, option_and_then, All}
+use Rattle.std.proofs.Common.{◌≡◌, ℕ, suc, zero, ◌^◌, ◌<◌, ◌≤◌, Bool, true, false, List, [], ◌∷◌, ◌++◌, length, take, drop, get_or, Some, None, refl, sym, ap, ◌∙◌, subst, arith, append_assoc, ◌&&◌, nat_le, if◌then◌else◌, option_map, option_and_then, All, length-take-le, take-append-drop}
 use Rattle.std.specs.Int.{from_be_bytes, to_be_bytes, w16}
 use Rattle.std.specs.List.{flat_map, list_all}
 use Rattle.std.proofs.lemmas.Bool.{and_parts, leb-true}
-use Rattle.std.proofs.lemmas.List.{length-take-le, take-append-drop}
 use Rattle.std.proofs.lemmas.List.Elements.{All-cons, All-drop, All-nil, All-tail}
 use Rattle.std.proofs.lemmas.Nat.{be_bytes_2}
 use Rattle.std.proofs.lemmas.Option.{cond_some, option_and_then_some}

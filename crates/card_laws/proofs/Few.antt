@@ -1,6 +1,5 @@
 -- A sound card has few tries.
-use Rattle.std.proofs.Common.{◌≡◌, ℕ, ◌≤◌, List, Option, Some, None, refl, arith}
-use Rattle.std.specs.Prelude.{◌==◌, All}
+use Rattle.std.proofs.Common.{◌≡◌, ℕ, ◌≤◌, List, Option, Some, None, refl, arith, ◌==◌, All}
 use Rattle.std.proofs.lemmas.List.Elements.{All-contains}
 use Rattle.update_journal.proofs.uicc_types.FindingLemmas.{find_Some}
 use Rattle.file_model.specs.card_layout.Persistent.{Pin}

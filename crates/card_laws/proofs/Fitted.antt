@@ -1,6 +1,5 @@
 -- What stands in bytes fits into them.
-use Rattle.std.proofs.Common.{◌≡◌, ℕ, ◌+◌, ◌-◌, ◌<◌, ◌^◌, Bool, true, false, List, length, drop, take, get_or, Option, Some, None, Ok, refl, sym, ap, subst, ⊎_elim, arith}
-use Rattle.std.specs.Prelude.{All, IfSome, ◌==◌, if◌then◌else◌, map, filter, not, replicate, slice_range}
+use Rattle.std.proofs.Common.{◌≡◌, ℕ, ◌+◌, ◌-◌, ◌<◌, ◌^◌, Bool, true, false, List, length, drop, get_or, Option, Some, None, Ok, refl, sym, subst, ⊎_elim, arith, All, IfSome, ◌==◌, if◌then◌else◌, map, not, replicate, slice_range}
 use Rattle.std.specs.List.{range_with_len, enumerate_from}
 use Rattle.std.proofs.lemmas.Bool.{cases_lt}
 use Rattle.std.proofs.lemmas.List.{get_or-replicate, get_or_past, length-replicate}
@@ -11,7 +10,7 @@ use Rattle.file_model.specs.card_layout.Blank.{absent_pin, unused_node}
 use Rattle.file_model.specs.card_layout.Checks.{checks, first_failed}
 use Rattle.file_model.specs.card_layout.Decoding.{node_at, node_bytes, node_of, number_at, pin_at, pin_bytes, pin_of, table_of}
 use Rattle.file_model.specs.card_layout.Kinds.{df_kind}
-use Rattle.file_model.specs.card_layout.Persistent.{File, Persistent, Pin, Rule}
+use Rattle.file_model.specs.card_layout.Persistent.{Persistent, Rule}
 use Rattle.file_model.specs.card_layout.Places.{memory_size, node_place, pin_place, sequence_place}
 use Rattle.file_model.specs.card_layout.Standing.{stands_for, state_in, unless_failed}
 use Rattle.file_model.specs.card_layout.States.{df_file, ef_file, file_of, files_of, pin_state, pins_of, state_of, used_nodes, present_pins}

@@ -1,7 +1,6 @@
 -- How a card goes on with each command, and over all that happens to it.
-use Rattle.std.proofs.Common.{◌≡◌, ℕ, Bool, true, List, [], ◌∷◌, ◌++◌, map, Option, Some, None, Result, Ok, Err, refl, sym, ◌∙◌, ap, subst}
-use Rattle.std.specs.Prelude.{⊤, All, IfSome, IsSomeAnd, MatchResult, is_some, slice_index_or, slice_set}
-use Rattle.std.specs.Option.{option_to_list}
+use Rattle.std.proofs.Common.{◌≡◌, ℕ, Bool, true, List, [], ◌∷◌, ◌++◌, map, Option, Some, None, Result, Ok, Err, refl, sym, ◌∙◌, ap, subst, All, IfSome, IsSomeAnd, MatchResult, is_some, slice_index_or, slice_set, option_to_list}
+use Rattle.std.specs.Prelude.{⊤}
 use Rattle.std.proofs.lemmas.List.Elements.{All-nil, All-cons, All-map, All-contains}
 use Rattle.update_journal.specs.uicc_types.declared.answers.StatusWord.{StatusWord}
 use Rattle.update_journal.specs.uicc_types.declared.answers.TheConstants.StatusWord.{DONE}
@@ -28,8 +27,7 @@ use Rattle.card_model.specs.Channels.{ChannelOutcome, channel_of}
 use Rattle.card_model.specs.Instructions.{has_toolkit}
 use Rattle.card_model.specs.OtherFiles.{HaveOtherFiles}
 use Rattle.card_model.proofs.OtherFilesLemmas.{file_leaves, tree_leaves}
-use Rattle.card_model.proofs.CaseLemmas.{cut_result}
-use Rattle.card_model.proofs.CasesLemmas.{all_so}
+use Rattle.card_model.proofs.CaseLemmas.{cut_result, all_so}
 use Rattle.card_model.specs.Runs.{boxes_left}
 use Rattle.card_model.specs.States.{CardState, IsGood, woken}
 use Rattle.card_model.specs.Toolkit.{ToolkitOutcome, toolkit_of, coming_to, with_rows, states_passed}

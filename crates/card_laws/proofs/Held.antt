@@ -1,6 +1,5 @@
 -- Which commands of the toolkit change whether a command was fetched and not answered.
-use Rattle.std.proofs.Common.{◌≡◌, ℕ, zero, suc, Bool, true, false, cond, List, [], ◌∷◌, length, Option, Some, None, refl, sym, ◌∙◌, ap}
-use Rattle.std.specs.Prelude.{if◌then◌else◌, is_some}
+use Rattle.std.proofs.Common.{◌≡◌, ℕ, zero, suc, Bool, true, false, cond, List, [], ◌∷◌, length, Option, Some, None, refl, sym, ◌∙◌, ap, if◌then◌else◌, is_some}
 use Rattle.file_model.specs.card_layout.Persistent.{Registration}
 use Rattle.toolkit_model.specs.toolkit_commands.declared.commands.Proactive.{Proactive}
 use Rattle.toolkit_model.specs.toolkit_commands.declared.envelopes.Envelope.{Envelope}
@@ -14,8 +13,8 @@ use Rattle.toolkit_model.specs.Orderly.{asks}
 use Rattle.toolkit_model.specs.Order.{targets}
 use Rattle.toolkit_model.specs.Passing.{ToolkitState, Passed, in_turn}
 use Rattle.toolkit_model.specs.Running.{Ran, sending, run_on, most_acts, mind_on, works_of, setting_of, run_of_mind, run_of_row}
-use Rattle.toolkit_model.specs.Driving.{with_session, running, is_idle, told_if, given_if, told_one, given_one, trigger_for, first_idle, catching, caught_up, front_out, next_out, filled, wanted, session_filled, driven}
-use Rattle.toolkit_model.specs.Commands.{if_fetched, unfetched, unanswered, each_told, with_profile, profiled, polled, triggered_by, is_reported_once, reported, triggered, enveloped, fetched, resumed, with_nothing_out, answered, responded, registering, installed, unregistering, row_deleted}
+use Rattle.toolkit_model.specs.Driving.{with_session, running, is_idle, told_if, given_if, told_one, given_one, trigger_for, first_idle, catching, caught_up, front_out, next_out, filled, wanted, with_next_command, driven}
+use Rattle.toolkit_model.specs.Commands.{if_fetched, unfetched, unanswered, registered_told, with_profile, profiled, polled, triggered_by, is_reported_once, reported, triggered, enveloped, fetched, resumed, with_nothing_out, answered, responded, registering, installed, unregistering, delete_carried}
 use Rattle.toolkit_model.specs.Steps.{ToolkitInput, Profile, Status, Report, Fetch, Respond, Install, Delete, Wake, moved}
 use Rattle.toolkit_model.proofs.Fetches.{sent_unanswered}
 use Rattle.card_model.specs.Answers.{Answered, answer_of}
@@ -105,8 +104,8 @@ filled_holds : (out : Option Outstanding) (rows : List Registration) (session : 
 filled_holds (Some out) rows session is = refl
 filled_holds None rows session is = next_holds (wanted session.profile rows session.announced) session is ∙ sym (ap (if_fetched true) is)
 
-settled_holds : (state : ToolkitState) → held_in (session_filled state) ≡ held_in state
-unfolding session_filled
+settled_holds : (state : ToolkitState) → held_in (with_next_command state) ≡ held_in state
+unfolding with_next_command
 settled_holds state = filled_holds state.session.out state.rows state.session refl
 
 driven_holds : (state : ToolkitState) → Holds state (driven state)
@@ -115,7 +114,7 @@ driven_holds state = settled_holds (caught_up (length state.session.late) state)
 
 -- ---- commands
 
-told_all_hold : (code : ℕ) (body : List ℕ) (state : ToolkitState) → Holds state (each_told code body state)
+told_all_hold : (code : ℕ) (body : List ℕ) (state : ToolkitState) → Holds state (registered_told code body state)
 told_all_hold code body state = turns_hold (told_one code body) (λ shelf later. told_one_holds code body shelf later) (targets state.rows code) state
 
 profiled_holds : (bytes : List ℕ) (state : ToolkitState) → Holds state (profiled bytes state)
@@ -154,8 +153,8 @@ installed_holds : (row : Registration) (state : ToolkitState) → Holds state (i
 unfolding installed
 installed_holds row state = driven_holds (registering row state).state
 
-deleted_holds : (shelf : ℕ) (state : ToolkitState) → Holds state (row_deleted shelf state)
-unfolding row_deleted
+deleted_holds : (shelf : ℕ) (state : ToolkitState) → Holds state (delete_carried shelf state)
+unfolding delete_carried
 deleted_holds shelf state = driven_holds (unregistering shelf state).state
 
 -- what is to be fetched is not fetched yet

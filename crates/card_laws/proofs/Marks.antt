@@ -1,7 +1,5 @@
 -- The mark of a key after another mark is set.
-use Rattle.std.proofs.Common.{◌≡◌, ℕ, Bool, true, false, refl, sym, ◌∙◌, subst}
-use Rattle.std.specs.Prelude.{◌≢◌, ◌==◌, if◌then◌else◌}
-use Rattle.std.proofs.lemmas.Bool.{eqb-true, ne_eqb}
+use Rattle.std.proofs.Common.{◌≡◌, ℕ, Bool, true, false, refl, sym, ◌∙◌, subst, ◌≢◌, ◌==◌, if◌then◌else◌, eqb-true, ne_eqb}
 use Rattle.update_journal.specs.uicc_types.declared.keys.TheConstants.{PIN_1, PIN_2, ADM_1}
 use Rattle.file_model.specs.declared.rules.Verified.{Verified}
 use Rattle.file_model.specs.Pins.{marked}

@@ -1,6 +1,5 @@
 -- By which instruction byte a command of the toolkit is known, where it is carried out.
-use Rattle.std.proofs.Common.{◌≡◌, ℕ, ◌+◌, ◌≤◌, Bool, true, false, List, length, Option, Some, None, Result, Ok, Err, refl, sym, ◌∙◌, ap, subst, arith, option_and_then}
-use Rattle.std.specs.Prelude.{◌==◌, ◌||◌, ◌/◌, MatchResult, option_map, if◌then◌else◌}
+use Rattle.std.proofs.Common.{◌≡◌, ℕ, ◌+◌, ◌≤◌, Bool, true, false, List, length, Option, Some, None, Result, Ok, Err, refl, sym, ◌∙◌, ap, subst, arith, option_and_then, ◌==◌, ◌||◌, ◌/◌, MatchResult, option_map, if◌then◌else◌}
 use Rattle.std.proofs.lemmas.Bool.{false≢true, eq-eqb, eqb-true, ne_eqb}
 use Rattle.update_journal.specs.uicc_types.Told.{AreBytes}
 use Rattle.update_journal.specs.uicc_types.declared.answers.StatusWord.{StatusWord}
@@ -19,8 +18,7 @@ use Rattle.toolkit_model.specs.Commands.{unfetched, unanswered, reply_to, comman
 use Rattle.toolkit_model.specs.Registry.{installed_row}
 use Rattle.toolkit_model.specs.Steps.{ToolkitInput, Profile, Status, Report, Fetch, Respond, Delete}
 use Rattle.card_model.specs.Answers.{Answered, settled, told_pending, with_pending, toolkit_tried, carried_out, carried_with, answer_of, is_carried_out}
-use Rattle.card_model.proofs.CaseLemmas.{cut_result}
-use Rattle.card_model.proofs.CasesLemmas.{command_is}
+use Rattle.card_model.proofs.CaseLemmas.{cut_result, command_is}
 use Rattle.card_model.specs.Channels.{family}
 use Rattle.card_model.specs.Instructions.{has_toolkit}
 use Rattle.card_model.proofs.NamingLemmas.{IsNamed, named_so}
@@ -204,6 +202,6 @@ answer_names knows card bytes runs good are =
     })
     (λ apdu instruction read.
     let result : Result Answered StatusWord = carried_with true instruction card apdu in
-    let command : Option Command = if_carried result (command_by instruction card apdu) in
+    let command : Option ToolkitInput = if_carried result (command_by instruction card apdu) in
     cut_names card (ins_of bytes) command apdu.expected result
     (subst (λ (ins : ℕ). NamesIn card ins command result) (sym (ap ins_of (command_is bytes apdu are read.read).spelling)) (carried_names card good apdu instruction (both_told knows (family apdu.class) apdu.ins instruction read.named))))

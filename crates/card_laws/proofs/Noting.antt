@@ -1,8 +1,6 @@
 -- What is noted of each command of the toolkit.
-use Rattle.std.proofs.Common.{◌≡◌, ℕ, zero, suc, Bool, true, false, List, [], ◌∷◌, ◌++◌, map, length, Option, Some, None, refl, ◌∙◌, ap}
-use Rattle.std.specs.Prelude.{not, if◌then◌else◌}
+use Rattle.std.proofs.Common.{◌≡◌, ℕ, zero, suc, Bool, true, false, List, [], ◌∷◌, ◌++◌, map, length, Option, Some, None, refl, ◌∙◌, ap, not, if◌then◌else◌, append-nil}
 use Rattle.std.specs.List.{list_any}
-use Rattle.std.proofs.lemmas.List.{append-nil}
 use Rattle.std.proofs.lemmas.List.Elements.{filter-append}
 use Rattle.update_journal.specs.uicc_types.declared.events.TheConstants.{PROFILE_DOWNLOAD, STATUS_COMMAND}
 use Rattle.file_model.specs.card_layout.Persistent.{Registration}
@@ -19,7 +17,7 @@ use Rattle.toolkit_model.specs.Orderly.{asks}
 use Rattle.toolkit_model.specs.Passing.{ToolkitState, Happening, Woke, Fetched, Responded, Given, Turned, Committed, Passed, before, in_turn}
 use Rattle.toolkit_model.specs.Running.{Setting, Works, Ran, admitted, carried, committed, going_on, run_on, most_acts, mind_on, setting_of, works_of, run_of_mind, run_of_row}
 use Rattle.toolkit_model.specs.Driving.{is_idle, with_session, running, told_if, given_if, trigger_for, told_one, given_one, first_idle, catching, caught_up, driven}
-use Rattle.toolkit_model.specs.Commands.{each_told, with_profile, profiled, polled, Trigger, triggered_by, reported, triggered, enveloped, fetched, resumed, with_nothing_out, answered, responded, registering, installed, unregistering, row_deleted}
+use Rattle.toolkit_model.specs.Commands.{registered_told, with_profile, profiled, polled, Trigger, triggered_by, reported, triggered, enveloped, fetched, resumed, with_nothing_out, answered, responded, registering, installed, unregistering, delete_carried}
 use Rattle.toolkit_model.specs.Steps.{ToolkitInput, Profile, Status, Report, Fetch, Respond, Install, Delete, Wake, moved}
 use Rattle.toolkit_model.specs.Owing.{is_wake}
 use Rattle.card_laws.specs.Noted.{brought_by, brought, all_given, is_within, besides, notes_of}
@@ -128,11 +126,11 @@ profiled_noted : (bytes : List ℕ) (state : ToolkitState) → IsQuiet (profiled
 unfolding profiled
 profiled_noted bytes state =
     let start : ToolkitState = with_profile state bytes in
-    and_driven (each_told PROFILE_DOWNLOAD bytes start) ∙ told_all_quiet PROFILE_DOWNLOAD bytes (targets start.rows PROFILE_DOWNLOAD) start
+    and_driven (registered_told PROFILE_DOWNLOAD bytes start) ∙ told_all_quiet PROFILE_DOWNLOAD bytes (targets start.rows PROFILE_DOWNLOAD) start
 
 polled_noted : (state : ToolkitState) → IsQuiet (polled state).log
 unfolding polled
-polled_noted state = and_driven (each_told STATUS_COMMAND [] state) ∙ told_all_quiet STATUS_COMMAND [] (targets state.rows STATUS_COMMAND) state
+polled_noted state = and_driven (registered_told STATUS_COMMAND [] state) ∙ told_all_quiet STATUS_COMMAND [] (targets state.rows STATUS_COMMAND) state
 
 triggered_noted : (envelope : Envelope) (state : ToolkitState) → besides (triggered envelope state).log ≡ notes_of (Report envelope) state
 unfolding triggered
@@ -164,8 +162,8 @@ installed_noted : (row : Registration) (state : ToolkitState) → IsQuiet (insta
 unfolding installed
 installed_noted row state = and_driven (registering row state)
 
-deleted_noted : (shelf : ℕ) (state : ToolkitState) → IsQuiet (row_deleted shelf state).log
-unfolding row_deleted
+deleted_noted : (shelf : ℕ) (state : ToolkitState) → IsQuiet (delete_carried shelf state).log
+unfolding delete_carried
 deleted_noted shelf state = and_driven (unregistering shelf state)
 
 pub command_noted : (command : ToolkitInput) (state : ToolkitState) → besides (moved command state).log ≡ notes_of command state

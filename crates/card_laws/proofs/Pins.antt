@@ -1,6 +1,5 @@
 -- A PIN in place of another: which PIN is found then, and what tries it has.
-use Rattle.std.proofs.Common.{◌≡◌, ℕ, ◌-◌, ◌≤◌, List, Option, Some, None, refl, sym, ◌∙◌, ap, subst, inl, arith}
-use Rattle.std.specs.Prelude.{◌⊎◌, ◌≢◌, ◌==◌, if◌then◌else◌, option_map, IsSomeAnd}
+use Rattle.std.proofs.Common.{◌≡◌, ℕ, ◌-◌, ◌≤◌, List, Option, Some, None, refl, sym, ◌∙◌, ap, subst, inl, arith, ◌⊎◌, ◌≢◌, ◌==◌, if◌then◌else◌, option_map, IsSomeAnd}
 use Rattle.std.proofs.lemmas.Bool.{eq-eqb, ne_eqb, cond-true, cond-false}
 use Rattle.file_model.specs.card_layout.Persistent.{Pin}
 use Rattle.file_model.specs.Pins.{pin_found, with_pin}

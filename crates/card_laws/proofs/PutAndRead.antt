@@ -1,8 +1,6 @@
 -- What is read where another command put it.
-use Rattle.std.proofs.Common.{◌≡◌, ℕ, ◌+◌, ◌-◌, ◌<◌, ◌≤◌, Bool, true, false, cond, List, [], length, Option, Some, None, Result, Ok, Err, refl, sym, ap, ◌∙◌, subst, arith}
-use Rattle.std.specs.Prelude.{◌==◌, not, nat_lt, take, drop, slice_index_or, unwrap_or, option_map, Contains, AllPairs, IsTrue, if◌then◌else◌}
+use Rattle.std.proofs.Common.{◌≡◌, ℕ, ◌+◌, ◌-◌, ◌<◌, ◌≤◌, Bool, true, false, cond, List, [], length, Option, Some, None, Result, Ok, Err, refl, sym, ap, ◌∙◌, subst, arith, ◌==◌, not, nat_lt, take, drop, slice_index_or, unwrap_or, option_map, Contains, AllPairs, IsTrue, if◌then◌else◌, get_or-set_same}
 use Rattle.std.proofs.lemmas.Bool.{eqb-true, eq-eqb, cond-true, ltb-false, and_parts}
-use Rattle.std.proofs.lemmas.List.{get_or-set_same}
 use Rattle.std.proofs.lemmas.List.Elements.{All-contains}
 use Rattle.file_model.specs.declared.rules.Verified.{Verified}
 use Rattle.file_model.specs.apdu_form.Model.{Apdu}

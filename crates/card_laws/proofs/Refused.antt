@@ -1,6 +1,5 @@
 -- Chains of tests are lists of conditions.
-use Rattle.std.proofs.Common.{◌≡◌, ℕ, Bool, true, false, List, [], ◌∷◌, ◌++◌, Option, Some, None, Result, Ok, Err, refl, sym, ap, ◌∙◌, subst, inl, inr}
-use Rattle.std.specs.Prelude.{◌⊎◌, ◌==◌, not, is_none, length, All}
+use Rattle.std.proofs.Common.{◌≡◌, ℕ, Bool, true, false, List, [], ◌∷◌, ◌++◌, Option, Some, None, Result, Ok, Err, refl, sym, ap, ◌∙◌, subst, inl, inr, ◌⊎◌, ◌==◌, not, is_none, length, All}
 use Rattle.std.proofs.lemmas.Bool.{eq-eqb, false≢true, not-false}
 use Rattle.std.proofs.lemmas.List.Elements.{All-cons, All-contains, All-head, All-map, All-nil, All-tail, All-weaker}
 use Rattle.file_model.specs.declared.rules.Op.{Op}

@@ -1,6 +1,5 @@
 -- A command that is refused is no command of the toolkit that was taken.
-use Rattle.std.proofs.Common.{◌≡◌, ℕ, ◌≤◌, Bool, true, false, List, Option, Some, None, refl, ◌∙◌, ap}
-use Rattle.std.specs.Prelude.{if◌then◌else◌, IfSome}
+use Rattle.std.proofs.Common.{◌≡◌, ℕ, ◌≤◌, Bool, true, false, List, Option, Some, None, refl, ◌∙◌, ap, if◌then◌else◌, IfSome}
 use Rattle.update_journal.specs.uicc_types.declared.answers.StatusWord.{StatusWord}
 use Rattle.update_journal.specs.uicc_types.declared.answers.TheConstants.StatusWord.{DONE}
 use Rattle.toolkit_model.specs.Commands.{pending}
@@ -9,8 +8,7 @@ use Rattle.toolkit_model.specs.Installing.{InstallationsAreAccepted}
 use Rattle.toolkit_model.specs.Sound.{InstalledRowsAreSound}
 use Rattle.card_model.specs.Answers.{Answered, told_pending, with_pending, settled, tried, answer_of, is_carried_out, refusal}
 use Rattle.card_model.specs.Instructions.{has_toolkit}
-use Rattle.card_model.proofs.PendingLemmas.{pending_few}
-use Rattle.card_model.proofs.PendingLemmas.{told_done}
+use Rattle.card_model.proofs.PendingLemmas.{pending_few, told_done}
 use Rattle.card_model.specs.States.{CardState}
 use Rattle.card_model.specs.declared.instructions.Instruction.{Instruction}
 use Rattle.card_laws.specs.Moving.{taken, HasOrder, Answers}

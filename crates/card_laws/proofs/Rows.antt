@@ -1,7 +1,6 @@
 -- What the commands of the toolkit commit: the last commit is what there is then, and a run of an applet changes of the rows only
 -- what applets may change.
-use Rattle.std.proofs.Common.{◌≡◌, ℕ, zero, suc, Bool, true, false, cond, List, [], ◌∷◌, ◌++◌, map, length, Option, Some, None, Result, Ok, Err, refl, sym, ◌∙◌, ap, subst}
-use Rattle.std.specs.Prelude.{All, nat_le, filter, not, ◌==◌}
+use Rattle.std.proofs.Common.{◌≡◌, ℕ, zero, suc, Bool, true, false, cond, List, [], ◌∷◌, ◌++◌, map, length, Option, Some, None, Result, Ok, Err, refl, sym, ◌∙◌, ap, subst, All, nat_le, filter, not, ◌==◌}
 use Rattle.std.proofs.lemmas.List.Elements.{All-nil, All-cons, All-head, All-tail, filter_map-append}
 use Rattle.file_model.specs.card_layout.Persistent.{Registration}
 use Rattle.file_model.specs.card_layout.Sections.{sorted_codes, with_row}
@@ -24,8 +23,8 @@ use Rattle.toolkit_model.specs.Order.{targets}
 use Rattle.toolkit_model.specs.Registry.{is_on, with_changed, with_code, without_code, with_kept, registers, deregisters, without_row}
 use Rattle.toolkit_model.specs.Passing.{ToolkitState, Happening, Woke, Fetched, Responded, Given, Turned, Committed, Passed, rows_in, passed_rows, unmoved, before, in_turn}
 use Rattle.toolkit_model.specs.Running.{Setting, Works, Carried, Ran, commits, changing, taking, carried, is_admitted, is_held_by, admitted, committed, going_on, run_on, most_acts, mind_on, works_of, setting_of, run_of_mind, run_of_row}
-use Rattle.toolkit_model.specs.Driving.{is_idle, told_if, given_if, told_one, given_one, trigger_for, first_idle, catching, caught_up, session_filled, driven}
-use Rattle.toolkit_model.specs.Commands.{each_told, with_profile, profiled, polled, triggered_by, is_reported_once, reported, triggered, enveloped, fetched, resumed, with_nothing_out, answered, responded, registering, installed, unregistering, row_deleted}
+use Rattle.toolkit_model.specs.Driving.{is_idle, told_if, given_if, told_one, given_one, trigger_for, first_idle, catching, caught_up, with_next_command, driven}
+use Rattle.toolkit_model.specs.Commands.{registered_told, with_profile, profiled, polled, triggered_by, is_reported_once, reported, triggered, enveloped, fetched, resumed, with_nothing_out, answered, responded, registering, installed, unregistering, delete_carried}
 use Rattle.card_model.proofs.Counted.{last_joined}
 use Rattle.card_laws.specs.Moving.{fixed, HaveFixed}
 
@@ -120,7 +119,7 @@ carried_carries at (Answer allows) works = still works.rows
 goes_on : (done : Carried) (sent : Option Proactive) (next : Stimulus → Works → Ran) (tells : Option Stimulus) → ((stimulus : Stimulus) → CommitsRows done.works.rows (next stimulus done.works).log (next stimulus done.works).works.rows)
     → CommitsRows done.works.rows (going_on done.works sent next tells).log (going_on done.works sent next tells).works.rows
 goes_on done sent next None more = still done.works.rows
-goes_on done sent next (Some each_told) more = more each_told
+goes_on done sent next (Some registered_told) more = more registered_told
 
 run_commits : (fuel : ℕ) (at : Setting) (stimulus : Stimulus) (works : Works) → CommitsRows works.rows (run_on fuel at stimulus works).log (run_on fuel at stimulus works).works.rows
 unfolding run_on
@@ -182,17 +181,17 @@ unfolding caught_up
 caught_commits zero state = still state.rows
 caught_commits (suc count) state = catching_commits (caught_up count) (λ later. caught_commits count later) state (first_idle (asks state.session) state.session.late)
 
-settled_commits : (state : ToolkitState) → Commits state (unmoved (session_filled state))
-unfolding session_filled
+settled_commits : (state : ToolkitState) → Commits state (unmoved (with_next_command state))
+unfolding with_next_command
 settled_commits state = still state.rows
 
 driven_commits : (state : ToolkitState) → Commits state (driven state)
 unfolding driven
-driven_commits state = before_commits state (caught_up (length state.session.late) state) (λ later. unmoved (session_filled later)) (caught_commits (length state.session.late) state) (λ later. settled_commits later)
+driven_commits state = before_commits state (caught_up (length state.session.late) state) (λ later. unmoved (with_next_command later)) (caught_commits (length state.session.late) state) (λ later. settled_commits later)
 
 -- ---- commands
 
-told_all_commit : (code : ℕ) (body : List ℕ) (state : ToolkitState) → Commits state (each_told code body state)
+told_all_commit : (code : ℕ) (body : List ℕ) (state : ToolkitState) → Commits state (registered_told code body state)
 told_all_commit code body state = turns_commit (told_one code body) (λ shelf later. told_one_commits code body shelf later) (targets state.rows code) state
 
 pub profiled_commits : (bytes : List ℕ) (state : ToolkitState) → Commits state (profiled bytes state)
@@ -252,6 +251,6 @@ pub installed_commits : (row : Registration) (state : ToolkitState) → CommitsF
 unfolding installed
 installed_commits row state = record { rest = _; first = refl; others = driven_commits (registering row state).state }
 
-pub deleted_commits : (shelf : ℕ) (state : ToolkitState) → CommitsFirst (without_row state.rows shelf) (row_deleted shelf state)
-unfolding row_deleted
+pub deleted_commits : (shelf : ℕ) (state : ToolkitState) → CommitsFirst (without_row state.rows shelf) (delete_carried shelf state)
+unfolding delete_carried
 deleted_commits shelf state = record { rest = _; first = refl; others = driven_commits (unregistering shelf state).state }

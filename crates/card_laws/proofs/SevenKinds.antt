@@ -1,6 +1,5 @@
 -- The kinds of applets stay among the seven, whatever moves the toolkit.
-use Rattle.std.proofs.Common.{◌≡◌, ℕ, zero, suc, ◌≤◌, Bool, true, false, cond, List, [], ◌∷◌, length, Option, Some, None, Result, Ok, Err, refl, ◌∙◌, ap, subst, arith}
-use Rattle.std.specs.Prelude.{IfSome, nat_le}
+use Rattle.std.proofs.Common.{◌≡◌, ℕ, zero, suc, ◌≤◌, Bool, true, false, cond, List, [], ◌∷◌, length, Option, Some, None, Result, Ok, Err, refl, ◌∙◌, ap, subst, arith, IfSome, nat_le}
 use Rattle.std.proofs.lemmas.List.Elements.{All-tail, All-set}
 use Rattle.file_model.specs.card_layout.Persistent.{Registration}
 use Rattle.toolkit_model.specs.toolkit_commands.declared.commands.Proactive.{Proactive}
@@ -22,8 +21,8 @@ use Rattle.toolkit_model.specs.Order.{targets}
 use Rattle.toolkit_model.specs.Registry.{with_code, without_code, registers, deregisters}
 use Rattle.toolkit_model.specs.Passing.{ToolkitState, Passed, before, in_turn}
 use Rattle.toolkit_model.specs.Running.{Setting, Works, Carried, Ran, changing, taking, carried, is_admitted, is_held_by, admitted, going_on, run_on, most_acts, mind_on, with_mind, works_of, setting_of, run_of_mind, run_of_row}
-use Rattle.toolkit_model.specs.Driving.{with_session, running, is_idle, told_if, given_if, told_one, given_one, trigger_for, first_idle, catching, caught_up, session_filled, driven}
-use Rattle.toolkit_model.specs.Commands.{each_told, with_profile, profiled, polled, triggered_by, is_reported_once, reported, triggered, enveloped, fetched, resumed, with_nothing_out, answered, responded, registering, installed, unregistering, row_deleted}
+use Rattle.toolkit_model.specs.Driving.{with_session, running, is_idle, told_if, given_if, told_one, given_one, trigger_for, first_idle, catching, caught_up, with_next_command, driven}
+use Rattle.toolkit_model.specs.Commands.{registered_told, with_profile, profiled, polled, triggered_by, is_reported_once, reported, triggered, enveloped, fetched, resumed, with_nothing_out, answered, responded, registering, installed, unregistering, delete_carried}
 use Rattle.toolkit_model.specs.Steps.{ToolkitInput, Profile, Status, Report, Fetch, Respond, Install, Delete, Wake, moved}
 use Rattle.toolkit_model.specs.Sound.{BringsSound}
 use Rattle.card_model.specs.States.{IsOfSevenKinds, AreOfSevenKinds}
@@ -151,8 +150,8 @@ module _ (same : TurnsKeepKinds) where
   caught_keeps zero state are = are
   caught_keeps (suc count) state are = catching_keeps (caught_up count) (λ later. caught_keeps count later) state (first_idle (asks state.session) state.session.late) are
 
-  settled_keeps : (state : ToolkitState) → AreOfSevenKinds state.minds → AreOfSevenKinds (session_filled state).minds
-  unfolding session_filled
+  settled_keeps : (state : ToolkitState) → AreOfSevenKinds state.minds → AreOfSevenKinds (with_next_command state).minds
+  unfolding with_next_command
   settled_keeps state are = are
 
   driven_keeps : (state : ToolkitState) → Keeps state (driven state)
@@ -161,7 +160,7 @@ module _ (same : TurnsKeepKinds) where
 
   -- ---- commands
 
-  told_all_keep : (code : ℕ) (body : List ℕ) (state : ToolkitState) → Keeps state (each_told code body state)
+  told_all_keep : (code : ℕ) (body : List ℕ) (state : ToolkitState) → Keeps state (registered_told code body state)
   told_all_keep code body state are = turns_keep (told_one code body) (λ shelf later. told_one_keeps code body shelf later) (targets state.rows code) state are
 
   profiled_keeps : (bytes : List ℕ) (state : ToolkitState) → Keeps state (profiled bytes state)
@@ -204,8 +203,8 @@ module _ (same : TurnsKeepKinds) where
   unfolding installed
   installed_keeps row state is are = driven_keeps (registering row state).state (put_there state.minds row.shelf _ is are)
 
-  deleted_keeps : (shelf : ℕ) (state : ToolkitState) → Keeps state (row_deleted shelf state)
-  unfolding row_deleted
+  deleted_keeps : (shelf : ℕ) (state : ToolkitState) → Keeps state (delete_carried shelf state)
+  unfolding delete_carried
   deleted_keeps shelf state are = driven_keeps (unregistering shelf state).state (put_there state.minds shelf None tt are)
 
   pub moved_keeps : (command : ToolkitInput) (state : ToolkitState) → BringsKinds command → Keeps state (moved command state)

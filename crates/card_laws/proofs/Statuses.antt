@@ -1,14 +1,13 @@
 -- With which statuses commands of the toolkit are refused, and how many bytes they are answered with.
-use Rattle.std.proofs.Common.{◌≡◌, inl, inr, ◌≤◌, Bool, true, false, [], length, Option, Some, None, Result, Ok, Err, refl, subst, arith}
-use Rattle.std.specs.Prelude.{Contains, IfSome, MatchResult, option_map, if◌then◌else◌, ⊤}
+use Rattle.std.proofs.Common.{◌≡◌, inl, inr, ◌≤◌, Bool, true, false, [], length, Option, Some, None, Result, Ok, Err, refl, subst, arith, Contains, IfSome, MatchResult, option_map, if◌then◌else◌}
+use Rattle.std.specs.Prelude.{⊤}
 use Rattle.std.proofs.lemmas.Bool.{false≢true}
 use Rattle.update_journal.specs.uicc_types.declared.answers.StatusWord.{StatusWord}
 use Rattle.file_model.specs.declared.rules.Verified.{Verified}
 use Rattle.file_model.specs.apdu_form.Model.{Apdu}
 use Rattle.file_model.specs.card_layout.Persistent.{Registration}
 use Rattle.file_model.specs.Chains.{refused_if, and_given}
-use Rattle.file_model.proofs.ChainedLemmas.{unless_so, given_so}
-use Rattle.file_model.proofs.ChainedLemmas.{and_given_so}
+use Rattle.file_model.proofs.ChainedLemmas.{unless_so, given_so, and_given_so}
 use Rattle.toolkit_model.specs.declared.faults.RowFault.{RowFault}
 use Rattle.toolkit_model.specs.declared.faults.RowFault.TheVariants.{BadData, NoBox, Narrow, Taken, MenuFull, Spent, NoRow, NotIdle}
 use Rattle.toolkit_model.specs.Sessions.{Outstanding, SessionState}

@@ -1,9 +1,8 @@
 -- In which order the event of a command makes applets run.
-use Rattle.std.proofs.Common.{◌≡◌, ℕ, List, [], refl, ◌∙◌, ap}
-use Rattle.std.specs.Prelude.{filter}
+use Rattle.std.proofs.Common.{◌≡◌, ℕ, List, [], refl, ◌∙◌, ap, filter}
 use Rattle.update_journal.specs.uicc_types.declared.events.TheConstants.{PROFILE_DOWNLOAD, STATUS_COMMAND}
 use Rattle.toolkit_model.specs.toolkit_commands.declared.envelopes.Envelope.{Envelope}
-use Rattle.toolkit_model.specs.Commands.{each_told, with_profile, profiled, polled, triggered_by, triggered}
+use Rattle.toolkit_model.specs.Commands.{registered_told, with_profile, profiled, polled, triggered_by, triggered}
 use Rattle.toolkit_model.specs.Driving.{is_idle, driven}
 use Rattle.toolkit_model.specs.Order.{targets}
 use Rattle.toolkit_model.specs.Orderly.{asks, IsOrderly}
@@ -21,7 +20,7 @@ abbrev pub RunsEnvelopes : Type 0
 RunsEnvelopes = (envelope : Envelope) (state : ToolkitState) → IsInOrder state → begun (triggered envelope state).log ≡ filter (is_idle (asks state.session)) (triggered_by envelope state).shelves
 
 abbrev pub RunsOwn : Type 0
-RunsOwn = (code : ℕ) (body : List ℕ) (state : ToolkitState) → IsInOrder state → begun (each_told code body state).log ≡ filter (is_idle (asks state.session)) (targets state.rows code)
+RunsOwn = (code : ℕ) (body : List ℕ) (state : ToolkitState) → IsInOrder state → begun (registered_told code body state).log ≡ filter (is_idle (asks state.session)) (targets state.rows code)
 
 -- ---- a session with another profile is in order
 
@@ -52,11 +51,11 @@ profile_in_order state bytes is = record { rows = is.rows; session = profile_ord
 
 -- ---- each command
 
-profile_first : (bytes : List ℕ) (state : ToolkitState) → profiled bytes state ≡ before (each_told PROFILE_DOWNLOAD bytes (with_profile state bytes)) driven
+profile_first : (bytes : List ℕ) (state : ToolkitState) → profiled bytes state ≡ before (registered_told PROFILE_DOWNLOAD bytes (with_profile state bytes)) driven
 unfolding profiled
 profile_first bytes state = refl
 
-status_first : (state : ToolkitState) → polled state ≡ before (each_told STATUS_COMMAND [] state) driven
+status_first : (state : ToolkitState) → polled state ≡ before (registered_told STATUS_COMMAND [] state) driven
 unfolding polled
 status_first state = refl
 

@@ -1,7 +1,5 @@
 -- What the PIN commands come to: a refusal that tells no tries, the tries told, or a value presented.
-use Rattle.std.proofs.Common.{◌≡◌, ℕ, zero, suc, ◌-◌, ◌≤◌, Bool, true, false, List, [], Some, refl, inl, inr, arith}
-use Rattle.std.specs.Prelude.{◌⊎◌, ◌==◌, length, MatchResult, Result}
-use Rattle.std.specs.Str.{bytes_eq}
+use Rattle.std.proofs.Common.{◌≡◌, ℕ, zero, suc, ◌-◌, ◌≤◌, Bool, true, false, List, [], Some, refl, inl, inr, arith, ◌⊎◌, ◌==◌, length, MatchResult, Result, bytes_eq}
 use Rattle.std.proofs.lemmas.Bool.{eqb-true, eqb-false, ne_eqb, not-false}
 use Rattle.update_journal.specs.uicc_types.declared.answers.StatusWord.{StatusWord}
 use Rattle.file_model.specs.apdu_form.Model.{Apdu}

@@ -8,7 +8,7 @@ use Rattle.toolkit_model.specs.applet_trait.declared.stimuli.Act.TheVariants as 
 use Rattle.toolkit_model.specs.applet_trait.Minds.{AppletState, fresh}
 use Rattle.toolkit_model.specs.applet_trait.Turns.{act}
 use Rattle.toolkit_model.specs.Timers.{Owners}
-use Rattle.toolkit_model.specs.Commands.{with_profile, registering, unregistering, woken}
+use Rattle.toolkit_model.specs.Commands.{with_profile, registering, unregistering, toolkit_woken}
 use Rattle.toolkit_model.specs.Passing.{ToolkitState, ShelfTurn, Happening, Turned, Committed}
 use Rattle.toolkit_model.specs.Running.{Setting, Works, Carried, admitted, awakened, carried, kept_on, most_acts, begins_call, mind_on, with_mind}
 use Rattle.toolkit_model.specs.Steps.{ToolkitInput, Profile, Install, Delete, Wake, moved}
@@ -119,7 +119,7 @@ abbrev pub begins_with : ToolkitInput → ToolkitState → ToolkitState
 begins_with (Profile bytes) state = with_profile state bytes
 begins_with (Install row) state = (registering row state).state
 begins_with (Delete shelf) state = (unregistering shelf state).state
-begins_with (Wake rows minds) state = woken rows minds
+begins_with (Wake rows minds) state = toolkit_woken rows minds
 begins_with _ state = state
 
 abbrev pub AppletsActInTurn : Type 0

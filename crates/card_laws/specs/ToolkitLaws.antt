@@ -4,7 +4,7 @@ use Rattle.update_journal.specs.uicc_types.Told.{AreBytes}
 use Rattle.update_journal.specs.uicc_types.declared.events.TheConstants.{PROFILE_DOWNLOAD, STATUS_COMMAND}
 use Rattle.update_journal.specs.uicc_types.declared.answers.StatusWord.{StatusWord}
 use Rattle.file_model.specs.apdu_form.Model.{Apdu}
-use Rattle.toolkit_model.specs.Commands.{polled, unanswered, each_told, with_profile, triggered_by, triggered}
+use Rattle.toolkit_model.specs.Commands.{polled, unanswered, registered_told, with_profile, triggered_by, triggered}
 use Rattle.toolkit_model.specs.Driving.{is_idle, driven}
 use Rattle.toolkit_model.specs.Orderly.{asks}
 use Rattle.toolkit_model.specs.Order.{targets}
@@ -96,8 +96,8 @@ pub record RunsInOrder (card : CardState) (command : ToolkitInput) (first : Pass
 abbrev pub RunsTargets : ToolkitInput → CardState → Type 0
 RunsTargets (Report envelope) card = RunsInOrder card (Report envelope) (triggered envelope (toolkit_of card)) (triggered_by envelope (toolkit_of card)).shelves
 RunsTargets (Profile bytes) card =
-    RunsInOrder card (Profile bytes) (each_told PROFILE_DOWNLOAD bytes (with_profile (toolkit_of card) bytes)) (targets card.persistent.rows PROFILE_DOWNLOAD)
-RunsTargets Status card = RunsInOrder card Status (each_told STATUS_COMMAND [] (toolkit_of card)) (targets card.persistent.rows STATUS_COMMAND)
+    RunsInOrder card (Profile bytes) (registered_told PROFILE_DOWNLOAD bytes (with_profile (toolkit_of card) bytes)) (targets card.persistent.rows PROFILE_DOWNLOAD)
+RunsTargets Status card = RunsInOrder card Status (registered_told STATUS_COMMAND [] (toolkit_of card)) (targets card.persistent.rows STATUS_COMMAND)
 RunsTargets _ card = ⊤
 
 -- the idle applets that are told of an event run in the order of its targets, before any other

@@ -1,6 +1,5 @@
 -- What holds of the codes of a row's events, whatever its bits.
-use Rattle.std.proofs.Common.{zero, suc, ◌<◌, ℕ, Bool, arith}
-use Rattle.std.specs.Prelude.{◌==◌, filter, Contains}
+use Rattle.std.proofs.Common.{zero, suc, ◌<◌, ℕ, Bool, arith, ◌==◌, filter, Contains}
 use Rattle.std.specs.Int.{bit_at}
 use Rattle.std.specs.List.Sorted.{IsStrictlyIncreasing}
 use Rattle.std.proofs.lemmas.List.Elements.{All-filter, All-map, All-contains_itself}

@@ -1,6 +1,5 @@
 -- The keys of the slots, and two tables with the same entries.
-use Rattle.std.specs.Prelude.{◌≡◌, ℕ, ◌<◌, Bool, zero, suc, List, [], ◌∷◌, Contains, ◌==◌, true, false, if◌then◌else◌}
-use Rattle.std.proofs.Common.{refl, arith}
+use Rattle.std.proofs.Common.{◌≡◌, ℕ, ◌<◌, Bool, zero, suc, List, [], ◌∷◌, Contains, ◌==◌, true, false, if◌then◌else◌, refl, arith}
 use Rattle.uicc_types.specs.declared.keys.TheConstants.{PIN_1, PIN_2, ADM_1}
 use Rattle.card_layout.specs.declared.entries.Node.{Node}
 use Rattle.card_layout.specs.declared.entries.PinSlot.{PinSlot}

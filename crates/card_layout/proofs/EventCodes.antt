@@ -1,6 +1,5 @@
 -- What the codes of a row's events become where one bit is set or cleared.
-use Rattle.std.proofs.Common.{suc, get_or, ◌≡◌, ℕ, ◌+◌, ◌-◌, ◌*◌, ◌/◌, ◌%◌, ◌^◌, ◌<◌, ◌≤◌, bit_and, bit_or, subst, ◌⊎◌, Bool, true, false, cond, List, [], ◌∷◌, map, refl, sym, ◌∙◌, ap, ⊎_elim, inl, inr, arith, Some, None}
-use Rattle.std.specs.Prelude.{◌==◌, ◌&&◌, ◌||◌, nat_lt, not, filter, find, Contains, Option, option_map}
+use Rattle.std.proofs.Common.{suc, get_or, ◌≡◌, ℕ, ◌+◌, ◌-◌, ◌*◌, ◌/◌, ◌%◌, ◌^◌, ◌<◌, ◌≤◌, bit_and, bit_or, subst, ◌⊎◌, Bool, true, false, cond, List, [], ◌∷◌, map, refl, sym, ◌∙◌, ap, ⊎_elim, inl, inr, arith, Some, None, ◌==◌, ◌&&◌, ◌||◌, nat_lt, not, filter, find, Contains, Option, option_map, pow_mono}
 use Rattle.std.specs.Int.{w16, bit_at}
 use Rattle.std.specs.List.{list_any, list_all, position_from}
 use Rattle.std.proofs.lemmas.Bool.{cases_Bool, cases_eq, ne_eqb, eqb-true, eq-eqb, leb-true, and_right}
@@ -10,7 +9,6 @@ use Rattle.std.proofs.lemmas.List.Sums.{AllPass-from_list_all}
 use Rattle.std.proofs.lemmas.List.Folds.{list_any_none, list_any_at}
 use Rattle.std.proofs.lemmas.Nat.{or_lt}
 use Rattle.std.proofs.lemmas.Nat.Bits.{bit_at_set_same, bit_at_set_other, bit_at_clear_same, bit_at_clear_other, shr_and_one}
-use Rattle.std.proofs.Math.Pow.{pow_mono}
 use Rattle.uicc_types.proofs.ChoiceLemmas.{mapped_Some}
 use Rattle.uicc_types.proofs.FindingLemmas.{find_Some}
 use Rattle.card_layout.specs.Kinds.{event_codes, codes_of}

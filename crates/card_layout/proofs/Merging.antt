@@ -1,6 +1,5 @@
 -- The entry that is read from bytes of which a part was written anew.
-use Rattle.std.specs.Prelude.{◌≡◌, ◌⊎◌, ℕ, ◌+◌, ◌-◌, ◌≤◌, ◌<◌, ◌==◌, Bool, true, false, IsTrue, ◌&&◌, ◌||◌, if◌then◌else◌, List, [], ◌∷◌, zero, suc, ◌++◌, length, take, drop, slice_range, min}
-use Rattle.std.proofs.Common.{get_or, lit<, lit≤, refl, sym, ◌∙◌, ap, inl, inr, ⊎_elim, arith}
+use Rattle.std.proofs.Common.{◌≡◌, ◌⊎◌, ℕ, ◌+◌, ◌-◌, ◌≤◌, ◌<◌, ◌==◌, Bool, true, false, IsTrue, ◌&&◌, ◌||◌, if◌then◌else◌, List, [], ◌∷◌, zero, suc, ◌++◌, length, take, drop, slice_range, min, get_or, lit<, lit≤, refl, sym, ◌∙◌, ap, inl, inr, ⊎_elim, arith}
 use Rattle.std.specs.List.{list_all}
 use Rattle.std.proofs.lemmas.List.{length-take, length-drop, length-append, get_or-take, get_or-drop, take-take, take-append-le, places, take_all, drop_all, append-nil}
 use Rattle.std.proofs.lemmas.Bool.{cases_lt, false≢true}
@@ -18,8 +17,7 @@ use Rattle.card_layout.specs.Spelling.{node_spelled, pin_spelled, row_spelled}
 use Rattle.card_layout.specs.Decoding.{node_of, pin_of, row_of}
 use Rattle.card_layout.specs.Ranges.{HasNodeRanges, HasPinRanges, HasRowRanges}
 use Rattle.card_layout.specs.Fields.{node_fields, pin_fields, row_fields, is_among, is_beside, is_uncut, AreWholeFields, merged_node, merged_pin, merged_row, kept_anew}
-use Rattle.card_layout.proofs.ReadingBackLemmas.{length-node_spelled, length-pin_spelled, length-row_spelled}
-use Rattle.card_layout.proofs.ReadingBackLemmas.{node_back, pin_back, row_back, row_front_back, kept_count, kept_spelled, take-padded}
+use Rattle.card_layout.proofs.ReadingBackLemmas.{length-node_spelled, length-pin_spelled, length-row_spelled, node_back, pin_back, row_back, row_front_back, kept_count, kept_spelled, take-padded}
 
 -- ---- choices
 

@@ -1,8 +1,6 @@
 -- What a new file holds, and its rule.
-use Rattle.std.proofs.Common.{◌≡◌, ℕ, ◌*◌, ◌/◌, ◌≤◌, true, cond, replicate, refl, ◌∙◌, ap, arith}
-use Rattle.std.specs.Prelude.{◌&&◌, nat_le, IsTrue, Option, Some, None}
+use Rattle.std.proofs.Common.{◌≡◌, ℕ, ◌*◌, ◌/◌, ◌≤◌, true, cond, replicate, refl, ◌∙◌, ap, arith, ◌&&◌, nat_le, IsTrue, Option, Some, None, append-nil}
 use Rattle.std.proofs.lemmas.Bool.{and_parts, leb-true, ne_eqb}
-use Rattle.std.proofs.lemmas.List.{append-nil}
 use Rattle.std.proofs.Math.Nat.{mul-div_cancel_left}
 use Rattle.uicc_types.proofs.RangeLemmas.{some_product}
 use Rattle.uicc_types.specs.declared.identifiers.FileId.{FileId}

@@ -1,6 +1,5 @@
 -- The codes of a row's events in the order of the table.
-use Rattle.std.proofs.Common.{get_or, ℕ, Bool, List, filter}
-use Rattle.std.specs.Prelude.{◌==◌, Contains}
+use Rattle.std.proofs.Common.{get_or, ℕ, Bool, List, filter, ◌==◌, Contains}
 use Rattle.std.specs.List.{list_any}
 use Rattle.std.proofs.lemmas.List.Elements.{All-contains, All-map, filter_passes}
 use Rattle.uicc_types.proofs.MemberLemmas.{number_there}

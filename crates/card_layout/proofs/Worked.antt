@@ -1,6 +1,5 @@
 -- The definitions, worked out on examples.
-use Rattle.std.proofs.Common.{zero, suc, ◌≡◌, ℕ, ◌<◌, true, false, List, [], ◌∷◌, ◌++◌, replicate, Some, None, Ok, Err, refl, arith}
-use Rattle.std.specs.Prelude.{Contains}
+use Rattle.std.proofs.Common.{zero, suc, ◌≡◌, ℕ, ◌<◌, true, false, List, [], ◌∷◌, ◌++◌, replicate, Some, None, Ok, Err, refl, arith, Contains}
 use Rattle.uicc_types.specs.Patches.{patched}
 use Rattle.card_layout.specs.declared.entries.Loaded.{Loaded}
 use Rattle.uicc_types.specs.declared.identifiers.FileId.{FileId}

@@ -1,7 +1,5 @@
 -- What a store stands for once some pieces were committed.
-use Rattle.std.specs.Prelude.{◌≡◌, ◌⊎◌, ℕ, Bool, true, List, Option, option_map, Result, Ok, Err, OnOk, IsErr}
-use Rattle.std.specs.Result.{IsErrAnd}
-use Rattle.std.proofs.Common.{inl, inr, ⊎_elim, subst, sym}
+use Rattle.std.proofs.Common.{◌≡◌, ◌⊎◌, ℕ, Bool, true, List, Option, option_map, Result, Ok, Err, OnOk, IsErr, inl, inr, ⊎_elim, subst, sym, IsErrAnd}
 use Rattle.file_model.specs.store_form.declared.store.StoreFault.{StoreFault}
 use Rattle.file_model.specs.store_form.Pieces.{Piece, applied}
 use Rattle.file_model.specs.card_layout.declared.entries.Loaded.{Loaded}

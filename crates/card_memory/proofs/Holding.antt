@@ -1,6 +1,5 @@
 -- What the state says that a file holds, and what stands in the memory at its place.
-use Rattle.std.specs.Prelude.{◌≡◌, ℕ, ◌+◌, ◌-◌, ◌≤◌, IsTrue, List, length, take, drop, slice_range, All, Option, Some, None, option_map, IfSome}
-use Rattle.std.proofs.Common.{sym, ◌∙◌, ap, subst, arith}
+use Rattle.std.proofs.Common.{◌≡◌, ℕ, ◌+◌, ◌-◌, ◌≤◌, IsTrue, List, length, take, drop, slice_range, All, Option, Some, None, option_map, IfSome, sym, ◌∙◌, ap, subst, arith}
 use Rattle.file_model.specs.card_layout.declared.entries.Node.{Node}
 use Rattle.file_model.specs.card_layout.declared.entries.Loaded.{Loaded}
 use Rattle.file_model.specs.card_layout.Kinds.{transparent_kind, has_records}

@@ -1,7 +1,5 @@
 -- What one call after the other keeps of a memory.
-use Rattle.std.proofs.Common.{◌≡◌, ◌∙◌, subst, sym}
-use Rattle.std.specs.Prelude.{IsErrAnd, Result, Ok, Err}
-use Rattle.std.specs.Result.{IsErr}
+use Rattle.std.proofs.Common.{◌≡◌, ◌∙◌, subst, sym, IsErrAnd, Result, Ok, Err, IsErr}
 use Rattle.file_model.proofs.uicc_types.CallLemmas.{calm_ok, caused_then}
 use Rattle.file_model.specs.store_form.declared.store.StoreFault.{StoreFault}
 use Rattle.file_model.proofs.store_form.CauseLemmas.{cause_of}

@@ -1,6 +1,5 @@
 -- A range that is filled, or copied, part by part.
-use Rattle.std.specs.Prelude.{◌≡◌, ℕ, ◌+◌, ◌-◌, ◌≤◌, List, [], length, take, drop, replicate, Option, Some, None, option_map, IfSome}
-use Rattle.std.proofs.Common.{refl, sym, ◌∙◌, ap, subst, inl, inr, ⊎_elim, arith}
+use Rattle.std.proofs.Common.{◌≡◌, ℕ, ◌+◌, ◌-◌, ◌≤◌, List, [], length, take, drop, replicate, Option, Some, None, option_map, IfSome, refl, sym, ◌∙◌, ap, subst, inl, inr, ⊎_elim, arith}
 use Rattle.std.proofs.lemmas.List.{length-replicate, replicate-append-replicate}
 use Rattle.file_model.proofs.uicc_types.RangeLemmas.{length-range, next_range}
 use Rattle.file_model.specs.uicc_types.Patches.{patched, Torn, IsApart}

@@ -1,6 +1,5 @@
 -- What a store stands for once free bytes of it were prepared.
-use Rattle.std.specs.Prelude.{◌≡◌, ℕ, ◌+◌, ◌-◌, ◌≤◌, ◌<◌, Bool, true, false, List, length, replicate, option_map, is_some, Result, Ok, Err, OnOk, OnErr}
-use Rattle.std.proofs.Common.{sym, ◌∙◌, ap, subst, lit≤, arith}
+use Rattle.std.proofs.Common.{◌≡◌, ℕ, ◌+◌, ◌-◌, ◌≤◌, ◌<◌, Bool, true, false, List, length, replicate, option_map, is_some, Result, Ok, Err, OnOk, OnErr, sym, ◌∙◌, ap, subst, lit≤, arith}
 use Rattle.std.proofs.lemmas.List.{length-replicate}
 use Rattle.std.proofs.lemmas.Result.{on_ok_weaker}
 use Rattle.file_model.proofs.uicc_types.OptionalLemmas.{whichever}

@@ -1,6 +1,5 @@
 -- The definitions, worked out on examples.
-use Rattle.std.specs.Prelude.{◌≡◌, [], ◌∷◌}
-use Rattle.std.proofs.Common.{refl}
+use Rattle.std.proofs.Common.{◌≡◌, [], ◌∷◌, refl}
 use Rattle.file_model.specs.uicc_types.Patches.{patched}
 use Rattle.file_model.specs.card_layout.Blank.{unused_node}
 use Rattle.card_memory.specs.Prepared.{filled, copied, moved}

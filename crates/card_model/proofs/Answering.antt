@@ -1,6 +1,6 @@
 -- The laws of answers, from what the commands come to.
-use Rattle.std.proofs.Common.{◌≡◌, inl, ℕ, zero, suc, ◌+◌, ◌≤◌, Bool, true, false, List, [], ◌∷◌, length, map, Option, Some, None, refl, sym, ◌∙◌, ap, subst, arith}
-use Rattle.std.specs.Prelude.{◌&&◌, is_some, is_none, if◌then◌else◌, Result, Ok, Err, All, Contains, MatchResult, MatchBool, IfSome, ⊤}
+use Rattle.std.proofs.Common.{◌≡◌, inl, ℕ, zero, suc, ◌+◌, ◌≤◌, Bool, true, false, List, [], ◌∷◌, length, map, Option, Some, None, refl, sym, ◌∙◌, ap, subst, arith, ◌&&◌, is_some, is_none, if◌then◌else◌, Result, Ok, Err, All, Contains, MatchResult, MatchBool, IfSome}
+use Rattle.std.specs.Prelude.{⊤}
 use Rattle.std.specs.List.{enumerate_from, list_any}
 use Rattle.std.proofs.lemmas.Bool.{false≢true, or_parts}
 use Rattle.std.proofs.lemmas.List.Elements.{All-cons, All-contains}
@@ -22,13 +22,11 @@ use Rattle.file_making.specs.declared.commands.TreeCommand.{TreeCommand}
 use Rattle.toolkit_model.specs.Model.{AppletState}
 use Rattle.toolkit_model.specs.Commands.{pending}
 use Rattle.card_model.specs.Answers.{told_pending, with_pending, Answered, refused, settled, file_tried, pin_tried, managed, tree_tried, selection_on, seen_by, carried_out, is_status, carried_with, cut_answer, tried, answer_of, passed_of, is_carried_out, refusal}
-use Rattle.card_model.proofs.CaseLemmas.{cut_result, cut_so, IsRead}
-use Rattle.card_model.proofs.CasesLemmas.{cut_low, command_is, of_tried}
+use Rattle.card_model.proofs.CaseLemmas.{cut_result, cut_so, IsRead, cut_low, command_is, of_tried}
 use Rattle.card_model.specs.Channels.{ChannelOutcome, family, channel_of}
 use Rattle.card_model.specs.Instructions.{toolkit_commands, has_toolkit, is_of_toolkit, is_of_tree}
 use Rattle.card_model.proofs.NamingLemmas.{tree_named}
-use Rattle.card_model.proofs.PendingLemmas.{pending_few}
-use Rattle.card_model.proofs.PendingLemmas.{told_known, told_same}
+use Rattle.card_model.proofs.PendingLemmas.{pending_few, told_known, told_same}
 use Rattle.card_model.specs.Laws.{key_named, is_of_tree_named, IsStatusOf, ChangesAtMostTries, IsLawfulAnswer, WithoutToolkit, statuses}
 use Rattle.card_model.specs.Runs.{IsLeft, box_left, boxes_left}
 use Rattle.card_model.specs.States.{CardState, AreChannels, HasBox, IsGood, row_on, woken}

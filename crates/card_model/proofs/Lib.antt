@@ -1,6 +1,5 @@
 pub mod Answering
 pub mod CaseLemmas
-pub mod CasesLemmas
 pub mod ChainedLemmas
 pub mod Counted
 pub mod Lawful

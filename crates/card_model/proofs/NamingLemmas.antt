@@ -1,6 +1,6 @@
 -- What holds of each command that a class and an instruction byte name.
-use Rattle.std.proofs.Common.{◌≡◌, ℕ, zero, suc, Bool, true, List, [], ◌∷◌, Option, Some, refl, sym, ◌∙◌, subst, arith}
-use Rattle.std.specs.Prelude.{◌==◌, ◌&&◌, Contains, MatchResult, ⊤}
+use Rattle.std.proofs.Common.{◌≡◌, ℕ, zero, suc, Bool, true, List, [], ◌∷◌, Option, Some, refl, sym, ◌∙◌, subst, arith, ◌==◌, ◌&&◌, Contains, MatchResult}
+use Rattle.std.specs.Prelude.{⊤}
 use Rattle.std.specs.List.{list_all}
 use Rattle.std.proofs.lemmas.Bool.{eqb-true, and_parts}
 use Rattle.file_model.proofs.uicc_types.FindingLemmas.{find-filter, find_Some}

@@ -1,6 +1,5 @@
 -- Commands on files, and those that make, delete and resize files, change no more than files.
-use Rattle.std.proofs.Common.{ℕ, Bool, true, false, List, [], ◌∷◌, Option, refl}
-use Rattle.std.specs.Prelude.{◌==◌, if◌then◌else◌, MatchResult, Result}
+use Rattle.std.proofs.Common.{ℕ, Bool, true, false, List, [], ◌∷◌, Option, refl, ◌==◌, if◌then◌else◌, MatchResult, Result}
 use Rattle.file_model.specs.uicc_types.declared.answers.StatusWord.{StatusWord}
 use Rattle.file_model.specs.declared.rules.Op.{Op}
 use Rattle.file_model.specs.declared.rules.Op.TheVariants as op

@@ -1,8 +1,6 @@
 -- Which statuses are among others.
-use Rattle.std.proofs.Common.{◌≡◌, Bool, true, false, List, refl, ap, inl, inr}
-use Rattle.std.specs.Prelude.{◌==◌, ◌||◌, Contains}
+use Rattle.std.proofs.Common.{◌≡◌, Bool, true, false, List, refl, ap, inl, inr, ◌==◌, ◌||◌, Contains, eqb-true}
 use Rattle.std.specs.List.{list_any, list_all}
-use Rattle.std.proofs.lemmas.Bool.{eqb-true}
 use Rattle.std.proofs.lemmas.Map.Views.{Contains-from_any}
 use Rattle.file_model.specs.uicc_types.declared.answers.StatusWord.{StatusWord}
 use Rattle.file_model.specs.Laws.{IsFileRefusal, file_refusals, pin_refusals}

@@ -1,6 +1,6 @@
 -- No answer tells of a failing memory.
-use Rattle.std.proofs.Common.{◌≡◌, ℕ, ◌+◌, Bool, true, false, List, Option, Some, None, refl, sym, ◌∙◌, ap, arith, inl, inr}
-use Rattle.std.specs.Prelude.{◌==◌, ◌≢◌, not, if◌then◌else◌, Result, Ok, Err, Contains, MatchResult, ⊤}
+use Rattle.std.proofs.Common.{◌≡◌, ℕ, ◌+◌, Bool, true, false, List, Option, Some, None, refl, sym, ◌∙◌, ap, arith, inl, inr, ◌==◌, ◌≢◌, not, if◌then◌else◌, Result, Ok, Err, Contains, MatchResult}
+use Rattle.std.specs.Prelude.{⊤}
 use Rattle.std.specs.List.{list_all}
 use Rattle.std.proofs.lemmas.Bool.{false≢true, not-true}
 use Rattle.file_model.specs.uicc_types.declared.answers.StatusWord.{StatusWord}

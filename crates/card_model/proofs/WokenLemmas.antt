@@ -1,6 +1,5 @@
 -- A card that woke over a sound state is a good one.
-use Rattle.std.proofs.Common.{◌≡◌, ℕ, ◌<◌, ◌+◌, add-zero, List, [], ◌∷◌, length, map, Option, Some, None, refl, sym, ◌∙◌, ap, subst, arith, zero, suc}
-use Rattle.std.specs.Prelude.{find, All, AllPairs, IsTrue, IsSomeAnd, IfSome, option_map, slice_index_or, ◌==◌, ◌≢◌}
+use Rattle.std.proofs.Common.{◌≡◌, ℕ, ◌<◌, ◌+◌, add-zero, List, [], ◌∷◌, length, map, Option, Some, None, refl, sym, ◌∙◌, ap, subst, arith, zero, suc, find, All, AllPairs, IsTrue, IsSomeAnd, IfSome, option_map, slice_index_or, ◌==◌, ◌≢◌}
 use Rattle.std.specs.List.{enumerate_from}
 use Rattle.std.proofs.lemmas.List.{length-map, get_or-replicate, get_or_default, same_lists}
 use Rattle.std.proofs.lemmas.List.FromFn.{length-enumerate_from}

@@ -1,7 +1,6 @@
 -- A card that runs applets and a handset, worked out from the bytes of the commands: what the card answers to each, one after the
 -- other.
-use Rattle.std.proofs.Common.{◌≡◌, ℕ, List, [], ◌∷◌, map, replicate, Option, Some, true, refl}
-use Rattle.std.specs.Prelude.{◌+◌, ◌%◌}
+use Rattle.std.proofs.Common.{◌≡◌, ℕ, List, [], ◌∷◌, map, replicate, Option, Some, true, refl, ◌+◌, ◌%◌}
 use Rattle.std.specs.List.{range_with_len}
 use Rattle.file_model.specs.apdu_form.Model.{command_in, fields_in}
 use Rattle.file_model.specs.declared.rules.Verified.{Verified}
@@ -15,8 +14,8 @@ use Rattle.toolkit_model.specs.Profiles.{allowed, allowed_event, consulted}
 use Rattle.toolkit_model.specs.applet_trait.Minds.{AppletState, fresh}
 use Rattle.toolkit_model.specs.applet_trait.Tables.{address_digits, row_from}
 use Rattle.toolkit_model.specs.applet_trait.Turns.{act}
-use Rattle.toolkit_model.specs.Commands.{profiled, polled, triggered, enveloped, fetched, answered, responded, installed, row_deleted}
-use Rattle.toolkit_model.specs.Driving.{told_one, given_one, caught_up, wanted, session_filled, driven}
+use Rattle.toolkit_model.specs.Commands.{profiled, polled, triggered, enveloped, fetched, answered, responded, installed, delete_carried}
+use Rattle.toolkit_model.specs.Driving.{told_one, given_one, caught_up, wanted, with_next_command, driven}
 use Rattle.toolkit_model.specs.Order.{trigger_order}
 use Rattle.toolkit_model.specs.Orderly.{asks}
 use Rattle.toolkit_model.specs.Running.{run_on, run_of_row}
@@ -74,7 +73,7 @@ greets : replies (card_with (row 0 1 0 (0x40 ∷ []) [] [] ∷ [])) (
     ∷ (0x80 ∷ 0x14 ∷ 0x00 ∷ 0x00 ∷ 0x0C ∷ 0x81 ∷ 0x03 ∷ 0x01 ∷ 0x21 ∷ 0x80 ∷ 0x82 ∷ 0x02 ∷ 0x82 ∷ 0x81 ∷ 0x83 ∷ 0x01 ∷ 0x00 ∷ [])
     ∷ [])
     ≡ (0x91 ∷ 0x10 ∷ []) ∷ (0xD0 ∷ 0x0E ∷ 0x81 ∷ 0x03 ∷ 0x01 ∷ 0x21 ∷ 0x80 ∷ 0x82 ∷ 0x02 ∷ 0x81 ∷ 0x02 ∷ 0x8D ∷ 0x03 ∷ 0x04 ∷ 0x48 ∷ 0x69 ∷ 0x90 ∷ 0x00 ∷ []) ∷ (0x90 ∷ 0x00 ∷ []) ∷ []
-unfolding refused_if given and_given command_in fields_in instruction_tried carried_out file_outcome toolkit_outcome tried answer_of woken woken_boxes channel_tried keys_seen descriptor_in descriptors_in file_found telling status_told profile_taken command_fetched response_taken envelope_taken applet_installed applet_deleted profiled polled triggered enveloped fetched answered responded installed row_deleted told_one given_one caught_up wanted session_filled driven trigger_order asks run_on run_of_row act address_digits row_from allowed allowed_event consulted tagged response_of value_in envelope_in envelope_of Reading.tag_at Reading.length_at Reading.value_at Reading.object_at Reading.outline_within Reading.outline_at Reading.template_of
+unfolding refused_if given and_given command_in fields_in instruction_tried carried_out file_outcome toolkit_outcome tried answer_of woken woken_boxes channel_tried keys_seen descriptor_in descriptors_in file_found telling status_told profile_taken command_fetched response_taken envelope_taken applet_installed applet_deleted profiled polled triggered enveloped fetched answered responded installed delete_carried told_one given_one caught_up wanted with_next_command driven trigger_order asks run_on run_of_row act address_digits row_from allowed allowed_event consulted tagged response_of value_in envelope_in envelope_of Reading.tag_at Reading.length_at Reading.value_at Reading.object_at Reading.outline_within Reading.outline_at Reading.template_of
 greets = refl
 
 -- A command is answered once it was fetched, with its own number, and once.
@@ -88,7 +87,7 @@ one_at_a_time : replies (card_with (row 0 1 0 (0x40 ∷ []) [] [] ∷ [])) (
     ∷ (0x80 ∷ 0x12 ∷ 0x00 ∷ 0x00 ∷ 0x10 ∷ [])
     ∷ [])
     ≡ (0x91 ∷ 0x10 ∷ []) ∷ (0x69 ∷ 0x85 ∷ []) ∷ (0xD0 ∷ 0x0E ∷ 0x81 ∷ 0x03 ∷ 0x01 ∷ 0x21 ∷ 0x80 ∷ 0x82 ∷ 0x02 ∷ 0x81 ∷ 0x02 ∷ 0x8D ∷ 0x03 ∷ 0x04 ∷ 0x48 ∷ 0x69 ∷ 0x90 ∷ 0x00 ∷ []) ∷ (0x6A ∷ 0x80 ∷ []) ∷ (0x90 ∷ 0x00 ∷ []) ∷ (0x69 ∷ 0x85 ∷ []) ∷ (0x69 ∷ 0x85 ∷ []) ∷ []
-unfolding refused_if given and_given command_in fields_in instruction_tried carried_out file_outcome toolkit_outcome tried answer_of woken woken_boxes channel_tried keys_seen descriptor_in descriptors_in file_found telling status_told profile_taken command_fetched response_taken envelope_taken applet_installed applet_deleted profiled polled triggered enveloped fetched answered responded installed row_deleted told_one given_one caught_up wanted session_filled driven trigger_order asks run_on run_of_row act address_digits row_from allowed allowed_event consulted tagged response_of value_in envelope_in envelope_of Reading.tag_at Reading.length_at Reading.value_at Reading.object_at Reading.outline_within Reading.outline_at Reading.template_of
+unfolding refused_if given and_given command_in fields_in instruction_tried carried_out file_outcome toolkit_outcome tried answer_of woken woken_boxes channel_tried keys_seen descriptor_in descriptors_in file_found telling status_told profile_taken command_fetched response_taken envelope_taken applet_installed applet_deleted profiled polled triggered enveloped fetched answered responded installed delete_carried told_one given_one caught_up wanted with_next_command driven trigger_order asks run_on run_of_row act address_digits row_from allowed allowed_event consulted tagged response_of value_in envelope_in envelope_of Reading.tag_at Reading.length_at Reading.value_at Reading.object_at Reading.outline_within Reading.outline_at Reading.template_of
 one_at_a_time = refl
 
 -- P1 and P2 come before the length, the length before the state, and the state before the number of bytes; 256 stands for all of them.
@@ -110,7 +109,7 @@ other_lengths : replies (card_with (row 0 1 0 (0x40 ∷ []) [] [] ∷ [])) (
     ∷ (0x80 ∷ 0xC2 ∷ 0x00 ∷ 0x00 ∷ 0x03 ∷ 0xD3 ∷ 0x01 ∷ 0x82 ∷ [])
     ∷ [])
     ≡ (0x67 ∷ 0x00 ∷ []) ∷ (0x6A ∷ 0x86 ∷ []) ∷ (0x67 ∷ 0x00 ∷ []) ∷ (0x6A ∷ 0x86 ∷ []) ∷ (0x69 ∷ 0x85 ∷ []) ∷ (0x91 ∷ 0x10 ∷ []) ∷ (0x6C ∷ 0x10 ∷ []) ∷ (0x6C ∷ 0x10 ∷ []) ∷ (0x67 ∷ 0x00 ∷ []) ∷ (0xD0 ∷ 0x0E ∷ 0x81 ∷ 0x03 ∷ 0x01 ∷ 0x21 ∷ 0x80 ∷ 0x82 ∷ 0x02 ∷ 0x81 ∷ 0x02 ∷ 0x8D ∷ 0x03 ∷ 0x04 ∷ 0x48 ∷ 0x69 ∷ 0x90 ∷ 0x00 ∷ []) ∷ (0x67 ∷ 0x00 ∷ []) ∷ (0x6A ∷ 0x86 ∷ []) ∷ (0x67 ∷ 0x00 ∷ []) ∷ (0x6A ∷ 0x86 ∷ []) ∷ (0x6A ∷ 0x80 ∷ []) ∷ []
-unfolding refused_if given and_given command_in fields_in instruction_tried carried_out file_outcome toolkit_outcome tried answer_of woken woken_boxes channel_tried keys_seen descriptor_in descriptors_in file_found telling status_told profile_taken command_fetched response_taken envelope_taken applet_installed applet_deleted profiled polled triggered enveloped fetched answered responded installed row_deleted told_one given_one caught_up wanted session_filled driven trigger_order asks run_on run_of_row act address_digits row_from allowed allowed_event consulted tagged response_of value_in envelope_in envelope_of Reading.tag_at Reading.length_at Reading.value_at Reading.object_at Reading.outline_within Reading.outline_at Reading.template_of
+unfolding refused_if given and_given command_in fields_in instruction_tried carried_out file_outcome toolkit_outcome tried answer_of woken woken_boxes channel_tried keys_seen descriptor_in descriptors_in file_found telling status_told profile_taken command_fetched response_taken envelope_taken applet_installed applet_deleted profiled polled triggered enveloped fetched answered responded installed delete_carried told_one given_one caught_up wanted with_next_command driven trigger_order asks run_on run_of_row act address_digits row_from allowed allowed_event consulted tagged response_of value_in envelope_in envelope_of Reading.tag_at Reading.length_at Reading.value_at Reading.object_at Reading.outline_within Reading.outline_at Reading.template_of
 other_lengths = refl
 
 -- Three applets are told of a location: the newest of the smallest priority number first.
@@ -127,7 +126,7 @@ in_order_of_priority : replies (card_with (row 3 2 0 (0x03 ∷ []) [] [] ∷ row
     ∷ (0x80 ∷ 0x14 ∷ 0x00 ∷ 0x00 ∷ 0x0C ∷ 0x81 ∷ 0x03 ∷ 0x04 ∷ 0x21 ∷ 0x80 ∷ 0x82 ∷ 0x02 ∷ 0x82 ∷ 0x81 ∷ 0x83 ∷ 0x01 ∷ 0x00 ∷ [])
     ∷ [])
     ≡ (0x91 ∷ 0x0E ∷ []) ∷ (0xD0 ∷ 0x0C ∷ 0x81 ∷ 0x03 ∷ 0x01 ∷ 0x05 ∷ 0x00 ∷ 0x82 ∷ 0x02 ∷ 0x81 ∷ 0x82 ∷ 0x99 ∷ 0x01 ∷ 0x03 ∷ 0x90 ∷ 0x00 ∷ []) ∷ (0x90 ∷ 0x00 ∷ []) ∷ (0x91 ∷ 0x0F ∷ []) ∷ (0xD0 ∷ 0x0D ∷ 0x81 ∷ 0x03 ∷ 0x02 ∷ 0x21 ∷ 0x80 ∷ 0x82 ∷ 0x02 ∷ 0x81 ∷ 0x02 ∷ 0x8D ∷ 0x02 ∷ 0x04 ∷ 0x42 ∷ 0x90 ∷ 0x00 ∷ []) ∷ (0x91 ∷ 0x0F ∷ []) ∷ (0xD0 ∷ 0x0D ∷ 0x81 ∷ 0x03 ∷ 0x03 ∷ 0x21 ∷ 0x80 ∷ 0x82 ∷ 0x02 ∷ 0x81 ∷ 0x02 ∷ 0x8D ∷ 0x02 ∷ 0x04 ∷ 0x41 ∷ 0x90 ∷ 0x00 ∷ []) ∷ (0x91 ∷ 0x13 ∷ []) ∷ (0xD0 ∷ 0x11 ∷ 0x81 ∷ 0x03 ∷ 0x04 ∷ 0x21 ∷ 0x80 ∷ 0x82 ∷ 0x02 ∷ 0x81 ∷ 0x02 ∷ 0x8D ∷ 0x06 ∷ 0x04 ∷ 0x4D ∷ 0x6F ∷ 0x76 ∷ 0x65 ∷ 0x64 ∷ 0x90 ∷ 0x00 ∷ []) ∷ (0x90 ∷ 0x00 ∷ []) ∷ []
-unfolding refused_if given and_given command_in fields_in instruction_tried carried_out file_outcome toolkit_outcome tried answer_of woken woken_boxes channel_tried keys_seen descriptor_in descriptors_in file_found telling status_told profile_taken command_fetched response_taken envelope_taken applet_installed applet_deleted profiled polled triggered enveloped fetched answered responded installed row_deleted told_one given_one caught_up wanted session_filled driven trigger_order asks run_on run_of_row act address_digits row_from allowed allowed_event consulted tagged response_of value_in envelope_in envelope_of Reading.tag_at Reading.length_at Reading.value_at Reading.object_at Reading.outline_within Reading.outline_at Reading.template_of
+unfolding refused_if given and_given command_in fields_in instruction_tried carried_out file_outcome toolkit_outcome tried answer_of woken woken_boxes channel_tried keys_seen descriptor_in descriptors_in file_found telling status_told profile_taken command_fetched response_taken envelope_taken applet_installed applet_deleted profiled polled triggered enveloped fetched answered responded installed delete_carried told_one given_one caught_up wanted with_next_command driven trigger_order asks run_on run_of_row act address_digits row_from allowed allowed_event consulted tagged response_of value_in envelope_in envelope_of Reading.tag_at Reading.length_at Reading.value_at Reading.object_at Reading.outline_within Reading.outline_at Reading.template_of
 in_order_of_priority = refl
 
 -- A menu is set up. What is selected in it while the applet waits for an answer, is told to it late.
@@ -143,7 +142,7 @@ selected_late : replies (card_with (row 1 1 0 [] (0x4D ∷ 0x65 ∷ 0x6E ∷ 0x7
     ∷ (0x80 ∷ 0x14 ∷ 0x00 ∷ 0x00 ∷ 0x0C ∷ 0x81 ∷ 0x03 ∷ 0x03 ∷ 0x20 ∷ 0x00 ∷ 0x82 ∷ 0x02 ∷ 0x82 ∷ 0x81 ∷ 0x83 ∷ 0x01 ∷ 0x00 ∷ [])
     ∷ [])
     ≡ (0x91 ∷ 0x18 ∷ []) ∷ (0xD0 ∷ 0x16 ∷ 0x81 ∷ 0x03 ∷ 0x01 ∷ 0x25 ∷ 0x00 ∷ 0x82 ∷ 0x02 ∷ 0x81 ∷ 0x82 ∷ 0x85 ∷ 0x04 ∷ 0x4D ∷ 0x65 ∷ 0x6E ∷ 0x75 ∷ 0x8F ∷ 0x05 ∷ 0x02 ∷ 0x4D ∷ 0x65 ∷ 0x6E ∷ 0x75 ∷ 0x90 ∷ 0x00 ∷ []) ∷ (0x90 ∷ 0x00 ∷ []) ∷ (0x91 ∷ 0x1F ∷ []) ∷ (0xD0 ∷ 0x1D ∷ 0x81 ∷ 0x03 ∷ 0x02 ∷ 0x24 ∷ 0x00 ∷ 0x82 ∷ 0x02 ∷ 0x81 ∷ 0x82 ∷ 0x85 ∷ 0x04 ∷ 0x50 ∷ 0x69 ∷ 0x63 ∷ 0x6B ∷ 0x8F ∷ 0x05 ∷ 0x01 ∷ 0x54 ∷ 0x65 ∷ 0x78 ∷ 0x74 ∷ 0x8F ∷ 0x05 ∷ 0x02 ∷ 0x54 ∷ 0x6F ∷ 0x6E ∷ 0x65 ∷ 0x90 ∷ 0x00 ∷ []) ∷ (0x90 ∷ 0x00 ∷ []) ∷ (0x91 ∷ 0x0E ∷ []) ∷ (0xD0 ∷ 0x0C ∷ 0x81 ∷ 0x03 ∷ 0x03 ∷ 0x20 ∷ 0x00 ∷ 0x82 ∷ 0x02 ∷ 0x81 ∷ 0x03 ∷ 0x8E ∷ 0x01 ∷ 0x10 ∷ 0x90 ∷ 0x00 ∷ []) ∷ (0x91 ∷ 0x1F ∷ []) ∷ []
-unfolding refused_if given and_given command_in fields_in instruction_tried carried_out file_outcome toolkit_outcome tried answer_of woken woken_boxes channel_tried keys_seen descriptor_in descriptors_in file_found telling status_told profile_taken command_fetched response_taken envelope_taken applet_installed applet_deleted profiled polled triggered enveloped fetched answered responded installed row_deleted told_one given_one caught_up wanted session_filled driven trigger_order asks run_on run_of_row act address_digits row_from allowed allowed_event consulted tagged response_of value_in envelope_in envelope_of Reading.tag_at Reading.length_at Reading.value_at Reading.object_at Reading.outline_within Reading.outline_at Reading.template_of
+unfolding refused_if given and_given command_in fields_in instruction_tried carried_out file_outcome toolkit_outcome tried answer_of woken woken_boxes channel_tried keys_seen descriptor_in descriptors_in file_found telling status_told profile_taken command_fetched response_taken envelope_taken applet_installed applet_deleted profiled polled triggered enveloped fetched answered responded installed delete_carried told_one given_one caught_up wanted with_next_command driven trigger_order asks run_on run_of_row act address_digits row_from allowed allowed_event consulted tagged response_of value_in envelope_in envelope_of Reading.tag_at Reading.length_at Reading.value_at Reading.object_at Reading.outline_within Reading.outline_at Reading.template_of
 selected_late = refl
 
 -- No more than 16 events can be kept.
@@ -172,7 +171,7 @@ busy : replies (card_with (row 1 1 0 [] (0x4D ∷ 0x65 ∷ 0x6E ∷ 0x75 ∷ [])
     ∷ (0x80 ∷ 0xC2 ∷ 0x00 ∷ 0x00 ∷ 0x09 ∷ 0xD3 ∷ 0x07 ∷ 0x82 ∷ 0x02 ∷ 0x01 ∷ 0x81 ∷ 0x90 ∷ 0x01 ∷ 0x02 ∷ [])
     ∷ [])
     ≡ (0x91 ∷ 0x18 ∷ []) ∷ (0xD0 ∷ 0x16 ∷ 0x81 ∷ 0x03 ∷ 0x01 ∷ 0x25 ∷ 0x00 ∷ 0x82 ∷ 0x02 ∷ 0x81 ∷ 0x82 ∷ 0x85 ∷ 0x04 ∷ 0x4D ∷ 0x65 ∷ 0x6E ∷ 0x75 ∷ 0x8F ∷ 0x05 ∷ 0x02 ∷ 0x4D ∷ 0x65 ∷ 0x6E ∷ 0x75 ∷ 0x90 ∷ 0x00 ∷ []) ∷ (0x90 ∷ 0x00 ∷ []) ∷ (0x91 ∷ 0x1F ∷ []) ∷ (0xD0 ∷ 0x1D ∷ 0x81 ∷ 0x03 ∷ 0x02 ∷ 0x24 ∷ 0x00 ∷ 0x82 ∷ 0x02 ∷ 0x81 ∷ 0x82 ∷ 0x85 ∷ 0x04 ∷ 0x50 ∷ 0x69 ∷ 0x63 ∷ 0x6B ∷ 0x8F ∷ 0x05 ∷ 0x01 ∷ 0x54 ∷ 0x65 ∷ 0x78 ∷ 0x74 ∷ 0x8F ∷ 0x05 ∷ 0x02 ∷ 0x54 ∷ 0x6F ∷ 0x6E ∷ 0x65 ∷ 0x90 ∷ 0x00 ∷ []) ∷ (0x90 ∷ 0x00 ∷ []) ∷ (0x90 ∷ 0x00 ∷ []) ∷ (0x90 ∷ 0x00 ∷ []) ∷ (0x90 ∷ 0x00 ∷ []) ∷ (0x90 ∷ 0x00 ∷ []) ∷ (0x90 ∷ 0x00 ∷ []) ∷ (0x90 ∷ 0x00 ∷ []) ∷ (0x90 ∷ 0x00 ∷ []) ∷ (0x90 ∷ 0x00 ∷ []) ∷ (0x90 ∷ 0x00 ∷ []) ∷ (0x90 ∷ 0x00 ∷ []) ∷ (0x90 ∷ 0x00 ∷ []) ∷ (0x90 ∷ 0x00 ∷ []) ∷ (0x90 ∷ 0x00 ∷ []) ∷ (0x90 ∷ 0x00 ∷ []) ∷ (0x90 ∷ 0x00 ∷ []) ∷ (0x93 ∷ 0x00 ∷ []) ∷ []
-unfolding refused_if given and_given command_in fields_in instruction_tried carried_out file_outcome toolkit_outcome tried answer_of woken woken_boxes channel_tried keys_seen descriptor_in descriptors_in file_found telling status_told profile_taken command_fetched response_taken envelope_taken applet_installed applet_deleted profiled polled triggered enveloped fetched answered responded installed row_deleted told_one given_one caught_up wanted session_filled driven trigger_order asks run_on run_of_row act address_digits row_from allowed allowed_event consulted tagged response_of value_in envelope_in envelope_of Reading.tag_at Reading.length_at Reading.value_at Reading.object_at Reading.outline_within Reading.outline_at Reading.template_of
+unfolding refused_if given and_given command_in fields_in instruction_tried carried_out file_outcome toolkit_outcome tried answer_of woken woken_boxes channel_tried keys_seen descriptor_in descriptors_in file_found telling status_told profile_taken command_fetched response_taken envelope_taken applet_installed applet_deleted profiled polled triggered enveloped fetched answered responded installed delete_carried told_one given_one caught_up wanted with_next_command driven trigger_order asks run_on run_of_row act address_digits row_from allowed allowed_event consulted tagged response_of value_in envelope_in envelope_of Reading.tag_at Reading.length_at Reading.value_at Reading.object_at Reading.outline_within Reading.outline_at Reading.template_of
 busy = refl
 
 -- A number that begins with the kept digits is not allowed.
@@ -182,7 +181,7 @@ answers_calls : replies (card_with (row 4 1 0 (0x45 ∷ []) [] (0x31 ∷ []) ∷
     ∷ (0x80 ∷ 0xC2 ∷ 0x00 ∷ 0x00 ∷ 0x0A ∷ 0xD4 ∷ 0x08 ∷ 0x82 ∷ 0x02 ∷ 0x82 ∷ 0x81 ∷ 0x86 ∷ 0x02 ∷ 0x81 ∷ 0xF2 ∷ 0x01 ∷ [])
     ∷ [])
     ≡ (0x01 ∷ 0x00 ∷ 0x90 ∷ 0x00 ∷ []) ∷ (0x00 ∷ 0x00 ∷ 0x90 ∷ 0x00 ∷ []) ∷ (0x00 ∷ 0x90 ∷ 0x00 ∷ []) ∷ []
-unfolding refused_if given and_given command_in fields_in instruction_tried carried_out file_outcome toolkit_outcome tried answer_of woken woken_boxes channel_tried keys_seen descriptor_in descriptors_in file_found telling status_told profile_taken command_fetched response_taken envelope_taken applet_installed applet_deleted profiled polled triggered enveloped fetched answered responded installed row_deleted told_one given_one caught_up wanted session_filled driven trigger_order asks run_on run_of_row act address_digits row_from allowed allowed_event consulted tagged response_of value_in envelope_in envelope_of Reading.tag_at Reading.length_at Reading.value_at Reading.object_at Reading.outline_within Reading.outline_at Reading.template_of
+unfolding refused_if given and_given command_in fields_in instruction_tried carried_out file_outcome toolkit_outcome tried answer_of woken woken_boxes channel_tried keys_seen descriptor_in descriptors_in file_found telling status_told profile_taken command_fetched response_taken envelope_taken applet_installed applet_deleted profiled polled triggered enveloped fetched answered responded installed delete_carried told_one given_one caught_up wanted with_next_command driven trigger_order asks run_on run_of_row act address_digits row_from allowed allowed_event consulted tagged response_of value_in envelope_in envelope_of Reading.tag_at Reading.length_at Reading.value_at Reading.object_at Reading.outline_within Reading.outline_at Reading.template_of
 answers_calls = refl
 
 -- ADM1 guards INSTALL and DELETE; an applet that waits is not deleted, and one that is deleted is gone.
@@ -199,7 +198,7 @@ deleted_once : replies (card_with (row 0 1 0 (0x40 ∷ []) [] [] ∷ [])) (
     ∷ (0xF0 ∷ 0xE6 ∷ 0x01 ∷ 0x00 ∷ 0x03 ∷ 0x01 ∷ 0x40 ∷ 0x00 ∷ [])
     ∷ [])
     ≡ (0x69 ∷ 0x82 ∷ []) ∷ (0x90 ∷ 0x00 ∷ []) ∷ (0x91 ∷ 0x10 ∷ []) ∷ (0xD0 ∷ 0x0E ∷ 0x81 ∷ 0x03 ∷ 0x01 ∷ 0x21 ∷ 0x80 ∷ 0x82 ∷ 0x02 ∷ 0x81 ∷ 0x02 ∷ 0x8D ∷ 0x03 ∷ 0x04 ∷ 0x48 ∷ 0x69 ∷ 0x90 ∷ 0x00 ∷ []) ∷ (0x69 ∷ 0x85 ∷ []) ∷ (0x90 ∷ 0x00 ∷ []) ∷ (0x69 ∷ 0x85 ∷ []) ∷ (0x90 ∷ 0x00 ∷ []) ∷ (0x6A ∷ 0x88 ∷ []) ∷ (0x6A ∷ 0x88 ∷ []) ∷ []
-unfolding refused_if given and_given command_in fields_in instruction_tried carried_out file_outcome toolkit_outcome tried answer_of woken woken_boxes channel_tried keys_seen pin_found presented pin_presented pin_verified descriptor_in descriptors_in file_found telling status_told profile_taken command_fetched response_taken envelope_taken applet_installed applet_deleted profiled polled triggered enveloped fetched answered responded installed row_deleted told_one given_one caught_up wanted session_filled driven trigger_order asks run_on run_of_row act address_digits row_from allowed allowed_event consulted tagged response_of value_in envelope_in envelope_of Reading.tag_at Reading.length_at Reading.value_at Reading.object_at Reading.outline_within Reading.outline_at Reading.template_of
+unfolding refused_if given and_given command_in fields_in instruction_tried carried_out file_outcome toolkit_outcome tried answer_of woken woken_boxes channel_tried keys_seen pin_found presented pin_presented pin_verified descriptor_in descriptors_in file_found telling status_told profile_taken command_fetched response_taken envelope_taken applet_installed applet_deleted profiled polled triggered enveloped fetched answered responded installed delete_carried told_one given_one caught_up wanted with_next_command driven trigger_order asks run_on run_of_row act address_digits row_from allowed allowed_event consulted tagged response_of value_in envelope_in envelope_of Reading.tag_at Reading.length_at Reading.value_at Reading.object_at Reading.outline_within Reading.outline_at Reading.template_of
 deleted_once = refl
 
 -- P1 and P2 come before the length, the length before ADM1, and ADM1 before the data; a new applet runs at the next terminal profile.
@@ -216,7 +215,7 @@ installed_in_order : replies (card_with []) (
     ∷ (0x80 ∷ 0x10 ∷ 0x00 ∷ 0x00 ∷ 0x08 ∷ 0x29 ∷ 0x00 ∷ 0xBF ∷ 0x61 ∷ 0x71 ∷ 0x00 ∷ 0x00 ∷ 0x13 ∷ [])
     ∷ [])
     ≡ (0x6A ∷ 0x86 ∷ []) ∷ (0x6A ∷ 0x86 ∷ []) ∷ (0x67 ∷ 0x00 ∷ []) ∷ (0x6A ∷ 0x86 ∷ []) ∷ (0x67 ∷ 0x00 ∷ []) ∷ (0x69 ∷ 0x82 ∷ []) ∷ (0x90 ∷ 0x00 ∷ []) ∷ (0x6A ∷ 0x80 ∷ []) ∷ (0x90 ∷ 0x00 ∷ []) ∷ (0x91 ∷ 0x10 ∷ []) ∷ []
-unfolding refused_if given and_given command_in fields_in instruction_tried carried_out file_outcome toolkit_outcome tried answer_of woken woken_boxes channel_tried keys_seen pin_found presented pin_presented pin_verified descriptor_in descriptors_in file_found telling status_told profile_taken command_fetched response_taken envelope_taken applet_installed applet_deleted profiled polled triggered enveloped fetched answered responded installed row_deleted told_one given_one caught_up wanted session_filled driven trigger_order asks run_on run_of_row act address_digits row_from allowed allowed_event consulted tagged response_of value_in envelope_in envelope_of Reading.tag_at Reading.length_at Reading.value_at Reading.object_at Reading.outline_within Reading.outline_at Reading.template_of
+unfolding refused_if given and_given command_in fields_in instruction_tried carried_out file_outcome toolkit_outcome tried answer_of woken woken_boxes channel_tried keys_seen pin_found presented pin_presented pin_verified descriptor_in descriptors_in file_found telling status_told profile_taken command_fetched response_taken envelope_taken applet_installed applet_deleted profiled polled triggered enveloped fetched answered responded installed delete_carried told_one given_one caught_up wanted with_next_command driven trigger_order asks run_on run_of_row act address_digits row_from allowed allowed_event consulted tagged response_of value_in envelope_in envelope_of Reading.tag_at Reading.length_at Reading.value_at Reading.object_at Reading.outline_within Reading.outline_at Reading.template_of
 installed_in_order = refl
 
 -- A timer that an applet started comes back to it.
@@ -227,7 +226,7 @@ ticks : replies (card_with (row 2 1 0 (0x40 ∷ []) [] [] ∷ [])) (
     ∷ (0x80 ∷ 0xC2 ∷ 0x00 ∷ 0x00 ∷ 0x0E ∷ 0xD7 ∷ 0x0C ∷ 0x82 ∷ 0x02 ∷ 0x82 ∷ 0x81 ∷ 0xA4 ∷ 0x01 ∷ 0x01 ∷ 0xA5 ∷ 0x03 ∷ 0x00 ∷ 0x50 ∷ 0x00 ∷ [])
     ∷ [])
     ≡ (0x91 ∷ 0x13 ∷ []) ∷ (0xD0 ∷ 0x11 ∷ 0x81 ∷ 0x03 ∷ 0x01 ∷ 0x27 ∷ 0x00 ∷ 0x82 ∷ 0x02 ∷ 0x81 ∷ 0x82 ∷ 0xA4 ∷ 0x01 ∷ 0x01 ∷ 0xA5 ∷ 0x03 ∷ 0x00 ∷ 0x50 ∷ 0x00 ∷ 0x90 ∷ 0x00 ∷ []) ∷ (0x90 ∷ 0x00 ∷ []) ∷ (0x91 ∷ 0x12 ∷ []) ∷ []
-unfolding refused_if given and_given command_in fields_in instruction_tried carried_out file_outcome toolkit_outcome tried answer_of woken woken_boxes channel_tried keys_seen descriptor_in descriptors_in file_found telling status_told profile_taken command_fetched response_taken envelope_taken applet_installed applet_deleted profiled polled triggered enveloped fetched answered responded installed row_deleted told_one given_one caught_up wanted session_filled driven trigger_order asks run_on run_of_row act address_digits row_from allowed allowed_event consulted tagged response_of value_in envelope_in envelope_of Reading.tag_at Reading.length_at Reading.value_at Reading.object_at Reading.outline_within Reading.outline_at Reading.template_of
+unfolding refused_if given and_given command_in fields_in instruction_tried carried_out file_outcome toolkit_outcome tried answer_of woken woken_boxes channel_tried keys_seen descriptor_in descriptors_in file_found telling status_told profile_taken command_fetched response_taken envelope_taken applet_installed applet_deleted profiled polled triggered enveloped fetched answered responded installed delete_carried told_one given_one caught_up wanted with_next_command driven trigger_order asks run_on run_of_row act address_digits row_from allowed allowed_event consulted tagged response_of value_in envelope_in envelope_of Reading.tag_at Reading.length_at Reading.value_at Reading.object_at Reading.outline_within Reading.outline_at Reading.template_of
 ticks = refl
 
 -- A timer that nobody holds is told to nobody.
@@ -235,7 +234,7 @@ nobodys_timer : replies (card_with (row 2 1 0 (0x40 ∷ []) [] [] ∷ [])) (
     (0x80 ∷ 0xC2 ∷ 0x00 ∷ 0x00 ∷ 0x0E ∷ 0xD7 ∷ 0x0C ∷ 0x82 ∷ 0x02 ∷ 0x82 ∷ 0x81 ∷ 0xA4 ∷ 0x01 ∷ 0x02 ∷ 0xA5 ∷ 0x03 ∷ 0x00 ∷ 0x50 ∷ 0x00 ∷ [])
     ∷ [])
     ≡ (0x90 ∷ 0x00 ∷ []) ∷ []
-unfolding refused_if given and_given command_in fields_in instruction_tried carried_out file_outcome toolkit_outcome tried answer_of woken woken_boxes channel_tried keys_seen descriptor_in descriptors_in file_found telling status_told profile_taken command_fetched response_taken envelope_taken applet_installed applet_deleted profiled polled triggered enveloped fetched answered responded installed row_deleted told_one given_one caught_up wanted session_filled driven trigger_order asks run_on run_of_row act address_digits row_from allowed allowed_event consulted tagged response_of value_in envelope_in envelope_of Reading.tag_at Reading.length_at Reading.value_at Reading.object_at Reading.outline_within Reading.outline_at Reading.template_of
+unfolding refused_if given and_given command_in fields_in instruction_tried carried_out file_outcome toolkit_outcome tried answer_of woken woken_boxes channel_tried keys_seen descriptor_in descriptors_in file_found telling status_told profile_taken command_fetched response_taken envelope_taken applet_installed applet_deleted profiled polled triggered enveloped fetched answered responded installed delete_carried told_one given_one caught_up wanted with_next_command driven trigger_order asks run_on run_of_row act address_digits row_from allowed allowed_event consulted tagged response_of value_in envelope_in envelope_of Reading.tag_at Reading.length_at Reading.value_at Reading.object_at Reading.outline_within Reading.outline_at Reading.template_of
 nobodys_timer = refl
 
 -- A row for STATUS makes the card ask to be polled, and STATUS is told to it.
@@ -246,7 +245,7 @@ polled_too : replies (card_with (row 6 1 0 (0x41 ∷ []) [] (0x41 ∷ 0x01 ∷ 0
     ∷ (0x80 ∷ 0xF2 ∷ 0x00 ∷ 0x0C ∷ [])
     ∷ [])
     ≡ (0x91 ∷ 0x0F ∷ []) ∷ (0xD0 ∷ 0x0D ∷ 0x81 ∷ 0x03 ∷ 0x01 ∷ 0x03 ∷ 0x00 ∷ 0x82 ∷ 0x02 ∷ 0x81 ∷ 0x82 ∷ 0x84 ∷ 0x02 ∷ 0x01 ∷ 0x1E ∷ 0x90 ∷ 0x00 ∷ []) ∷ (0x90 ∷ 0x00 ∷ []) ∷ (0x91 ∷ 0x0F ∷ []) ∷ []
-unfolding refused_if given and_given command_in fields_in instruction_tried carried_out file_outcome toolkit_outcome tried answer_of woken woken_boxes channel_tried keys_seen descriptor_in descriptors_in file_found telling status_told profile_taken command_fetched response_taken envelope_taken applet_installed applet_deleted profiled polled triggered enveloped fetched answered responded installed row_deleted told_one given_one caught_up wanted session_filled driven trigger_order asks run_on run_of_row act address_digits row_from allowed allowed_event consulted tagged response_of value_in envelope_in envelope_of Reading.tag_at Reading.length_at Reading.value_at Reading.object_at Reading.outline_within Reading.outline_at Reading.template_of
+unfolding refused_if given and_given command_in fields_in instruction_tried carried_out file_outcome toolkit_outcome tried answer_of woken woken_boxes channel_tried keys_seen descriptor_in descriptors_in file_found telling status_told profile_taken command_fetched response_taken envelope_taken applet_installed applet_deleted profiled polled triggered enveloped fetched answered responded installed delete_carried told_one given_one caught_up wanted with_next_command driven trigger_order asks run_on run_of_row act address_digits row_from allowed allowed_event consulted tagged response_of value_in envelope_in envelope_of Reading.tag_at Reading.length_at Reading.value_at Reading.object_at Reading.outline_within Reading.outline_at Reading.template_of
 polled_too = refl
 
 -- Two applets send one after the other, to a handset that sets up no events.
@@ -259,7 +258,7 @@ one_after_the_other : replies (card_with (row 3 2 0 (0x03 ∷ []) [] [] ∷ row 
     ∷ (0x80 ∷ 0x14 ∷ 0x00 ∷ 0x00 ∷ 0x0C ∷ 0x81 ∷ 0x03 ∷ 0x02 ∷ 0x21 ∷ 0x80 ∷ 0x82 ∷ 0x02 ∷ 0x82 ∷ 0x81 ∷ 0x83 ∷ 0x01 ∷ 0x00 ∷ [])
     ∷ [])
     ≡ (0x90 ∷ 0x00 ∷ []) ∷ (0x91 ∷ 0x13 ∷ []) ∷ (0xD0 ∷ 0x11 ∷ 0x81 ∷ 0x03 ∷ 0x01 ∷ 0x21 ∷ 0x80 ∷ 0x82 ∷ 0x02 ∷ 0x81 ∷ 0x02 ∷ 0x8D ∷ 0x06 ∷ 0x04 ∷ 0x4D ∷ 0x6F ∷ 0x76 ∷ 0x65 ∷ 0x64 ∷ 0x90 ∷ 0x00 ∷ []) ∷ (0x91 ∷ 0x13 ∷ []) ∷ (0xD0 ∷ 0x11 ∷ 0x81 ∷ 0x03 ∷ 0x02 ∷ 0x21 ∷ 0x80 ∷ 0x82 ∷ 0x02 ∷ 0x81 ∷ 0x02 ∷ 0x8D ∷ 0x06 ∷ 0x04 ∷ 0x4D ∷ 0x6F ∷ 0x76 ∷ 0x65 ∷ 0x64 ∷ 0x90 ∷ 0x00 ∷ []) ∷ (0x90 ∷ 0x00 ∷ []) ∷ []
-unfolding refused_if given and_given command_in fields_in instruction_tried carried_out file_outcome toolkit_outcome tried answer_of woken woken_boxes channel_tried keys_seen descriptor_in descriptors_in file_found telling status_told profile_taken command_fetched response_taken envelope_taken applet_installed applet_deleted profiled polled triggered enveloped fetched answered responded installed row_deleted told_one given_one caught_up wanted session_filled driven trigger_order asks run_on run_of_row act address_digits row_from allowed allowed_event consulted tagged response_of value_in envelope_in envelope_of Reading.tag_at Reading.length_at Reading.value_at Reading.object_at Reading.outline_within Reading.outline_at Reading.template_of
+unfolding refused_if given and_given command_in fields_in instruction_tried carried_out file_outcome toolkit_outcome tried answer_of woken woken_boxes channel_tried keys_seen descriptor_in descriptors_in file_found telling status_told profile_taken command_fetched response_taken envelope_taken applet_installed applet_deleted profiled polled triggered enveloped fetched answered responded installed delete_carried told_one given_one caught_up wanted with_next_command driven trigger_order asks run_on run_of_row act address_digits row_from allowed allowed_event consulted tagged response_of value_in envelope_in envelope_of Reading.tag_at Reading.length_at Reading.value_at Reading.object_at Reading.outline_within Reading.outline_at Reading.template_of
 one_after_the_other = refl
 
 -- With channel 1 open FETCH is refused there, and STATUS tells there what is to be fetched.
@@ -271,7 +270,7 @@ on_another_channel : replies (card_with (row 0 1 0 (0x40 ∷ []) [] [] ∷ [])) 
     ∷ (0x82 ∷ 0xF2 ∷ 0x00 ∷ 0x0C ∷ [])
     ∷ [])
     ≡ (0x01 ∷ 0x90 ∷ 0x00 ∷ []) ∷ (0x91 ∷ 0x10 ∷ []) ∷ (0x68 ∷ 0x81 ∷ []) ∷ (0x91 ∷ 0x10 ∷ []) ∷ (0x68 ∷ 0x81 ∷ []) ∷ []
-unfolding refused_if given and_given command_in fields_in instruction_tried carried_out file_outcome toolkit_outcome tried answer_of woken woken_boxes channel_tried keys_seen descriptor_in descriptors_in file_found telling status_told profile_taken command_fetched response_taken envelope_taken applet_installed applet_deleted profiled polled triggered enveloped fetched answered responded installed row_deleted told_one given_one caught_up wanted session_filled driven trigger_order asks run_on run_of_row act address_digits row_from allowed allowed_event consulted tagged response_of value_in envelope_in envelope_of Reading.tag_at Reading.length_at Reading.value_at Reading.object_at Reading.outline_within Reading.outline_at Reading.template_of
+unfolding refused_if given and_given command_in fields_in instruction_tried carried_out file_outcome toolkit_outcome tried answer_of woken woken_boxes channel_tried keys_seen descriptor_in descriptors_in file_found telling status_told profile_taken command_fetched response_taken envelope_taken applet_installed applet_deleted profiled polled triggered enveloped fetched answered responded installed delete_carried told_one given_one caught_up wanted with_next_command driven trigger_order asks run_on run_of_row act address_digits row_from allowed allowed_event consulted tagged response_of value_in envelope_in envelope_of Reading.tag_at Reading.length_at Reading.value_at Reading.object_at Reading.outline_within Reading.outline_at Reading.template_of
 on_another_channel = refl
 
 -- A note that an applet took is kept over a reset.
@@ -283,11 +282,11 @@ asked_for_a_note =
     ∷ []
 
 takes_a_note : replies (card_with (row 5 1 0 (0x40 ∷ []) [] [] ∷ [])) asked_for_a_note ≡ (0x91 ∷ 0x17 ∷ []) ∷ (0xD0 ∷ 0x15 ∷ 0x81 ∷ 0x03 ∷ 0x01 ∷ 0x23 ∷ 0x01 ∷ 0x82 ∷ 0x02 ∷ 0x81 ∷ 0x82 ∷ 0x8D ∷ 0x06 ∷ 0x04 ∷ 0x4E ∷ 0x6F ∷ 0x74 ∷ 0x65 ∷ 0x3F ∷ 0x91 ∷ 0x02 ∷ 0x00 ∷ 0x14 ∷ 0x90 ∷ 0x00 ∷ []) ∷ (0x90 ∷ 0x00 ∷ []) ∷ []
-unfolding refused_if given and_given command_in fields_in instruction_tried carried_out file_outcome toolkit_outcome tried answer_of woken woken_boxes channel_tried keys_seen descriptor_in descriptors_in file_found telling status_told profile_taken command_fetched response_taken envelope_taken applet_installed applet_deleted profiled polled triggered enveloped fetched answered responded installed row_deleted told_one given_one caught_up wanted session_filled driven trigger_order asks run_on run_of_row act address_digits row_from allowed allowed_event consulted tagged response_of value_in envelope_in envelope_of Reading.tag_at Reading.length_at Reading.value_at Reading.object_at Reading.outline_within Reading.outline_at Reading.template_of
+unfolding refused_if given and_given command_in fields_in instruction_tried carried_out file_outcome toolkit_outcome tried answer_of woken woken_boxes channel_tried keys_seen descriptor_in descriptors_in file_found telling status_told profile_taken command_fetched response_taken envelope_taken applet_installed applet_deleted profiled polled triggered enveloped fetched answered responded installed delete_carried told_one given_one caught_up wanted with_next_command driven trigger_order asks run_on run_of_row act address_digits row_from allowed allowed_event consulted tagged response_of value_in envelope_in envelope_of Reading.tag_at Reading.length_at Reading.value_at Reading.object_at Reading.outline_within Reading.outline_at Reading.template_of
 takes_a_note = refl
 
 keeps_a_note : replies (restarted (after (card_with (row 5 1 0 (0x40 ∷ []) [] [] ∷ [])) asked_for_a_note)) ((0x80 ∷ 0x10 ∷ 0x00 ∷ 0x00 ∷ 0x08 ∷ 0x29 ∷ 0x00 ∷ 0xBF ∷ 0x61 ∷ 0x71 ∷ 0x00 ∷ 0x00 ∷ 0x13 ∷ []) ∷ (0x80 ∷ 0x12 ∷ 0x00 ∷ 0x00 ∷ 0x10 ∷ []) ∷ []) ≡ (0x91 ∷ 0x10 ∷ []) ∷ (0xD0 ∷ 0x0E ∷ 0x81 ∷ 0x03 ∷ 0x01 ∷ 0x21 ∷ 0x80 ∷ 0x82 ∷ 0x02 ∷ 0x81 ∷ 0x02 ∷ 0x8D ∷ 0x03 ∷ 0x04 ∷ 0x41 ∷ 0x42 ∷ 0x90 ∷ 0x00 ∷ []) ∷ []
-unfolding refused_if given and_given command_in fields_in instruction_tried carried_out file_outcome toolkit_outcome tried answer_of woken woken_boxes channel_tried keys_seen descriptor_in descriptors_in file_found telling status_told profile_taken command_fetched response_taken envelope_taken applet_installed applet_deleted profiled polled triggered enveloped fetched answered responded installed row_deleted told_one given_one caught_up wanted session_filled driven trigger_order asks run_on run_of_row act address_digits row_from allowed allowed_event consulted tagged response_of value_in envelope_in envelope_of Reading.tag_at Reading.length_at Reading.value_at Reading.object_at Reading.outline_within Reading.outline_at Reading.template_of
+unfolding refused_if given and_given command_in fields_in instruction_tried carried_out file_outcome toolkit_outcome tried answer_of woken woken_boxes channel_tried keys_seen descriptor_in descriptors_in file_found telling status_told profile_taken command_fetched response_taken envelope_taken applet_installed applet_deleted profiled polled triggered enveloped fetched answered responded installed delete_carried told_one given_one caught_up wanted with_next_command driven trigger_order asks run_on run_of_row act address_digits row_from allowed allowed_event consulted tagged response_of value_in envelope_in envelope_of Reading.tag_at Reading.length_at Reading.value_at Reading.object_at Reading.outline_within Reading.outline_at Reading.template_of
 keeps_a_note = refl
 
 -- ---- what is committed
@@ -302,25 +301,25 @@ selecting = (0x80 ∷ 0xC2 ∷ 0x00 ∷ 0x00 ∷ 0x09 ∷ 0xD3 ∷ 0x07 ∷ 0x82
 -- the codes that the row has in each state that the command passes
 three_commits : map (λ state. map (λ each. each.codes) state.rows) (passed_of every registering selecting)
     ≡ ([] ∷ []) ∷ ((0x03 ∷ []) ∷ []) ∷ ((0x03 ∷ 0x04 ∷ []) ∷ []) ∷ ((0x03 ∷ 0x04 ∷ 0x05 ∷ []) ∷ []) ∷ []
-unfolding refused_if given and_given command_in fields_in instruction_tried carried_out file_outcome toolkit_outcome tried answer_of woken woken_boxes channel_tried keys_seen descriptor_in descriptors_in file_found telling status_told profile_taken command_fetched response_taken envelope_taken applet_installed applet_deleted profiled polled triggered enveloped fetched answered responded installed row_deleted told_one given_one caught_up wanted session_filled driven trigger_order asks run_on run_of_row act address_digits row_from allowed allowed_event consulted tagged response_of value_in envelope_in envelope_of Reading.tag_at Reading.length_at Reading.value_at Reading.object_at Reading.outline_within Reading.outline_at Reading.template_of
+unfolding refused_if given and_given command_in fields_in instruction_tried carried_out file_outcome toolkit_outcome tried answer_of woken woken_boxes channel_tried keys_seen descriptor_in descriptors_in file_found telling status_told profile_taken command_fetched response_taken envelope_taken applet_installed applet_deleted profiled polled triggered enveloped fetched answered responded installed delete_carried told_one given_one caught_up wanted with_next_command driven trigger_order asks run_on run_of_row act address_digits row_from allowed allowed_event consulted tagged response_of value_in envelope_in envelope_of Reading.tag_at Reading.length_at Reading.value_at Reading.object_at Reading.outline_within Reading.outline_at Reading.template_of
 three_commits = refl
 
 -- over each of them a card that woke has another command to be fetched: its menu, or the events
 left_with : map (λ state. replies (woken state registering.boxes) ((0x80 ∷ 0x10 ∷ 0x00 ∷ 0x00 ∷ 0x08 ∷ 0x29 ∷ 0x00 ∷ 0xBF ∷ 0x61 ∷ 0x71 ∷ 0x00 ∷ 0x00 ∷ 0x13 ∷ []) ∷ [])) (passed_of every registering selecting)
     ≡ ((0x91 ∷ 0x15 ∷ []) ∷ []) ∷ ((0x91 ∷ 0x0E ∷ []) ∷ []) ∷ ((0x91 ∷ 0x0F ∷ []) ∷ []) ∷ ((0x91 ∷ 0x10 ∷ []) ∷ []) ∷ []
-unfolding refused_if given and_given command_in fields_in instruction_tried carried_out file_outcome toolkit_outcome tried answer_of woken woken_boxes channel_tried keys_seen descriptor_in descriptors_in file_found telling status_told profile_taken command_fetched response_taken envelope_taken applet_installed applet_deleted profiled polled triggered enveloped fetched answered responded installed row_deleted told_one given_one caught_up wanted session_filled driven trigger_order asks run_on run_of_row act address_digits row_from allowed allowed_event consulted tagged response_of value_in envelope_in envelope_of Reading.tag_at Reading.length_at Reading.value_at Reading.object_at Reading.outline_within Reading.outline_at Reading.template_of
+unfolding refused_if given and_given command_in fields_in instruction_tried carried_out file_outcome toolkit_outcome tried answer_of woken woken_boxes channel_tried keys_seen descriptor_in descriptors_in file_found telling status_told profile_taken command_fetched response_taken envelope_taken applet_installed applet_deleted profiled polled triggered enveloped fetched answered responded installed delete_carried told_one given_one caught_up wanted with_next_command driven trigger_order asks run_on run_of_row act address_digits row_from allowed allowed_event consulted tagged response_of value_in envelope_in envelope_of Reading.tag_at Reading.length_at Reading.value_at Reading.object_at Reading.outline_within Reading.outline_at Reading.template_of
 left_with = refl
 
 -- a row that is made takes the next sequence number, which rises; nothing else of the card changes
 installed_for_good : passed_of every verified_card (0xF0 ∷ 0xE6 ∷ 0x02 ∷ 0x07 ∷ 0x03 ∷ 0x01 ∷ 0x40 ∷ 0x00 ∷ [])
     ≡ held_with [] ∷ record (held_with (row 7 2 9 (0x40 ∷ []) [] [] ∷ [])) { next_sequence = 10 } ∷ []
-unfolding refused_if given and_given command_in fields_in instruction_tried carried_out file_outcome toolkit_outcome tried answer_of woken woken_boxes channel_tried keys_seen descriptor_in descriptors_in file_found telling status_told profile_taken command_fetched response_taken envelope_taken applet_installed applet_deleted profiled polled triggered enveloped fetched answered responded installed row_deleted told_one given_one caught_up wanted session_filled driven trigger_order asks run_on run_of_row act address_digits row_from allowed allowed_event consulted tagged response_of value_in envelope_in envelope_of Reading.tag_at Reading.length_at Reading.value_at Reading.object_at Reading.outline_within Reading.outline_at Reading.template_of
+unfolding refused_if given and_given command_in fields_in instruction_tried carried_out file_outcome toolkit_outcome tried answer_of woken woken_boxes channel_tried keys_seen descriptor_in descriptors_in file_found telling status_told profile_taken command_fetched response_taken envelope_taken applet_installed applet_deleted profiled polled triggered enveloped fetched answered responded installed delete_carried told_one given_one caught_up wanted with_next_command driven trigger_order asks run_on run_of_row act address_digits row_from allowed allowed_event consulted tagged response_of value_in envelope_in envelope_of Reading.tag_at Reading.length_at Reading.value_at Reading.object_at Reading.outline_within Reading.outline_at Reading.template_of
 installed_for_good = refl
 
 -- and what is deleted leaves the others
 deleted_for_good : passed_of every (record (card_with (row 0 1 0 (0x40 ∷ []) [] [] ∷ row 3 2 1 (0x03 ∷ []) [] [] ∷ [])) { verified = adm1_verified }) (0xF0 ∷ 0xE4 ∷ 0x00 ∷ 0x00 ∷ [])
     ≡ held_with (row 0 1 0 (0x40 ∷ []) [] [] ∷ row 3 2 1 (0x03 ∷ []) [] [] ∷ []) ∷ held_with (row 3 2 1 (0x03 ∷ []) [] [] ∷ []) ∷ []
-unfolding refused_if given and_given command_in fields_in instruction_tried carried_out file_outcome toolkit_outcome tried answer_of woken woken_boxes channel_tried keys_seen descriptor_in descriptors_in file_found telling status_told profile_taken command_fetched response_taken envelope_taken applet_installed applet_deleted profiled polled triggered enveloped fetched answered responded installed row_deleted told_one given_one caught_up wanted session_filled driven trigger_order asks run_on run_of_row act address_digits row_from allowed allowed_event consulted tagged response_of value_in envelope_in envelope_of Reading.tag_at Reading.length_at Reading.value_at Reading.object_at Reading.outline_within Reading.outline_at Reading.template_of
+unfolding refused_if given and_given command_in fields_in instruction_tried carried_out file_outcome toolkit_outcome tried answer_of woken woken_boxes channel_tried keys_seen descriptor_in descriptors_in file_found telling status_told profile_taken command_fetched response_taken envelope_taken applet_installed applet_deleted profiled polled triggered enveloped fetched answered responded installed delete_carried told_one given_one caught_up wanted with_next_command driven trigger_order asks run_on run_of_row act address_digits row_from allowed allowed_event consulted tagged response_of value_in envelope_in envelope_of Reading.tag_at Reading.length_at Reading.value_at Reading.object_at Reading.outline_within Reading.outline_at Reading.template_of
 deleted_for_good = refl
 
 -- a fault in the deletion leaves the applet, which is deleted then, or leaves neither its row nor its box
@@ -329,5 +328,5 @@ deleting = record (card_with (row 0 1 0 (0x40 ∷ []) [] [] ∷ [])) { verified 
 
 deleted_or_not : map (λ state. replies (woken state (boxes_left deleting.persistent.rows state.rows deleting.boxes)) ((0x00 ∷ 0x20 ∷ 0x00 ∷ 0x0A ∷ 0x08 ∷ 0x38 ∷ 0x38 ∷ 0x38 ∷ 0x38 ∷ 0x38 ∷ 0x38 ∷ 0x38 ∷ 0x38 ∷ []) ∷ (0xF0 ∷ 0xE4 ∷ 0x00 ∷ 0x00 ∷ []) ∷ (0xF0 ∷ 0xE6 ∷ 0x01 ∷ 0x00 ∷ 0x03 ∷ 0x01 ∷ 0x40 ∷ 0x00 ∷ []) ∷ [])) (passed_of every deleting (0xF0 ∷ 0xE4 ∷ 0x00 ∷ 0x00 ∷ []))
     ≡ ((0x90 ∷ 0x00 ∷ []) ∷ (0x90 ∷ 0x00 ∷ []) ∷ (0x6A ∷ 0x88 ∷ []) ∷ []) ∷ ((0x90 ∷ 0x00 ∷ []) ∷ (0x6A ∷ 0x88 ∷ []) ∷ (0x6A ∷ 0x88 ∷ []) ∷ []) ∷ []
-unfolding refused_if given and_given command_in fields_in instruction_tried carried_out file_outcome toolkit_outcome tried answer_of woken woken_boxes channel_tried keys_seen pin_found presented pin_presented pin_verified descriptor_in descriptors_in file_found telling status_told profile_taken command_fetched response_taken envelope_taken applet_installed applet_deleted profiled polled triggered enveloped fetched answered responded installed row_deleted told_one given_one caught_up wanted session_filled driven trigger_order asks run_on run_of_row act address_digits row_from allowed allowed_event consulted tagged response_of value_in envelope_in envelope_of Reading.tag_at Reading.length_at Reading.value_at Reading.object_at Reading.outline_within Reading.outline_at Reading.template_of
+unfolding refused_if given and_given command_in fields_in instruction_tried carried_out file_outcome toolkit_outcome tried answer_of woken woken_boxes channel_tried keys_seen pin_found presented pin_presented pin_verified descriptor_in descriptors_in file_found telling status_told profile_taken command_fetched response_taken envelope_taken applet_installed applet_deleted profiled polled triggered enveloped fetched answered responded installed delete_carried told_one given_one caught_up wanted with_next_command driven trigger_order asks run_on run_of_row act address_digits row_from allowed allowed_event consulted tagged response_of value_in envelope_in envelope_of Reading.tag_at Reading.length_at Reading.value_at Reading.object_at Reading.outline_within Reading.outline_at Reading.template_of
 deleted_or_not = refl

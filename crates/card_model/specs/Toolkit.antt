@@ -17,7 +17,7 @@ use Rattle.toolkit_model.specs.Passing.{ToolkitState, Passed, passed_rows}
 use Rattle.toolkit_model.specs.Registry.{installed_row, deleted_row}
 use Rattle.toolkit_model.specs.Running.{mind_on}
 use Rattle.toolkit_model.specs.Driving.{is_idle}
-use Rattle.toolkit_model.specs.Commands.{profiled, enveloped, is_busy, call_data, unfetched, unanswered, command_bytes, fetched, reply_to, responded, installed, row_deleted}
+use Rattle.toolkit_model.specs.Commands.{profiled, enveloped, is_busy, call_data, unfetched, unanswered, command_bytes, fetched, reply_to, responded, installed, delete_carried}
 use Rattle.card_model.specs.States.{CardState}
 use Rattle.card_model.specs.declared.instructions.ToolkitCommand.{ToolkitCommand}
 use Rattle.card_model.specs.declared.instructions.ToolkitCommand.TheVariants.{TerminalProfile, Fetch, TerminalResponse, Envelope, InstallApplet, DeleteApplet}
@@ -129,7 +129,7 @@ applet_deleted card seen apdu =
     needs (has_no_data apdu) WRONG_LENGTH (
     needs seen.adm1 SECURITY_NOT_SATISFIED (
     and_given (row_or_status (deleted_row card.persistent.rows apdu.p2 (is_idle (asks card.session) apdu.p2))) (λ row.
-    Ok (coming_to card [] (row_deleted row.shelf (toolkit_of card)))))))
+    Ok (coming_to card [] (delete_carried row.shelf (toolkit_of card)))))))
 
 -- ---- the commands by their names
 

@@ -1,6 +1,5 @@
 -- What an opening and a restart owe, from what a mount read.
-use Rattle.std.proofs.Common.{◌≡◌, ℕ, Bool, true, false, List, Option, None, Result, Ok, Err, option_map, refl, sym, ◌∙◌, ap, subst, inl}
-use Rattle.std.specs.Prelude.{All, IfErr, IfSome, IsErrAnd, IsOkAnd, if◌then◌else◌}
+use Rattle.std.proofs.Common.{◌≡◌, ℕ, Bool, true, false, List, Option, None, Result, Ok, Err, option_map, refl, sym, ◌∙◌, ap, subst, inl, All, IfErr, IfSome, IsErrAnd, IsOkAnd, if◌then◌else◌}
 use Rattle.std.proofs.lemmas.List.Elements.{All-contains}
 use Rattle.card_layout.specs.uicc_types.Counts.{raised}
 use Rattle.card_model.specs.applet_trait.Minds.{AppletState}

@@ -1,6 +1,5 @@
 -- From the rows of a table and their boxes to the registered applets and theirs.
-use Rattle.std.proofs.Common.{◌≡◌, ℕ, ◌==◌, ◌&&◌, ◌<◌, ◌+◌, Bool, true, false, not, List, [], length, map, option_map, ◌≤◌, ⊎_elim, slice_get, slice_index_or, Option, Some, None, option_and_then, unwrap_or, refl, sym, ◌∙◌, ap, subst, arith}
-use Rattle.std.specs.Prelude.{All, Contains, IfSome, IsSomeAnd}
+use Rattle.std.proofs.Common.{◌≡◌, ℕ, ◌==◌, ◌&&◌, ◌<◌, ◌+◌, Bool, true, false, not, List, [], length, map, option_map, ◌≤◌, ⊎_elim, slice_get, slice_index_or, Option, Some, None, option_and_then, unwrap_or, refl, sym, ◌∙◌, ap, subst, arith, All, Contains, IfSome, IsSomeAnd}
 use Rattle.std.proofs.lemmas.List.Elements.{All-contains_itself}
 use Rattle.std.proofs.lemmas.Option.{slice_get_within, slice_get_read}
 use Rattle.std.proofs.lemmas.List.{get_or-map, get_or_default}

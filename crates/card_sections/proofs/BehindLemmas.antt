@@ -1,6 +1,5 @@
 -- From one line behind `start` to the next, and why no more are read.
-use Rattle.std.proofs.Common.{◌≡◌, ℕ, Bool, true, false, List, [], ◌∷◌, ◌++◌, Option, Some, None, Err, sym, ◌∙◌, subst}
-use Rattle.std.proofs.lemmas.List.{append-nil, append_assoc}
+use Rattle.std.proofs.Common.{◌≡◌, ℕ, Bool, true, false, List, [], ◌∷◌, ◌++◌, Option, Some, None, Err, sym, ◌∙◌, subst, append-nil, append_assoc}
 use Rattle.std.proofs.lemmas.List.Elements.{All-nil, All-push}
 use Rattle.script_form.specs.byte_streams.Lines.{LineList}
 use Rattle.card_sections.specs.Behind.{EndsReading, IsBadBehind, IsReading, LinesReadTo, StopsReading, end_for}
@@ -59,12 +58,12 @@ unread_is_bad may (None ∷ more) unread = tt
 unread_is_bad may (Some bytes ∷ more) unread = λ line says. absurd (unread line says)
 
 -- the script itself is bad or fails
-pub in_script : (may : ScriptLine → Bool) (text : List ℕ) (found : LineList) (script : ScriptReader) (left : Option (List ℕ)) (line : ScriptLine) (why : ScriptFault) (end : PlayEnd) → end ≡ end_for why
+pub stops_so : (may : ScriptLine → Bool) (text : List ℕ) (found : LineList) (script : ScriptReader) (left : Option (List ℕ)) (line : ScriptLine) (why : ScriptFault) (end : PlayEnd) → end ≡ end_for why
     → GivesNext text found script left line (Err why) → StopsReading may text found left end
-in_script may text found script left line (fault.BadLine number) end is gives = subst (StopsReading may text found left) (sym is)
+stops_so may text found script left line (fault.BadLine number) end is gives = subst (StopsReading may text found left) (sym is)
     (record { next = gives.next; parted = gives.parted; is = unread_is_bad may gives.next gives.is; counted = gives.counted; reach = gives.reach })
-in_script may text found script left line (fault.NoRoom number) end is gives = absurd gives
-in_script may text found script left line fault.ReadFailed end is gives = subst (StopsReading may text found left) (sym is) gives
+stops_so may text found script left line (fault.NoRoom number) end is gives = absurd gives
+stops_so may text found script left line fault.ReadFailed end is gives = subst (StopsReading may text found left) (sym is) gives
 
 -- it may not stand there
 pub bad_behind : (may : ScriptLine → Bool) (text : List ℕ) (found : LineList) (script : ScriptReader) (left : Option (List ℕ)) (line : ScriptLine) (number : ℕ) → Finds text found script left line → may line ≡ false → number ≡ script.number

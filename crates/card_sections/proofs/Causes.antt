@@ -1,6 +1,5 @@
 -- Why the reading of a section ends, and where it goes on.
-use Rattle.std.proofs.Common.{◌≡◌, ℕ, ◌+◌, List, [], ◌∷◌, ◌++◌, Bool, true, false, Option, Some, None, Ok, Err, refl, sym, ap, ◌∙◌, subst}
-use Rattle.std.proofs.lemmas.List.{append-nil}
+use Rattle.std.proofs.Common.{◌≡◌, ℕ, ◌+◌, List, [], ◌∷◌, ◌++◌, Bool, true, false, Option, Some, None, Ok, Err, refl, sym, ap, ◌∙◌, subst, append-nil}
 use Rattle.applet_trait.specs.Minds.{AppletState}
 use Rattle.script_form.proofs.byte_streams.ReadingLemmas.{IsTakenFor-read_out}
 use Rattle.script_form.specs.byte_streams.Lines.{LineList}

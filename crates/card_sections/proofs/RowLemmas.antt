@@ -1,7 +1,5 @@
--- Each row that a section describes is of the kind of the box on its shelf.
-use Rattle.std.proofs.Common.{◌≡◌, ℕ, List, [], ◌∷◌, ◌++◌, Bool, true, false, Option, Some, None, Result, Ok, Err, refl, subst, arith}
-use Rattle.std.specs.Prelude.{All, nat_lt}
-use Rattle.std.specs.List.{filter}
+-- Lines that describe a card add no row that is not of the kind of the box on its shelf.
+use Rattle.std.proofs.Common.{◌≡◌, ℕ, List, [], ◌∷◌, ◌++◌, Bool, true, false, Option, Some, None, Result, Ok, Err, refl, subst, arith, All, nat_lt, filter}
 use Rattle.std.proofs.lemmas.List.Elements.{All-append, All-cons, All-filter}
 use Rattle.applet_trait.specs.Minds.{AppletState}
 use Rattle.card_layout.specs.NewFiles.{rule_from}

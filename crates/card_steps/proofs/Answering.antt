@@ -1,13 +1,10 @@
 -- From the commands to the answers: which instructions look at Le, and how Le cuts the data.
-use Rattle.std.proofs.Common.{◌≡◌, ℕ, ◌≤◌, Bool, false, List, [], length, Option, Some, None, Result, Ok, Err, refl, sym, ◌∙◌, ap, subst, arith}
-use Rattle.std.specs.Prelude.{IfSome, MatchResult}
-use Rattle.std.proofs.lemmas.List.{length-take}
+use Rattle.std.proofs.Common.{◌≡◌, ℕ, ◌≤◌, Bool, false, List, [], length, Option, Some, None, Result, Ok, Err, refl, sym, ◌∙◌, ap, subst, arith, IfSome, MatchResult, length-take}
 use Rattle.script_form.specs.uicc_types.declared.answers.StatusWord.{StatusWord}
 use Rattle.script_form.specs.uicc_types.declared.answers.TheConstants.StatusWord.{WRONG_LENGTH}
-use Rattle.card_core.specs.apdu_form.Model.{Apdu, command_in}
+use Rattle.card_core.specs.apdu_form.Model.{Apdu, command_in, cut_to}
 use Rattle.card_core.specs.file_model.Chains.{given, and_given}
 use Rattle.card_core.specs.card_model.Answers.{Answered, refused, carried_with, cut_answer, settled, tried, with_pending, answer_of}
-use Rattle.card_core.specs.apdu_form.Model.{cut_to}
 use Rattle.card_core.proofs.card_model.CaseLemmas.{cut_result}
 use Rattle.card_core.specs.card_model.Chained.{Any}
 use Rattle.card_core.specs.card_model.Channels.{family}

@@ -1,6 +1,5 @@
 -- What a command and a reset make of a card.
-use Rattle.std.proofs.Common.{◌≡◌, ℕ, Bool, true, false, List, [], ◌∷◌, Option, Some, None, refl, sym, ap, ◌∙◌, subst, inl, inr, option_map}
-use Rattle.std.specs.Prelude.{IfSome, IsSomeAnd, MatchBool, not, ◌==◌, ◌≢◌, ◌⊎◌}
+use Rattle.std.proofs.Common.{◌≡◌, ℕ, Bool, true, false, List, [], ◌∷◌, Option, Some, None, refl, sym, ap, ◌∙◌, subst, inl, inr, option_map, IfSome, IsSomeAnd, MatchBool, not, ◌==◌, ◌≢◌, ◌⊎◌}
 use Rattle.script_form.proofs.uicc_types.OptionalLemmas.{if_some_at}
 use Rattle.card_core.specs.Cards.{card_of}
 use Rattle.card_core.specs.Moves.{Answers, Fails}

@@ -1,6 +1,6 @@
 -- A terminal's command that comes to the card, by itself or over a link.
-use Rattle.std.proofs.Common.{◌≡◌, ℕ, Bool, true, false, List, [], ◌∷◌, Option, Some, None, Result, Ok, Err, refl, sym, ap, ◌∙◌, subst, arith}
-use Rattle.std.specs.Prelude.{IfSome, IsTrue, ⊤}
+use Rattle.std.proofs.Common.{◌≡◌, ℕ, Bool, true, false, List, [], ◌∷◌, Option, Some, None, Result, Ok, Err, refl, sym, ap, ◌∙◌, subst, arith, IfSome, IsTrue}
+use Rattle.std.specs.Prelude.{⊤}
 use Rattle.script_form.proofs.uicc_types.OptionalLemmas.{if_some_at}
 use Rattle.card_core.specs.apdu_form.Model.{Apdu, command_in}
 use Rattle.card_core.specs.Cards.{IsCardReady, card_of}

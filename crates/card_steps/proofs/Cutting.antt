@@ -1,6 +1,5 @@
 -- Commands that don't look at Le.
-use Rattle.std.proofs.Common.{◌≡◌, Bool, true, false, Result, Ok, Err, refl, ap}
-use Rattle.std.specs.Prelude.{◌==◌, ◌&&◌, nat_le, if◌then◌else◌}
+use Rattle.std.proofs.Common.{◌≡◌, Bool, true, false, Result, Ok, Err, refl, ap, ◌==◌, ◌&&◌, nat_le, if◌then◌else◌}
 use Rattle.script_form.specs.uicc_types.declared.answers.StatusWord.{StatusWord}
 use Rattle.script_form.specs.uicc_types.declared.answers.TheConstants.StatusWord.{WRONG_PARAMETERS}
 use Rattle.card_core.specs.apdu_form.Model.{Apdu}

@@ -1,6 +1,6 @@
 -- What the link makes of a TPDU, as the step of a run.
-use Rattle.std.proofs.Common.{◌≡◌, ℕ, Bool, true, false, List, [], ◌∷◌, ◌++◌, Option, Some, None, Result, Ok, Err, refl, sym, ap, ◌∙◌, subst}
-use Rattle.std.specs.Prelude.{OnErr, ⊤}
+use Rattle.std.proofs.Common.{◌≡◌, ℕ, Bool, true, false, List, [], ◌∷◌, ◌++◌, Option, Some, None, Result, Ok, Err, refl, sym, ap, ◌∙◌, subst, OnErr}
+use Rattle.std.specs.Prelude.{⊤}
 use Rattle.card_steps.specs.Ends.{End, MeetsAnswer, MeetsCut, TakesCommand, planned, reply_for, unplanned, with_plan_set, without_plan}
 use Rattle.card_steps.specs.Tpdus.{Delivers, IsPrepared}
 use Rattle.card_steps.specs.Shown.{item_of, kept_over, shown_over}

@@ -1,7 +1,7 @@
 -- A link shows a failure of the card's memory, and a loss of power, as one, and keeps none.
-use Rattle.std.proofs.Common.{◌≡◌, ℕ, ◌+◌, ◌*◌, ◌≤◌, ◌<◌, Bool, true, false, List, [], ◌∷◌, length, Option, Some, None, refl, sym, ap, ◌∙◌, arith, mod-lt}
+use Rattle.std.proofs.Common.{◌≡◌, ℕ, ◌+◌, ◌*◌, ◌≤◌, ◌<◌, Bool, true, false, List, [], ◌∷◌, length, Option, Some, None, refl, sym, ap, ◌∙◌, arith, mod-lt, ◌/◌, ◌%◌, ◌==◌, cond, count_by, if◌then◌else◌}
 use Rattle.std.proofs.lemmas.Bool.{eqb-true, false≢true, ne_eqb}
-use Rattle.std.specs.Prelude.{◌/◌, ◌%◌, ◌==◌, cond, count_by, if◌then◌else◌, ⊤}
+use Rattle.std.specs.Prelude.{⊤}
 use Rattle.card_core.specs.apdu_form.Model.{Apdu, ne_of, cut_to}
 use Rattle.card_core.specs.card_model.Counts.{IsCounted, is_cut, is_failure}
 use Rattle.card_core.proofs.Named.{cut_nothing}

@@ -1,7 +1,6 @@
 -- What is shown of a step or a TPDU, over any store.
-use Rattle.std.proofs.Common.{◌≡◌, ℕ, Bool, false, List, [], ◌∷◌, ◌++◌, Option, Some, None, Result, Ok, Err, refl, sym, ap, ◌∙◌, append_assoc, inl, inr, subst}
-use Rattle.std.specs.Prelude.{OnErr, OnOk, ⊤}
-use Rattle.std.proofs.lemmas.List.{append-nil}
+use Rattle.std.proofs.Common.{◌≡◌, ℕ, Bool, false, List, [], ◌∷◌, ◌++◌, Option, Some, None, Result, Ok, Err, refl, sym, ap, ◌∙◌, append_assoc, inl, inr, subst, OnErr, OnOk, append-nil}
+use Rattle.std.specs.Prelude.{⊤}
 use Rattle.std.specs.Io.KnownBytes.{append_known}
 use Rattle.script_form.specs.byte_streams.Streams.{TakesFront}
 use Rattle.card_core.specs.card_model.Counts.{IsCounted}

@@ -1,7 +1,5 @@
 -- How a command without Le is read.
-use Rattle.std.proofs.Common.{◌≡◌, ℕ, ◌+◌, Bool, List, [], ◌∷◌, length, take, Option, Some, None, refl, ◌∙◌, ap}
-use Rattle.std.specs.Prelude.{◌==◌, if◌then◌else◌, slice_index, option_map}
-use Rattle.std.proofs.lemmas.Bool.{eq-eqb, ne_eqb}
+use Rattle.std.proofs.Common.{◌≡◌, ℕ, ◌+◌, Bool, List, [], ◌∷◌, length, take, Option, Some, None, refl, ◌∙◌, ap, ◌==◌, if◌then◌else◌, slice_index, option_map, eq-eqb, ne_eqb}
 use Rattle.card_core.specs.apdu_form.Model.{Apdu, data_field, ne_of, fields_in, command_in}
 use Rattle.card_steps.specs.Le.{without_le, bare_bytes}
 

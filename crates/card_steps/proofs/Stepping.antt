@@ -1,6 +1,5 @@
 -- Each step that a card takes by what the link passes for a command is one that it takes by the command itself.
-use Rattle.std.proofs.Common.{◌≡◌, ◌∙◌, ℕ, ◌+◌, Bool, true, false, cond, List, [], ◌∷◌, Option, refl, sym, ap, subst, inl, inr}
-use Rattle.std.specs.Prelude.{MatchBool, count_by, map}
+use Rattle.std.proofs.Common.{◌≡◌, ◌∙◌, ℕ, ◌+◌, Bool, true, false, cond, List, [], ◌∷◌, Option, refl, sym, ap, subst, inl, inr, MatchBool, count_by, map}
 use Rattle.std.proofs.lemmas.List.Sums.{sum_by-cons}
 use Rattle.script_form.specs.uicc_types.Counts.{Meter, raised_by}
 use Rattle.script_form.specs.uicc_types.declared.answers.Answer.{Answer}

@@ -1,6 +1,5 @@
 -- TPDUs in a run, computed: an EF is selected, and its parameters are fetched.
-use Rattle.std.proofs.Common.{◌≡◌, ℕ, false, List, [], ◌∷◌, Some, None, refl, subst, sym}
-use Rattle.std.specs.Prelude.{MatchBool}
+use Rattle.std.proofs.Common.{◌≡◌, ℕ, false, List, [], ◌∷◌, Some, None, refl, subst, sym, MatchBool}
 use Rattle.card_steps.specs.Tpdus.{CourseGives, steps_of}
 use Rattle.card_steps.specs.Shown.{item_of, kept_over, shown_over}
 use Rattle.card_core.specs.card_model.Runs.{Commands, MeetsNoPower, armed_after, waiting_after}

@@ -1,6 +1,5 @@
 -- Commands to a small card, worked out from their bytes: what the terminal has over the link, and what the card answers by itself.
-use Rattle.std.proofs.Common.{◌≡◌, ℕ, true, List, [], ◌∷◌, ◌++◌, replicate, Option, Some, None, refl, inl}
-use Rattle.std.specs.Prelude.{option_map}
+use Rattle.std.proofs.Common.{◌≡◌, ℕ, true, List, [], ◌∷◌, ◌++◌, replicate, Option, Some, None, refl, inl, option_map}
 use Rattle.std.specs.Int.{to_be_bytes, w16}
 use Rattle.script_form.specs.uicc_types.declared.answers.Answer.{Answer}
 use Rattle.script_form.specs.uicc_types.declared.runs.Step.TheVariants as step
@@ -21,7 +20,7 @@ use Rattle.card_core.specs.file_model.Records.{record_named, record_reading, rec
 use Rattle.card_core.specs.file_model.Selecting.{selecting, file_selected, telling, status_told}
 use Rattle.card_core.specs.file_model.Selections.{selection_of, chosen_by_identifier, chosen}
 use Rattle.card_core.specs.toolkit_model.Commands.{polled}
-use Rattle.card_core.specs.toolkit_model.Driving.{told_one, given_one, caught_up, wanted, session_filled, driven}
+use Rattle.card_core.specs.toolkit_model.Driving.{told_one, given_one, caught_up, wanted, with_next_command, driven}
 use Rattle.card_core.specs.toolkit_model.Order.{trigger_order}
 use Rattle.card_core.specs.toolkit_model.Orderly.{asks}
 use Rattle.card_core.specs.card_model.Answers.{carried_out, tried, answer_of, answer}
@@ -91,17 +90,17 @@ select_no_data = record { is_carried = refl; linked = refl; by_itself = refl }
 
 -- STATUS without Le is passed with 00
 status : HasBoth (0x80 ∷ 0xF2 ∷ 0x00 ∷ 0x00 ∷ []) (0x62 ∷ 0x13 ∷ 0x82 ∷ 0x02 ∷ 0x78 ∷ 0x21 ∷ 0x83 ∷ 0x02 ∷ 0x3F ∷ 0x00 ∷ 0x8A ∷ 0x01 ∷ 0x05 ∷ 0xC6 ∷ 0x06 ∷ 0x90 ∷ 0x01 ∷ 0x80 ∷ 0x83 ∷ 0x01 ∷ 0x01 ∷ 0x90 ∷ 0x00 ∷ [])
-unfolding command_in fields_in transfer_in link_answer command_answer refused_if given and_given instruction_tried carried_out file_outcome tried answer_of woken woken_boxes descriptor_in descriptors_in file_found status_told telling fcp object polled told_one given_one caught_up wanted session_filled driven trigger_order asks
+unfolding command_in fields_in transfer_in link_answer command_answer refused_if given and_given instruction_tried carried_out file_outcome tried answer_of woken woken_boxes descriptor_in descriptors_in file_found status_told telling fcp object polled told_one given_one caught_up wanted with_next_command driven trigger_order asks
 status = record { is_carried = refl; linked = refl; by_itself = refl }
 
 -- STATUS with Le
 status_cut : HasBoth (0x80 ∷ 0xF2 ∷ 0x00 ∷ 0x00 ∷ 0x02 ∷ []) (0x62 ∷ 0x13 ∷ 0x90 ∷ 0x00 ∷ [])
-unfolding command_in fields_in transfer_in link_answer command_answer refused_if given and_given instruction_tried carried_out file_outcome tried answer_of woken woken_boxes descriptor_in descriptors_in file_found status_told telling fcp object polled told_one given_one caught_up wanted session_filled driven trigger_order asks
+unfolding command_in fields_in transfer_in link_answer command_answer refused_if given and_given instruction_tried carried_out file_outcome tried answer_of woken woken_boxes descriptor_in descriptors_in file_found status_told telling fcp object polled told_one given_one caught_up wanted with_next_command driven trigger_order asks
 status_cut = record { is_carried = refl; linked = refl; by_itself = refl }
 
 -- STATUS without the FCP
 status_no_data : HasBoth (0x80 ∷ 0xF2 ∷ 0x00 ∷ 0x0C ∷ []) (0x90 ∷ 0x00 ∷ [])
-unfolding command_in fields_in transfer_in link_answer command_answer refused_if given and_given instruction_tried carried_out file_outcome tried answer_of woken woken_boxes descriptor_in descriptors_in file_found status_told telling fcp object polled told_one given_one caught_up wanted session_filled driven trigger_order asks
+unfolding command_in fields_in transfer_in link_answer command_answer refused_if given and_given instruction_tried carried_out file_outcome tried answer_of woken woken_boxes descriptor_in descriptors_in file_found status_told telling fcp object polled told_one given_one caught_up wanted with_next_command driven trigger_order asks
 status_no_data = record { is_carried = refl; linked = refl; by_itself = refl }
 
 -- READ BINARY

@@ -1,13 +1,11 @@
 -- The first object with a tag, found while a list is walked.
-use Rattle.std.proofs.Common.{◌≡◌, ℕ, ◌+◌, ◌≤◌, List, [], ◌∷◌, ◌++◌, length, Option, Some, None, Result, Ok, eqb, refl, sym, ap, subst, ◌∙◌, arith}
+use Rattle.std.proofs.Common.{◌≡◌, ℕ, ◌+◌, ◌≤◌, List, [], ◌∷◌, ◌++◌, length, Option, Some, None, Result, Ok, eqb, refl, sym, ap, subst, ◌∙◌, arith, IfSome, length-append}
 use Rattle.comprehension_tlv.specs.declared.faults.TlvFault.{TlvFault}
 use Rattle.comprehension_tlv.specs.Model.{Object, IsObjects}
 use Rattle.comprehension_tlv.specs.Reading.{◌>>=◌, objects_of, Outline, ended, outline, flaw, unless_fault, first_value, value_of}
 use Rattle.comprehension_tlv.proofs.Steps.{IsBytes, done, bind_ok}
 use Rattle.comprehension_tlv.proofs.Readings.{objects_again, objects_found, object_fits, unless_fault_is}
-use Rattle.std.specs.Prelude.{IfSome}
 use Rattle.std.proofs.lemmas.Bool.{cond_both}
-use Rattle.std.proofs.lemmas.List.{length-append}
 
 abbrev pub first_or : Option (List ℕ) → Option (List ℕ) → Option (List ℕ)
 first_or (Some x) later = Some x

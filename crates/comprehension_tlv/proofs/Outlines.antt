@@ -1,6 +1,5 @@
 -- The outline of some bytes, object by object, and how it answers to whole spellings.
-use Rattle.std.proofs.Common.{◌≡◌, ◌≢◌, ℕ, zero, suc, ◌+◌, ◌-◌, ◌*◌, ◌%◌, ◌^◌, ◌<◌, ◌≤◌, Bool, cond, ◌||◌, eqb, leb, List, [], ◌∷◌, ◌++◌, length, Some, None, Result, Ok, Err, refl, sym, ap, subst, ◌∙◌, append_assoc, add-zero, arith, inl, inr}
-use Rattle.std.proofs.lemmas.List.{length-append}
+use Rattle.std.proofs.Common.{◌≡◌, ◌≢◌, ℕ, zero, suc, ◌+◌, ◌-◌, ◌*◌, ◌%◌, ◌^◌, ◌<◌, ◌≤◌, Bool, cond, ◌||◌, eqb, leb, List, [], ◌∷◌, ◌++◌, length, Some, None, Result, Ok, Err, refl, sym, ap, subst, ◌∙◌, append_assoc, add-zero, arith, inl, inr, length-append}
 use Rattle.comprehension_tlv.specs.declared.faults.TlvFault.{TlvFault}
 use Rattle.comprehension_tlv.specs.declared.faults.TlvFault.TheVariants.{NoTag}
 use Rattle.comprehension_tlv.specs.Model.{Object, IsLength, IsObject, IsObjects}

@@ -6,7 +6,7 @@ use Rattle.std.proofs.lemmas.List.{get_or_past, length-append}
 use Rattle.comprehension_tlv.specs.declared.faults.TlvFault.{TlvFault}
 use Rattle.comprehension_tlv.specs.declared.faults.TlvFault.TheVariants.{Trailing}
 use Rattle.comprehension_tlv.specs.Model.{Object, flagged, IsTag, IsLength, IsObject, IsObjects, IsTemplate}
-use Rattle.comprehension_tlv.specs.Reading.{◌>>=◌, value_at, object_at, Outline, outline, flaw, unless_fault, objects_of, IsEnding, without_trailing, template_of}
+use Rattle.comprehension_tlv.specs.Reading.{◌>>=◌, value_at, object_at, Outline, outline, flaw, unless_fault, objects_of, IsEnding, unless_trailing, template_of}
 use Rattle.comprehension_tlv.specs.Writing.{shortest_length, tagged, spelling, spellings, IsWritableObject}
 use Rattle.comprehension_tlv.proofs.Steps.{IsBytes, bind_ok, ok_is}
 use Rattle.comprehension_tlv.proofs.Forms.{value_takes, value_again, object_again}
@@ -38,7 +38,7 @@ objects_found bytes objects fits e =
 
 -- ---- templates
 
-filled_is : (tag len : ℕ) (x : List ℕ × List ℕ) (number : ℕ) (content : List ℕ) → without_trailing tag len x ≡ Ok (number, content) → (tag ≡ number) × (x.0 ≡ content) × (x.1 ≡ [])
+filled_is : (tag len : ℕ) (x : List ℕ × List ℕ) (number : ℕ) (content : List ℕ) → unless_trailing tag len x ≡ Ok (number, content) → (tag ≡ number) × (x.0 ≡ content) × (x.1 ≡ [])
 filled_is tag len (found, []) number content e =
     let same = ok_is (tag, found) (number, content) e in
     (ap (λ (p : ℕ × List ℕ). p.0) same, ap (λ (p : ℕ × List ℕ). p.1) same, refl)
@@ -48,7 +48,7 @@ pub template_found : (bytes : List ℕ) (tag : ℕ) (content : List ℕ) → tem
 unfolding template_of
 template_found [] tag content e = absurd cc
 template_found (first ∷ others) tag content e =
-    let b = bind_ok (value_at 0 others) (without_trailing first (length (first ∷ others))) (tag, content) e in
+    let b = bind_ok (value_at 0 others) (unless_trailing first (length (first ∷ others))) (tag, content) e in
     let f = filled_is first (length (first ∷ others)) b.0 tag content b.2 in
     let v = value_takes 0 others b.0.0 b.0.1 b.1 in
     let whole : first ∷ others ≡ first ∷ v.0 ++ b.0.0 = ap (λ (x : List ℕ). first ∷ x) (v.1 ∙ ap (λ (x : List ℕ). v.0 ++ b.0.0 ++ x) f.2 ∙ append-nil (v.0 ++ b.0.0)) in
@@ -60,19 +60,19 @@ unfolding template_of
 template_again bytes tag content h =
     let read : value_at 0 (h.length_bytes ++ content) ≡ Ok (content, []) =
     ap (value_at 0) (sym (append-nil (h.length_bytes ++ content))) ∙ value_again 0 h.length_bytes content [] h.length_form in
-    ap template_of h.whole ∙ ap (λ (r : Result (List ℕ × List ℕ) TlvFault). r >>= without_trailing tag (length (tag ∷ h.length_bytes ++ content))) read
+    ap template_of h.whole ∙ ap (λ (r : Result (List ℕ × List ℕ) TlvFault). r >>= unless_trailing tag (length (tag ∷ h.length_bytes ++ content))) read
 
 pub template_is : (bytes others found rest : List ℕ) (first : ℕ) → bytes ≡ first ∷ others → value_at 0 others ≡ Ok (found, rest) → rest ≡ [] → template_of bytes ≡ Ok (first, found)
 unfolding template_of
 template_is bytes others found rest first whole read end =
-    ap template_of whole ∙ ap (λ (r : Result (List ℕ × List ℕ) TlvFault). r >>= without_trailing first (length (first ∷ others))) read ∙
-    ap (λ (x : List ℕ). without_trailing first (length (first ∷ others)) (found, x)) end
+    ap template_of whole ∙ ap (λ (r : Result (List ℕ × List ℕ) TlvFault). r >>= unless_trailing first (length (first ∷ others))) read ∙
+    ap (λ (x : List ℕ). unless_trailing first (length (first ∷ others)) (found, x)) end
 
 -- what has no value behind its first byte is no template, and neither is what goes on behind it
 pub no_template : (bytes others : List ℕ) (first : ℕ) (fault : TlvFault) (tag : ℕ) (content : List ℕ) → bytes ≡ first ∷ others → value_at 0 others ≡ Err fault → IsTemplate bytes tag content → ⊥
 unfolding template_of
 no_template bytes others first fault tag content whole read h =
-    let left : template_of bytes ≡ Err fault = ap template_of whole ∙ ap (λ (r : Result (List ℕ × List ℕ) TlvFault). r >>= without_trailing first (length (first ∷ others))) read in
+    let left : template_of bytes ≡ Err fault = ap template_of whole ∙ ap (λ (r : Result (List ℕ × List ℕ) TlvFault). r >>= unless_trailing first (length (first ∷ others))) read in
     let right = template_again bytes tag content h in
     cc
 
@@ -80,7 +80,7 @@ pub trails : (bytes others found rest : List ℕ) (first tag : ℕ) (content : L
 unfolding template_of
 trails bytes others found [] first tag content whole read more h = absurd (omega arith)
 trails bytes others found (next ∷ rest) first tag content whole read more h =
-    let left : template_of bytes ≡ Err (Trailing (length (first ∷ others) - length (next ∷ rest))) = ap template_of whole ∙ ap (λ (r : Result (List ℕ × List ℕ) TlvFault). r >>= without_trailing first (length (first ∷ others))) read in
+    let left : template_of bytes ≡ Err (Trailing (length (first ∷ others) - length (next ∷ rest))) = ap template_of whole ∙ ap (λ (r : Result (List ℕ × List ℕ) TlvFault). r >>= unless_trailing first (length (first ∷ others))) read in
     let right = template_again bytes tag content h in
     cc
 

@@ -116,10 +116,10 @@ abbrev pub value_of : ℕ → List ℕ → Result (Option (List ℕ)) TlvFault
 value_of tag bytes = objects_of bytes >>= λ objects. Ok (first_value tag objects)
 
 -- a template's tag and content; its own faults have the place 0
-abbrev pub without_trailing : ℕ → ℕ → List ℕ × List ℕ → Result (ℕ × List ℕ) TlvFault
-without_trailing tag len (content, []) = Ok (tag, content)
-without_trailing tag len (content, more ∷ others) = Err (Trailing (len - length (more ∷ others)))
+abbrev pub unless_trailing : ℕ → ℕ → List ℕ × List ℕ → Result (ℕ × List ℕ) TlvFault
+unless_trailing tag len (content, []) = Ok (tag, content)
+unless_trailing tag len (content, more ∷ others) = Err (Trailing (len - length (more ∷ others)))
 
 unfoldable pub template_of : List ℕ → Result (ℕ × List ℕ) TlvFault
 template_of [] = Err (CutShort 0)
-template_of (tag ∷ others) = value_at 0 others >>= without_trailing tag (length (tag ∷ others))
+template_of (tag ∷ others) = value_at 0 others >>= unless_trailing tag (length (tag ∷ others))

@@ -1,6 +1,5 @@
 -- What a store stands for once an entry was committed over what was prepared.
-use Rattle.std.proofs.Common.{◌≡◌, ℕ, List, Option, Some, None, refl, sym, ◌∙◌, ap, subst, inl}
-use Rattle.std.specs.Prelude.{◌⊎◌, option_map, Result, Ok, Err}
+use Rattle.std.proofs.Common.{◌≡◌, ℕ, List, Option, Some, None, refl, sym, ◌∙◌, ap, subst, inl, ◌⊎◌, option_map, Result, Ok, Err}
 use Rattle.std.proofs.lemmas.Result.{on_ok_weaker, on_err_weaker}
 use Rattle.file_model.proofs.uicc_types.CallLemmas.{caused_then, calm_ok}
 use Rattle.file_model.specs.store_form.declared.store.StoreFault.{StoreFault}

@@ -1,6 +1,5 @@
 -- What CREATE FILE has done to a card once the bytes of the file were prepared and its entry was committed.
-use Rattle.std.proofs.Common.{◌≡◌, ℕ, ◌≤◌, Bool, false, List, [], ◌∷◌, replicate, Option, Some, None, option_map, refl, sym, ◌∙◌, ap, subst, arith}
-use Rattle.std.specs.Prelude.{slice_set, IsTrue, IsSomeAnd, Result, Ok, Err}
+use Rattle.std.proofs.Common.{◌≡◌, ℕ, ◌≤◌, Bool, false, List, [], ◌∷◌, replicate, Option, Some, None, option_map, refl, sym, ◌∙◌, ap, subst, arith, slice_set, IsTrue, IsSomeAnd, Result, Ok, Err}
 use Rattle.file_model.specs.uicc_types.Patches.{patched}
 use Rattle.file_model.specs.uicc_types.declared.answers.StatusWord.{StatusWord}
 use Rattle.file_model.specs.uicc_types.declared.answers.TheConstants.StatusWord.{DONE, NO_ROOM}

@@ -1,6 +1,5 @@
 -- What a command has done, from what is known of its status, of what is selected and of the state.
-use Rattle.std.proofs.Common.{◌≡◌, ℕ, true, List, [], Option, Some, None, refl, sym, subst}
-use Rattle.std.specs.Prelude.{is_some, slice_index_or, IfSome, Result, Ok}
+use Rattle.std.proofs.Common.{◌≡◌, ℕ, true, List, [], Option, Some, None, refl, sym, subst, is_some, slice_index_or, IfSome, Result, Ok}
 use Rattle.file_model.specs.apdu_form.Model.{Apdu}
 use Rattle.file_model.specs.declared.rules.Verified.{Verified}
 use Rattle.file_model.specs.card_layout.declared.entries.Loaded.{Loaded}

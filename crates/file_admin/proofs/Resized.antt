@@ -1,8 +1,6 @@
 -- What RESIZE FILE has done to a card once the entry of the file was committed.
-use Rattle.std.proofs.Common.{◌≡◌, ℕ, ◌-◌, ◌≤◌, ◌<◌, Bool, true, false, List, [], ◌∷◌, ◌++◌, length, replicate, Option, Some, None, option_map, refl, sym, ◌∙◌, ap, subst, arith}
-use Rattle.std.specs.Prelude.{◌≢◌, ◌==◌, ◌&&◌, nat_le, is_none, if◌then◌else◌, IsTrue, Result, Ok, Err}
+use Rattle.std.proofs.Common.{◌≡◌, ℕ, ◌-◌, ◌≤◌, ◌<◌, Bool, true, false, List, [], ◌∷◌, ◌++◌, length, replicate, Option, Some, None, option_map, refl, sym, ◌∙◌, ap, subst, arith, ◌≢◌, ◌==◌, ◌&&◌, nat_le, is_none, if◌then◌else◌, IsTrue, Result, Ok, Err, take_all}
 use Rattle.std.proofs.lemmas.Bool.{cond-false, cond-true, eq-eqb, ne_eqb, lt-ltb, le-ltb, leb-true, and_parts}
-use Rattle.std.proofs.lemmas.List.{take_all}
 use Rattle.file_model.proofs.uicc_types.RangeLemmas.{length-range}
 use Rattle.file_model.specs.uicc_types.Patches.{patched}
 use Rattle.file_model.specs.uicc_types.declared.answers.StatusWord.{StatusWord}

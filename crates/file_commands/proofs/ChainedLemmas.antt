@@ -1,6 +1,5 @@
 -- How the parts of a command come together: its tests, what it gives, and what stands where a fault stops it.
-use Rattle.std.proofs.Common.{◌≡◌, List, ◌∷◌, length, Option, Some, None, refl, sym, ap, ◌∙◌, subst, inl, inr}
-use Rattle.std.specs.Prelude.{◌⊎◌, IsSomeAnd, Contains, option_map, Result, Ok, Err}
+use Rattle.std.proofs.Common.{◌≡◌, List, ◌∷◌, length, Option, Some, None, refl, sym, ap, ◌∙◌, subst, inl, inr, ◌⊎◌, IsSomeAnd, Contains, option_map, Result, Ok, Err}
 use Rattle.std.proofs.lemmas.Result.{on_err_weaker}
 use Rattle.file_model.proofs.uicc_types.OptionalLemmas.{if_some, if_some_at, if_ok_from}
 use Rattle.file_model.specs.uicc_types.Counts.{raised_by}

@@ -1,6 +1,5 @@
 -- What a command comes to, by its parts.
-use Rattle.std.proofs.Common.{◌≡◌, Bool, true, false, List, Option, Some, None, refl}
-use Rattle.std.specs.Prelude.{not, ◌≤◌, Result, Ok, Err}
+use Rattle.std.proofs.Common.{◌≡◌, Bool, true, false, List, Option, Some, None, refl, not, ◌≤◌, Result, Ok, Err}
 use Rattle.std.proofs.lemmas.List.Elements.{All-contains}
 use Rattle.file_model.proofs.uicc_types.FindingLemmas.{find_Some}
 use Rattle.file_model.specs.uicc_types.declared.answers.StatusWord.{StatusWord}

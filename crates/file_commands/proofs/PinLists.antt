@@ -1,9 +1,6 @@
 -- The PINs that were told of, slot by slot.
-use Rattle.std.proofs.Common.{get_or, ◌≡◌, ℕ, suc, ◌+◌, ◌*◌, ◌/◌, ◌≤◌, ◌<◌, Bool, true, false, cond, List, [], ◌∷◌, ◌++◌, length, drop, map, refl, sym, ap, ◌∙◌, arith, append_assoc, length-append}
-use Rattle.std.specs.Prelude.{◌==◌, not}
+use Rattle.std.proofs.Common.{get_or, ◌≡◌, ℕ, suc, ◌+◌, ◌*◌, ◌/◌, ◌≤◌, ◌<◌, Bool, true, false, cond, List, [], ◌∷◌, ◌++◌, length, drop, map, refl, sym, ap, ◌∙◌, arith, append_assoc, length-append, ◌==◌, not, drop-cons, div-mul-le_self}
 use Rattle.std.proofs.lemmas.List.{drop_all, append-nil}
-use Rattle.std.proofs.Math.Seq.{drop-cons}
-use Rattle.std.proofs.Math.Nat.{div-mul-le_self}
 use Rattle.file_model.specs.Objects.{object}
 use Rattle.file_model.specs.card_layout.declared.entries.PinSlot.{PinSlot}
 use Rattle.file_model.specs.card_layout.States.{pin_state, present_pins}

@@ -1,7 +1,5 @@
 -- What stands where a fault stops an UPDATE BINARY.
-use Rattle.std.proofs.Common.{◌≡◌, ◌+◌, ◌≤◌, Bool, true, [], ◌∷◌, length, Option, Some, refl, sym, ap, ◌∙◌, subst, inl, inr, arith}
-use Rattle.std.specs.Prelude.{◌⊎◌, not, nat_lt, IsSomeAnd, Contains, Result, Ok}
-use Rattle.std.proofs.lemmas.Bool.{le-ltb}
+use Rattle.std.proofs.Common.{◌≡◌, ◌+◌, ◌≤◌, Bool, true, [], ◌∷◌, length, Option, Some, refl, sym, ap, ◌∙◌, subst, inl, inr, arith, ◌⊎◌, not, nat_lt, IsSomeAnd, Contains, Result, Ok, le-ltb}
 use Rattle.file_model.specs.uicc_types.declared.answers.StatusWord.{StatusWord}
 use Rattle.file_model.specs.uicc_types.declared.answers.TheConstants.StatusWord.{SECURITY_NOT_SATISFIED, WRONG_OFFSET}
 use Rattle.file_model.specs.apdu_form.Model.{Apdu}

@@ -1,6 +1,5 @@
 -- A file that is made has room among the others.
-use Rattle.std.proofs.Common.{get_or, ◌≡◌, ℕ, ◌+◌, ◌*◌, ◌≤◌, ◌<◌, true, false, List, replicate, Option, Some, None, length, refl, sym, ◌∙◌, ap, subst, ⊎_elim, inl, inr, arith}
-use Rattle.std.specs.Prelude.{◌≢◌, ◌⊎◌, ◌-◌, ◌==◌, ◌&&◌, not, nat_le, find, is_some, is_none, All, Contains, IsTrue, IsSomeAnd, option_map}
+use Rattle.std.proofs.Common.{get_or, ◌≡◌, ℕ, ◌+◌, ◌*◌, ◌≤◌, ◌<◌, true, false, List, replicate, Option, Some, None, length, refl, sym, ◌∙◌, ap, subst, ⊎_elim, inl, inr, arith, ◌≢◌, ◌⊎◌, ◌-◌, ◌==◌, ◌&&◌, not, nat_le, find, is_some, is_none, All, Contains, IsTrue, IsSomeAnd, option_map}
 use Rattle.std.specs.List.{range_with_len}
 use Rattle.std.proofs.lemmas.Bool.{and_parts, and_from, or_parts, both_ways, not-true, eqb-true, eqb-false, eq-eqb, leb-true, ne_eqb, cases_eq, not_from_false}
 use Rattle.std.proofs.lemmas.Option.{option_and_then_some}

@@ -1,6 +1,5 @@
 -- The three commands keep the card sound, and what is selected is there.
-use Rattle.std.proofs.Common.{get_or, ◌≡◌, ℕ, zero, suc, ◌≤◌, ◌<◌, Bool, true, false, cond, List, [], ◌∷◌, ◌++◌, filter, replicate, length, Option, Some, None, Result, refl, sym, ◌∙◌, ap, subst, ⊎_elim, arith}
-use Rattle.std.specs.Prelude.{◌≢◌, ◌==◌, ◌||◌, not, nat_lt, is_some, slice_set, All, AllPairs, Contains, IfSome, IsSomeAnd, IsTrue, MatchResult, option_map}
+use Rattle.std.proofs.Common.{get_or, ◌≡◌, ℕ, zero, suc, ◌≤◌, ◌<◌, Bool, true, false, cond, List, [], ◌∷◌, ◌++◌, filter, replicate, length, Option, Some, None, Result, refl, sym, ◌∙◌, ap, subst, ⊎_elim, arith, ◌≢◌, ◌==◌, ◌||◌, not, nat_lt, is_some, slice_set, All, AllPairs, Contains, IfSome, IsSomeAnd, IsTrue, MatchResult, option_map}
 use Rattle.std.specs.Option.{option_map_or}
 use Rattle.std.specs.List.{list_any}
 use Rattle.std.proofs.lemmas.Bool.{and_from, or_parts, both_ways, cases_Bool, cases_eq, cond-true, cond-false, eq-eqb, ne_eqb, eqb-true, leb-true, not-false, not_from_false}

@@ -1,6 +1,5 @@
 -- No file lies in one that is deleted.
-use Rattle.std.proofs.Common.{get_or, ◌≡◌, ℕ, Bool, true, false, List, Option, Some, map, sym, ◌∙◌, ap, subst, ⊎_elim, arith}
-use Rattle.std.specs.Prelude.{◌≢◌, ◌⊎◌, ◌==◌, ◌&&◌, ◌||◌, not, find, All, Contains}
+use Rattle.std.proofs.Common.{get_or, ◌≡◌, ℕ, Bool, true, false, List, Option, Some, map, sym, ◌∙◌, ap, subst, ⊎_elim, arith, ◌≢◌, ◌⊎◌, ◌==◌, ◌&&◌, ◌||◌, not, find, All, Contains}
 use Rattle.std.specs.List.{list_any}
 use Rattle.std.proofs.lemmas.Bool.{and_parts, and_from, or_parts, both_ways, not-true, eqb-true, eqb-false, eq-eqb, ne_eqb, cases_eq, not_from_false}
 use Rattle.std.proofs.lemmas.List.Elements.{Contains-get_or}

@@ -1,6 +1,5 @@
 -- The entry of a new file stands for the file that is made.
-use Rattle.std.proofs.Common.{◌≡◌, ℕ, true, false, List, replicate, Option, Some, None, refl, ◌∙◌, ap}
-use Rattle.std.specs.Prelude.{◌==◌, option_map, IsTrue}
+use Rattle.std.proofs.Common.{◌≡◌, ℕ, true, false, List, replicate, Option, Some, None, refl, ◌∙◌, ap, ◌==◌, option_map, IsTrue}
 use Rattle.std.proofs.lemmas.Bool.{cond-false}
 use Rattle.file_model.specs.uicc_types.declared.identifiers.FileId.{FileId}
 use Rattle.file_model.specs.card_layout.declared.entries.Node.{Node}

@@ -1,6 +1,5 @@
 -- Numbers of two bytes in a template.
-use Rattle.std.proofs.Common.{get_or, ◌≡◌, ℕ, ◌+◌, List, [], ◌∷◌, sym, ◌∙◌, ap, arith}
-use Rattle.std.specs.Prelude.{slice_range}
+use Rattle.std.proofs.Common.{get_or, ◌≡◌, ℕ, ◌+◌, List, [], ◌∷◌, sym, ◌∙◌, ap, arith, slice_range}
 use Rattle.std.specs.Int.{w16, from_be_bytes}
 use Rattle.file_model.proofs.uicc_types.RangeLemmas.{get_or-range}
 use Rattle.file_model.specs.card_layout.Decoding.{number_at}

@@ -1,6 +1,5 @@
 -- A file that is resized has room among the others.
-use Rattle.std.proofs.Common.{get_or, ◌≡◌, ℕ, ◌+◌, ◌≤◌, ◌<◌, Bool, true, false, cond, List, replicate, take, Option, Some, None, length, refl, sym, ◌∙◌, ap, subst, ⊎_elim, inl, inr, arith, length-append}
-use Rattle.std.specs.Prelude.{◌≢◌, ◌⊎◌, ◌-◌, ◌&&◌, nat_lt, nat_le, is_none, All, Contains, IsTrue, unwrap_or}
+use Rattle.std.proofs.Common.{get_or, ◌≡◌, ℕ, ◌+◌, ◌≤◌, ◌<◌, Bool, true, false, cond, List, replicate, take, Option, Some, None, length, refl, sym, ◌∙◌, ap, subst, ⊎_elim, inl, inr, arith, length-append, ◌≢◌, ◌⊎◌, ◌-◌, ◌&&◌, nat_lt, nat_le, is_none, All, Contains, IsTrue, unwrap_or}
 use Rattle.std.proofs.lemmas.Bool.{and_parts, both_ways, leb-true, ltb-false, cases_eq, cases_Bool}
 use Rattle.std.proofs.lemmas.List.{length-take, length-replicate}
 use Rattle.std.proofs.lemmas.List.Elements.{All-contains}

@@ -1,8 +1,6 @@
 -- What the memory stands for once a file has another size, or is deleted.
-use Rattle.std.proofs.Common.{◌≡◌, ℕ, ◌+◌, ◌≤◌, Bool, true, false, cond, List, ◌++◌, replicate, take, drop, length, Option, Some, None, refl, sym, ◌∙◌, ap, subst, inl, inr, arith}
-use Rattle.std.specs.Prelude.{◌-◌, ◌==◌, nat_lt, nat_le, if◌then◌else◌, is_none, unwrap_or, IsTrue}
+use Rattle.std.proofs.Common.{◌≡◌, ℕ, ◌+◌, ◌≤◌, Bool, true, false, cond, List, ◌++◌, replicate, take, drop, length, Option, Some, None, refl, sym, ◌∙◌, ap, subst, inl, inr, arith, ◌-◌, ◌==◌, nat_lt, nat_le, if◌then◌else◌, is_none, unwrap_or, IsTrue, append-nil, take-take}
 use Rattle.std.proofs.lemmas.Bool.{and_parts, and_left, and_right, lt-ltb, le-ltb, leb-true, eq-eqb, ne_eqb, cond-true, cond-false}
-use Rattle.std.proofs.lemmas.List.{append-nil, take-take}
 use Rattle.file_model.proofs.uicc_types.RangeLemmas.{length-range}
 use Rattle.file_model.specs.uicc_types.Patches.{patched}
 use Rattle.file_model.specs.card_layout.declared.entries.Node.{Node}

@@ -1,6 +1,5 @@
 -- After each command what is selected is there, in any sound state.
-use Rattle.std.proofs.Common.{◌≡◌, ℕ, Bool, cond, List, [], ◌∷◌, length, Option, Some, Result, Ok, Err, sym, ap, subst, ⊎_elim}
-use Rattle.std.specs.Prelude.{◌==◌, not, Contains, IfSome, IsSomeAnd, IsTrue, MatchResult, option_map}
+use Rattle.std.proofs.Common.{◌≡◌, ℕ, Bool, cond, List, [], ◌∷◌, length, Option, Some, Result, Ok, Err, sym, ap, subst, ⊎_elim, ◌==◌, not, Contains, IfSome, IsSomeAnd, IsTrue, MatchResult, option_map}
 use Rattle.std.proofs.lemmas.Bool.{cases_Bool}
 use Rattle.std.proofs.lemmas.Option.{option_and_then_some}
 use Rattle.std.proofs.lemmas.List.Elements.{All-set}

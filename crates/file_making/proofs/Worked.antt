@@ -1,6 +1,5 @@
 -- Files made, resized and deleted on a card, worked out.
-use Rattle.std.proofs.Common.{◌≡◌, ℕ, ◌+◌, true, false, List, [], ◌∷◌, ◌++◌, map, replicate, Option, Some, None, Ok, Err, refl}
-use Rattle.std.specs.Prelude.{Result}
+use Rattle.std.proofs.Common.{◌≡◌, ℕ, ◌+◌, true, false, List, [], ◌∷◌, ◌++◌, map, replicate, Option, Some, None, Ok, Err, refl, Result}
 use Rattle.std.specs.List.{range_with_len}
 use Rattle.file_model.specs.uicc_types.declared.answers.StatusWord.{StatusWord}
 use Rattle.file_model.specs.uicc_types.declared.answers.TheConstants.StatusWord.{WRONG_PARAMETERS, WRONG_LENGTH, SECURITY_NOT_SATISFIED, CONDITIONS_NOT_SATISFIED, WRONG_STRUCTURE, WRONG_DATA, FILE_NOT_FOUND, NO_ROOM, FILE_ALREADY_THERE, DONE}

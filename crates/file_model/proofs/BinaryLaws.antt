@@ -1,8 +1,5 @@
 -- READ BINARY and UPDATE BINARY come to lawful outcomes.
-use Rattle.std.proofs.Common.{◌≡◌, ℕ, ◌+◌, ◌≤◌, Bool, true, false, List, [], length, take, drop, Option, Some, None, refl, subst, inl, arith}
-use Rattle.std.specs.Prelude.{◌==◌, ◌||◌, nat_lt, if◌then◌else◌, Contains, IfSome, unwrap_or, MatchResult}
-use Rattle.std.proofs.lemmas.Bool.{ltb-false}
-use Rattle.std.proofs.lemmas.List.{length-take}
+use Rattle.std.proofs.Common.{◌≡◌, ℕ, ◌+◌, ◌≤◌, Bool, true, false, List, [], length, take, drop, Option, Some, None, refl, subst, inl, arith, ◌==◌, ◌||◌, nat_lt, if◌then◌else◌, Contains, IfSome, unwrap_or, MatchResult, ltb-false, length-take}
 use Rattle.std.proofs.lemmas.List.Elements.{All-contains}
 use Rattle.card_layout.specs.uicc_types.declared.answers.TheConstants.StatusWord.{DONE, END_OF_FILE}
 use Rattle.apdu_form.specs.Model.{Apdu}
@@ -17,8 +14,7 @@ use Rattle.file_model.specs.Holdings.{bytes_in}
 use Rattle.file_model.specs.Outcomes.{has_data, has_le_alone, addressed, pointer_before}
 use Rattle.file_model.specs.Binaries.{short_in_p1, offset_of, binary_file, binary_to_read, binary_to_update, reading, read_from, binary_read, updating, update_in, binary_updated}
 use Rattle.file_model.specs.Laws.{IsSoundCard, IsLawfulOutcome, IsFileRefusal, IsLawfulCommand}
-use Rattle.file_model.proofs.ChainedLemmas.{unless_so}
-use Rattle.file_model.proofs.ChainedLemmas.{and_given_so}
+use Rattle.file_model.proofs.ChainedLemmas.{unless_so, and_given_so}
 use Rattle.file_model.proofs.Shapes.{bytes_put_so}
 use Rattle.file_model.proofs.Selected.{IsAddressed, addressed_so, worked_so}
 use Rattle.file_model.proofs.Committed.{good, unchanged_so, committed_so}

@@ -1,6 +1,5 @@
 -- A sound state in which one EF holds something else or has another life cycle status.
-use Rattle.std.proofs.Common.{get_or, ◌≡◌, ℕ, ◌<◌, ◌≤◌, Bool, true, false, cond, List, map, refl, sym, ◌∙◌, ap, subst, inl, inr, ⊎_elim, arith}
-use Rattle.std.specs.Prelude.{◌≢◌, ◌⊎◌, ◌+◌, ◌==◌, IsTrue, find, Contains, AllPairs, if◌then◌else◌}
+use Rattle.std.proofs.Common.{get_or, ◌≡◌, ℕ, ◌<◌, ◌≤◌, Bool, true, false, cond, List, map, refl, sym, ◌∙◌, ap, subst, inl, inr, ⊎_elim, arith, ◌≢◌, ◌⊎◌, ◌+◌, ◌==◌, IsTrue, find, Contains, AllPairs, if◌then◌else◌}
 use Rattle.std.proofs.lemmas.Bool.{cases_eq, eq-eqb, ne_eqb, cond-true, cond-false}
 use Rattle.std.proofs.lemmas.Option.{same_Some}
 use Rattle.std.proofs.lemmas.List.Elements.{All-map, All-contains_itself}

@@ -1,6 +1,5 @@
 -- What a command comes to that changes one file, or none.
-use Rattle.std.proofs.Common.{get_or, ◌≡◌, ℕ, ◌≤◌, List, [], ◌∷◌, length, refl, sym, ◌∙◌, ap, subst, ⊎_elim, arith}
-use Rattle.std.specs.Prelude.{◌⊎◌, ◌==◌, if◌then◌else◌, Contains}
+use Rattle.std.proofs.Common.{get_or, ◌≡◌, ℕ, ◌≤◌, List, [], ◌∷◌, length, refl, sym, ◌∙◌, ap, subst, ⊎_elim, arith, ◌⊎◌, ◌==◌, if◌then◌else◌, Contains}
 use Rattle.std.proofs.lemmas.Bool.{cases_eq, eq-eqb, ne_eqb, cond-true, cond-false}
 use Rattle.std.proofs.lemmas.List.Elements.{All-nil, All-cons, All-map, All-contains_itself}
 use Rattle.card_layout.specs.uicc_types.declared.answers.StatusWord.{StatusWord}

@@ -1,6 +1,6 @@
 -- A run over the conditions of a group.
 use Rattle.std.proofs.Common.{◌≡◌, ℕ, ◌<◌, Bool, true, false, List, [], ◌∷◌, ◌++◌, length, refl, sym, ap, ◌∙◌, arith}
-use Rattle.file_model.specs.Conditions.{Condition, Conditions, end, also, IsProper, AreProper, spelled, spelled_all, holds, tag_of, value_of}
+use Rattle.file_model.specs.Conditions.{Condition, Conditions, end, also, IsProper, AreProper, condition_object, spelled_all, holds, tag_of, value_of}
 use Rattle.file_model.specs.Needs.{hold_by, joined}
 use Rattle.file_model.specs.declared.conditions.Needs.{Needs}
 use Rattle.file_model.specs.declared.conditions.Needs.TheVariants.{One, Each}
@@ -30,8 +30,8 @@ joined-also Each seen condition others false = refl
 
 -- what a reader of the condition at the front ensures where it found one
 pub record IsFirst (levels : ℕ) (seen : Verified) (bytes behind : List ℕ) (truth : Bool) : Type 0 where
-  pub found : (condition : Condition) × IsProper condition levels × (bytes ≡ spelled condition ++ behind) × (truth ≡ holds condition seen)
-  pub only : (condition : Condition) (rest : List ℕ) → IsProper condition levels → bytes ≡ spelled condition ++ rest → (truth ≡ holds condition seen) × (behind ≡ rest)
+  pub found : (condition : Condition) × IsProper condition levels × (bytes ≡ condition_object condition ++ behind) × (truth ≡ holds condition seen)
+  pub only : (condition : Condition) (rest : List ℕ) → IsProper condition levels → bytes ≡ condition_object condition ++ rest → (truth ≡ holds condition seen) × (behind ≡ rest)
 
 pub passed_one : (needs : Needs) (levels : ℕ) (seen : Verified) (whole rest behind : List ℕ) (truth next : Bool)
     → Passed needs levels seen whole rest truth → IsFirst levels seen rest behind next
@@ -39,7 +39,7 @@ pub passed_one : (needs : Needs) (levels : ℕ) (seen : Verified) (whole rest be
 passed_one needs levels seen whole rest behind truth next passed first = record {
   found = λ left proper spells.
       let c : Condition = first.found.0 in
-      let all = passed.found (also c left) (first.found.1, proper) (first.found.2 ∙ ap (λ more. spelled c ++ more) spells) in
+      let all = passed.found (also c left) (first.found.1, proper) (first.found.2 ∙ ap (λ more. condition_object c ++ more) spells) in
       (all.0, all.1, all.2, all.3 ∙ joined-also needs seen c left truth ∙ ap (λ b. joined needs (joined needs truth b) (hold_by needs left seen)) (sym first.found.3));
   only = λ all proper spells. split_off (passed.only all proper spells).0 (passed.only all proper spells).1 (passed.only all proper spells).2 (passed.only all proper spells).3;
 } where
@@ -71,7 +71,7 @@ passed_only needs levels seen whole [] truth passed empty all proper spells =
 
 -- where no condition is at the front of what is left, nothing spells the whole
 pub passed_not : (needs : Needs) (levels : ℕ) (seen : Verified) (whole rest : List ℕ) (truth : Bool) → Passed needs levels seen whole rest truth
-    → 0 < length rest → ((condition : Condition) (behind : List ℕ) → IsProper condition levels → rest ≡ spelled condition ++ behind → ⊥)
+    → 0 < length rest → ((condition : Condition) (behind : List ℕ) → IsProper condition levels → rest ≡ condition_object condition ++ behind → ⊥)
     → (all : Conditions) → AreProper all levels → whole ≡ spelled_all all → ⊥
 passed_not needs levels seen whole rest truth passed some none all proper spells =
     let left = passed.only all proper spells in go left.0 left.1 left.2

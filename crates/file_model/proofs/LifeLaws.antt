@@ -1,6 +1,5 @@
 -- DEACTIVATE FILE and ACTIVATE FILE come to lawful outcomes.
-use Rattle.std.proofs.Common.{◌≡◌, ℕ, Bool, true, false, [], ◌∷◌, None, refl, subst, inl, inr, arith}
-use Rattle.std.specs.Prelude.{◌⊎◌, ◌==◌, if◌then◌else◌, Contains, MatchResult}
+use Rattle.std.proofs.Common.{◌≡◌, ℕ, Bool, true, false, [], ◌∷◌, None, refl, subst, inl, inr, arith, ◌⊎◌, ◌==◌, if◌then◌else◌, Contains, MatchResult}
 use Rattle.std.proofs.lemmas.List.Elements.{All-contains}
 use Rattle.card_layout.specs.uicc_types.declared.answers.TheConstants.StatusWord.{DONE}
 use Rattle.apdu_form.specs.Model.{Apdu}
@@ -16,8 +15,7 @@ use Rattle.file_model.specs.Files.{descriptor_in, descriptors_in}
 use Rattle.file_model.specs.Selections.{IsSelection}
 use Rattle.file_model.specs.LifeCycles.{bringing, life_file, life_in, life_changed, file_deactivated, file_activated}
 use Rattle.file_model.specs.Laws.{IsSoundCard, IsLawfulOutcome, IsFileRefusal, IsLawfulCommand}
-use Rattle.file_model.proofs.ChainedLemmas.{unless_so}
-use Rattle.file_model.proofs.ChainedLemmas.{and_given_so}
+use Rattle.file_model.proofs.ChainedLemmas.{unless_so, and_given_so}
 use Rattle.file_model.proofs.Shapes.{same_shape}
 use Rattle.file_model.proofs.Selected.{IsAddressed, addressed_so}
 use Rattle.file_model.proofs.Committed.{unchanged_so, committed_so}

@@ -1,6 +1,5 @@
 -- What is there, and what holds of it.
-use Rattle.std.proofs.Common.{◌≡◌, Option, Some, None, refl, sym, subst}
-use Rattle.std.specs.Prelude.{IsSomeAnd, option_and_then}
+use Rattle.std.proofs.Common.{◌≡◌, Option, Some, None, refl, sym, subst, IsSomeAnd, option_and_then}
 
 pub some_of : {X : Type 0} (P : X → Type 0) (o : Option X) → IsSomeAnd o P → (x : X) × (o ≡ Some x) × P x
 some_of P None holds = absurd holds

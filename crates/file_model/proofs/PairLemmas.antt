@@ -5,7 +5,7 @@ use Rattle.std.proofs.lemmas.List.{length-replicate}
 use Rattle.std.proofs.lemmas.List.Elements.{All-nil, All-cons, All-head, All-tail}
 use Rattle.std.proofs.Math.Bool.{or-false}
 use Rattle.file_model.specs.Objects.{object}
-use Rattle.file_model.specs.Conditions.{Condition, IsProper, spelled}
+use Rattle.file_model.specs.Conditions.{Condition, IsProper, condition_object}
 use Rattle.file_model.specs.Rules.{Pair, Mode, by_bits, by_instruction, mode_tag, mode_value, IsRecord, pair_grants, spelled_pair}
 use Rattle.file_model.specs.declared.rules.Op.{Op}
 use Rattle.file_model.specs.declared.rules.Verified.{Verified}
@@ -68,7 +68,7 @@ mode_not_empty mode rest h = cc
 
 pair-parts : (pair : Pair) (rest : List ℕ) → (more : List ℕ) × (spelled_pair pair ++ rest ≡ mode_tag pair.mode ∷ more)
 pair-parts pair rest =
-    (_, append_assoc (object (mode_tag pair.mode) (mode_value pair.mode)) (spelled pair.condition) rest ∙ object-parts (mode_tag pair.mode) (mode_value pair.mode) (spelled pair.condition ++ rest))
+    (_, append_assoc (object (mode_tag pair.mode) (mode_value pair.mode)) (condition_object pair.condition) rest ∙ object-parts (mode_tag pair.mode) (mode_value pair.mode) (condition_object pair.condition ++ rest))
 
 -- no pair is at the front of filling
 pub no_pair_in_filling : (pair : Pair) (n : ℕ) (rest : List ℕ) → replicate n 0xFF ≡ spelled_pair pair ++ rest → ⊥
@@ -144,7 +144,7 @@ no_record op seen whole rest truth passed unfilled none pairs filling form =
     go (pair ∷ others) form' = none pair _ (All-head IsProperPair pair others form'.proper) (pair_spells pair others filling rest form')
 
 pub pair_joined : (mode : Mode) (condition : Condition) (bytes behind rest value : List ℕ) (tag : ℕ)
-    → bytes ≡ object tag value ++ behind → tag ≡ mode_tag mode → value ≡ mode_value mode → behind ≡ spelled condition ++ rest
+    → bytes ≡ object tag value ++ behind → tag ≡ mode_tag mode → value ≡ mode_value mode → behind ≡ condition_object condition ++ rest
     → bytes ≡ spelled_pair (record { mode = mode; condition = condition }) ++ rest
 pair_joined mode condition bytes behind rest value tag front tagged valued spells =
-    front ∙ rw (tagged, valued, spells) (sym (append_assoc (object (mode_tag mode) (mode_value mode)) (spelled condition) rest))
+    front ∙ rw (tagged, valued, spells) (sym (append_assoc (object (mode_tag mode) (mode_value mode)) (condition_object condition) rest))

@@ -1,8 +1,5 @@
 -- The PIN commands come to lawful outcomes.
-use Rattle.std.proofs.Common.{get_or, ◌≡◌, ℕ, ◌-◌, ◌<◌, ◌≤◌, Bool, true, false, List, [], ◌∷◌, Some, Result, refl, sym, ◌∙◌, ap, subst, inl, inr, arith}
-use Rattle.std.specs.Prelude.{◌⊎◌, ◌==◌, if◌then◌else◌, Contains, MatchResult}
-use Rattle.std.specs.Str.{bytes_eq}
-use Rattle.std.proofs.lemmas.Bool.{eqb-true}
+use Rattle.std.proofs.Common.{get_or, ◌≡◌, ℕ, ◌-◌, ◌<◌, ◌≤◌, Bool, true, false, List, [], ◌∷◌, Some, Result, refl, sym, ◌∙◌, ap, subst, inl, inr, arith, ◌⊎◌, ◌==◌, if◌then◌else◌, Contains, MatchResult, bytes_eq, eqb-true}
 use Rattle.std.proofs.lemmas.List.Elements.{All-nil, All-cons, All-map, All-contains}
 use Rattle.card_layout.proofs.uicc_types.FindingLemmas.{find_Some}
 use Rattle.card_layout.proofs.uicc_types.PairLemmas.{pairs_map}

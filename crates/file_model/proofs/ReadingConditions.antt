@@ -1,12 +1,11 @@
 -- The truth of conditions that is computed is that of the conditions that spell the bytes.
-use Rattle.std.proofs.Common.{◌≡◌, ℕ, zero, suc, ◌<◌, ◌≤◌, Bool, true, nat_eq, ⊎_elim, List, [], ◌∷◌, ◌++◌, length, Option, Some, refl, sym, ap, ◌∙◌, arith}
-use Rattle.std.specs.Option.{option_map, option_and_then}
+use Rattle.std.proofs.Common.{◌≡◌, ℕ, zero, suc, ◌<◌, ◌≤◌, Bool, true, nat_eq, ⊎_elim, List, [], ◌∷◌, ◌++◌, length, Option, Some, refl, sym, ap, ◌∙◌, arith, option_map, option_and_then}
 use Rattle.std.proofs.lemmas.Option.{option_and_then_some, cond_some, same_Some}
 use Rattle.std.proofs.lemmas.Grind.{common_steps}
 use Rattle.std.proofs.lemmas.Bool.{and_parts}
 use Rattle.card_layout.proofs.uicc_types.ChoiceLemmas.{chosen, mapped_Some}
 use Rattle.file_model.specs.Objects.{object}
-use Rattle.file_model.specs.Conditions.{Condition, always, never, key, some_of, all_of, Conditions, end, also, IsProper, AreProper, spelled, spelled_all, holds, is_satisfied, tag_of, value_of}
+use Rattle.file_model.specs.Conditions.{Condition, always, never, key, some_of, all_of, Conditions, end, also, IsProper, AreProper, condition_object, spelled_all, holds, is_satisfied, tag_of, value_of}
 use Rattle.file_model.specs.Needs.{Says, IsGroup, hold_by, joined}
 use Rattle.file_model.specs.Reading.{Part, part_in, truth_of_nothing, key_truth, part_truth, condition_in, conditions_truth, group_truth}
 use Rattle.file_model.specs.declared.conditions.Needs.{Needs}
@@ -73,12 +72,12 @@ truth_only group levels seen reads (some_of conditions) proper = reads.only One 
 truth_only group levels seen reads (all_of conditions) proper = reads.only Each conditions (group_in_all conditions levels proper)
 
 spelled_by : (condition : Condition) (bytes value behind rest : List ℕ) (tag : ℕ)
-    → bytes ≡ object tag value ++ behind → tag ≡ tag_of condition → value ≡ value_of condition → behind ≡ rest → bytes ≡ spelled condition ++ rest
+    → bytes ≡ object tag value ++ behind → tag ≡ tag_of condition → value ≡ value_of condition → behind ≡ rest → bytes ≡ condition_object condition ++ rest
 spelled_by condition bytes value behind rest tag front tagged valued left = front ∙ rw (tagged, valued, left) refl
 
 pub condition_found : (group : Needs → List ℕ → Option Bool) (levels : ℕ) (seen : Verified) (bytes rest : List ℕ) (truth : Bool)
     → ReadsGroups group levels seen → condition_in group seen bytes ≡ Some (truth, rest)
-    → (condition : Condition) × IsProper condition levels × (bytes ≡ spelled condition ++ rest) × (truth ≡ holds condition seen)
+    → (condition : Condition) × IsProper condition levels × (bytes ≡ condition_object condition ++ rest) × (truth ≡ holds condition seen)
 unfolding condition_in
 condition_found group levels seen bytes rest truth reads h =
     option_and_then_some (λ (part : Part). option_map (λ truth. (truth, part.rest)) (part_truth group seen part.tag part.value)) (part_in bytes) (truth, rest) h (λ part is_part is_read.
@@ -90,7 +89,7 @@ condition_found group levels seen bytes rest truth reads h =
     (says.0, says.1, spelled_by says.0 _ _ _ _ _ front.1 says.2 says.3 left, sym same ∙ says.4))
 
 pub condition_only : (group : Needs → List ℕ → Option Bool) (levels : ℕ) (seen : Verified) → ReadsGroups group levels seen
-    → (condition : Condition) (rest : List ℕ) → IsProper condition levels → condition_in group seen (spelled condition ++ rest) ≡ Some (holds condition seen, rest)
+    → (condition : Condition) (rest : List ℕ) → IsProper condition levels → condition_in group seen (condition_object condition ++ rest) ≡ Some (holds condition seen, rest)
 unfolding condition_in
 condition_only group levels seen reads condition rest proper =
     rw (part_only (tag_of condition) (value_of condition) rest (value_fits condition levels proper), truth_only group levels seen reads condition proper) refl
@@ -118,7 +117,7 @@ run_found group levels seen reads needs (suc most) (byte ∷ bytes) truth h =
     let others = run_found group levels seen reads needs most found.1 rest.0 rest.1 in (
       also first.0 others.0,
       (first.1, others.1),
-      first.2 ∙ ap (λ more. spelled first.0 ++ more) others.2,
+      first.2 ∙ ap (λ more. condition_object first.0 ++ more) others.2,
       sym rest.2 ∙ joined_holds needs first.0 others.0 seen _ _ first.3 others.3,
     ))
 

@@ -1,12 +1,11 @@
 -- What is computed of a record is what the pairs that spell it grant.
-use Rattle.std.proofs.Common.{◌≡◌, ℕ, zero, suc, ◌<◌, ◌≤◌, ◌&&◌, ◌||◌, ◌↔◌, Bool, true, false, IsTrue, nat_eq, All, List, [], ◌∷◌, ◌++◌, length, replicate, Option, Some, None, unwrap_or, ⊎_elim, refl, sym, ap, ◌∙◌, append_assoc, length-append, arith}
-use Rattle.std.specs.Option.{option_map, option_and_then}
+use Rattle.std.proofs.Common.{◌≡◌, ℕ, zero, suc, ◌<◌, ◌≤◌, ◌&&◌, ◌||◌, ◌↔◌, Bool, true, false, IsTrue, nat_eq, All, List, [], ◌∷◌, ◌++◌, length, replicate, Option, Some, None, unwrap_or, ⊎_elim, refl, sym, ap, ◌∙◌, append_assoc, length-append, arith, option_map, option_and_then}
 use Rattle.std.specs.List.{flat_map, list_any}
 use Rattle.std.proofs.lemmas.Option.{option_and_then_some, cond_some, same_Some}
 use Rattle.std.proofs.lemmas.List.Elements.{All-nil, All-head, All-tail}
 use Rattle.std.proofs.lemmas.Bool.{false_from_ne_true, and_parts}
 use Rattle.file_model.specs.Objects.{object}
-use Rattle.file_model.specs.Conditions.{IsProper, spelled}
+use Rattle.file_model.specs.Conditions.{IsProper, condition_object}
 use Rattle.file_model.specs.Rules.{Mode, by_bits, by_instruction, mode_tag, mode_value, names, Pair, spelled_pair, pair_grants, IsRecord, IsGranted}
 use Rattle.file_model.specs.Reading.{Part, part_in, condition_in, group_truth, mode_of, named_truth, pair_in, is_filling, pairs_truth, grants}
 use Rattle.file_model.specs.declared.rules.Op.{Op}
@@ -54,7 +53,7 @@ pair_found op seen bytes rest truth h =
     let same : (names mode op && read.0.0) ≡ truth = ap (λ (pair : Bool × List ℕ). pair.0) read.2 in (
       record { mode = mode; condition = condition.0 },
       condition.1,
-      pair_joined mode condition.0 bytes part.rest rest part.value part.tag front.1 named.0 named.1 (condition.2 ∙ ap (λ more. spelled condition.0 ++ more) left),
+      pair_joined mode condition.0 bytes part.rest rest part.value part.tag front.1 named.0 named.1 (condition.2 ∙ ap (λ more. condition_object condition.0 ++ more) left),
       sym same ∙ ap (λ truth. names mode op && truth) condition.3,
     )))
 
@@ -63,8 +62,8 @@ pair_only : (op : Op) (seen : Verified) (pair : Pair) (rest : List ℕ) → IsPr
 unfolding pair_in named_truth
 pair_only op seen pair rest proper =
     rw (
-      append_assoc (object (mode_tag pair.mode) (mode_value pair.mode)) (spelled pair.condition) rest,
-      part_only (mode_tag pair.mode) (mode_value pair.mode) (spelled pair.condition ++ rest) (mode_fits pair.mode),
+      append_assoc (object (mode_tag pair.mode) (mode_value pair.mode)) (condition_object pair.condition) rest,
+      part_only (mode_tag pair.mode) (mode_value pair.mode) (condition_object pair.condition ++ rest) (mode_fits pair.mode),
       mode_only pair.mode,
       condition_only (group_truth seen 4) 4 seen (group_reads seen 4) pair.condition rest proper,
     ) refl
@@ -116,9 +115,9 @@ pair_longer : (pair : Pair) (rest : List ℕ) → length rest < length (spelled_
 pair_longer pair rest =
     omega (
       arith,
-      ap length (append_assoc (object (mode_tag pair.mode) (mode_value pair.mode)) (spelled pair.condition) rest),
-      object_longer (mode_tag pair.mode) (mode_value pair.mode) (spelled pair.condition ++ rest),
-      length-append (spelled pair.condition) rest,
+      ap length (append_assoc (object (mode_tag pair.mode) (mode_value pair.mode)) (condition_object pair.condition) rest),
+      object_longer (mode_tag pair.mode) (mode_value pair.mode) (condition_object pair.condition ++ rest),
+      length-append (condition_object pair.condition) rest,
     )
 
 abbrev written : List Pair → ℕ → List ℕ

@@ -1,6 +1,5 @@
 -- READ RECORD, UPDATE RECORD, SEARCH RECORD and INCREASE come to lawful outcomes.
-use Rattle.std.proofs.Common.{◌≡◌, ℕ, zero, suc, ◌+◌, ◌-◌, ◌<◌, ◌≤◌, Bool, true, false, List, [], ◌∷◌, ◌++◌, length, reverse, Option, Some, None, refl, sym, ◌∙◌, ap, subst, inl, inr, ⊎_elim, arith, length-append}
-use Rattle.std.specs.Prelude.{◌==◌, ◌||◌, not, nat_lt, nat_le, if◌then◌else◌, IsTrue, Contains, All, IfSome, slice_index_or, MatchResult}
+use Rattle.std.proofs.Common.{◌≡◌, ℕ, zero, suc, ◌+◌, ◌-◌, ◌<◌, ◌≤◌, Bool, true, false, List, [], ◌∷◌, ◌++◌, length, reverse, Option, Some, None, refl, sym, ◌∙◌, ap, subst, inl, inr, ⊎_elim, arith, length-append, ◌==◌, ◌||◌, not, nat_lt, nat_le, if◌then◌else◌, IsTrue, Contains, All, IfSome, slice_index_or, MatchResult}
 use Rattle.std.specs.List.{range_with_len}
 use Rattle.std.proofs.lemmas.Bool.{ltb-true, leb-true, not-false, eqb-true, eqb-false, cases_lt, and_parts}
 use Rattle.std.proofs.lemmas.List.{length-reverse, get_or-reverse, get_or_past}
@@ -24,8 +23,7 @@ use Rattle.file_model.specs.Holdings.{records_held, held_by, records_in, content
 use Rattle.file_model.specs.Outcomes.{has_data, has_le_alone, addressed, pointer_before, worked_on}
 use Rattle.file_model.specs.Records.{mode_bits, next_mode, previous_mode, absolute_mode, forward_mode, short_in_p2, is_cyclic, has_record_parameters, next_record, previous_record, absolute_record, record_named, pointer_after, record_file, file_to_read, number_to_read, record_reading, record_read_from, record_read, may_be_updated, number_updated, file_to_update, number_to_update, record_updating, record_update_in, record_updated, has_search_parameters, has_within, numbers_searched, numbers_matched, match_pointer, file_to_search, number_to_search, searching, search_in, searched, short_to_increase, sum_of, may_be_increased, has_increase_parameters, has_increase_length, file_to_increase, sum_to_write, increasing, increase_in, increased}
 use Rattle.file_model.specs.Laws.{HasSameAttributes, IsSoundCard, IsLawfulOutcome, IsFileRefusal, IsLawfulCommand}
-use Rattle.file_model.proofs.ChainedLemmas.{unless_so, given_so}
-use Rattle.file_model.proofs.ChainedLemmas.{and_given_so}
+use Rattle.file_model.proofs.ChainedLemmas.{unless_so, given_so, and_given_so}
 use Rattle.file_model.proofs.Parts.{length-bytes_of}
 use Rattle.file_model.proofs.Shapes.{some_records, few_records, each_width, record_put_so, record_pushed_so}
 use Rattle.file_model.proofs.Changed.{numbers_ascend}

@@ -1,7 +1,5 @@
 -- SELECT and STATUS come to lawful outcomes.
-use Rattle.std.proofs.Common.{get_or, ◌≡◌, ℕ, suc, ◌+◌, ◌<◌, ◌≤◌, Bool, true, false, List, [], ◌∷◌, ◌++◌, length, filter, Option, Some, None, refl, sym, ap, subst, inl, ⊎_elim, arith, length-append}
-use Rattle.std.specs.Prelude.{◌==◌, ◌&&◌, ◌*◌, not, nat_le, if◌then◌else◌, IsTrue, Contains, All, AllPairs}
-use Rattle.std.specs.List.{flat_map}
+use Rattle.std.proofs.Common.{get_or, ◌≡◌, ℕ, suc, ◌+◌, ◌<◌, ◌≤◌, Bool, true, false, List, [], ◌∷◌, ◌++◌, length, filter, Option, Some, None, refl, sym, ap, subst, inl, ⊎_elim, arith, length-append, ◌==◌, ◌&&◌, ◌*◌, not, nat_le, if◌then◌else◌, IsTrue, Contains, All, AllPairs, flat_map}
 use Rattle.std.specs.Int.{to_be_bytes, w16}
 use Rattle.std.proofs.lemmas.Bool.{eq-eqb, ne_eqb, cond-true, cond-false}
 use Rattle.std.proofs.lemmas.List.Elements.{All-map, All-contains, All-append, All-filter, All-contains_itself}

@@ -1,6 +1,5 @@
 -- Lawful selections: the file that a command works on, and what is selected afterwards.
-use Rattle.std.proofs.Common.{◌≡◌, ℕ, ◌≤◌, Bool, true, false, cond, List, Option, Some, None, Ok, refl, sym, ◌∙◌, ap, subst, inl, ⊎_elim, arith}
-use Rattle.std.specs.Prelude.{◌==◌, ◌&&◌, not, if◌then◌else◌, IsTrue, find, Contains, IsSomeAnd, IfSome, MatchResult, option_map, option_and_then}
+use Rattle.std.proofs.Common.{◌≡◌, ℕ, ◌≤◌, Bool, true, false, cond, List, Option, Some, None, Ok, refl, sym, ◌∙◌, ap, subst, inl, ⊎_elim, arith, ◌==◌, ◌&&◌, not, if◌then◌else◌, IsTrue, find, Contains, IsSomeAnd, IfSome, MatchResult, option_map, option_and_then}
 use Rattle.std.proofs.lemmas.Bool.{cases_eq, eq-eqb, ne_eqb, cond-true, cond-false, and_parts}
 use Rattle.std.proofs.lemmas.Option.{IfSome_then}
 use Rattle.card_layout.proofs.uicc_types.ChoiceLemmas.{mapped_Some}

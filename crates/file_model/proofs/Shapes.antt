@@ -1,7 +1,5 @@
 -- Contents of a file that have the shape of those before them: bytes in place of as many, records in place of others.
-use Rattle.std.proofs.Common.{set, ◌≡◌, ℕ, ◌+◌, ◌-◌, ◌≤◌, true, false, List, [], ◌∷◌, length, take, refl, sym, ◌∙◌, ap, arith}
-use Rattle.std.specs.Prelude.{◌*◌, IsTrue, All}
-use Rattle.std.proofs.lemmas.List.{length-take, length-set}
+use Rattle.std.proofs.Common.{set, ◌≡◌, ℕ, ◌+◌, ◌-◌, ◌≤◌, true, false, List, [], ◌∷◌, length, take, refl, sym, ◌∙◌, ap, arith, ◌*◌, IsTrue, All, length-take, length-set}
 use Rattle.std.proofs.lemmas.List.Elements.{All-set, All-cons, All-take}
 use Rattle.card_layout.proofs.uicc_types.PatchLemmas.{length-patched}
 use Rattle.card_layout.specs.Kinds.{has_records}

@@ -1,6 +1,5 @@
 -- The cards of the worked examples, and commands to them.
-use Rattle.std.proofs.Common.{ℕ, ◌+◌, ◌*◌, true, false, List, [], ◌∷◌, replicate, Option, Some, None, Ok, Err}
-use Rattle.std.specs.Prelude.{Result}
+use Rattle.std.proofs.Common.{ℕ, ◌+◌, ◌*◌, true, false, List, [], ◌∷◌, replicate, Option, Some, None, Ok, Err, Result}
 use Rattle.card_layout.specs.uicc_types.declared.answers.StatusWord.{StatusWord}
 use Rattle.apdu_form.specs.Model.{Apdu}
 use Rattle.file_model.specs.declared.rules.Verified.{Verified}

@@ -1,7 +1,6 @@
 -- Corners of the definitions, worked out: bits of PINs, what files tell of themselves, files beside and above, the ends of a
 -- ring, and numbers that are too wide.
-use Rattle.std.proofs.Common.{◌≡◌, ℕ, false, [], ◌∷◌, replicate, Option, Some, None, refl}
-use Rattle.std.specs.Prelude.{option_map}
+use Rattle.std.proofs.Common.{◌≡◌, ℕ, false, [], ◌∷◌, replicate, Option, Some, None, refl, option_map}
 use Rattle.file_model.specs.Objects.{object}
 use Rattle.card_layout.specs.Persistent.{Files, File, Persistent}
 use Rattle.card_layout.specs.Soundness.{mf}

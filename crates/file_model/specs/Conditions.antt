@@ -37,8 +37,8 @@ abbrev mutual
   spelled_all end = []
   spelled_all (also condition others) = object (tag_of condition) (value_of condition) ++ spelled_all others
 
-abbrev pub spelled : Condition → List ℕ
-spelled condition = object (tag_of condition) (value_of condition)
+abbrev pub condition_object : Condition → List ℕ
+condition_object condition = object (tag_of condition) (value_of condition)
 
 -- A0 and AF are nested at most so many levels deep, each around one or more conditions whose length has a spelling
 abbrev mutual

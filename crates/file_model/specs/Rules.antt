@@ -2,7 +2,7 @@
 use Rattle.std.specs.Prelude.{◌≡◌, ℕ, ◌==◌, ◌&&◌, Bool, not, List, [], ◌∷◌, ◌++◌, IsTrue, All, bit_and, replicate}
 use Rattle.std.specs.List.{flat_map, list_any}
 use Rattle.file_model.specs.Objects.{object}
-use Rattle.file_model.specs.Conditions.{Condition, spelled, IsProper, holds}
+use Rattle.file_model.specs.Conditions.{Condition, condition_object, IsProper, holds}
 use Rattle.file_model.specs.declared.rules.Op.{Op}
 use Rattle.file_model.specs.declared.rules.Op.TheVariants.{ReadBinary, ReadRecord, Search, UpdateBinary, UpdateRecord, Increase, Deactivate, Activate}
 use Rattle.file_model.specs.declared.rules.Verified.{Verified}
@@ -46,7 +46,7 @@ pub record Pair : Type 0 where
   pub condition : Condition
 
 abbrev pub spelled_pair : Pair → List ℕ
-spelled_pair pair = object (mode_tag pair.mode) (mode_value pair.mode) ++ spelled pair.condition
+spelled_pair pair = object (mode_tag pair.mode) (mode_value pair.mode) ++ condition_object pair.condition
 
 -- a pair that names the operation and whose condition holds
 abbrev pub pair_grants : Op → Verified → Pair → Bool

@@ -1,6 +1,6 @@
 //! Whether a condition holds.
 ghost use Rattle.std.specs.Prelude.{◌≡◌, ℕ, ◌<◌, List, ◌∷◌, ◌++◌, [], length, Some, IfSome, IsSomeAnd};
-ghost use Rattle.file_model.specs.Conditions.{Condition, Conditions, IsProper, AreProper, tag_of, value_of, spelled, spelled_all, holds, is_satisfied, key};
+ghost use Rattle.file_model.specs.Conditions.{Condition, Conditions, IsProper, AreProper, tag_of, value_of, condition_object, spelled_all, holds, is_satisfied, key};
 ghost use Rattle.file_model.specs.Needs.{Says, IsGroup, hold_by, joined, neutral};
 
 use crate::Verified;
@@ -40,9 +40,9 @@ impl Needs {
 pub fn condition_at<'a>(bytes: &'a [u8], levels: u8, seen: &Verified) -> Option<(bool, &'a [u8])>
     ensures shorter { IfSome result (λ found. length found.1.now < length bytes.now) }
     ensures found { IfSome result (λ found. (condition : Condition) × IsProper condition levels
-        × (bytes.now ≡ spelled condition ++ found.1.now) × (found.0 ≡ holds condition seen.now)) }
+        × (bytes.now ≡ condition_object condition ++ found.1.now) × (found.0 ≡ holds condition seen.now)) }
     ensures only { (condition : Condition) (rest : List ℕ) → IsProper condition levels
-        → bytes.now ≡ spelled condition ++ rest
+        → bytes.now ≡ condition_object condition ++ rest
         → IsSomeAnd result (λ found. (found.0 ≡ holds condition seen.now) × (found.1.now ≡ rest)) }
 {
     let object = object_at(bytes)?;

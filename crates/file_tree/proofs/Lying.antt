@@ -1,7 +1,5 @@
 -- Each file may be selected, and short file identifiers are small.
-use Rattle.std.proofs.Common.{get_or, ◌≡◌, ℕ, Bool, true, false, ◌<◌, Option, Some, refl, sym, ap, ◌∙◌, subst, ⊎_elim, ◌≤◌, arith}
-use Rattle.std.specs.Prelude.{◌==◌, ◌&&◌, not, Contains, AllPairs, IsTrue, option_map, IsSomeAnd}
-use Rattle.std.proofs.lemmas.Bool.{eq-eqb, ne_eqb}
+use Rattle.std.proofs.Common.{get_or, ◌≡◌, ℕ, Bool, true, false, ◌<◌, Option, Some, refl, sym, ap, ◌∙◌, subst, ⊎_elim, ◌≤◌, arith, ◌==◌, ◌&&◌, not, Contains, AllPairs, IsTrue, option_map, IsSomeAnd, eq-eqb, ne_eqb}
 use Rattle.std.proofs.lemmas.List.Elements.{All-map, All-contains_itself}
 use Rattle.file_model.proofs.uicc_types.FindingLemmas.{numbered_found, find-map}
 use Rattle.file_model.specs.card_layout.Kinds.{df_kind, is_ef_kind}

@@ -1,9 +1,6 @@
 -- A path, two bytes at a time, and the DF above.
-use Rattle.std.proofs.Common.{get_or, ◌≡◌, ℕ, ◌-◌, ◌%◌, ◌<◌, List, [], ◌∷◌, length, take, drop, Option, Some, None, refl, sym, ap, ◌∙◌, arith}
-use Rattle.std.specs.Prelude.{◌≢◌, ◌==◌, find, option_and_then, option_map, unwrap_or}
+use Rattle.std.proofs.Common.{get_or, ◌≡◌, ℕ, ◌-◌, ◌%◌, ◌<◌, List, [], ◌∷◌, length, take, drop, Option, Some, None, refl, sym, ap, ◌∙◌, arith, ◌≢◌, ◌==◌, find, option_and_then, option_map, unwrap_or, eqb-true, take_all, length-drop}
 use Rattle.std.specs.Int.{from_be_bytes, w16}
-use Rattle.std.proofs.lemmas.Bool.{eqb-true}
-use Rattle.std.proofs.lemmas.List.{take_all, length-drop}
 use Rattle.std.proofs.lemmas.List.Elements.{All-contains}
 use Rattle.file_model.proofs.uicc_types.FindingLemmas.{find_Some}
 use Rattle.file_model.specs.uicc_types.declared.identifiers.FileId.{FileId}

@@ -1,9 +1,7 @@
 -- What a change of the kept bytes and lengths makes of the frames.
-use Rattle.std.proofs.Common.{◌≡◌, sym, ap, subst, ◌∙◌, ℕ, ◌+◌, ◌-◌, ◌≤◌, ◌<◌, List, [], ◌∷◌, ◌++◌, length, take, drop, sum, get_or, remove, slice_range, arith, length-drop, length-append, append_assoc}
-use Rattle.std.proofs.Math.Path.{ap₂}
-use Rattle.std.proofs.Math.Seq.{take-append_seam, take-append-add}
+use Rattle.std.proofs.Common.{◌≡◌, sym, ap, subst, ◌∙◌, ℕ, ◌+◌, ◌-◌, ◌≤◌, ◌<◌, List, [], ◌∷◌, ◌++◌, length, take, drop, sum, get_or, remove, slice_range, arith, length-drop, length-append, append_assoc, ap₂}
+use Rattle.std.proofs.Math.Seq.{take-append_seam, take-append-add, paste}
 use Rattle.std.proofs.lemmas.List.{drop-drop, length-take-le, take-take, take_all, drop-take}
-use Rattle.std.proofs.Math.Seq.{paste}
 use Rattle.frame_store.specs.Model.{Frames, with_parts, parted, bytes_in}
 use Rattle.frame_store.proofs.Parts.{count_parted, bytes_parted, parted_push, parted_get, parted_remove}
 

@@ -1,7 +1,6 @@
 -- `lodge` and `dislodge` at a call, for bytes in a block of their own. Assumes `Logic`.
-use Rattle.std.proofs.Common.{◌≡◌, ℕ, ◌+◌, ◌-◌, ◌*◌, ◌^◌, ◌<◌, ◌≤◌, List, [], ◌∷◌, length, true, refl, sym, ap, ◌∙◌, arith, lit<, Vec}
+use Rattle.std.proofs.Common.{◌≡◌, ℕ, ◌+◌, ◌-◌, ◌*◌, ◌^◌, ◌<◌, ◌≤◌, List, [], ◌∷◌, true, refl, sym, ap, ◌∙◌, arith, lit<, Vec, T}
 use Rattle.std.proofs.lemmas.Bool.{ne_eqb, not_from_false}
-use lib.Dec.{T}
 use seplogic.Ra.Ura.{Ura}
 use mir.Syntax.{w8, w64, ty_int, ty_array, given as dict_at}
 use mir.Val.{Val, vint, vptr, has_ty, WT}
@@ -23,7 +22,7 @@ use denote.Memory.{part_at}
 use denote.Param.{param, layout}
 use denote.Param.Laws.{Laws, of_field}
 use denote.Param.Shared.{copy_shared}
-use denote.RawPtr.{Ptr, block_ptr, lies_at, in_block, in_a_block}
+use denote.RawPtr.{Ptr, block_ptr, in_block, in_a_block}
 use denote.Steps.{only, nothing, heard}
 use denote.Struct.Field.{u8-field}
 use denote.Struct.Laws.{u8-laws, u8-copy}

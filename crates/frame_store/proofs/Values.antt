@@ -1,7 +1,7 @@
 -- The machine values of a room and of a lease, and the parts of a walk that both of the allocator's calls share. Assumes `Logic`.
-use Rattle.std.proofs.Common.{◌≡◌, ℕ, zero, suc, ◌^◌, ◌<◌, List, [], ◌∷◌, ◌++◌, refl, ◌∙◌, lit<, w64}
+use Rattle.std.proofs.Common.{◌≡◌, ℕ, zero, suc, ◌^◌, ◌<◌, List, [], ◌∷◌, ◌++◌, refl, ◌∙◌, w64}
 use seplogic.Ra.Ura.{Ura}
-use mir.Syntax.{Body, ty_int, ty_ptr, ty_struct, tcons, tnil}
+use mir.Syntax.{Body}
 use mir.Val.{Val, vint, vstruct, vcons, vnil, of_list}
 use base.Logic.{ent, emp}
 use base.Fml.{Fml}
@@ -10,7 +10,7 @@ use types.Logic.{Logic, sem}
 use types.Kit.{Post, any_q, post}
 use denote.RattleType.{RattleType}
 use denote.Builtin.{usize, unit}
-use denote.RawPtr.{Ptr, RawPtr, block_ptr, null_ptr, ptr_val}
+use denote.RawPtr.{Ptr, RawPtr, ptr_val}
 use denote.Shadow.{shadow, makes_shadow}
 use denote.Signature.{Slot, plain}
 use denote.Struct.Struct.{Struct}

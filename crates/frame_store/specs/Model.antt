@@ -1,5 +1,5 @@
 -- What a frame store holds.
-use Rattle.std.specs.Prelude.{ℕ, ◌+◌, List, [], ◌∷◌, map, length, take, drop, sum}
+use Rattle.std.specs.Prelude.{ℕ, List, [], ◌∷◌, map, length, take, drop, sum}
 
 -- the frames in the order in which they came, and what was asked for: the most frames, and the most bytes in all of them
 pub record Frames : Type 0 where

@@ -1,7 +1,5 @@
 -- What is left to do for a line falls with each event.
-use Rattle.std.proofs.Common.{◌≡◌, ℕ, ◌<◌, ◌≤◌, List, [], ◌∷◌, Option, Some, None, Bool, true, false, refl, ⊎_elim, arith}
-use Rattle.std.specs.Prelude.{◌||◌, ◌==◌, if◌then◌else◌, Result, Ok, Err, ◌≢◌}
-use Rattle.std.proofs.Math.Path.{subst}
+use Rattle.std.proofs.Common.{◌≡◌, ℕ, ◌<◌, ◌≤◌, List, [], ◌∷◌, Option, Some, None, Bool, true, false, refl, ⊎_elim, arith, ◌||◌, ◌==◌, if◌then◌else◌, Result, Ok, Err, ◌≢◌, subst}
 use Rattle.std.proofs.lemmas.Grind.{common_steps}
 use Rattle.script_form.specs.uicc_types.declared.answers.Answer.{Answer}
 use Rattle.script_form.specs.uicc_types.declared.answers.TheConstants.StatusWord.{TOOLKIT_BUSY}

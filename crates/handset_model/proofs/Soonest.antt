@@ -1,7 +1,5 @@
 -- The timer that is due first.
-use Rattle.std.proofs.Common.{◌≡◌, ℕ, ◌+◌, ◌-◌, ◌<◌, ◌≤◌, List, [], ◌∷◌, Option, Some, None, Bool, true, false, refl, arith}
-use Rattle.std.specs.Prelude.{suc, zero, nat_le, slice_index_or, if◌then◌else◌}
-use Rattle.std.proofs.Math.Path.{subst}
+use Rattle.std.proofs.Common.{◌≡◌, ℕ, ◌+◌, ◌-◌, ◌<◌, ◌≤◌, List, [], ◌∷◌, Option, Some, None, Bool, true, false, refl, arith, suc, zero, nat_le, slice_index_or, if◌then◌else◌, subst}
 use Rattle.std.proofs.lemmas.Grind.{common_steps}
 use Rattle.handset_model.specs.declared.known.Due.{Due}
 use Rattle.handset_model.specs.declared.known.Running.{Running}

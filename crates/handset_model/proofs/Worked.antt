@@ -1,6 +1,5 @@
 -- Days of a handset, worked out: what its trace shows for lines of a script and the answers of a card.
-use Rattle.std.proofs.Common.{◌≡◌, ℕ, List, [], ◌∷◌, refl}
-use Rattle.std.specs.Prelude.{zero, suc, codes, reverse}
+use Rattle.std.proofs.Common.{◌≡◌, ℕ, List, [], ◌∷◌, refl, zero, suc, codes, reverse}
 use Rattle.toolkit_commands.specs.comprehension_tlv.Reading as Reading
 use Rattle.toolkit_commands.specs.comprehension_tlv.Writing.{tagged}
 use Rattle.toolkit_commands.specs.Reading.{proactive_of, list_of, command_among, details_found}

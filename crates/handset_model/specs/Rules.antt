@@ -18,7 +18,7 @@ use Rattle.toolkit_commands.specs.declared.items.Item.{Item}
 use Rattle.toolkit_commands.specs.declared.qualifiers.TheConstants.{CARD_RESET, LOCATION, START}
 use Rattle.toolkit_commands.specs.declared.results.TheConstants.{PERFORMED, SESSION_ENDED, BACKWARD_MOVE, NO_RESPONSE, BEYOND_CAPABILITIES, TYPE_NOT_UNDERSTOOD, DATA_NOT_UNDERSTOOD, VALUES_MISSING}
 use Rattle.handset_model.specs.Timers.{soonest, time_of, timer_in}
-use Rattle.handset_model.specs.History.{Happened, known, is_silent, announced_by}
+use Rattle.handset_model.specs.History.{Happened, known, is_silent, announced_by, Said, Sent, Answered, Noted, Restarted, PowerCut, FoundOff}
 use Rattle.handset_model.specs.declared.commands.Command.TheVariants.{SelectMf, SendProfile, Fetch, Respond, Tell, AskStatus}
 use Rattle.handset_model.specs.declared.commands.Report.{Report}
 use Rattle.handset_model.specs.declared.commands.Report.TheVariants.{MenuSelection, UserActivity, IdleScreen, Location, CallControl, Expired}
@@ -32,7 +32,6 @@ use Rattle.handset_model.specs.declared.known.Known.{Known}
 use Rattle.handset_model.specs.declared.known.LastSent.{LastSent}
 use Rattle.handset_model.specs.declared.known.LastSent.TheVariants.{NoCommand, Selecting, Fetching, Calling, Reporting, Another}
 use Rattle.handset_model.specs.declared.known.Running.{Running}
-use Rattle.handset_model.specs.History.{Said, Sent, Answered, Noted, Restarted, PowerCut, FoundOff}
 
 abbrev pub tell : Report → Duty
 tell report = Transmit (Tell report)

@@ -1,10 +1,8 @@
 -- Two contents with the same bytes where entries stand pass the same checks and have the same entries.
-use Rattle.std.proofs.Common.{get_or, ◌≡◌, ℕ, ◌+◌, ◌-◌, ◌≤◌, ◌<◌, Bool, List, [], ◌++◌, length, take, drop, map, refl, sym, ◌∙◌, ap, ⊎_elim, arith, add-zero}
-use Rattle.std.specs.Prelude.{Option, Some, None, Ok, Err, IfSome, slice_index, ◌==◌, if◌then◌else◌}
+use Rattle.std.proofs.Common.{get_or, ◌≡◌, ℕ, ◌+◌, ◌-◌, ◌≤◌, ◌<◌, Bool, List, [], ◌++◌, length, take, drop, map, refl, sym, ◌∙◌, ap, ⊎_elim, arith, add-zero, Option, Some, None, Ok, Err, IfSome, slice_index, ◌==◌, if◌then◌else◌, get_or-take, get_or-drop, length-take, length-drop}
 use Rattle.std.specs.Int.{w16, from_be_bytes}
 use Rattle.std.specs.List.{range_with_len}
 use Rattle.std.proofs.lemmas.Bool.{cases_lt}
-use Rattle.std.proofs.lemmas.List.{get_or-take, get_or-drop, length-take, length-drop}
 use Rattle.std.proofs.lemmas.Grind.{same_number_lists}
 use Rattle.card_layout.specs.uicc_types.Told.{AreBytes}
 use Rattle.card_layout.specs.declared.entries.Node.{Node}

@@ -1,6 +1,5 @@
--- What a mount reads of a store, and what its table is then.
-use Rattle.std.specs.Prelude.{ℕ, List, Option, IfSome}
-use Rattle.std.proofs.Common.{sym, subst, None, Some}
+-- What a mount read holds of the bytes of a store that tells them.
+use Rattle.std.proofs.Common.{ℕ, List, Option, IfSome, sym, subst, None, Some}
 use Rattle.layout_mount.specs.Mounted.{HasRead}
 
 -- where it tells its bytes, it holds of those

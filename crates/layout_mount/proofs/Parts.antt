@@ -1,9 +1,8 @@
 -- What stands where in an image.
-use Rattle.std.proofs.Common.{◌≡◌, ℕ, ◌+◌, ◌-◌, ◌≤◌, List, ◌++◌, length, take, drop, refl, sym, subst, ◌∙◌, ap, arith, length-append}
+use Rattle.std.proofs.Common.{◌≡◌, ℕ, ◌+◌, ◌-◌, ◌≤◌, List, ◌++◌, length, take, drop, refl, sym, subst, ◌∙◌, ap, arith, length-append, ◌<◌, ◌^◌, slice_range, IfSome, Option, Some, None}
 use Rattle.std.proofs.lemmas.List.{drop-take, take-take, take_all, take-append-le, drop-append-le, length-drop, length-replicate}
 use Rattle.std.proofs.lemmas.List.Elements.{All-append, All-replicate}
 use Rattle.std.proofs.Math.Seq.{drop-append-add}
-use Rattle.std.specs.Prelude.{◌<◌, ◌^◌, slice_range, IfSome, Option, Some, None}
 use Rattle.card_layout.specs.uicc_types.Told.{AreBytes}
 use Rattle.card_layout.specs.Places.{memory_size}
 use Rattle.card_layout.specs.Decoding.{bytes_at, number_at}

@@ -1,6 +1,5 @@
 -- The first bytes of a store while a card is written behind them, and after a fault.
-use Rattle.std.proofs.Common.{refl, ◌≡◌, ◌⊎◌, ℕ, ◌+◌, ◌≤◌, List, length, sym, ◌∙◌, subst, inl, inr, arith, Some, None}
-use Rattle.std.specs.Prelude.{Option, Result, Ok, Err, OnOk, OnErr, IfSome, option_map, is_some}
+use Rattle.std.proofs.Common.{refl, ◌≡◌, ◌⊎◌, ℕ, ◌+◌, ◌≤◌, List, length, sym, ◌∙◌, subst, inl, inr, arith, Some, None, Option, Result, Ok, Err, OnOk, OnErr, IfSome, option_map, is_some}
 use Rattle.uicc_types.specs.Patches.{patched, Torn}
 use Rattle.uicc_types.proofs.PatchLemmas.{patched_before}
 use Rattle.uicc_types.specs.Told.{Becomes}

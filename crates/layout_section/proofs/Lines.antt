@@ -1,6 +1,5 @@
 -- A line of a section, and what it adds to the state.
-use Rattle.std.proofs.Common.{◌≡◌, ℕ, ◌+◌, Bool, true, false, cond, List, [], ◌∷◌, ◌++◌, length, map, refl, sym, ◌∙◌, ap, subst}
-use Rattle.std.specs.Prelude.{◌&&◌, ◌||◌, ◌==◌, not, nat_le, nat_lt, filter, count_by, Option, Some, None, Result, Ok, Err}
+use Rattle.std.proofs.Common.{◌≡◌, ℕ, ◌+◌, Bool, true, false, cond, List, [], ◌∷◌, ◌++◌, length, map, refl, sym, ◌∙◌, ap, subst, ◌&&◌, ◌||◌, ◌==◌, not, nat_le, nat_lt, filter, count_by, Option, Some, None, Result, Ok, Err}
 use Rattle.std.specs.List.{list_any}
 use Rattle.std.proofs.lemmas.Bool.{le-leb, or_parts, or_from}
 use Rattle.std.proofs.lemmas.List.Sums.{sum_by-cons}
@@ -11,8 +10,7 @@ use Rattle.card_layout.specs.declared.faults.SectionFault.TheVariants.{Bad, NoRo
 use Rattle.card_layout.specs.Persistent.{Contents, Files, Bytes, Records, File, Pin, Registration, Persistent}
 use Rattle.card_layout.specs.Sections.{if_good, if_file, bytes_filled, record_filled, refilled, with_contents, rows_fit, fits_wide, byte_total_of, needs_wide, with_row, new_row, is_new_row, is_call_control, has_text, Installation, if_installed}
 use Rattle.card_layout.specs.declared.installation.Installed.{Installed}
-use Rattle.layout_section.specs.Adding.{Adds, Changes, IsFound, file_numbered, filled, with_record, Rewrites}
-use Rattle.layout_section.specs.Adding.{IsKind}
+use Rattle.layout_section.specs.Adding.{Adds, Changes, IsFound, file_numbered, filled, with_record, Rewrites, IsKind}
 use Rattle.card_layout.specs.Installations.{registered, IsInstalled, ReadsInstallation}
 use Rattle.layout_section.specs.Installing.{may_take, has_item, wants_wide_card}
 use Rattle.layout_section.specs.Describing.{has_room_for_row}

@@ -1,10 +1,8 @@
 -- The file at a path, by its last identifier.
-use Rattle.std.proofs.Common.{◌≡◌, ℕ, Bool, true, false, cond, List, [], ◌∷◌, ◌++◌, refl, sym, ◌∙◌, ap, inr, Option, Some, None}
-use Rattle.std.specs.Prelude.{◌==◌, if◌then◌else◌, is_none, option_and_then}
+use Rattle.std.proofs.Common.{◌≡◌, ℕ, Bool, true, false, cond, List, [], ◌∷◌, ◌++◌, refl, sym, ◌∙◌, ap, inr, Option, Some, None, ◌==◌, if◌then◌else◌, is_none, option_and_then, eqb-true}
 use Rattle.uicc_types.specs.declared.identifiers.FileId.{FileId}
 use Rattle.card_layout.specs.Kinds.{df_kind}
 use Rattle.card_layout.specs.Persistent.{File}
-use Rattle.std.proofs.lemmas.Bool.{eqb-true}
 use Rattle.card_layout.specs.Checks.{is_free_id}
 use Rattle.card_layout.specs.Soundness.{mf}
 use Rattle.card_layout.specs.Sections.{child_of, file_at}

@@ -1,8 +1,6 @@
 -- The places of a list that are taken, each with its number, and one more that is taken.
-use Rattle.std.proofs.Common.{zero, suc, get_or, set, ◌≡◌, ◌≢◌, ℕ, ◌+◌, ◌≤◌, ◌<◌, Bool, true, false, cond, List, [], ◌∷◌, ◌++◌, length, map, refl, sym, ◌∙◌, ap, arith}
-use Rattle.std.specs.Prelude.{◌&&◌, ◌||◌, ◌==◌, nat_lt, filter, count_by}
+use Rattle.std.proofs.Common.{zero, suc, get_or, set, ◌≡◌, ◌≢◌, ℕ, ◌+◌, ◌≤◌, ◌<◌, Bool, true, false, cond, List, [], ◌∷◌, ◌++◌, length, map, refl, sym, ◌∙◌, ap, arith, ◌&&◌, ◌||◌, ◌==◌, nat_lt, filter, count_by, lt-ltb, le-ltb, eq-eqb, ne_eqb}
 use Rattle.std.specs.List.{enumerate_from, list_any}
-use Rattle.std.proofs.lemmas.Bool.{lt-ltb, le-ltb, eq-eqb, ne_eqb}
 use Rattle.std.proofs.lemmas.List.Sums.{sum_by-cons}
 
 -- what passes a test, with a function

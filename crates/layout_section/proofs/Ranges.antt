@@ -1,7 +1,5 @@
 -- Parts that are put into bytes at equal distances, or in front.
-use Rattle.std.specs.Prelude.{◌≡◌, ℕ, ◌+◌, ◌*◌, ◌≤◌, ◌<◌, List, length, drop}
-use Rattle.std.proofs.Common.{[], refl, sym, subst, ◌∙◌, ap, inl, ⊎_elim, arith, take}
-use Rattle.std.proofs.lemmas.List.{append_assoc, take_at}
+use Rattle.std.proofs.Common.{◌≡◌, ℕ, ◌+◌, ◌*◌, ◌≤◌, ◌<◌, List, length, drop, [], refl, sym, subst, ◌∙◌, ap, inl, ⊎_elim, arith, take, append_assoc, take_at}
 use Rattle.std.proofs.lemmas.Bool.{cases_eq}
 use Rattle.uicc_types.specs.Patches.{patched}
 use Rattle.uicc_types.proofs.PatchLemmas.{range-patched_apart, range-patched_there}

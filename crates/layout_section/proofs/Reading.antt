@@ -1,6 +1,5 @@
 -- Entries as they are read back from their bytes.
-use Rattle.std.specs.Prelude.{◌≡◌, true, length, slice_index}
-use Rattle.std.proofs.Common.{refl, ◌∙◌, ap, arith, cond}
+use Rattle.std.proofs.Common.{◌≡◌, true, length, slice_index, refl, ◌∙◌, ap, arith, cond}
 use Rattle.std.specs.Int.{from_bool}
 use Rattle.card_layout.specs.declared.entries.Node.{Node}
 use Rattle.card_layout.specs.declared.entries.PinSlot.{PinSlot}

@@ -1,6 +1,5 @@
 -- Bytes and records that are put into a file.
-use Rattle.std.proofs.Common.{zero, suc, get_or, set, ◌≡◌, ◌≢◌, ℕ, ◌+◌, ◌-◌, ◌*◌, ◌/◌, ◌≤◌, ◌<◌, Bool, true, false, cond, List, [], ◌++◌, length, take, map, replicate, refl, sym, ◌∙◌, ap, subst, ⊎_elim, arith, length-append}
-use Rattle.std.specs.Prelude.{◌⊎◌, ◌&&◌, ◌==◌, nat_le, IsTrue, Option, Some, None, Ok, Err}
+use Rattle.std.proofs.Common.{zero, suc, get_or, set, ◌≡◌, ◌≢◌, ℕ, ◌+◌, ◌-◌, ◌*◌, ◌/◌, ◌≤◌, ◌<◌, Bool, true, false, cond, List, [], ◌++◌, length, take, map, replicate, refl, sym, ◌∙◌, ap, subst, ⊎_elim, arith, length-append, ◌⊎◌, ◌&&◌, ◌==◌, nat_le, IsTrue, Option, Some, None, Ok, Err}
 use Rattle.std.proofs.lemmas.Bool.{cases_lt, cases_eq, eq-eqb, ne_eqb, le-leb, lt-leb, or_cases, eqb-true, and_from, and_left, and_right}
 use Rattle.std.proofs.lemmas.List.{append-nil, length-replicate, get_or-take}
 use Rattle.std.proofs.lemmas.List.Sums.{sum_by_more_le}

@@ -1,8 +1,6 @@
 -- The PINs in their three slots.
-use Rattle.std.proofs.Common.{zero, suc, get_or, set, ◌≡◌, ◌≢◌, ℕ, ◌<◌, Bool, true, false, List, [], ◌∷◌, ◌++◌, length, map, refl, sym, ◌∙◌, ap, inl, inr, arith}
-use Rattle.std.specs.Prelude.{◌⊎◌, ◌&&◌, ◌||◌, ◌==◌, not, nat_lt, filter, Ok, Err}
+use Rattle.std.proofs.Common.{zero, suc, get_or, set, ◌≡◌, ◌≢◌, ℕ, ◌<◌, Bool, true, false, List, [], ◌∷◌, ◌++◌, length, map, refl, sym, ◌∙◌, ap, inl, inr, arith, ◌⊎◌, ◌&&◌, ◌||◌, ◌==◌, not, nat_lt, filter, Ok, Err, eq-eqb, ne_eqb}
 use Rattle.std.specs.List.{list_any, enumerate_from}
-use Rattle.std.proofs.lemmas.Bool.{eq-eqb, ne_eqb}
 use Rattle.std.proofs.lemmas.List.{append_assoc, get_or_default}
 use Rattle.card_layout.specs.declared.faults.SectionFault.TheVariants.{Bad}
 use Rattle.card_layout.specs.declared.entries.PinSlot.{PinSlot}

@@ -1,8 +1,6 @@
 -- A card that is written into a memory, part by part.
-use Rattle.std.proofs.Common.{◌≡◌, ℕ, ◌+◌, ◌≤◌, Bool, true, false, List, [], ◌∷◌, length, refl, sym, ◌∙◌, ap, subst, inl, inr, ⊎_elim, arith, Option, Some, None}
-use Rattle.std.specs.Prelude.{◌⊎◌, IfSome, Ok, nat_le, option_map}
+use Rattle.std.proofs.Common.{◌≡◌, ℕ, ◌+◌, ◌≤◌, Bool, true, false, List, [], ◌∷◌, length, refl, sym, ◌∙◌, ap, subst, inl, inr, ⊎_elim, arith, Option, Some, None, ◌⊎◌, IfSome, Ok, nat_le, option_map, length-take}
 use Rattle.std.proofs.lemmas.Bool.{cases_Bool, leb-true}
-use Rattle.std.proofs.lemmas.List.{length-take}
 use Rattle.uicc_types.specs.Patches.{patched}
 use Rattle.uicc_types.proofs.PatchLemmas.{length-patched, range-patched_apart, range-patched_there}
 use Rattle.card_layout.specs.store_form.Pieces.{applied}

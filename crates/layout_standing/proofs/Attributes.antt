@@ -1,8 +1,6 @@
 -- Commits of one attribute of a file or of a row that is there.
-use Rattle.std.specs.Prelude.{◌≡◌, ◌≢◌, ◌⊎◌, ℕ, ◌+◌, ◌≤◌, ◌<◌, ◌^◌, ◌==◌, not, Bool, true, false, IsTrue, if◌then◌else◌, List, ◌∷◌, ◌++◌, ◌-◌, take, drop, length, filter, Option, Some, None, All, Contains}
-use Rattle.std.proofs.Common.{refl, sym, ◌∙◌, ap, subst, inl, inr, ⊎_elim, lit≤, arith}
+use Rattle.std.proofs.Common.{◌≡◌, ◌≢◌, ◌⊎◌, ℕ, ◌+◌, ◌≤◌, ◌<◌, ◌^◌, ◌==◌, not, Bool, true, false, IsTrue, if◌then◌else◌, List, ◌∷◌, ◌++◌, ◌-◌, take, drop, length, filter, Option, Some, None, All, Contains, refl, sym, ◌∙◌, ap, subst, inl, inr, ⊎_elim, lit≤, arith, length-take, length-drop, length-append}
 use Rattle.std.proofs.lemmas.Bool.{cases_Bool, eqb-true, ne_eqb, not_from_false, false≢true}
-use Rattle.std.proofs.lemmas.List.{length-take, length-drop, length-append}
 use Rattle.std.proofs.lemmas.List.Elements.{All-contains}
 use Rattle.card_layout.proofs.uicc_types.NumberedLemmas.{mapped_too}
 use Rattle.card_layout.specs.uicc_types.Patches.{patched}

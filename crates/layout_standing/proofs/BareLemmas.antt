@@ -1,6 +1,5 @@
 -- Entries without their numbers of two bytes: they spell their other fields as the entries do, and are in all ranges of numbers.
-use Rattle.std.specs.Prelude.{◌≡◌, ℕ, ◌<◌, ◌≤◌, ◌^◌, length}
-use Rattle.std.proofs.Common.{refl, lit<}
+use Rattle.std.proofs.Common.{◌≡◌, ℕ, ◌<◌, ◌≤◌, ◌^◌, length, refl, lit<}
 use Rattle.card_layout.specs.declared.entries.Node.{Node}
 use Rattle.card_layout.specs.declared.entries.Row.{Row}
 use Rattle.card_layout.specs.Spelling.{node_spelled, row_spelled, node_part, row_part}

@@ -1,6 +1,5 @@
 -- Tests over what stands for the numbers below another.
-use Rattle.std.proofs.Common.{zero, suc, ◌≡◌, ℕ, ◌+◌, ◌-◌, ◌≤◌, ◌<◌, Bool, true, false, cond, List, map, refl, ◌∙◌, ap, subst, ⊎_elim, arith}
-use Rattle.std.specs.Prelude.{slice_get, Some, None}
+use Rattle.std.proofs.Common.{zero, suc, ◌≡◌, ℕ, ◌+◌, ◌-◌, ◌≤◌, ◌<◌, Bool, true, false, cond, List, map, refl, ◌∙◌, ap, subst, ⊎_elim, arith, slice_get, Some, None}
 use Rattle.std.specs.List.{range_with_len, list_any, list_all, count_by}
 use Rattle.std.proofs.lemmas.Bool.{cases_eq, cases_Bool, and_parts, and_from, or_parts, or_from}
 use Rattle.std.proofs.lemmas.List.FromFn.{sum_by-map-range_with_len_more}

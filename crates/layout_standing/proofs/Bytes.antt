@@ -1,7 +1,5 @@
 -- The bytes of an entry of which a part was written.
-use Rattle.std.specs.Prelude.{◌≡◌, ◌⊎◌, ℕ, ◌+◌, ◌-◌, ◌≤◌, ◌<◌, List, length, drop, slice_range, IsTrue}
-use Rattle.std.proofs.Common.{get_or, sym, ◌∙◌, ap, subst, leb, inl, inr, ⊎_elim, arith}
-use Rattle.std.proofs.lemmas.List.{get_or-take, get_or-drop}
+use Rattle.std.proofs.Common.{◌≡◌, ◌⊎◌, ℕ, ◌+◌, ◌-◌, ◌≤◌, ◌<◌, List, length, drop, slice_range, IsTrue, get_or, sym, ◌∙◌, ap, subst, leb, inl, inr, ⊎_elim, arith, get_or-take, get_or-drop}
 use Rattle.std.proofs.lemmas.Bool.{cases_lt, and_parts, or_cases, leb-true}
 use Rattle.std.proofs.lemmas.Grind.{same_number_lists}
 use Rattle.card_layout.proofs.uicc_types.RangeLemmas.{length-between}

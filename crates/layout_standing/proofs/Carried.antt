@@ -1,7 +1,5 @@
 -- What is known of a card that stands, and how a commit carries it over.
-use Rattle.std.specs.Prelude.{◌≡◌, ℕ, ◌+◌, ◌-◌, ◌≤◌, List, length, drop, slice_range, slice_index, Ok}
-use Rattle.std.proofs.Common.{sym, ◌∙◌, ap, subst, arith}
-use Rattle.std.proofs.lemmas.List.{length-take}
+use Rattle.std.proofs.Common.{◌≡◌, ℕ, ◌+◌, ◌-◌, ◌≤◌, List, length, drop, slice_range, slice_index, Ok, sym, ◌∙◌, ap, subst, arith, length-take}
 use Rattle.card_layout.proofs.uicc_types.PatchLemmas.{length-patched}
 use Rattle.card_layout.specs.Standing.{state_in, Stands}
 use Rattle.card_layout.specs.declared.entries.Node.{Node}

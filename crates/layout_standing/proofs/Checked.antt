@@ -1,6 +1,5 @@
 -- A content stands where each check is met.
-use Rattle.std.proofs.Common.{◌≡◌, ℕ, ◌<◌, true, List, [], ◌∷◌, ◌++◌, Option, Some, None, Ok, refl, ap, ⊎_elim, arith}
-use Rattle.std.specs.Prelude.{All, slice_index, ◌==◌}
+use Rattle.std.proofs.Common.{◌≡◌, ℕ, ◌<◌, true, List, [], ◌∷◌, ◌++◌, Option, Some, None, Ok, refl, ap, ⊎_elim, arith, All, slice_index, ◌==◌}
 use Rattle.std.proofs.lemmas.Bool.{cases_Bool, eqb-true, eq-eqb}
 use Rattle.std.proofs.lemmas.List.Elements.{All-nil, All-cons, All-head, All-tail, All-append}
 use Rattle.layout_standing.proofs.Ranges.{each_number, all_numbers}

@@ -1,6 +1,5 @@
 -- The state of a content's entries, by their numbers.
-use Rattle.std.proofs.Common.{◌≡◌, ℕ, ◌≤◌, ◌<◌, Bool, true, false, cond, List, map, sym, ◌∙◌, ap, ⊎_elim}
-use Rattle.std.specs.Prelude.{not, ◌==◌, nat_lt}
+use Rattle.std.proofs.Common.{◌≡◌, ℕ, ◌≤◌, ◌<◌, Bool, true, false, cond, List, map, sym, ◌∙◌, ap, ⊎_elim, not, ◌==◌, nat_lt}
 use Rattle.std.specs.List.{range_with_len}
 use Rattle.std.proofs.lemmas.Bool.{cases_Bool, cases_lt, le-ltb, lt-ltb, cond-true, cond-false, false≢true}
 use Rattle.card_layout.specs.declared.entries.Node.{Node}

@@ -1,13 +1,11 @@
 -- A commit of bytes that are a file's, or no file's.
-use Rattle.std.specs.Prelude.{◌≡◌, ◌≢◌, ◌⊎◌, ℕ, ◌+◌, ◌*◌, ◌-◌, ◌≤◌, ◌<◌, ◌==◌, Bool, true, false, if◌then◌else◌, List, [], ◌∷◌, length, take, drop, map, slice_get, slice_range, Some, All, IsTrue}
-use Rattle.std.proofs.Common.{get_or, set, refl, sym, ◌∙◌, ap, inl, inr, ⊎_elim, subst, lit≤, arith}
+use Rattle.std.proofs.Common.{◌≡◌, ◌≢◌, ◌⊎◌, ℕ, ◌+◌, ◌*◌, ◌-◌, ◌≤◌, ◌<◌, ◌==◌, Bool, true, false, if◌then◌else◌, List, [], ◌∷◌, length, take, drop, map, slice_get, slice_range, Some, All, IsTrue, get_or, set, refl, sym, ◌∙◌, ap, inl, inr, ⊎_elim, subst, lit≤, arith, div-mul-le_self}
 use Rattle.std.proofs.lemmas.List.{length-take, length-drop, set-get_or, append-nil, get_or-take, get_or-drop}
 use Rattle.std.proofs.lemmas.Option.{same_Some, get_or_from_slice_get}
 use Rattle.std.proofs.lemmas.Bool.{cases_lt}
 use Rattle.std.proofs.lemmas.Bool.Decides.{nat_tests}
 use Rattle.std.proofs.lemmas.Grind.{same_number_lists}
 use Rattle.std.proofs.lemmas.List.FromFn.{length-map-range_with_len}
-use Rattle.std.proofs.Math.Nat.{div-mul-le_self}
 use Rattle.card_layout.specs.uicc_types.Patches.{patched, Torn}
 use Rattle.card_layout.proofs.uicc_types.PatchLemmas.{length-patched, patched_before, patched_inside, patched_after}
 use Rattle.card_layout.specs.store_form.Pieces.{Piece, applied}
@@ -33,8 +31,7 @@ use Rattle.layout_standing.specs.ChangeLaws.{oldest}
 use Rattle.card_layout.proofs.uicc_types.NumberedLemmas.{all_unmapped, same_mapped}
 use Rattle.layout_standing.proofs.Numbered.{IsShown, all_shown, with_one, shown-reset}
 use Rattle.card_layout.proofs.EntryLemmas.{number_of_file}
-use Rattle.layout_standing.proofs.FileLemmas.{file_with, ef_of, LieApart}
-use Rattle.layout_standing.proofs.FilesLemmas.{used, file, all_lie_well, all_efs, lies_where, all_apart, same_files, same_file, entry_there}
+use Rattle.layout_standing.proofs.FileLemmas.{file_with, ef_of, LieApart, used, file, all_lie_well, all_efs, lies_where, all_apart, same_files, same_file, entry_there}
 use Rattle.card_layout.proofs.uicc_types.RangeLemmas.{one_behind}
 use Rattle.card_layout.proofs.RecordLemmas.{record_written}
 use Rattle.card_layout.proofs.RowPlacesLemmas.{data_end_inside}

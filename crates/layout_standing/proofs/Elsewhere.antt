@@ -1,6 +1,5 @@
 -- A memory stays well formed where a piece that isn't among its first bytes leaves each entry its form.
-use Rattle.std.specs.Prelude.{◌≡◌, ◌⊎◌, ℕ, ◌+◌, ◌≤◌, ◌<◌, ◌==◌, ◌&&◌, Bool, true, false, IsTrue, List, length, slice_index}
-use Rattle.std.proofs.Common.{sym, ◌∙◌, ap, subst, inl, inr, ⊎_elim, lit≤, arith}
+use Rattle.std.proofs.Common.{◌≡◌, ◌⊎◌, ℕ, ◌+◌, ◌≤◌, ◌<◌, ◌==◌, ◌&&◌, Bool, true, false, IsTrue, List, length, slice_index, sym, ◌∙◌, ap, subst, inl, inr, ⊎_elim, lit≤, arith}
 use Rattle.std.proofs.lemmas.Bool.{cases_lt}
 use Rattle.std.proofs.lemmas.Bool.Decides.{nat_tests}
 use Rattle.card_layout.specs.uicc_types.Patches.{patched, IsApart}
@@ -9,8 +8,7 @@ use Rattle.card_layout.specs.Places.{memory_size, pin_place, row_place, node_pla
 use Rattle.card_layout.specs.Decoding.{bytes_at, is_wide, node_bytes, pin_bytes, row_bytes}
 use Rattle.card_layout.specs.Checks.{is_version}
 use Rattle.card_layout.specs.Laws.{KeepsBytesBeside}
-use Rattle.card_layout.proofs.RowPlacesLemmas.{row_below_kept}
-use Rattle.card_layout.proofs.RowPlacesLemmas.{below_32}
+use Rattle.card_layout.proofs.RowPlacesLemmas.{row_below_kept, below_32}
 use Rattle.layout_standing.specs.Forms.{IsPinForm, IsRowForm, IsNodeForm, IsWellFormed}
 
 -- ---- places

@@ -1,7 +1,5 @@
 -- Commits of entries.
-use Rattle.std.specs.Prelude.{◌≡◌, ◌⊎◌, ℕ, ◌+◌, ◌≤◌, ◌<◌, ◌^◌, Bool, true, false, nat_lt, if◌then◌else◌, List, [], ◌∷◌, length, drop, slice_index}
-use Rattle.std.proofs.Common.{refl, sym, ◌∙◌, ap, subst, inl, inr, ⊎_elim, lit≤, arith}
-use Rattle.std.proofs.lemmas.List.{length-drop}
+use Rattle.std.proofs.Common.{◌≡◌, ◌⊎◌, ℕ, ◌+◌, ◌≤◌, ◌<◌, ◌^◌, Bool, true, false, nat_lt, if◌then◌else◌, List, [], ◌∷◌, length, drop, slice_index, refl, sym, ◌∙◌, ap, subst, inl, inr, ⊎_elim, lit≤, arith, length-drop}
 use Rattle.std.proofs.lemmas.Bool.Decides.{nat_tests}
 use Rattle.card_layout.specs.store_form.Pieces.{Piece, applied}
 use Rattle.card_layout.specs.Standing.{state_in, Stands}
@@ -28,8 +26,7 @@ use Rattle.layout_standing.specs.Changes.{with_node, with_slot, with_row}
 use Rattle.layout_standing.specs.ChangeLaws.{ChangesFile, AddsFile, RereadsFile, ChangesPin, AddsPin, RereadsPin, ChangesRow, AddsRow, InstallsRow, RereadsRow, ChangesKeptBytes, ChangesBytesApart, ChangesNextSequence, kept_pieces}
 use Rattle.layout_standing.specs.Standing.{StandsForNoOther}
 use Rattle.layout_standing.specs.Writing.{IsFileChange, IsPinChange, IsRowChange, IsWholeFile, IsWholePin, IsWholeRow}
-use Rattle.card_layout.proofs.RowPlacesLemmas.{below_32}
-use Rattle.card_layout.proofs.RowPlacesLemmas.{row_below_kept}
+use Rattle.card_layout.proofs.RowPlacesLemmas.{below_32, row_below_kept}
 use Rattle.layout_standing.proofs.Elsewhere.{now_long, formed_low, formed_apart}
 use Rattle.layout_standing.proofs.Seen.{node_seen, pin_seen, row_seen, pin_key, row_flag, row_keeps, row_events}
 use Rattle.layout_standing.proofs.Parts.{events_uncut, node_formed, own_key_there, pin_formed, row_formed}

@@ -1,7 +1,5 @@
 -- A commit of a file's entry.
-use Rattle.std.specs.Prelude.{◌≡◌, ◌≢◌, ◌⊎◌, ℕ, ◌+◌, ◌-◌, ◌≤◌, ◌<◌, Bool, true, false, if◌then◌else◌, List, length, drop, map, slice_range, Option, Some, None}
-use Rattle.std.proofs.Common.{set, refl, ◌∙◌, ap, inl, inr, ⊎_elim, arith}
-use Rattle.std.proofs.lemmas.List.{length-take}
+use Rattle.std.proofs.Common.{◌≡◌, ◌≢◌, ◌⊎◌, ℕ, ◌+◌, ◌-◌, ◌≤◌, ◌<◌, Bool, true, false, if◌then◌else◌, List, length, drop, map, slice_range, Option, Some, None, set, refl, ◌∙◌, ap, inl, inr, ⊎_elim, arith, length-take}
 use Rattle.std.proofs.lemmas.List.Elements.{All-weaker}
 use Rattle.card_layout.specs.uicc_types.Patches.{patched}
 use Rattle.card_layout.specs.Standing.{state_in}
@@ -23,8 +21,7 @@ use Rattle.layout_standing.specs.Changes.{with_node}
 use Rattle.layout_standing.proofs.Numbered.{entry_if, seen-set}
 use Rattle.card_layout.proofs.EntryLemmas.{number_of_file}
 use Rattle.card_layout.proofs.RowPlacesLemmas.{data_end_inside}
-use Rattle.layout_standing.proofs.FilesLemmas.{used, node_count, all_lie_well, lies_where, same_files}
-use Rattle.layout_standing.proofs.FilesLemmas.{same_file, entry_there}
+use Rattle.layout_standing.proofs.FileLemmas.{used, node_count, all_lie_well, lies_where, same_files, same_file, entry_there}
 
 -- an EF among the bytes of the files keeps its bytes if a piece is before or behind those
 pub beside_files : (law : KeepsBytesBeside) (wide : Bool) (content bytes : List ℕ) (place : ℕ) (node : Node) → length content ≡ memory_size → place + length bytes ≤ memory_size

@@ -1,9 +1,7 @@
 -- What a file's entry and the file that it stands for have in common.
-use Rattle.std.proofs.Common.{zero, suc, ◌≡◌, ℕ, ◌+◌, ◌-◌, ◌*◌, ◌/◌, ◌%◌, ◌≤◌, ◌<◌, Bool, true, false, cond, List, ◌++◌, length, take, drop, refl, sym, ◌∙◌, ap, subst, arith, length-append}
-use Rattle.std.specs.Prelude.{◌≢◌, ◌==◌, All, slice_range}
+use Rattle.std.proofs.Common.{zero, suc, ◌≡◌, ℕ, ◌+◌, ◌-◌, ◌*◌, ◌/◌, ◌%◌, ◌≤◌, ◌<◌, Bool, true, false, cond, List, ◌++◌, length, take, drop, refl, sym, ◌∙◌, ap, subst, arith, length-append, ◌≢◌, ◌==◌, All, slice_range, length-take, length-drop, take-append-drop}
 use Rattle.std.proofs.Math.Nat.{div-zero, div-add-mod, mul-le-mul_right, le-mul_of_pos_right, mul_comm}
 use Rattle.std.proofs.lemmas.Bool.{cond-true, cond-false, cond_both, eq-eqb, ne_eqb, false≢true}
-use Rattle.std.proofs.lemmas.List.{length-take, length-drop, take-append-drop}
 use Rattle.std.proofs.lemmas.List.FromFn.{length-map-range_with_len}
 use Rattle.std.proofs.lemmas.List.Elements.{All-append, All-take, All-drop}
 use Rattle.card_layout.specs.declared.entries.Node.{Node}

@@ -1,6 +1,5 @@
 -- The files of a state by their numbers: what the checks tell of them is what a sound state says.
-use Rattle.std.proofs.Common.{◌≡◌, ℕ, ◌+◌, ◌≤◌, ◌<◌, Bool, true, false, List, length, Option, None, refl, sym, ◌∙◌, ap, subst, ⊎_elim, inl, inr, arith}
-use Rattle.std.specs.Prelude.{◌≢◌, ◌==◌, ◌⊎◌, ◌||◌, not, nat_le, All, AllPairs, Contains, slice_get, slice_index}
+use Rattle.std.proofs.Common.{◌≡◌, ℕ, ◌+◌, ◌≤◌, ◌<◌, Bool, true, false, List, length, Option, None, refl, sym, ◌∙◌, ap, subst, ⊎_elim, inl, inr, arith, ◌≢◌, ◌==◌, ◌⊎◌, ◌||◌, not, nat_le, All, AllPairs, Contains, slice_get, slice_index}
 use Rattle.std.specs.Option.{option_map_or}
 use Rattle.std.specs.List.{list_any, list_all}
 use Rattle.std.proofs.lemmas.Bool.{cases_Bool, cases_eq, cases_lt, and_parts, and_from, or_cases, or_left, or_right, eqb-true, eq-eqb, leb-true, le-leb, not-true, not_from_false, both_ways, false≢true}

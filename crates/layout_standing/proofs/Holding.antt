@@ -1,6 +1,5 @@
 -- Commits of bytes that a file holds, or that no file does.
-use Rattle.std.specs.Prelude.{◌≡◌, ◌⊎◌, ℕ, ◌+◌, ◌-◌, ◌*◌, ◌≤◌, ◌<◌, List, [], ◌∷◌, length, take, slice_get, slice_set, All}
-use Rattle.std.proofs.Common.{get_or, refl, sym, ◌∙◌, ap, subst, inl, inr, ⊎_elim, lit≤, arith}
+use Rattle.std.proofs.Common.{◌≡◌, ◌⊎◌, ℕ, ◌+◌, ◌-◌, ◌*◌, ◌≤◌, ◌<◌, List, [], ◌∷◌, length, take, slice_get, slice_set, All, get_or, refl, sym, ◌∙◌, ap, subst, inl, inr, ⊎_elim, lit≤, arith}
 use Rattle.std.proofs.lemmas.Bool.{cases_lt}
 use Rattle.std.proofs.lemmas.Grind.{same_number_lists}
 use Rattle.card_layout.proofs.uicc_types.RangeLemmas.{length-between}
@@ -22,14 +21,13 @@ use Rattle.card_layout.specs.Changing.{bytes_put, record_put, record_pushed, wit
 use Rattle.card_layout.specs.Fields.{node_fields, AreWholeFields, merged_node, node_there}
 use Rattle.card_layout.specs.Laws.{after, KeepsBytesBeside, ChangesBytesAround, ChangesOneNode, KeepsTable}
 use Rattle.card_layout.proofs.RowPlacesLemmas.{data_end_inside}
-use Rattle.layout_standing.specs.Forms.{IsWellFormed}
+use Rattle.layout_standing.specs.Forms.{IsWellFormed, HasRightHead}
 use Rattle.layout_standing.specs.SoundnessLaws.{StandingIsSound, SoundStands}
 use Rattle.layout_standing.specs.Cards.{IsCard, Holds, HasNode, IsFreeRange}
 use Rattle.layout_standing.specs.Bare.{bare_node}
 use Rattle.layout_standing.proofs.BareLemmas.{bare_node_ranges, bare_node_head}
 use Rattle.layout_standing.specs.Changes.{with_node}
 use Rattle.layout_standing.specs.ChangeLaws.{WritesBytes, WritesRecord, WritesNewestRecord, KeepsState, oldest}
-use Rattle.layout_standing.specs.Forms.{HasRightHead}
 use Rattle.layout_standing.proofs.Bytes.{get_or-range}
 use Rattle.layout_standing.proofs.Elsewhere.{now_long, formed_data}
 use Rattle.layout_standing.proofs.Seen.{node_seen}

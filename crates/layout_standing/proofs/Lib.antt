@@ -14,7 +14,6 @@ mod FileChanges
 pub mod FileFields
 pub mod FileLemmas
 mod FileStates
-mod FilesLemmas
 pub mod Fitting
 mod Holding
 mod Knowing

@@ -1,6 +1,5 @@
 -- A card of version 1 of the layout that becomes one of version 2.
-use Rattle.std.specs.Prelude.{◌≡◌, ◌≢◌, ℕ, ◌+◌, ◌-◌, ◌*◌, ◌≤◌, ◌<◌, ◌==◌, Bool, true, false, not, ◌&&◌, ◌||◌, nat_le, if◌then◌else◌, List, [], ◌∷◌, length, drop, map, filter, slice_index, slice_range, Result, Ok}
-use Rattle.std.proofs.Common.{get_or, refl, sym, ◌∙◌, ap, subst, inl, inr, ⊎_elim, lit≤, lit<, arith}
+use Rattle.std.proofs.Common.{◌≡◌, ◌≢◌, ℕ, ◌+◌, ◌-◌, ◌*◌, ◌≤◌, ◌<◌, ◌==◌, Bool, true, false, not, ◌&&◌, ◌||◌, nat_le, if◌then◌else◌, List, [], ◌∷◌, length, drop, map, filter, slice_index, slice_range, Result, Ok, get_or, refl, sym, ◌∙◌, ap, subst, inl, inr, ⊎_elim, lit≤, lit<, arith}
 use Rattle.std.specs.List.{enumerate_from, list_all}
 use Rattle.std.proofs.lemmas.Bool.{cases_lt, cases_Bool, eqb-true, lt-ltb, le-ltb, leb-true, ne_eqb}
 use Rattle.std.proofs.lemmas.Bool.Decides.{nat_tests}
@@ -30,11 +29,10 @@ use Rattle.card_layout.specs.Laws.{after, KeepsBytesBeside, ChangesBytesAround, 
 use Rattle.layout_standing.specs.Forms.{IsPinForm, IsRowForm, IsNodeForm, IsWellFormed}
 use Rattle.layout_standing.specs.SoundnessLaws.{StandingIsSound, SoundStands}
 use Rattle.layout_standing.specs.Cards.{IsCard, HasNode}
-use Rattle.layout_standing.proofs.FilesLemmas.{same_file}
+use Rattle.layout_standing.proofs.FileLemmas.{same_file}
 use Rattle.layout_standing.specs.StandingLaws.{FreeBytesDontCount}
 use Rattle.layout_standing.specs.Migrating.{LowEndsAreSeen, OthersStay, UpperRowsAreFree, WideVersionStands}
-use Rattle.card_layout.proofs.RowPlacesLemmas.{data_end_inside}
-use Rattle.card_layout.proofs.RowPlacesLemmas.{row_below_kept, below_32}
+use Rattle.card_layout.proofs.RowPlacesLemmas.{data_end_inside, row_below_kept, below_32}
 use Rattle.layout_standing.proofs.Elsewhere.{same_mark}
 use Rattle.layout_standing.proofs.OneFile.{all_used, lies}
 use Rattle.layout_standing.proofs.Carried.{state_is, sound, card, formed, wide_is}

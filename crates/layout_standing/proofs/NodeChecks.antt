@@ -1,6 +1,5 @@
 -- What the check of a file's entry tells, and what it takes.
-use Rattle.std.proofs.Common.{◌≡◌, ℕ, ◌+◌, ◌%◌, ◌/◌, ◌≤◌, ◌<◌, Bool, true, false, cond, List, sym, ◌∙◌, ap, ⊎_elim, inl, inr, arith}
-use Rattle.std.specs.Prelude.{◌≢◌, ◌⊎◌, not, ◌&&◌, ◌||◌, nat_le, ◌==◌, slice_index, slice_get}
+use Rattle.std.proofs.Common.{◌≡◌, ℕ, ◌+◌, ◌%◌, ◌/◌, ◌≤◌, ◌<◌, Bool, true, false, cond, List, sym, ◌∙◌, ap, ⊎_elim, inl, inr, arith, ◌≢◌, ◌⊎◌, not, ◌&&◌, ◌||◌, nat_le, ◌==◌, slice_index, slice_get}
 use Rattle.std.specs.Option.{option_map_or}
 use Rattle.std.specs.List.{list_any, list_all}
 use Rattle.std.proofs.lemmas.Bool.{cases_Bool, and_parts, and_from, or_left, or_right, or_cases, not-true, not_from_false, leb-true, le-leb, eqb-true, eq-eqb, eqb-false, ne_eqb, both_ways}

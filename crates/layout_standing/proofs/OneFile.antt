@@ -1,13 +1,11 @@
 -- The file of an entry in a sound state, and what it may hold instead.
-use Rattle.std.specs.Prelude.{◌≡◌, ◌⊎◌, ℕ, ◌+◌, ◌*◌, ◌-◌, ◌≤◌, ◌<◌, ◌==◌, Bool, true, false, if◌then◌else◌, List, [], ◌∷◌, length, take, drop, slice_get, slice_set, slice_range, Some, All, Contains}
-use Rattle.std.proofs.Common.{get_or, refl, sym, ◌∙◌, ap, subst, ⊎_elim, length-append, arith}
+use Rattle.std.proofs.Common.{◌≡◌, ◌⊎◌, ℕ, ◌+◌, ◌*◌, ◌-◌, ◌≤◌, ◌<◌, ◌==◌, Bool, true, false, if◌then◌else◌, List, [], ◌∷◌, length, take, drop, slice_get, slice_set, slice_range, Some, All, Contains, get_or, refl, sym, ◌∙◌, ap, subst, ⊎_elim, length-append, arith, div-mul-le_self}
 use Rattle.std.specs.List.{range_with_len, enumerate_from}
 use Rattle.std.proofs.lemmas.Bool.{eqb-true, eqb-false}
 use Rattle.std.proofs.lemmas.List.{length-map, get_or-map, length-take, length-drop, length-set}
 use Rattle.std.proofs.lemmas.List.Elements.{All-map, All-append, All-take, All-drop, All-set, All-cons, All-filter, filter_passes, All-contains, All-contains_itself}
 use Rattle.std.proofs.lemmas.List.FromFn.{length-range_with_len, get_or-range_with_len, length-map-range_with_len, length-enumerate_from, get_or-enumerate_from}
 use Rattle.std.proofs.lemmas.Option.{same_Some, slice_get-get_or}
-use Rattle.std.proofs.Math.Nat.{div-mul-le_self}
 use Rattle.card_layout.proofs.uicc_types.NumberedLemmas.{mapped_too, same_mapped}
 use Rattle.card_layout.proofs.uicc_types.RangeLemmas.{one_behind, length-between}
 use Rattle.card_layout.specs.uicc_types.Patches.{patched}

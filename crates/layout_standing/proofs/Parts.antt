@@ -1,11 +1,9 @@
 -- A memory stays well formed where fields of one entry are written.
-use Rattle.std.specs.Prelude.{◌≡◌, ◌≢◌, ◌⊎◌, ℕ, ◌+◌, ◌-◌, ◌≤◌, ◌<◌, ◌^◌, Bool, true, false, IsTrue, if◌then◌else◌, List, [], length, drop, map, slice_range, slice_index}
-use Rattle.std.proofs.Common.{get_or, refl, sym, ◌∙◌, ap, subst, inl, inr, ⊎_elim, lit≤, arith}
+use Rattle.std.proofs.Common.{◌≡◌, ◌≢◌, ◌⊎◌, ℕ, ◌+◌, ◌-◌, ◌≤◌, ◌<◌, ◌^◌, Bool, true, false, IsTrue, if◌then◌else◌, List, [], length, drop, map, slice_range, slice_index, get_or, refl, sym, ◌∙◌, ap, subst, inl, inr, ⊎_elim, lit≤, arith, length-take, get_or-set_same}
 use Rattle.std.specs.Int.{w16, from_be_bytes, from_bool}
 use Rattle.std.specs.List.{range_with_len, list_all}
 use Rattle.std.proofs.lemmas.Bool.{cases_order, cases_Bool, and_parts, false≢true}
 use Rattle.std.proofs.lemmas.Bool.Decides.{nat_tests}
-use Rattle.std.proofs.lemmas.List.{length-take, get_or-set_same}
 use Rattle.std.proofs.lemmas.List.FromFn.{length-map-range_with_len, get_or-map-range_with_len}
 use Rattle.card_layout.proofs.uicc_types.RangeLemmas.{length-between}
 use Rattle.card_layout.specs.uicc_types.Patches.{patched, IsApart}
@@ -21,11 +19,9 @@ use Rattle.card_layout.specs.Checks.{key_of_slot}
 use Rattle.card_layout.specs.Ranges.{HasNodeRanges, HasPinRanges, HasRowRanges}
 use Rattle.card_layout.specs.Fields.{node_fields, pin_fields, row_fields, is_uncut, AreWholeFields, merged_node, node_there, shown_node}
 use Rattle.card_layout.specs.Laws.{after, KeepsBytesBeside, ChangesBytesAround, ChangesOneNode, RowsAreReadBack}
-use Rattle.card_layout.proofs.ReadingBackLemmas.{length-node_spelled, length-pin_spelled, length-row_spelled}
-use Rattle.card_layout.proofs.ReadingBackLemmas.{kept_count}
-use Rattle.card_layout.proofs.RowPlacesLemmas.{row_below_kept}
+use Rattle.card_layout.proofs.ReadingBackLemmas.{length-node_spelled, length-pin_spelled, length-row_spelled, kept_count}
+use Rattle.card_layout.proofs.RowPlacesLemmas.{row_below_kept, below_32}
 use Rattle.layout_standing.proofs.Shown.{shown_node_there}
-use Rattle.card_layout.proofs.RowPlacesLemmas.{below_32}
 use Rattle.layout_standing.specs.Forms.{HasRightHead, IsPinForm, IsRowForm, IsNodeForm, IsWellFormed}
 use Rattle.layout_standing.proofs.Bytes.{one, some, whole}
 use Rattle.layout_standing.proofs.Elsewhere.{row_where, formed_still}

@@ -1,7 +1,5 @@
 -- A commit of a PIN slot.
-use Rattle.std.specs.Prelude.{◌≡◌, ◌≢◌, ℕ, zero, suc, ◌+◌, ◌-◌, ◌≤◌, ◌<◌, ◌==◌, Bool, true, false, not, if◌then◌else◌, List, [], ◌∷◌, length, drop, map, filter, slice_get, slice_range, Some, None, All, AllPairs, Contains}
-use Rattle.std.proofs.Common.{set, refl, sym, ◌∙◌, ap, inl, subst, lit≤, arith}
-use Rattle.std.proofs.lemmas.List.{length-take}
+use Rattle.std.proofs.Common.{◌≡◌, ◌≢◌, ℕ, zero, suc, ◌+◌, ◌-◌, ◌≤◌, ◌<◌, ◌==◌, Bool, true, false, not, if◌then◌else◌, List, [], ◌∷◌, length, drop, map, filter, slice_get, slice_range, Some, None, All, AllPairs, Contains, set, refl, sym, ◌∙◌, ap, inl, subst, lit≤, arith, length-take}
 use Rattle.std.proofs.lemmas.List.Elements.{All-head, All-tail}
 use Rattle.std.proofs.lemmas.Option.{same_Some}
 use Rattle.std.proofs.lemmas.Bool.Decides.{nat_tests}

@@ -1,6 +1,5 @@
 -- The PINs of a state by their slots: what the checks tell of them is what a sound state says.
-use Rattle.std.proofs.Common.{◌≡◌, ℕ, ◌<◌, true, List, [], ◌∷◌, sym, ◌∙◌, ap, subst, ⊎_elim, arith}
-use Rattle.std.specs.Prelude.{All, AllPairs, Contains, slice_index}
+use Rattle.std.proofs.Common.{◌≡◌, ℕ, ◌<◌, true, List, [], ◌∷◌, sym, ◌∙◌, ap, subst, ⊎_elim, arith, All, AllPairs, Contains, slice_index}
 use Rattle.card_layout.specs.declared.entries.PinSlot.{PinSlot}
 use Rattle.card_layout.specs.Decoding.{pin_bytes, pin_at}
 use Rattle.card_layout.specs.Soundness.{IsSoundPin, slot_of_key}

@@ -1,6 +1,5 @@
 -- Lists that are made from the numbers of a range: those that pass a test, in their order, each with what stands for it.
-use Rattle.std.proofs.Common.{zero, suc, ◌≡◌, ℕ, ◌+◌, ◌≤◌, ◌<◌, Bool, true, false, cond, List, ◌∷◌, map, refl, sym, ◌∙◌, ap, subst, ⊎_elim, arith}
-use Rattle.std.specs.Prelude.{filter, All, AllPairs, Contains}
+use Rattle.std.proofs.Common.{zero, suc, ◌≡◌, ℕ, ◌+◌, ◌≤◌, ◌<◌, Bool, true, false, cond, List, ◌∷◌, map, refl, sym, ◌∙◌, ap, subst, ⊎_elim, arith, filter, All, AllPairs, Contains}
 use Rattle.std.specs.List.{range_with_len, enumerate_from, count_by}
 use Rattle.std.proofs.lemmas.Bool.{cases_eq, cases_Bool}
 use Rattle.std.proofs.lemmas.List.FromFn.{length-map-range_with_len, get_or-map-range_with_len}

@@ -1,7 +1,5 @@
 -- What is read of the bytes of a file, in a memory that stands for a state.
-use Rattle.std.specs.Prelude.{◌≡◌, ℕ, ◌+◌, ◌*◌, ◌%◌, ◌≤◌, ◌<◌, List, [], length, Contains, slice_index_or}
-use Rattle.std.proofs.Common.{sym, ◌∙◌, ap, subst, inr, arith}
-use Rattle.std.proofs.Math.Nat.{mod-eq_of_lt}
+use Rattle.std.proofs.Common.{◌≡◌, ℕ, ◌+◌, ◌*◌, ◌%◌, ◌≤◌, ◌<◌, List, [], length, Contains, slice_index_or, sym, ◌∙◌, ap, subst, inr, arith, mod-eq_of_lt}
 use Rattle.card_layout.specs.declared.entries.Node.{Node}
 use Rattle.card_layout.specs.declared.entries.Loaded.{Loaded}
 use Rattle.card_layout.specs.Kinds.{linear_kind, cyclic_kind}

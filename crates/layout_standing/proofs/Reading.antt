@@ -1,6 +1,5 @@
 -- What is read of the bytes of a file.
-use Rattle.std.specs.Prelude.{◌≡◌, ◌≢◌, ℕ, ◌+◌, ◌*◌, ◌-◌, ◌%◌, ◌≤◌, ◌<◌, ◌==◌, List, [], length, take, drop, slice_range}
-use Rattle.std.proofs.Common.{get_or, sym, ◌∙◌, ap, ⊎_elim, arith}
+use Rattle.std.proofs.Common.{◌≡◌, ◌≢◌, ℕ, ◌+◌, ◌*◌, ◌-◌, ◌%◌, ◌≤◌, ◌<◌, ◌==◌, List, [], length, take, drop, slice_range, get_or, sym, ◌∙◌, ap, ⊎_elim, arith}
 use Rattle.std.proofs.lemmas.Bool.{cases_lt}
 use Rattle.std.proofs.lemmas.Grind.{same_number_lists}
 use Rattle.std.proofs.lemmas.List.{length-drop, get_or-take, get_or-drop, get_or_append_left, get_or-append_right}
@@ -14,7 +13,7 @@ use Rattle.card_layout.specs.Persistent.{Bytes, Records}
 use Rattle.card_layout.specs.States.{file_bytes, contents_of, records_of, record_count, from_head}
 use Rattle.layout_standing.specs.Cards.{IsCard, HasNode}
 use Rattle.layout_standing.specs.ChangeLaws.{place_in_ring}
-use Rattle.layout_standing.proofs.FilesLemmas.{lies_where}
+use Rattle.layout_standing.proofs.FileLemmas.{lies_where}
 use Rattle.card_layout.proofs.uicc_types.RangeLemmas.{length-range, one_behind}
 use Rattle.card_layout.proofs.RowPlacesLemmas.{data_end_inside}
 use Rattle.layout_standing.proofs.Records.{length-from_head}

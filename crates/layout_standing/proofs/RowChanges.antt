@@ -1,7 +1,5 @@
 -- Commits of a row, and of the next sequence number.
-use Rattle.std.specs.Prelude.{◌≡◌, ◌≢◌, ◌⊎◌, ℕ, ◌+◌, ◌-◌, ◌≤◌, ◌<◌, ◌^◌, Bool, true, false, nat_lt, if◌then◌else◌, List, [], ◌∷◌, length, drop, map, slice_range, Option, Some, None}
-use Rattle.std.proofs.Common.{set, refl, sym, ◌∙◌, ap, inl, inr, ⊎_elim, subst, lit≤, arith}
-use Rattle.std.proofs.lemmas.List.{length-take, length-drop}
+use Rattle.std.proofs.Common.{◌≡◌, ◌≢◌, ◌⊎◌, ℕ, ◌+◌, ◌-◌, ◌≤◌, ◌<◌, ◌^◌, Bool, true, false, nat_lt, if◌then◌else◌, List, [], ◌∷◌, length, drop, map, slice_range, Option, Some, None, set, refl, sym, ◌∙◌, ap, inl, inr, ⊎_elim, subst, lit≤, arith, length-take, length-drop}
 use Rattle.std.proofs.lemmas.List.Elements.{All-weaker}
 use Rattle.std.proofs.lemmas.List.FromFn.{length-map-range_with_len}
 use Rattle.std.proofs.lemmas.Bool.{cases_lt}
@@ -32,7 +30,7 @@ use Rattle.card_layout.proofs.RowPlacesLemmas.{row_place_low, row_place_high, be
 use Rattle.layout_standing.specs.Changes.{with_row}
 use Rattle.layout_standing.specs.ChangeLaws.{kept_pieces}
 use Rattle.layout_standing.proofs.Numbered.{entry_if, seen-set, got_numbered}
-use Rattle.layout_standing.proofs.FilesLemmas.{used, all_lie_well, same_files}
+use Rattle.layout_standing.proofs.FileLemmas.{used, all_lie_well, same_files}
 use Rattle.layout_standing.proofs.FileChanges.{beside_files}
 
 -- ---- where rows stand

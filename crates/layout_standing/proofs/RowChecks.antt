@@ -1,6 +1,5 @@
 -- What the check of a row tells, and what it takes.
-use Rattle.std.proofs.Common.{◌≡◌, ℕ, ◌≤◌, ◌<◌, Bool, true, false, List, refl, ⊎_elim, arith}
-use Rattle.std.specs.Prelude.{not, ◌&&◌, ◌||◌, nat_le, slice_index}
+use Rattle.std.proofs.Common.{◌≡◌, ℕ, ◌≤◌, ◌<◌, Bool, true, false, List, refl, ⊎_elim, arith, not, ◌&&◌, ◌||◌, nat_le, slice_index}
 use Rattle.std.specs.List.{list_any, count_by}
 use Rattle.std.proofs.lemmas.Bool.{cases_Bool, and_parts, and_from, or_left, or_right, or_cases, not-true, not_from_false, leb-true, le-leb, leb-false, lt-leb, both_ways, false≢true}
 use Rattle.std.proofs.lemmas.Bool.Decides.{nat_tests}

@@ -1,6 +1,5 @@
 -- What the files of a card that stands hold by their kinds, and which keys its PINs have.
-use Rattle.std.proofs.Common.{◌≡◌, ℕ, ◌<◌, true, false, List, length, map, sym, ◌∙◌, ap, subst, ⊎_elim, arith}
-use Rattle.std.specs.Prelude.{◌≢◌, ◌*◌, ◌==◌, slice_get, Some, None}
+use Rattle.std.proofs.Common.{◌≡◌, ℕ, ◌<◌, true, false, List, length, map, sym, ◌∙◌, ap, subst, ⊎_elim, arith, ◌≢◌, ◌*◌, ◌==◌, slice_get, Some, None}
 use Rattle.std.specs.List.{range_with_len}
 use Rattle.std.proofs.lemmas.Bool.{cases_eq, cases_lt, not_from_false, ne_eqb}
 use Rattle.std.proofs.lemmas.Option.{same_Some}

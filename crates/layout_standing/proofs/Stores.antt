@@ -1,6 +1,5 @@
 -- What a store stands for after a call.
-use Rattle.std.specs.Prelude.{◌≡◌, ◌⊎◌, ℕ, ◌+◌, ◌≤◌, List, length, Option, Some, None, option_map, IfSome}
-use Rattle.std.proofs.Common.{refl, sym, ◌∙◌, ap, subst, inl, inr, ⊎_elim, arith}
+use Rattle.std.proofs.Common.{◌≡◌, ◌⊎◌, ℕ, ◌+◌, ◌≤◌, List, length, Option, Some, None, option_map, IfSome, refl, sym, ◌∙◌, ap, subst, inl, inr, ⊎_elim, arith}
 use Rattle.std.specs.Result.{result_ok}
 use Rattle.card_layout.specs.uicc_types.Patches.{patched, Torn}
 use Rattle.card_layout.proofs.uicc_types.PatchLemmas.{Torn_patched}

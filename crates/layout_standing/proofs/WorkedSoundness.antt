@@ -1,6 +1,5 @@
 -- The definitions, worked out on examples.
-use Rattle.std.proofs.Common.{◌≡◌, ℕ, ◌≤◌, ◌<◌, true, false, List, [], ◌∷◌, length, replicate, refl, ap, inl, ⊎_elim, arith}
-use Rattle.std.specs.Prelude.{◌⊎◌, All, AllPairs, IsTrue}
+use Rattle.std.proofs.Common.{◌≡◌, ℕ, ◌≤◌, ◌<◌, true, false, List, [], ◌∷◌, length, replicate, refl, ap, inl, ⊎_elim, arith, ◌⊎◌, All, AllPairs, IsTrue}
 use Rattle.std.proofs.lemmas.List.Elements.{All-nil, All-cons}
 use Rattle.card_layout.specs.declared.entries.Node.{Node}
 use Rattle.card_layout.specs.Blank.{unused_node}

@@ -1,6 +1,5 @@
 -- The definitions, worked out on examples.
-use Rattle.std.specs.Prelude.{◌≡◌, ◌⊎◌, ℕ, ◌+◌, ◌≤◌, ◌<◌, ◌≢◌, zero, suc, true, false, List, [], ◌∷◌, replicate, Option, Some, None, All, Contains}
-use Rattle.std.proofs.Common.{refl, sym, ◌∙◌, ap, subst, inl, inr, ⊎_elim, lit≤, lit<, arith}
+use Rattle.std.proofs.Common.{◌≡◌, ◌⊎◌, ℕ, ◌+◌, ◌≤◌, ◌<◌, ◌≢◌, zero, suc, true, false, List, [], ◌∷◌, replicate, Option, Some, None, All, Contains, refl, sym, ◌∙◌, ap, subst, inl, inr, ⊎_elim, lit≤, lit<, arith}
 use Rattle.std.proofs.lemmas.Bool.{false≢true}
 use Rattle.std.proofs.lemmas.Option.{same_Some}
 use Rattle.std.proofs.lemmas.List.Elements.{All-nil, All-cons}

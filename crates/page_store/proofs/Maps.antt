@@ -1,6 +1,5 @@
 -- Maps that are well formed, and the pages that they leave free.
-use Rattle.std.proofs.Common.{get_or, zero-add, ◌≡◌, ◌≢◌, ℕ, zero, suc, ◌+◌, ◌-◌, ◌<◌, ◌≤◌, Bool, true, false, not, ◌||◌, ◌==◌, cond, List, [], ◌∷◌, length, take, drop, refl, sym, ◌∙◌, ap, subst, inl, inr, ⊎_elim, ◌⊎◌, add_comm, arith}
-use Rattle.std.specs.Prelude.{All}
+use Rattle.std.proofs.Common.{get_or, zero-add, ◌≡◌, ◌≢◌, ℕ, zero, suc, ◌+◌, ◌-◌, ◌<◌, ◌≤◌, Bool, true, false, not, ◌||◌, ◌==◌, cond, List, [], ◌∷◌, length, take, drop, refl, sym, ◌∙◌, ap, subst, inl, inr, ⊎_elim, ◌⊎◌, add_comm, arith, All}
 use Rattle.std.specs.List.{AllPairs, range_with_len, count_by, filter}
 use Rattle.std.proofs.lemmas.Bool.{false≢true, not-true, not_from_false, false_from_ne_true, and_parts, and_from, cases_eq, cases_lt, eqb-true, eq-eqb, ne_eqb, or_right}
 use Rattle.std.proofs.lemmas.Bool.Decides.{nat_tests}

@@ -1,6 +1,5 @@
 -- What a recovery learns of the map, and what is read where there is none.
-use Rattle.std.proofs.Common.{get_or, ◌≡◌, ℕ, ◌+◌, ◌<◌, Bool, true, false, List, length, Some, None, refl, sym, ◌∙◌, ap, ◌^◌, ⊎_elim, arith}
-use Rattle.std.specs.Prelude.{slice_range, replicate, IfSome, if◌then◌else◌}
+use Rattle.std.proofs.Common.{get_or, ◌≡◌, ℕ, ◌+◌, ◌<◌, Bool, true, false, List, length, Some, None, refl, sym, ◌∙◌, ap, ◌^◌, ⊎_elim, arith, slice_range, replicate, IfSome, if◌then◌else◌}
 use Rattle.std.proofs.lemmas.Grind.{same_number_lists}
 use Rattle.std.proofs.lemmas.Bool.{cases_lt}
 use Rattle.std.proofs.lemmas.List.{length-replicate, get_or-replicate, get_or_past}

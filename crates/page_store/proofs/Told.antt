@@ -1,6 +1,5 @@
 -- Reads and writes of one page, on a store below that may tell its bytes, or may not.
-use Rattle.std.proofs.Common.{get_or, ◌≡◌, ◌⊎◌, ℕ, ◌+◌, ◌-◌, ◌<◌, ◌≤◌, List, length, Option, Some, None, refl, sym, ◌∙◌, ap, subst, inl, inr, ⊎_elim, arith}
-use Rattle.std.specs.Prelude.{◌++◌, take, drop, option_map, slice_range, IfSome}
+use Rattle.std.proofs.Common.{get_or, ◌≡◌, ◌⊎◌, ℕ, ◌+◌, ◌-◌, ◌<◌, ◌≤◌, List, length, Option, Some, None, refl, sym, ◌∙◌, ap, subst, inl, inr, ⊎_elim, arith, ◌++◌, take, drop, option_map, slice_range, IfSome}
 use borrow.Rule.Slice.PartMut.{put_mid}
 use Rattle.std.proofs.lemmas.Grind.{common_steps, same_number_lists}
 use Rattle.std.proofs.lemmas.List.{length-append, length-drop, length-take, length-take-le, get_or-take, get_or_append_left, get_or-append_right}

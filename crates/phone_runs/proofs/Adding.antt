@@ -1,8 +1,7 @@
 -- The rows of a card, added one after the other.
-use Rattle.std.proofs.Common.{◌≡◌, ℕ, ◌+◌, List, [], ◌∷◌, ◌++◌, take, Option, Some, None, Result, Ok, Err, sym, ap, ◌∙◌, inl, inr}
+use Rattle.std.proofs.Common.{◌≡◌, ℕ, ◌+◌, List, [], ◌∷◌, ◌++◌, take, Option, Some, None, Result, Ok, Err, sym, ap, ◌∙◌, inl, inr, slice_get}
 use Rattle.std.proofs.lemmas.List.{take_all, take_more as one_more}
 use Rattle.std.proofs.lemmas.Option.{get_or_from_slice_get, slice_get_cases, slice_get_within}
-use Rattle.std.specs.Prelude.{slice_get}
 use Rattle.card_steps.specs.applet_trait.Minds.{AppletState}
 use Rattle.card_steps.specs.card_layout.Persistent.{Persistent}
 use Rattle.card_steps.specs.card_layout.declared.faults.SectionFault.{SectionFault}

@@ -1,6 +1,6 @@
 -- What a card and a handset that keeps to its rules agree on between two exchanges, and that they go on to agree.
-use Rattle.std.proofs.Common.{◌≡◌, ℕ, Bool, true, false, List, [], ◌∷◌, Option, refl, sym, ap, subst}
-use Rattle.std.specs.Prelude.{if◌then◌else◌, IfSome, ⊤}
+use Rattle.std.proofs.Common.{◌≡◌, ℕ, Bool, true, false, List, [], ◌∷◌, Option, refl, sym, ap, subst, if◌then◌else◌, IfSome}
+use Rattle.std.specs.Prelude.{⊤}
 use Rattle.std.proofs.lemmas.Bool.{false≢true}
 use Rattle.handset_model.specs.uicc_types.declared.answers.Answer.{Answer}
 use Rattle.handset_model.specs.uicc_types.declared.answers.TheConstants.StatusWord.{MEMORY_PROBLEM}

@@ -1,6 +1,6 @@
 -- A command of a handset is answered: the handset and the card agree then, and FETCH and TERMINAL RESPONSE are served.
-use Rattle.std.proofs.Common.{◌≡◌, ℕ, ◌≤◌, Bool, true, false, List, ◌∷◌, length, Option, Some, None, Result, Ok, Err, refl, sym, ◌∙◌, ap, subst, inl, inr}
-use Rattle.std.specs.Prelude.{◌==◌, ◌/◌, ◌%◌, ◌⊎◌, if◌then◌else◌, IfSome, ⊤}
+use Rattle.std.proofs.Common.{◌≡◌, ℕ, ◌≤◌, Bool, true, false, List, ◌∷◌, length, Option, Some, None, Result, Ok, Err, refl, sym, ◌∙◌, ap, subst, inl, inr, ◌==◌, ◌/◌, ◌%◌, ◌⊎◌, if◌then◌else◌, IfSome}
+use Rattle.std.specs.Prelude.{⊤}
 use Rattle.std.proofs.lemmas.Bool.{false≢true}
 use Rattle.handset_model.specs.uicc_types.declared.answers.Answer.{Answer}
 use Rattle.handset_model.specs.uicc_types.declared.answers.StatusWord.{StatusWord}

@@ -1,6 +1,5 @@
 -- What is seen of the card where a run ended before the handset rested.
-use Rattle.std.proofs.Common.{◌≡◌, List, [], ◌∷◌, ◌++◌, Some, refl, sym, ap, ◌∙◌, subst, inl, inr, map, ◌⊎◌}
-use Rattle.std.proofs.lemmas.List.{append-nil}
+use Rattle.std.proofs.Common.{◌≡◌, List, [], ◌∷◌, ◌++◌, Some, refl, sym, ap, ◌∙◌, subst, inl, inr, map, ◌⊎◌, append-nil}
 use Rattle.card_steps.specs.card_model.Runs.{IsRun, StepEnds, StepGives}
 use Rattle.card_steps.specs.card_model.States.{Machine}
 use Rattle.card_steps.proofs.RunLaws.{run_ends, run_of, run_one, run_then}

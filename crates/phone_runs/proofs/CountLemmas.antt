@@ -1,6 +1,5 @@
 -- The counts of lines, added up one after the other.
-use Rattle.std.proofs.Common.{◌≡◌, ℕ, ◌+◌, ◌-◌, ◌^◌, ◌≤◌, Bool, true, false, cond, List, [], ◌∷◌, refl, sym, ap, ◌∙◌, arith}
-use Rattle.std.specs.Prelude.{fold, count_by}
+use Rattle.std.proofs.Common.{◌≡◌, ℕ, ◌+◌, ◌-◌, ◌^◌, ◌≤◌, Bool, true, false, cond, List, [], ◌∷◌, refl, sym, ap, ◌∙◌, arith, fold, count_by}
 use Rattle.std.proofs.lemmas.List.Sums.{sum_by-cons}
 use Rattle.handset_model.specs.script_form.declared.trace.TraceLine.{TraceLine}
 use Rattle.phone_runs.specs.Counts.{capped, counts_of, envelope, fetch, is_busy, is_command, is_toolkit_command, terminal_response}

@@ -1,6 +1,6 @@
 -- What a handset does next, as far as a card has to be ready for it.
-use Rattle.std.proofs.Common.{◌≡◌, ℕ, Bool, true, false, List, length, Option, Some, None, Result, Ok, Err, refl}
-use Rattle.std.specs.Prelude.{◌==◌, ◌&&◌, if◌then◌else◌, is_none, IfSome, ⊤}
+use Rattle.std.proofs.Common.{◌≡◌, ℕ, Bool, true, false, List, length, Option, Some, None, Result, Ok, Err, refl, ◌==◌, ◌&&◌, if◌then◌else◌, is_none, IfSome}
+use Rattle.std.specs.Prelude.{⊤}
 use Rattle.handset_model.specs.uicc_types.declared.answers.Answer.{Answer}
 use Rattle.handset_model.specs.uicc_types.declared.answers.TheConstants.StatusWord.{TOOLKIT_BUSY}
 use Rattle.handset_model.specs.script_form.declared.handset.HandsetLine.{HandsetLine}

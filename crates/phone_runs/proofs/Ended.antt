@@ -1,7 +1,6 @@
 -- What the sink has taken where a run ended before the handset rested.
-use Rattle.std.proofs.Common.{◌≡◌, ℕ, Bool, true, false, List, [], ◌∷◌, ◌++◌, Some, refl, sym, ap, ◌∙◌, append_assoc, subst, inl, inr, map, reverse}
-use Rattle.std.proofs.lemmas.List.{append-nil}
-use Rattle.std.specs.Prelude.{MatchBool}
+use Rattle.std.proofs.Common.{◌≡◌, ℕ, Bool, true, false, List, [], ◌∷◌, ◌++◌, Some, refl, sym, ap, ◌∙◌, append_assoc, subst, inl, inr, map, reverse, MatchBool}
+use Rattle.std.proofs.lemmas.List.{append-nil, reverse-append}
 use Rattle.card_steps.specs.card_model.Answers.{answer}
 use Rattle.card_steps.specs.card_model.Runs.{Commands, MeetsNoPower}
 use Rattle.card_steps.specs.card_model.States.{Machine}
@@ -20,7 +19,6 @@ use Rattle.handset_model.specs.declared.commands.Command.{Command}
 use Rattle.handset_model.specs.declared.known.Duty.{Duty}
 use Rattle.handset_model.specs.declared.known.Duty.TheVariants.{Rest, Transmit, Await, Show, ResetCard}
 use Rattle.handset_model.specs.script_form.declared.handset.Note.{Note}
-use Rattle.std.proofs.lemmas.List.{reverse-append}
 use Rattle.handset_model.specs.uicc_types.Told.{IsFront}
 use Rattle.handset_model.specs.uicc_types.declared.answers.Answer.{Answer}
 use Rattle.handset_model.specs.uicc_types.declared.plans.Plan.{Plan}

@@ -1,6 +1,6 @@
 -- What a card answers to a command of a handset, and what waits after it.
-use Rattle.std.proofs.Common.{◌≡◌, ℕ, zero, suc, ◌+◌, ◌≤◌, Bool, true, false, List, [], ◌∷◌, length, Option, Some, None, Result, Ok, Err, refl, sym, ◌∙◌, ap, subst, arith, inl, inr}
-use Rattle.std.specs.Prelude.{◌==◌, ◌/◌, ◌%◌, ◌||◌, ◌⊎◌, not, if◌then◌else◌, is_some, IfSome, MatchResult, option_map, slice_set, ⊤}
+use Rattle.std.proofs.Common.{◌≡◌, ℕ, zero, suc, ◌+◌, ◌≤◌, Bool, true, false, List, [], ◌∷◌, length, Option, Some, None, Result, Ok, Err, refl, sym, ◌∙◌, ap, subst, arith, inl, inr, ◌==◌, ◌/◌, ◌%◌, ◌||◌, ◌⊎◌, not, if◌then◌else◌, is_some, IfSome, MatchResult, option_map, slice_set}
+use Rattle.std.specs.Prelude.{⊤}
 use Rattle.std.proofs.lemmas.Bool.{eq-eqb, ne_eqb, false≢true}
 use Rattle.handset_model.specs.uicc_types.declared.answers.Answer.{Answer}
 use Rattle.handset_model.specs.uicc_types.declared.answers.StatusWord.{StatusWord}

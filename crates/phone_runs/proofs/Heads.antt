@@ -1,7 +1,6 @@
 -- The first bytes of a line, and what they tell of it.
-use Rattle.std.proofs.Common.{◌≡◌, ℕ, ◌/◌, ◌%◌, ◌<◌, Bool, true, false, ◌&&◌, List, [], ◌∷◌, ◌++◌, take, refl, ap, ◌∙◌, lit<}
+use Rattle.std.proofs.Common.{◌≡◌, ℕ, ◌/◌, ◌%◌, ◌<◌, Bool, true, false, ◌&&◌, List, [], ◌∷◌, ◌++◌, take, refl, ap, ◌∙◌, lit<, ◌==◌, nat_eq, codes}
 use Rattle.std.specs.List.{starts_with}
-use Rattle.std.specs.Prelude.{◌==◌, nat_eq, codes}
 use Rattle.hex.specs.Hex.{encode_with, upper_digits}
 use Rattle.handset_model.specs.script_form.Traces.{message}
 use Rattle.handset_model.specs.script_form.declared.handset.Note.{Note as ANote}

@@ -1,7 +1,6 @@
 -- From one line of a long run to the next, and what is counted at its end.
-use Rattle.std.proofs.Common.{◌≡◌, ℕ, List, [], ◌∷◌, ◌++◌, map, reverse, Some, refl, sym, ap, ◌∙◌, subst}
+use Rattle.std.proofs.Common.{◌≡◌, ℕ, List, [], ◌∷◌, ◌++◌, map, reverse, Some, refl, sym, ap, ◌∙◌, subst, flat_map}
 use Rattle.std.proofs.lemmas.List.{append-nil, append_assoc, reverse-append, reverse-reverse}
-use Rattle.std.specs.List.{flat_map}
 use Rattle.card_steps.specs.card_core.Parts.{CardParts}
 use Rattle.card_steps.specs.card_model.Counts.{IsCounted}
 use Rattle.card_steps.specs.card_model.Runs.{plan_given, armed_after}

@@ -1,6 +1,5 @@
 -- What a handset reads of a command that a card spelled, and what the card reads of a response.
-use Rattle.std.proofs.Common.{◌≡◌, ℕ, ◌+◌, ◌≤◌, Bool, true, false, List, [], ◌∷◌, length, Option, Some, None, Result, Ok, Err, refl, sym, ◌∙◌, ap, subst, arith, inl, inr}
-use Rattle.std.specs.Prelude.{◌==◌, ◌&&◌, if◌then◌else◌, is_some, unwrap_or, option_and_then}
+use Rattle.std.proofs.Common.{◌≡◌, ℕ, ◌+◌, ◌≤◌, Bool, true, false, List, [], ◌∷◌, length, Option, Some, None, Result, Ok, Err, refl, sym, ◌∙◌, ap, subst, arith, inl, inr, ◌==◌, ◌&&◌, if◌then◌else◌, is_some, unwrap_or, option_and_then}
 use Rattle.std.specs.List.{AllByRecursion}
 use Rattle.std.proofs.lemmas.Bool.{eq-eqb, cases_lt, lt-ltb, le-ltb, and_from}
 use Rattle.handset_model.specs.comprehension_tlv.Model.{Object, flagged, IsLength, IsObject, IsObjects, IsTemplate}
@@ -9,7 +8,7 @@ use Rattle.handset_model.specs.comprehension_tlv.Writing.{shortest_length, tagge
 use Rattle.handset_model.specs.comprehension_tlv.declared.faults.TlvFault.{TlvFault}
 use Rattle.handset_model.specs.toolkit_commands.Matching.{IsCommand}
 use Rattle.handset_model.specs.toolkit_commands.Reading.{TypeRow, row_of_type, lacks_one, needed_by, by_row, by_details, details_in, three, command_among, in_list, in_template, list_of, or_tlv, proactive_of, no_details, details_found, value}
-use Rattle.handset_model.specs.toolkit_commands.Responses.{are_details, with_result, response_among, response_of}
+use Rattle.handset_model.specs.toolkit_commands.Responses.{details_match, with_result, response_among, response_of}
 use Rattle.handset_model.specs.toolkit_commands.Table.{details_of, spelled}
 use Rattle.handset_model.specs.toolkit_commands.Values.{◌>>=◌, is_pair}
 use Rattle.handset_model.specs.toolkit_commands.declared.commands.Details.{Details}
@@ -80,7 +79,7 @@ with_reply details (reply.Started timer) = refl
 with_reply details (reply.Left timer value) = refl
 with_reply details (reply.NotRunning timer) = refl
 
-named_so : (details : Details) → are_details details (Some (details.number ∷ details.kind ∷ details.qualifier ∷ [])) ≡ true
+named_so : (details : Details) → details_match details (Some (details.number ∷ details.kind ∷ details.qualifier ∷ [])) ≡ true
 named_so details =
     and_from ((details.number == details.number) && (details.kind == details.kind)) (details.qualifier == details.qualifier) (and_from (details.number == details.number) (details.kind == details.kind) (eq-eqb details.number details.number refl) (eq-eqb details.kind details.kind refl)) (eq-eqb details.qualifier details.qualifier refl)
 

@@ -1,6 +1,5 @@
 -- How a card with an open basic channel reads what a handset sends.
-use Rattle.std.proofs.Common.{◌≡◌, ℕ, ◌+◌, ◌≤◌, Bool, true, false, List, [], ◌∷◌, ◌++◌, length, Option, Some, None, Result, Ok, refl, ◌∙◌, ap, arith, option_and_then}
-use Rattle.std.specs.Prelude.{◌==◌, not, if◌then◌else◌, option_map, take, slice_index}
+use Rattle.std.proofs.Common.{◌≡◌, ℕ, ◌+◌, ◌≤◌, Bool, true, false, List, [], ◌∷◌, ◌++◌, length, Option, Some, None, Result, Ok, refl, ◌∙◌, ap, arith, option_and_then, ◌==◌, not, if◌then◌else◌, option_map, take, slice_index}
 use Rattle.std.proofs.lemmas.Bool.{eq-eqb, ne_eqb, false≢true}
 use Rattle.handset_model.specs.uicc_types.declared.answers.StatusWord.{StatusWord}
 use Rattle.handset_model.specs.uicc_types.declared.answers.TheConstants.StatusWord.{NO_SUCH_CHANNEL, WRONG_LENGTH}

@@ -1,6 +1,5 @@
 -- From one event of a run to the next, and from one line to the next, whatever the memory tells.
-use Rattle.std.proofs.Common.{◌≡◌, ℕ, true, List, [], ◌∷◌, ◌++◌, Option, Some, None, refl, sym, ap, ◌∙◌, append_assoc, subst}
-use Rattle.std.proofs.lemmas.List.{append-nil}
+use Rattle.std.proofs.Common.{◌≡◌, ℕ, true, List, [], ◌∷◌, ◌++◌, Option, Some, None, refl, sym, ap, ◌∙◌, append_assoc, subst, append-nil}
 use Rattle.std.specs.Io.KnownBytes.{append_known}
 use Rattle.handset_model.specs.byte_streams.Lines.{LineList}
 use Rattle.handset_model.specs.byte_streams.Streams.{TakesFront}

@@ -1,6 +1,5 @@
 -- The row of the table for each value of a word's lowest three bits, and the lines of the next words.
-use Rattle.std.proofs.Common.{◌≡◌, ℕ, ◌%◌, ◌-◌, [], ◌∷◌, length, refl, ap, sym, arith}
-use Rattle.std.specs.Prelude.{slice_index_or, zero, suc}
+use Rattle.std.proofs.Common.{◌≡◌, ℕ, ◌%◌, ◌-◌, [], ◌∷◌, length, refl, ap, sym, arith, slice_index_or, zero, suc}
 use Rattle.phone_runs.specs.LoadLines.{choices, line_for, lines_of_words}
 use Rattle.rand_pcg.specs.Lcg.{Lcg}
 use Rattle.rand_pcg.specs.Pcg.{pcg32}

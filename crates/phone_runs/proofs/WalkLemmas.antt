@@ -1,11 +1,9 @@
 -- A walk over the lines of a trace.
-use Rattle.std.proofs.Common.{◌≡◌, ◌≢◌, ℕ, ◌≤◌, Bool, true, false, cond, List, [], ◌∷◌, ◌++◌, length, take, refl, sym, ap, ◌∙◌, arith, append_assoc, inl, inr}
+use Rattle.std.proofs.Common.{◌≡◌, ◌≢◌, ℕ, ◌≤◌, Bool, true, false, cond, List, [], ◌∷◌, ◌++◌, length, take, refl, sym, ap, ◌∙◌, arith, append_assoc, inl, inr, fold, ◌==◌, nat_lt, flat_map}
 use Rattle.std.proofs.lemmas.Bool.{cases_lt}
 use Rattle.std.proofs.lemmas.Bool.Decides.{nat_tests}
 use Rattle.std.proofs.lemmas.List.{append-nil, length-append, take-append-le, take_all}
 use Rattle.std.proofs.lemmas.List.Sums.{fold-append}
-use Rattle.std.specs.List.{flat_map}
-use Rattle.std.specs.Prelude.{fold, ◌==◌, nat_lt}
 use Rattle.handset_model.specs.script_form.Traces.{message, trace_text}
 use Rattle.handset_model.specs.script_form.declared.trace.TraceLine.{TraceLine}
 use Rattle.phone_runs.specs.CountedLines.{IsOneLine, IsWholeLine}

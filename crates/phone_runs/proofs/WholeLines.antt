@@ -1,8 +1,7 @@
 -- Bytes that end as a line does, and not before.
-use Rattle.std.proofs.Common.{◌≡◌, ◌≢◌, ◌==◌, true, ℕ, suc, ◌+◌, ◌<◌, ◌≤◌, min, List, [], ◌∷◌, ◌++◌, length, take, get_or, slice_index, refl, sym, ap, ◌∙◌, drop-cons, arith, inl, inr}
+use Rattle.std.proofs.Common.{◌≡◌, ◌≢◌, ◌==◌, true, ℕ, suc, ◌+◌, ◌<◌, ◌≤◌, min, List, [], ◌∷◌, ◌++◌, length, take, get_or, slice_index, refl, sym, ap, ◌∙◌, drop-cons, arith, inl, inr, take-append-drop, length-take-le, get_or-take, take_all}
 use Rattle.std.proofs.Math.Seq.{drop-length}
 use Rattle.std.proofs.lemmas.Bool.{cases_lt}
-use Rattle.std.proofs.lemmas.List.{take-append-drop, length-take-le, get_or-take, take_all}
 use Rattle.phone_runs.specs.CountedLines.{IsOneLine, IsWholeLine}
 
 is_end : (byte : ℕ) → byte ≡ 10 → (byte == 10) ≡ true

@@ -1,8 +1,7 @@
 -- A card and a handset, worked out from the bytes: the handset is shown a text that an applet sends at its terminal profile. The
 -- run is one of the card, and the handset keeps to its rules in it.
-use Rattle.std.proofs.Common.{◌≡◌, ◌+◌, ℕ, List, [], ◌∷◌, map, Option, Some, true, refl, sym, ◌∙◌, ap, inl, inr, arith}
+use Rattle.std.proofs.Common.{◌≡◌, ◌+◌, ℕ, List, [], ◌∷◌, map, Option, Some, true, refl, sym, ◌∙◌, ap, inl, inr, arith, ◌%◌, reverse}
 use Rattle.std.proofs.lemmas.Bool.{false≢true}
-use Rattle.std.specs.Prelude.{◌%◌, reverse}
 use Rattle.std.specs.List.{range_with_len}
 use Rattle.card_steps.specs.apdu_form.Model.{command_in, fields_in}
 use Rattle.handset_model.specs.uicc_types.declared.answers.StatusWord.{StatusWord}
@@ -24,7 +23,7 @@ use Rattle.card_steps.specs.applet_trait.Minds.{AppletState, fresh}
 use Rattle.card_steps.specs.applet_trait.Tables.{address_digits, row_from}
 use Rattle.card_steps.specs.applet_trait.Turns.{act}
 use Rattle.card_steps.specs.toolkit_model.Commands.{profiled, fetched, answered, responded}
-use Rattle.card_steps.specs.toolkit_model.Driving.{told_one, given_one, caught_up, wanted, session_filled as filled_up, driven}
+use Rattle.card_steps.specs.toolkit_model.Driving.{told_one, given_one, caught_up, wanted, with_next_command as filled_up, driven}
 use Rattle.card_steps.specs.toolkit_model.Order.{trigger_order}
 use Rattle.card_steps.specs.toolkit_model.Orderly.{asks}
 use Rattle.card_steps.specs.toolkit_model.Running.{run_on, run_of_row}

@@ -1,6 +1,5 @@
 -- The PIN with a key among the slots.
-use Rattle.std.proofs.Common.{get_or, ◌≡◌, ℕ, ◌<◌, ◌≤◌, Bool, true, false, List, [], length, Some, None, refl, ap, ◌∙◌, subst, arith}
-use Rattle.std.specs.Prelude.{◌==◌, ◌&&◌, not, find, slice_get, option_map, nat_lt}
+use Rattle.std.proofs.Common.{get_or, ◌≡◌, ℕ, ◌<◌, ◌≤◌, Bool, true, false, List, [], length, Some, None, refl, ap, ◌∙◌, subst, arith, ◌==◌, ◌&&◌, not, find, slice_get, option_map, nat_lt}
 use Rattle.std.specs.List.{position_from, position_or_len}
 use Rattle.std.proofs.lemmas.Option.{slice_get_past, slice_get-get_or, cond_some}
 use Rattle.std.proofs.lemmas.Iterator.Adapters.{position_from-zero}

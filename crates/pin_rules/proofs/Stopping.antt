@@ -1,9 +1,5 @@
 -- What a PIN command comes to, where it was refused, carried out or stopped.
-use Rattle.std.proofs.Common.{◌≡◌, ℕ, ◌+◌, ◌<◌, ◌≤◌, Bool, true, false, List, [], ◌∷◌, length, Option, Some, None, refl, sym, ap, ◌∙◌, subst, inl, inr, arith}
-use Rattle.std.specs.Prelude.{IfErr, IfOk, IfSome, IsSomeAnd, Contains, Result, Ok, Err}
-use Rattle.std.specs.Result.{IsErr}
-use Rattle.std.specs.Str.{bytes_eq}
-use Rattle.std.proofs.lemmas.Bool.{true≢false}
+use Rattle.std.proofs.Common.{◌≡◌, ℕ, ◌+◌, ◌<◌, ◌≤◌, Bool, true, false, List, [], ◌∷◌, length, Option, Some, None, refl, sym, ap, ◌∙◌, subst, inl, inr, arith, IfErr, IfOk, IfSome, IsSomeAnd, Contains, Result, Ok, Err, IsErr, bytes_eq, true≢false}
 use Rattle.std.proofs.lemmas.List.{length-map}
 use Rattle.std.proofs.lemmas.List.Elements.{Contains-get_or}
 use Rattle.file_model.proofs.uicc_types.OptionalLemmas.{if_some, if_some_at}

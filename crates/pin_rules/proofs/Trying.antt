@@ -1,9 +1,7 @@
 -- A value is presented: what the two commits leave.
-use Rattle.std.proofs.Common.{◌≡◌, ℕ, ◌<◌, Bool, true, false, List, ◌∷◌, length, Option, Some, None, refl, sym, ap, ◌∙◌, subst, inl, inr, arith}
-use Rattle.std.specs.Prelude.{◌≢◌, ◌⊎◌, [], ◌+◌, slice_get, slice_index_or, slice_set, option_map, IsSomeAnd, IfSome, All}
+use Rattle.std.proofs.Common.{◌≡◌, ℕ, ◌<◌, Bool, true, false, List, ◌∷◌, length, Option, Some, None, refl, sym, ap, ◌∙◌, subst, inl, inr, arith, ◌≢◌, ◌⊎◌, [], ◌+◌, slice_get, slice_index_or, slice_set, option_map, IsSomeAnd, IfSome, All, get_or-set_same, length-set}
 use Rattle.std.proofs.lemmas.Bool.{false≢true}
 use Rattle.std.proofs.lemmas.Option.{get_or_from_slice_get, slice_get_within, slice_get-get_or}
-use Rattle.std.proofs.lemmas.List.{get_or-set_same, length-set}
 use Rattle.std.proofs.lemmas.List.Elements.{All-contains}
 use Rattle.file_model.specs.uicc_types.Counts.{raised}
 use Rattle.file_model.specs.uicc_types.declared.answers.StatusWord.{StatusWord}

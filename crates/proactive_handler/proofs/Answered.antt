@@ -1,7 +1,5 @@
 -- The response to the command that was fetched, for the applet that sent it.
-use Rattle.std.proofs.Common.{◌≡◌, refl, sym, ap, ◌∙◌, subst, ℕ, true, List, [], ◌∷◌, Option, Some, None}
-use Rattle.std.specs.Prelude.{IfSome, Result, Ok, Err}
-use Rattle.std.specs.Result.{IsErr}
+use Rattle.std.proofs.Common.{◌≡◌, refl, sym, ap, ◌∙◌, subst, ℕ, true, List, [], ◌∷◌, Option, Some, None, IfSome, Result, Ok, Err, IsErr}
 use Rattle.card_memory.specs.store_form.declared.store.StoreFault.{StoreFault}
 use Rattle.card_memory.specs.card_layout.Memory.{held}
 use Rattle.card_memory.specs.card_layout.States.{rows_of}

@@ -1,6 +1,5 @@
 -- The run of an applet begins with a turn of its own, and so does what came to pass of it before a fault.
-use Rattle.std.proofs.Common.{◌≡◌, refl, sym, ap, ◌∙◌, subst, ℕ, zero, suc, Bool, ◌<◌, List, [], ◌∷◌, ◌++◌, length, Option, Some, arith}
-use Rattle.std.specs.Prelude.{◌≢◌, is_some, Result, Ok, Err}
+use Rattle.std.proofs.Common.{◌≡◌, refl, sym, ap, ◌∙◌, subst, ℕ, zero, suc, Bool, ◌<◌, List, [], ◌∷◌, ◌++◌, length, Option, Some, arith, ◌≢◌, is_some, Result, Ok, Err}
 use Rattle.std.proofs.lemmas.List.Elements.{All-head}
 use Rattle.card_memory.specs.uicc_types.Counts.{raised_by}
 use Rattle.card_memory.specs.store_form.declared.store.StoreFault.{StoreFault}

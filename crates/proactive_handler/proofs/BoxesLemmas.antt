@@ -1,6 +1,5 @@
 -- One step after the other leaves the boxes of others alone.
-use Rattle.std.proofs.Common.{◌∙◌}
-use Rattle.std.specs.Prelude.{ℕ, List, Option}
+use Rattle.std.proofs.Common.{◌∙◌, ℕ, List, Option}
 use Rattle.toolkit_model.specs.applet_trait.Minds.{AppletState}
 use Rattle.card_memory.specs.card_layout.declared.entries.Loaded.{Loaded}
 use Rattle.card_memory.specs.Model.{HasRowOn}

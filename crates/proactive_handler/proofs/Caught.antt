@@ -1,7 +1,5 @@
 -- Late triggers that are caught up with, one after the other.
-use Rattle.std.proofs.Common.{◌≡◌, refl, sym, ap, ◌∙◌, subst, ℕ, zero, suc, true, false, List, ◌∷◌, length, Some, None, Option}
-use Rattle.std.specs.Prelude.{◌≢◌, Result, Ok, Err}
-use Rattle.std.specs.Result.{IsErr}
+use Rattle.std.proofs.Common.{◌≡◌, refl, sym, ap, ◌∙◌, subst, ℕ, zero, suc, true, false, List, ◌∷◌, length, Some, None, Option, ◌≢◌, Result, Ok, Err, IsErr}
 use Rattle.card_memory.specs.store_form.declared.store.StoreFault.{StoreFault}
 use Rattle.card_memory.specs.store_form.declared.store.StoreFault.TheVariants.{Failed}
 use Rattle.card_memory.specs.card_layout.declared.entries.Loaded.{Loaded}
@@ -13,7 +11,7 @@ use Rattle.toolkit_model.specs.Sessions.{Sent, LateTrigger, SessionState}
 use Rattle.toolkit_model.specs.Orderly.{asks}
 use Rattle.toolkit_model.specs.Passing.{ToolkitState, Passed, unmoved, before, passed_rows}
 use Rattle.toolkit_model.specs.Running.{run_of_row}
-use Rattle.toolkit_model.specs.Driving.{is_idle, with_session, running, first_idle, catching, caught_up, filled, session_filled, driven}
+use Rattle.toolkit_model.specs.Driving.{is_idle, with_session, running, first_idle, catching, caught_up, filled, with_next_command, driven}
 use Rattle.toolkit_model.proofs.Late.{late_asks}
 use Rattle.proactive_handler.specs.Runs.{StopsAt}
 use Rattle.proactive_handler.specs.Boxes.{IsSameBox, AreForOthers}
@@ -112,12 +110,12 @@ module _ (count fuel : ℕ) (old : Scene) (left : SessionState) (trigger : LateT
 
 -- ---- and then something becomes outstanding
 
-driven_is : (count : ℕ) (state : ToolkitState) → count ≡ length state.session.late → driven state ≡ before (caught_up count state) (λ later. unmoved (session_filled later))
+driven_is : (count : ℕ) (state : ToolkitState) → count ≡ length state.session.late → driven state ≡ before (caught_up count state) (λ later. unmoved (with_next_command later))
 unfolding driven
-driven_is count state is = ap (λ (n : ℕ). before (caught_up n state) (λ (later : ToolkitState). unmoved (session_filled later))) (sym is)
+driven_is count state is = ap (λ (n : ℕ). before (caught_up n state) (λ (later : ToolkitState). unmoved (with_next_command later))) (sym is)
 
-settled_is : (state : ToolkitState) → session_filled state ≡ with_session state (filled state.session.out state.rows state.session)
-unfolding session_filled
+settled_is : (state : ToolkitState) → with_next_command state ≡ with_session state (filled state.session.out state.rows state.session)
+unfolding with_next_command
 settled_is state = refl
 
 module _ (count : ℕ) (old mid : Scene) (count_is : count ≡ length old.session.late) where
@@ -125,21 +123,21 @@ module _ (count : ℕ) (old mid : Scene) (count_is : count ≡ length old.sessio
   driven_stops (Ok x) err stop = cc err
   driven_stops (Err fault) err stop =
       subst (λ (p : Passed). StopsAt (rows_of old.memory.table ∷ passed_rows p.log) old.memory mid.memory) (sym (driven_is count (toolkit old) count_is))
-      (first_stops (caught_up count (toolkit old)) (λ later. unmoved (session_filled later)) old mid mid stop)
+      (first_stops (caught_up count (toolkit old)) (λ later. unmoved (with_next_command later)) old mid mid stop)
 
   pub driven_leaves : {X B : Type 0} (cast between : List (Option B)) (r : Result X StoreFault) → IsErr r → StopsBehind (caught_up count (toolkit old)).log old mid cast between → TurnsTo (driven (toolkit old)) old mid cast between r
   driven_leaves cast between r err stop =
-      subst (λ (p : Passed). TurnsTo p old mid cast between r) (sym (driven_is count (toolkit old) count_is)) (first_turns (caught_up count (toolkit old)) (λ later. unmoved (session_filled later)) old mid cast between r err stop)
+      subst (λ (p : Passed). TurnsTo p old mid cast between r) (sym (driven_is count (toolkit old) count_is)) (first_turns (caught_up count (toolkit old)) (λ later. unmoved (with_next_command later)) old mid cast between r err stop)
 
   pub driven_left : {B : Type 0} (new : Scene) (cast left : List (Option B)) → IsDone (caught_up count (toolkit old)) old mid → ((shelf : ℕ) → HasNoTurn shelf (caught_up count (toolkit old)).log → IsSameBox shelf cast left)
       → (shelf : ℕ) → HasNoTurn shelf (driven (toolkit old)).log → IsSameBox shelf cast left
   driven_left new cast left done leaves =
       subst (λ (p : Passed). (shelf : ℕ) → HasNoTurn shelf p.log → IsSameBox shelf cast left) (sym (driven_is count (toolkit old) count_is))
-      (both_leave (caught_up count (toolkit old)) (λ later. unmoved (session_filled later)) old mid new cast left left done leaves (λ shelf none. refl))
+      (both_leave (caught_up count (toolkit old)) (λ later. unmoved (with_next_command later)) old mid new cast left left done leaves (λ shelf none. refl))
 
   pub driven_done : (new : Scene) → IsDone (caught_up count (toolkit old)) old mid → HasRowsOf (held mid.memory) (rows_of mid.memory.table) → toolkit new ≡ with_session (toolkit mid) (filled mid.session.out (rows_of mid.memory.table) mid.session) → new.memory ≡ mid.memory
       → IsDone (driven (toolkit old)) old new
   driven_done new done has state same =
       subst (λ (p : Passed). IsDone p old new) (sym (driven_is count (toolkit old) count_is))
-      (both_done (caught_up count (toolkit old)) (λ later. unmoved (session_filled later)) old mid new done
-      (still_done (unmoved (session_filled (toolkit mid))) mid new has refl (ap (λ (s : ToolkitState). s.rows) (settled_is (toolkit mid))) (state ∙ sym (settled_is (toolkit mid))) same))
+      (both_done (caught_up count (toolkit old)) (λ later. unmoved (with_next_command later)) old mid new done
+      (still_done (unmoved (with_next_command (toolkit mid))) mid new has refl (ap (λ (s : ToolkitState). s.rows) (settled_is (toolkit mid))) (state ∙ sym (settled_is (toolkit mid))) same))

@@ -1,6 +1,5 @@
 -- The acts that change nothing in the memory, and what the applet is told after any.
-use Rattle.std.proofs.Common.{◌≡◌, refl, sym, ap, ◌∙◌, subst, ℕ, Bool, true, false, cond, List, Option, Some, None, length}
-use Rattle.std.specs.Prelude.{nat_le, option_map, IfSome, IfOk, Result, Ok, Err}
+use Rattle.std.proofs.Common.{◌≡◌, refl, sym, ap, ◌∙◌, subst, ℕ, Bool, true, false, cond, List, Option, Some, None, length, nat_le, option_map, IfSome, IfOk, Result, Ok, Err}
 use Rattle.card_memory.specs.store_form.declared.store.StoreFault.{StoreFault}
 use Rattle.card_memory.specs.card_layout.Persistent.{Registration}
 use Rattle.card_memory.specs.card_layout.Memory.{Memory, held}

@@ -1,6 +1,5 @@
 -- An index that stands for the rows of a table, after each change of one of them.
-use Rattle.std.proofs.Common.{◌≡◌, refl, sym, ap, ◌∙◌, subst, ℕ, true, List, [], ◌∷◌}
-use Rattle.std.specs.Prelude.{◌≢◌, Ok}
+use Rattle.std.proofs.Common.{◌≡◌, refl, sym, ap, ◌∙◌, subst, ℕ, true, List, [], ◌∷◌, ◌≢◌, Ok}
 use Rattle.card_memory.specs.card_layout.declared.entries.Row.{Row}
 use Rattle.card_memory.specs.card_layout.declared.entries.Loaded.{Loaded}
 use Rattle.card_memory.specs.card_layout.Persistent.{Registration}

@@ -1,9 +1,7 @@
 -- A run from its first act on: what it passes and answers is what that act does, and then what the rest of the run does.
-use Rattle.std.proofs.Common.{◌≡◌, refl, sym, ap, ◌∙◌, subst, ⊎_elim, inl, inr, ℕ, zero, suc, Bool, true, false, List, [], ◌∷◌, ◌++◌, cond, Option, Some, None, arith}
-use Rattle.std.specs.Prelude.{◌⊎◌, ◌&&◌, ◌≤◌, not, nat_le, length, filter_map, option_map, IsSomeAnd, IfSome, Contains, Result, Ok, Err, is_some}
+use Rattle.std.proofs.Common.{◌≡◌, refl, sym, ap, ◌∙◌, subst, ⊎_elim, inl, inr, ℕ, zero, suc, Bool, true, false, List, [], ◌∷◌, ◌++◌, cond, Option, Some, None, arith, ◌⊎◌, ◌&&◌, ◌≤◌, not, nat_le, length, filter_map, option_map, IsSomeAnd, IfSome, Contains, Result, Ok, Err, is_some, IsErr}
 use Rattle.std.specs.Option.{option_or, option_map_or}
 use Rattle.std.specs.List.{last_or, cons_option}
-use Rattle.std.specs.Result.{IsErr}
 use Rattle.std.proofs.lemmas.Bool.Decides.{nat_tests}
 use Rattle.std.proofs.lemmas.Option.{cond_some}
 use Rattle.std.proofs.lemmas.List.Elements.{Contains-append_right, filter_map-append}

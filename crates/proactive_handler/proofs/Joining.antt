@@ -1,6 +1,5 @@
 -- One step after the other, and the rows that they pass.
-use Rattle.std.proofs.Common.{◌≡◌, refl, sym, ap, ◌∙◌, subst, ⊎_elim, inl, inr, ℕ, suc, ◌+◌, List, [], ◌∷◌, ◌++◌, Option, Some, None, arith}
-use Rattle.std.specs.Prelude.{◌⊎◌, length, slice_index_or, option_map, Result, Ok, Err}
+use Rattle.std.proofs.Common.{◌≡◌, refl, sym, ap, ◌∙◌, subst, ⊎_elim, inl, inr, ℕ, suc, ◌+◌, List, [], ◌∷◌, ◌++◌, Option, Some, None, arith, ◌⊎◌, length, slice_index_or, option_map, Result, Ok, Err}
 use Rattle.std.specs.List.{last_or}
 use Rattle.std.proofs.lemmas.List.{get_or-append-add, get_or_append_left, length-append}
 use Rattle.std.proofs.lemmas.List.Elements.{filter_map-append}

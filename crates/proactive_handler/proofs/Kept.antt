@@ -1,6 +1,5 @@
 -- What each act comes to, from its tests.
-use Rattle.std.proofs.Common.{◌≡◌, ap, ◌∙◌, ℕ, Bool, true, false, List, length}
-use Rattle.std.specs.Prelude.{nat_le, if◌then◌else◌, Result, Ok, Err}
+use Rattle.std.proofs.Common.{◌≡◌, ap, ◌∙◌, ℕ, Bool, true, false, List, length, nat_le, if◌then◌else◌, Result, Ok, Err}
 use Rattle.toolkit_model.specs.applet_trait.declared.numbers.TheConstants.{MOST_KEPT}
 use Rattle.toolkit_model.specs.applet_trait.declared.stimuli.Stimulus.TheVariants.{Went, Refused}
 use Rattle.toolkit_model.specs.applet_trait.declared.stimuli.Act.TheVariants.{Keep, Register, Deregister}

@@ -1,6 +1,5 @@
 -- What came late, once an applet ran, and once some were told of an event.
-use Rattle.std.proofs.Common.{◌≡◌, refl, sym, subst, ℕ, Bool, true, false, List, [], ◌∷◌, Option, Some, None}
-use Rattle.std.specs.Prelude.{◌≢◌, All}
+use Rattle.std.proofs.Common.{◌≡◌, refl, sym, subst, ℕ, Bool, true, false, List, [], ◌∷◌, Option, Some, None, ◌≢◌, All}
 use Rattle.std.proofs.lemmas.List.Elements.{All-append, All-cons, All-head, All-nil, All-tail}
 use Rattle.toolkit_model.specs.applet_trait.declared.stimuli.Stimulus.TheVariants.{Event}
 use Rattle.toolkit_model.specs.toolkit_commands.declared.commands.Proactive.{Proactive}

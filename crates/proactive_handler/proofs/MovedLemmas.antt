@@ -1,6 +1,5 @@
 -- What came of a step, one thing at a time; and steps that commit nothing.
-use Rattle.std.proofs.Common.{◌≡◌, refl, sym, ap, ◌∙◌, subst, ℕ, zero, suc, set, ◌<◌, List, [], ◌∷◌, ◌++◌, map, Option, Some, None}
-use Rattle.std.specs.Prelude.{length, get_or, slice_index_or, filter_map, option_map, OnOk, IfOk, Result, Ok, Err}
+use Rattle.std.proofs.Common.{◌≡◌, refl, sym, ap, ◌∙◌, subst, ℕ, zero, suc, set, ◌<◌, List, [], ◌∷◌, ◌++◌, map, Option, Some, None, length, get_or, slice_index_or, filter_map, option_map, OnOk, IfOk, Result, Ok, Err}
 use Rattle.std.specs.Option.{option_or}
 use Rattle.std.specs.List.{last_or}
 use Rattle.std.proofs.lemmas.List.{map-set, get_or-map}

@@ -1,8 +1,5 @@
 -- Whose boxes a step leaves as they were, and what of it came to pass before a fault.
-use Rattle.std.proofs.Common.{◌≡◌, sym, ap, ◌∙◌, subst, ℕ, List, [], ◌∷◌, ◌++◌, length}
-use Rattle.std.specs.Prelude.{◌≢◌, All, Option, Result, Ok, Err}
-use Rattle.std.specs.Result.{IsErr}
-use Rattle.std.proofs.lemmas.List.{append_assoc}
+use Rattle.std.proofs.Common.{◌≡◌, sym, ap, ◌∙◌, subst, ℕ, List, [], ◌∷◌, ◌++◌, length, ◌≢◌, All, Option, Result, Ok, Err, IsErr, append_assoc}
 use Rattle.std.proofs.lemmas.List.Elements.{filter_map-append}
 use Rattle.card_memory.proofs.uicc_types.MemberLemmas.{front_of, back_of}
 use Rattle.card_memory.specs.uicc_types.Counts.{raised_by}

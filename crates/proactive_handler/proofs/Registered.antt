@@ -1,6 +1,5 @@
 -- A registration of a table has a row on its shelf.
-use Rattle.std.proofs.Common.{◌≡◌, sym, subst, ℕ, true, List, [], map, get_or, Option}
-use Rattle.std.specs.Prelude.{IsSomeAnd, Contains, All}
+use Rattle.std.proofs.Common.{◌≡◌, sym, subst, ℕ, true, List, [], map, get_or, Option, IsSomeAnd, Contains, All}
 use Rattle.std.proofs.lemmas.List.Elements.{All-map, All-weaker, Contains-get_or}
 use Rattle.card_memory.specs.card_layout.declared.entries.Row.{Row}
 use Rattle.card_memory.specs.card_layout.declared.entries.Loaded.{Loaded}

@@ -1,7 +1,5 @@
 -- What a step of the toolkit needs of a scene, and what it keeps of it.
-use Rattle.std.proofs.Common.{◌∙◌, ap, subst}
-use Rattle.std.specs.Prelude.{◌≡◌, ℕ, List, Option, Result, Ok, Err, IsErrAnd}
-use Rattle.std.specs.Result.{IsErr}
+use Rattle.std.proofs.Common.{◌∙◌, ap, subst, ◌≡◌, ℕ, List, Option, Result, Ok, Err, IsErrAnd, IsErr}
 use Rattle.card_memory.specs.store_form.declared.store.StoreFault.{StoreFault}
 use Rattle.card_memory.specs.card_layout.declared.entries.Loaded.{Loaded}
 use Rattle.card_memory.specs.card_layout.Memory.{Memory, Keeps}

@@ -1,6 +1,5 @@
 -- Sessions whose applets can run, after what runs none of them.
-use Rattle.std.proofs.Common.{◌≡◌, sym, ap, ◌∙◌, subst, List, ◌++◌, Option}
-use Rattle.std.specs.Prelude.{◌≢◌, All, AllPairs}
+use Rattle.std.proofs.Common.{◌≡◌, sym, ap, ◌∙◌, subst, List, ◌++◌, Option, ◌≢◌, All, AllPairs}
 use Rattle.card_memory.specs.card_layout.declared.entries.Loaded.{Loaded}
 use Rattle.card_memory.specs.Model.{HasRowOn}
 use Rattle.toolkit_model.specs.Sessions.{Outstanding, Sent, LateTrigger, SessionState}

@@ -1,11 +1,9 @@
 -- The row of a shelf, in a table and among the registrations that its rows stand for.
-use Rattle.std.proofs.Common.{◌≡◌, refl, sym, ap, ◌∙◌, subst, ℕ, zero, suc, ◌<◌, ⊎_elim, inl, inr, ◌||◌, Bool, true, false, List, [], ◌∷◌, cond, map, length, get_or, Option, Some, None, arith}
-use Rattle.std.specs.Prelude.{◌==◌, ◌&&◌, ◌≢◌, ◌⊎◌, not, slice_get, slice_set, option_and_then, IsSome, IsSomeAnd, Contains, All, Ok}
+use Rattle.std.proofs.Common.{◌≡◌, refl, sym, ap, ◌∙◌, subst, ℕ, zero, suc, ◌<◌, ⊎_elim, inl, inr, ◌||◌, Bool, true, false, List, [], ◌∷◌, cond, map, length, get_or, Option, Some, None, arith, ◌==◌, ◌&&◌, ◌≢◌, ◌⊎◌, not, slice_get, slice_set, option_and_then, IsSome, IsSomeAnd, Contains, All, Ok, get_or-set_same, get_or-set_other, length-set}
 use Rattle.std.specs.List.{list_any}
 use Rattle.std.specs.Option.{option_map_or}
 use Rattle.std.proofs.lemmas.Bool.{true≢false, eqb-true, eqb-false}
 use Rattle.std.proofs.lemmas.Bool.Decides.{nat_tests}
-use Rattle.std.proofs.lemmas.List.{get_or-set_same, get_or-set_other, length-set}
 use Rattle.std.proofs.lemmas.List.Elements.{All-cons, Contains-append_right, Contains-append_cases}
 use Rattle.std.proofs.lemmas.Option.{get_or_from_slice_get, slice_get_within, slice_get-get_or}
 use Rattle.card_memory.specs.card_layout.declared.entries.Row.{Row}

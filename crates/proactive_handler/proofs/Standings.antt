@@ -1,7 +1,5 @@
 -- What stands after an act, from what its one commit left.
-use Rattle.std.proofs.Common.{◌≡◌, refl, sym, ap, ◌∙◌, subst, ⊎_elim, inl, inr, ℕ, List, Option, Some, None}
-use Rattle.std.specs.Prelude.{◌⊎◌, option_map, Result, Ok, Err}
-use Rattle.std.specs.Result.{IsErr}
+use Rattle.std.proofs.Common.{◌≡◌, refl, sym, ap, ◌∙◌, subst, ⊎_elim, inl, inr, ℕ, List, Option, Some, None, ◌⊎◌, option_map, Result, Ok, Err, IsErr}
 use Rattle.card_memory.specs.uicc_types.Counts.{raised}
 use Rattle.card_memory.specs.store_form.declared.store.StoreFault.{StoreFault}
 use Rattle.card_memory.specs.card_layout.declared.entries.Loaded.{Loaded}

@@ -1,13 +1,11 @@
 -- An event for one applet after the other.
-use Rattle.std.proofs.Common.{◌≡◌, refl, sym, ap, ◌∙◌, subst, ℕ, Bool, true, false, List, [], ◌∷◌, ◌++◌, map, length, cond, Option, None, arith}
-use Rattle.std.specs.Prelude.{◌≢◌, All, AllPairs, Result, Ok, Err}
+use Rattle.std.proofs.Common.{◌≡◌, refl, sym, ap, ◌∙◌, subst, ℕ, Bool, true, false, List, [], ◌∷◌, ◌++◌, map, length, cond, Option, None, arith, ◌≢◌, All, AllPairs, Result, Ok, Err, IsErr}
 use Rattle.std.proofs.lemmas.List.Elements.{All-head, All-map, All-tail, All-weaker}
 use Rattle.card_memory.proofs.uicc_types.PairLemmas.{pairs_head, pairs_tail}
 use Rattle.card_memory.specs.uicc_types.declared.identifiers.Shelf.{Shelf}
 use Rattle.card_memory.specs.card_layout.declared.entries.Loaded.{Loaded}
 use Rattle.card_memory.specs.Model.{HasRowOn}
 use Rattle.std.specs.Option.{option_or}
-use Rattle.std.specs.Result.{IsErr}
 use Rattle.card_memory.specs.store_form.declared.store.StoreFault.{StoreFault}
 use Rattle.toolkit_model.specs.applet_trait.declared.stimuli.Stimulus.TheVariants.{Event}
 use Rattle.toolkit_model.specs.Sessions.{SessionState}

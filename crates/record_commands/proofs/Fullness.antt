@@ -1,6 +1,5 @@
 -- A file with records has at least one.
-use Rattle.std.proofs.Common.{get_or, ◌≡◌, ℕ, ◌≤◌, true, false, length, subst}
-use Rattle.std.specs.Prelude.{◌==◌, IsTrue}
+use Rattle.std.proofs.Common.{get_or, ◌≡◌, ℕ, ◌≤◌, true, false, length, subst, ◌==◌, IsTrue}
 use Rattle.std.proofs.lemmas.List.Elements.{All-map}
 use Rattle.std.proofs.lemmas.Bool.{or_right}
 use Rattle.file_model.specs.card_layout.Kinds.{df_kind, transparent_kind, has_records}

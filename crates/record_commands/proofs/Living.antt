@@ -1,6 +1,5 @@
 -- A life cycle status that was told of a file leaves each selection lawful.
-use Rattle.std.proofs.Common.{◌≡◌, ℕ, Bool, true, false, cond, List, Option, Some, None, refl, sym, ap, ◌∙◌, subst}
-use Rattle.std.specs.Prelude.{◌==◌, ◌≤◌, IsTrue, IfSome, IsSomeAnd, if◌then◌else◌, option_map}
+use Rattle.std.proofs.Common.{◌≡◌, ℕ, Bool, true, false, cond, List, Option, Some, None, refl, sym, ap, ◌∙◌, subst, ◌==◌, ◌≤◌, IsTrue, IfSome, IsSomeAnd, if◌then◌else◌, option_map}
 use Rattle.file_model.proofs.uicc_types.FindingLemmas.{find-map, find_alike}
 use Rattle.file_model.specs.declared.descriptors.Descriptor.{Descriptor}
 use Rattle.file_model.specs.declared.descriptors.Wanted.TheVariants.{Number}

@@ -1,8 +1,6 @@
 -- Bytes that are looked for by the first of them.
-use Rattle.std.proofs.Common.{◌≡◌, ℕ, zero, suc, ◌+◌, ◌-◌, ◌<◌, ◌≤◌, Bool, true, false, List, [], ◌∷◌, length, take, drop, slice_index, refl, sym, ap, ◌∙◌, arith, Some, None, inl, inr}
-use Rattle.std.specs.Prelude.{◌==◌, ◌&&◌, ◌||◌}
+use Rattle.std.proofs.Common.{◌≡◌, ℕ, zero, suc, ◌+◌, ◌-◌, ◌<◌, ◌≤◌, Bool, true, false, List, [], ◌∷◌, length, take, drop, slice_index, refl, sym, ap, ◌∙◌, arith, Some, None, inl, inr, ◌==◌, ◌&&◌, ◌||◌, take-take, length-take-le, length-drop}
 use Rattle.std.specs.List.{starts_with}
-use Rattle.std.proofs.lemmas.List.{take-take, length-take-le, length-drop}
 use Rattle.std.proofs.lemmas.Bool.{eqb-true, eq-eqb, and_right, or_from, ne_eqb, cases_lt}
 use lib.Pointwise.{pointwise}
 use Rattle.memchr.specs.Find.{IsFirstByte, is_byte}

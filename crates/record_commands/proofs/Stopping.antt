@@ -1,6 +1,5 @@
 -- What an UPDATE RECORD, an INCREASE or a change of the life cycle passes, and what stands where a fault stops it.
-use Rattle.std.proofs.Common.{◌≡◌, ℕ, Bool, true, false, cond, List, [], ◌∷◌, Option, Some, refl, sym, ap, ◌∙◌, subst, inl, inr, arith}
-use Rattle.std.specs.Prelude.{◌⊎◌, ◌==◌, not, IsSomeAnd, Contains, Result, Ok}
+use Rattle.std.proofs.Common.{◌≡◌, ℕ, Bool, true, false, cond, List, [], ◌∷◌, Option, Some, refl, sym, ap, ◌∙◌, subst, inl, inr, arith, ◌⊎◌, ◌==◌, not, IsSomeAnd, Contains, Result, Ok}
 use Rattle.file_model.specs.uicc_types.declared.answers.StatusWord.{StatusWord}
 use Rattle.file_model.specs.uicc_types.declared.answers.TheConstants.StatusWord.{SECURITY_NOT_SATISFIED}
 use Rattle.file_model.specs.store_form.declared.store.StoreFault.{StoreFault}

@@ -1,6 +1,5 @@
 -- The file that a command works on: it has records, and the record pointer lies in it.
-use Rattle.std.proofs.Common.{◌≡◌, ℕ, ◌≤◌, Bool, true, false, List, Option, sym, subst}
-use Rattle.std.specs.Prelude.{IsTrue, IfSome, IsSomeAnd, ◌&&◌, ◌||◌, not, nat_le}
+use Rattle.std.proofs.Common.{◌≡◌, ℕ, ◌≤◌, Bool, true, false, List, Option, sym, subst, IsTrue, IfSome, IsSomeAnd, ◌&&◌, ◌||◌, not, nat_le}
 use Rattle.std.proofs.lemmas.List.Elements.{All-contains}
 use Rattle.file_model.proofs.uicc_types.FindingLemmas.{find_Some}
 use Rattle.file_model.specs.card_layout.Kinds.{has_records}

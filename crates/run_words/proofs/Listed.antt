@@ -1,6 +1,5 @@
 -- A list of words, word by word.
-use Rattle.std.proofs.Common.{◌≡◌, ℕ, ◌-◌, ◌≤◌, List, [], ◌∷◌, map, length, take, drop, ap, ◌∙◌, arith, slice_index_or}
-use Rattle.std.proofs.lemmas.List.{take_all}
+use Rattle.std.proofs.Common.{◌≡◌, ℕ, ◌-◌, ◌≤◌, List, [], ◌∷◌, map, length, take, drop, ap, ◌∙◌, arith, slice_index_or, take_all}
 
 -- the word at a place
 abbrev At : {A B : Type 0} → (A → B) → List A → ℕ → A → B → Type 0

@@ -1,8 +1,7 @@
 -- The words of options are read in one way, and are at most six.
-use Rattle.std.proofs.Common.{◌≡◌, inl, inr, ℕ, ◌+◌, ◌*◌, ◌≤◌, ◌<◌, ◌-◌, List, [], ◌∷◌, length, map, take, drop, refl, sym, ap, ◌∙◌, subst, arith}
+use Rattle.std.proofs.Common.{◌≡◌, inl, inr, ℕ, ◌+◌, ◌*◌, ◌≤◌, ◌<◌, ◌-◌, List, [], ◌∷◌, length, map, take, drop, refl, sym, ap, ◌∙◌, subst, arith, codes, Option, Some, None}
 use Rattle.std.proofs.lemmas.List.{length-map, take_all}
 use Rattle.std.specs.Cmp.Lexicographic.{other_text}
-use Rattle.std.specs.Prelude.{codes, Option, Some, None}
 use Rattle.script_form.specs.Reads.{IsOnly, Reads}
 use Rattle.run_words.specs.Model.{AreChosen}
 use Rattle.run_words.specs.OptionForms.{AddsOption, AddsStore, AreOptions, devices_of, without_options}

@@ -1,7 +1,6 @@
 -- What the words of a command and its options ask for.
-use Rattle.std.proofs.Common.{◌≡◌, ℕ, List, [], ◌∷◌, refl, sym, ap, ◌∙◌, subst}
+use Rattle.std.proofs.Common.{◌≡◌, ℕ, List, [], ◌∷◌, refl, sym, ap, ◌∙◌, subst, codes, Option, Some, None, option_map}
 use Rattle.std.specs.Cmp.Lexicographic.{other_text}
-use Rattle.std.specs.Prelude.{codes, Option, Some, None, option_map}
 use Rattle.script_form.specs.Reads.{IsOnly, Reads}
 use Rattle.script_form.specs.Values.{IsNumber}
 use Rattle.run_words.specs.Model.{AreChosen, IsBipWord, IsCommand, IsLoadWord, IsNamed, IsNamedWith, IsRequest, length_of, transport_of}

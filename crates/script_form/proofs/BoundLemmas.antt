@@ -1,6 +1,5 @@
--- The bounds that the values of script lines keep to.
-use Rattle.std.specs.Prelude.{◌≡◌, ℕ, ◌*◌, ◌≤◌, Bool, true, false, List, [], ◌∷◌, length, Option, Some, None, MatchBool}
-use Rattle.std.proofs.Common.{arith, lit≤, refl}
+-- What a line says keeps to its bounds.
+use Rattle.std.proofs.Common.{◌≡◌, ℕ, ◌*◌, ◌≤◌, Bool, true, false, List, [], ◌∷◌, length, Option, Some, None, MatchBool, arith, lit≤, refl}
 use Rattle.uicc_types.specs.declared.identifiers.FileId.{FileId}
 use Rattle.script_form.specs.declared.handset.HandsetLine.TheVariants.{UserOk, UserEnd, UserBack, UserNone, UserPick, UserPress, UserIdle, UserDial, NetPlace, NetPoll, Time}
 use Rattle.script_form.specs.declared.keywords.Keyword.{Keyword}

@@ -1,6 +1,5 @@
 -- The word of an access rule: what stands before its colon, and what behind it.
-use Rattle.std.proofs.Common.{◌≡◌, ℕ, ◌+◌, ◌<◌, ◌≤◌, List, [], ◌∷◌, ◌++◌, length, take, get_or, Option, Some, None, refl, sym, ap, ◌∙◌, arith}
-use Rattle.std.specs.Prelude.{codes}
+use Rattle.std.proofs.Common.{◌≡◌, ℕ, ◌+◌, ◌<◌, ◌≤◌, List, [], ◌∷◌, ◌++◌, length, take, get_or, Option, Some, None, refl, sym, ap, ◌∙◌, arith, codes}
 use Rattle.std.proofs.lemmas.List.{append_cancel_left, length-append, take_at}
 use Rattle.hex.proofs.HexLemmas.{decode_of-ok}
 use Rattle.uicc_types.specs.declared.identifiers.FileId.{FileId}

@@ -1,6 +1,5 @@
 -- The forms of lines, worked out on a few.
-use Rattle.std.proofs.Common.{◌≡◌, [], ◌∷◌, ◌++◌, lit<, lit≤, refl, sym}
-use Rattle.std.specs.Prelude.{codes}
+use Rattle.std.proofs.Common.{◌≡◌, [], ◌∷◌, ◌++◌, lit<, lit≤, refl, sym, codes}
 use Rattle.std.proofs.lemmas.Fmt.{decimal_digit}
 use Rattle.hex.specs.Hex.{decode_pairs, encode_with}
 use Rattle.script_form.specs.declared.handset.HandsetLine.TheVariants.{UserDial, UserType}

@@ -1,8 +1,5 @@
 -- What is kept of a scene in which an applet is deleted.
-use Rattle.std.proofs.Common.{◌≡◌, sym, ap, ◌∙◌, subst, ℕ, List, Option, None}
-use Rattle.std.specs.Prelude.{◌≢◌, Result, Ok, Err, IsErrAnd}
-use Rattle.std.specs.Result.{IsErr}
-use Rattle.std.proofs.lemmas.List.{get_or-set_other}
+use Rattle.std.proofs.Common.{◌≡◌, sym, ap, ◌∙◌, subst, ℕ, List, Option, None, ◌≢◌, Result, Ok, Err, IsErrAnd, IsErr, get_or-set_other}
 use Rattle.file_model.specs.store_form.declared.store.StoreFault.{StoreFault}
 use Rattle.file_model.specs.card_layout.declared.entries.Loaded.{Loaded}
 use Rattle.file_model.specs.card_layout.Memory.{IsMounted, Keeps}

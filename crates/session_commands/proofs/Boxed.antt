@@ -1,7 +1,5 @@
 -- The box on a shelf, in which the applet is another or in another state.
-use Rattle.std.proofs.Common.{◌≡◌, sym, ap, ◌∙◌, ℕ, ◌<◌, set, List, get_or, Option, None}
-use Rattle.std.specs.Prelude.{length}
-use Rattle.std.specs.Option.{option_map}
+use Rattle.std.proofs.Common.{◌≡◌, sym, ap, ◌∙◌, ℕ, ◌<◌, set, List, get_or, Option, None, length, option_map}
 use Rattle.std.proofs.lemmas.List.{map-set, get_or-map}
 use Rattle.toolkit_model.specs.applet_trait.Minds.{AppletState, minds_of}
 use Rattle.toolkit_model.specs.Running.{mind_on, with_mind}

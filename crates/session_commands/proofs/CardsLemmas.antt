@@ -1,6 +1,5 @@
 -- What a command of the toolkit makes of a card, be the bytes of its store told or not.
-use Rattle.std.proofs.Common.{◌≡◌, refl, sym, ap, ◌∙◌, subst, ℕ, List, Some, arith}
-use Rattle.std.specs.Prelude.{length, map, option_map, Result, Ok, Err}
+use Rattle.std.proofs.Common.{◌≡◌, refl, sym, ap, ◌∙◌, subst, ℕ, List, Some, arith, length, map, option_map, Result, Ok, Err}
 use Rattle.std.proofs.lemmas.List.{length-map}
 use Rattle.file_model.specs.uicc_types.declared.answers.Answer.{Answer}
 use Rattle.file_model.specs.uicc_types.declared.answers.StatusWord.{StatusWord}

@@ -1,6 +1,5 @@
 -- What a step of the toolkit over a card's memory is to a card, whatever card it may be.
-use Rattle.std.proofs.Common.{◌≡◌, refl, sym, ap, ◌∙◌, subst, ⊎_elim, inl, inr, ℕ, zero, suc, ◌+◌, ◌<◌, List, [], ◌∷◌, map, Option, Some, None, arith}
-use Rattle.std.specs.Prelude.{◌⊎◌, length, slice_index_or, option_map, Result, Ok, Err}
+use Rattle.std.proofs.Common.{◌≡◌, refl, sym, ap, ◌∙◌, subst, ⊎_elim, inl, inr, ℕ, zero, suc, ◌+◌, ◌<◌, List, [], ◌∷◌, map, Option, Some, None, arith, ◌⊎◌, length, slice_index_or, option_map, Result, Ok, Err}
 use Rattle.std.specs.List.{last_or}
 use Rattle.std.proofs.lemmas.List.{get_or-map}
 use Rattle.file_model.specs.store_form.declared.store.StoreFault.{StoreFault}

@@ -1,10 +1,7 @@
 -- A row that goes, and what goes with it.
-use Rattle.std.proofs.Common.{◌≡◌, refl, sym, ap, ◌∙◌, subst, ⊎_elim, inl, inr, ℕ, zero, suc, ◌<◌, Bool, true, false, List, [], ◌∷◌, map, Option, Some, None, arith}
-use Rattle.std.specs.Prelude.{◌≢◌, ◌⊎◌, ◌==◌, ◌&&◌, not, nat_le, option_map, AllPairs, Contains, slice_set, Result, Ok, Err}
-use Rattle.std.specs.Result.{IsErr}
+use Rattle.std.proofs.Common.{◌≡◌, refl, sym, ap, ◌∙◌, subst, ⊎_elim, inl, inr, ℕ, zero, suc, ◌<◌, Bool, true, false, List, [], ◌∷◌, map, Option, Some, None, arith, ◌≢◌, ◌⊎◌, ◌==◌, ◌&&◌, not, nat_le, option_map, AllPairs, Contains, slice_set, Result, Ok, Err, IsErr, eqb-true}
 use Rattle.std.proofs.lemmas.Bool.Decides.{nat_tests}
 use Rattle.std.proofs.lemmas.List.{map-set, get_or-set_other}
-use Rattle.std.proofs.lemmas.Bool.{eqb-true}
 use Rattle.file_model.proofs.uicc_types.FindingLemmas.{find_Some}
 use Rattle.file_model.specs.uicc_types.declared.answers.StatusWord.{StatusWord}
 use Rattle.file_model.specs.uicc_types.declared.answers.TheConstants.StatusWord.{WRONG_LENGTH, WRONG_PARAMETERS, SECURITY_NOT_SATISFIED}
@@ -30,7 +27,7 @@ use Rattle.toolkit_model.specs.declared.faults.RowFault.TheVariants.{NoRow, NotI
 use Rattle.toolkit_model.specs.Registry.{unless_missing, faulty_if, is_on, row_on, without_row, deleted_row}
 use Rattle.toolkit_model.specs.Running.{mind_on, with_mind}
 use Rattle.toolkit_model.specs.Driving.{driven}
-use Rattle.toolkit_model.specs.Commands.{unregistering, row_deleted}
+use Rattle.toolkit_model.specs.Commands.{unregistering, delete_carried}
 use Rattle.proactive_handler.specs.Boxes.{kinds_of}
 use Rattle.proactive_handler.proofs.Joining.{both_done, second_stops}
 use Rattle.proactive_handler.specs.Moved.{HasRowsOf}
@@ -140,18 +137,18 @@ rows_without law old new shelf ascend is = is ∙ law (rows_alone old) shelf asc
 -- ---- and then the end of the command
 
 module _ (shelf : ℕ) (old mid : Scene) where
-  pub removed_stops : {X : Type 0} (r : Result X StoreFault) → IsErr r → StopsAt (rows_of old.memory.table ∷ passed_rows (unregistering shelf (toolkit old)).log) old.memory mid.memory → MovesTo (row_deleted shelf (toolkit old)) old mid r
-  unfolding row_deleted
+  pub removed_stops : {X : Type 0} (r : Result X StoreFault) → IsErr r → StopsAt (rows_of old.memory.table ∷ passed_rows (unregistering shelf (toolkit old)).log) old.memory mid.memory → MovesTo (delete_carried shelf (toolkit old)) old mid r
+  unfolding delete_carried
   removed_stops r err stop = step_stops (unregistering shelf (toolkit old)) driven old mid r err stop
 
-  pub removed_done : (new : Scene) → IsDone (unregistering shelf (toolkit old)) old mid → IsDone (driven (toolkit mid)) mid new → IsDone (row_deleted shelf (toolkit old)) old new
-  unfolding row_deleted
+  pub removed_done : (new : Scene) → IsDone (unregistering shelf (toolkit old)) old mid → IsDone (driven (toolkit mid)) mid new → IsDone (delete_carried shelf (toolkit old)) old new
+  unfolding delete_carried
   removed_done new done last = both_done (unregistering shelf (toolkit old)) driven old mid new done last
 
   -- a fault stopped the end, whatever became of the minds
   pub removed_then_stops : (new : Scene) → IsDone (unregistering shelf (toolkit old)) old mid → StopsAt (rows_of mid.memory.table ∷ passed_rows (driven (toolkit mid)).log) mid.memory new.memory
-      → StopsAt (rows_of old.memory.table ∷ passed_rows (row_deleted shelf (toolkit old)).log) old.memory new.memory
-  unfolding row_deleted
+      → StopsAt (rows_of old.memory.table ∷ passed_rows (delete_carried shelf (toolkit old)).log) old.memory new.memory
+  unfolding delete_carried
   removed_then_stops new done stop = second_stops (unregistering shelf (toolkit old)) driven old mid new done stop
 
 -- ---- the boxes, where a fault stopped it

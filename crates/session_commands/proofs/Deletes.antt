@@ -1,6 +1,5 @@
 -- DELETE, as it is to each card that it may come to.
-use Rattle.std.proofs.Common.{◌≡◌, sym, ap, ◌∙◌, subst, ℕ, ◌<◌, Bool, true, List, []}
-use Rattle.std.specs.Prelude.{Ok, Err}
+use Rattle.std.proofs.Common.{◌≡◌, sym, ap, ◌∙◌, subst, ℕ, ◌<◌, Bool, true, List, [], Ok, Err}
 use Rattle.file_model.proofs.uicc_types.NumberedLemmas.{mapped_too}
 use Rattle.file_model.specs.uicc_types.declared.answers.StatusWord.{StatusWord}
 use Rattle.file_model.specs.apdu_form.Model.{Apdu}
@@ -13,7 +12,7 @@ use Rattle.proactive_handler.specs.card_memory.Model.{HasRowOn}
 use Rattle.toolkit_model.specs.Sessions.{Sent, SessionState}
 use Rattle.toolkit_model.specs.Orderly.{asks, IsRegistered}
 use Rattle.toolkit_model.specs.Driving.{is_idle}
-use Rattle.toolkit_model.specs.Commands.{row_deleted}
+use Rattle.toolkit_model.specs.Commands.{delete_carried}
 use Rattle.card_model.specs.States.{CardState}
 use Rattle.card_model.specs.Toolkit.{toolkit_of, coming_to, applet_deleted}
 use Rattle.proactive_handler.specs.Steps.{Scene}
@@ -32,10 +31,10 @@ module _ (card : CardState) (old : Scene) (has : HasToolkit old card) (seen : Ve
   pub delete_not : (status : StatusWord) → delete_tried (rows_of old.memory.table) (is_idle (asks old.session) apdu.p2) seen apdu ≡ Err status → applet_deleted card seen apdu ≡ Err status
   delete_not status is = delete_refused card seen apdu status (card_tried ∙ is)
 
-  pub delete_at : IsAllowed (rows_of old.memory.table) (is_idle (asks old.session) apdu.p2) seen apdu → applet_deleted card seen apdu ≡ Ok (coming_to card [] (row_deleted apdu.p2 (toolkit_of card)))
+  pub delete_at : IsAllowed (rows_of old.memory.table) (is_idle (asks old.session) apdu.p2) seen apdu → applet_deleted card seen apdu ≡ Ok (coming_to card [] (delete_carried apdu.p2 (toolkit_of card)))
   delete_at allowed =
       delete_goes card seen apdu allowed.row (card_tried ∙ allowed.goes)
-      ∙ ap (λ (n : ℕ). Ok (coming_to card [] (row_deleted n (toolkit_of card)))) (may_go (rows_of old.memory.table) (is_idle (asks old.session) apdu.p2) seen apdu allowed.row allowed.goes).on_it
+      ∙ ap (λ (n : ℕ). Ok (coming_to card [] (delete_carried n (toolkit_of card)))) (may_go (rows_of old.memory.table) (is_idle (asks old.session) apdu.p2) seen apdu allowed.row allowed.goes).on_it
 
 row_at : RowsComeFromEntries → StatesAreOfTables → (table : Loaded) (idle : Bool) (seen : Verified) (apdu : Apdu) → IsAllowed (rows_of table) idle seen apdu → (shelf : ℕ) → shelf ≡ apdu.p2 → HasRowOn table shelf
 row_at come tables table idle seen apdu allowed shelf same =

@@ -1,7 +1,5 @@
 -- A step, and then the end of the command.
-use Rattle.std.proofs.Common.{◌∷◌}
-use Rattle.std.specs.Prelude.{Result, Ok, Err}
-use Rattle.std.specs.Result.{IsErr}
+use Rattle.std.proofs.Common.{◌∷◌, Result, Ok, Err, IsErr}
 use Rattle.file_model.specs.store_form.declared.store.StoreFault.{StoreFault}
 use Rattle.file_model.specs.card_layout.States.{rows_of}
 use Rattle.toolkit_model.specs.Passing.{ToolkitState, Passed, before, passed_rows}

@@ -1,6 +1,5 @@
 -- The entries of a table in which one row is another, and what stays of its session.
-use Rattle.std.proofs.Common.{◌≡◌, refl, sym, ap, subst, ℕ, zero, suc, true, List, [], ◌∷◌, Option, None, arith}
-use Rattle.std.specs.Prelude.{◌≢◌, map, slice_get, slice_set, All, Contains, IsSomeAnd}
+use Rattle.std.proofs.Common.{◌≡◌, refl, sym, ap, subst, ℕ, zero, suc, true, List, [], ◌∷◌, Option, None, arith, ◌≢◌, map, slice_get, slice_set, All, Contains, IsSomeAnd}
 use Rattle.std.proofs.lemmas.List.Elements.{All-head, All-tail, All-weaker}
 use Rattle.file_model.specs.card_layout.declared.entries.Row.{Row}
 use Rattle.file_model.specs.card_layout.declared.entries.Loaded.{Loaded}

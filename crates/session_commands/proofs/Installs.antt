@@ -1,7 +1,5 @@
 -- INSTALL, as it is to each card that it may come to.
-use Rattle.std.proofs.Common.{◌≡◌, sym, ap, ◌∙◌, subst, ℕ, ◌+◌, ◌<◌, ◌≤◌, true, false, List, [], Option, Some}
-use Rattle.std.specs.Prelude.{All, IfSome, Result, Ok, Err}
-use Rattle.std.specs.Result.{IsErr}
+use Rattle.std.proofs.Common.{◌≡◌, sym, ap, ◌∙◌, subst, ℕ, ◌+◌, ◌<◌, ◌≤◌, true, false, List, [], Option, Some, All, IfSome, Result, Ok, Err, IsErr}
 use Rattle.file_model.specs.uicc_types.declared.answers.StatusWord.{StatusWord}
 use Rattle.file_model.specs.apdu_form.Model.{Apdu}
 use Rattle.file_model.specs.declared.rules.Verified.{Verified}

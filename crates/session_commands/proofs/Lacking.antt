@@ -1,6 +1,5 @@
 -- Where a shelf has no row, applets that run leave it without one.
-use Rattle.std.proofs.Common.{◌≡◌, refl, sym, ap, ◌∙◌, ℕ, zero, suc, Bool, true, false, cond, List, [], ◌∷◌, Option, Some, None, arith}
-use Rattle.std.specs.Prelude.{◌≢◌, ◌==◌, not, nat_le, length, filter, slice_set, option_map, Result, Ok, Err}
+use Rattle.std.proofs.Common.{◌≡◌, refl, sym, ap, ◌∙◌, ℕ, zero, suc, Bool, true, false, cond, List, [], ◌∷◌, Option, Some, None, arith, ◌≢◌, ◌==◌, not, nat_le, length, filter, slice_set, option_map, Result, Ok, Err}
 use Rattle.std.proofs.lemmas.Bool.Decides.{nat_tests}
 use Rattle.std.proofs.lemmas.List.{map-set}
 use Rattle.std.proofs.lemmas.List.Elements.{All-nil, All-cons, All-head, All-tail}
@@ -20,7 +19,7 @@ use Rattle.toolkit_model.specs.Orderly.{asks}
 use Rattle.toolkit_model.specs.Registry.{is_on, with_changed, with_code, without_code, registers, deregisters, without_row}
 use Rattle.toolkit_model.specs.Passing.{ToolkitState, Passed}
 use Rattle.toolkit_model.specs.Running.{Setting, Works, Carried, Ran, changing, taking, carried, is_admitted, is_held_by, admitted, going_on, run_on, most_acts, mind_on, works_of, setting_of, run_of_mind, run_of_row}
-use Rattle.toolkit_model.specs.Driving.{first_idle, catching, caught_up, session_filled, driven}
+use Rattle.toolkit_model.specs.Driving.{first_idle, catching, caught_up, with_next_command, driven}
 use Rattle.proactive_handler.specs.Boxes.{kinds_of}
 use Rattle.session_commands.specs.Deleting.{HasNoRow}
 
@@ -104,8 +103,8 @@ module _ (shelf : ℕ) where
   caught_lacks zero state lacks = lacks
   caught_lacks (suc count) state lacks = catching_lacks (caught_up count) (λ later there. caught_lacks count later there) state (first_idle (asks state.session) state.session.late) lacks
 
-  settled_lacks : (state : ToolkitState) → Lacks state.rows → Lacks (session_filled state).rows
-  unfolding session_filled
+  settled_lacks : (state : ToolkitState) → Lacks state.rows → Lacks (with_next_command state).rows
+  unfolding with_next_command
   settled_lacks state lacks = lacks
 
   pub driven_lacks : (state : ToolkitState) → Lacks state.rows → Lacks (driven state).state.rows

@@ -1,6 +1,5 @@
 -- An envelope, as it is to each card that it may come to.
-use Rattle.std.proofs.Common.{◌≡◌, sym, ap, ◌∙◌, ℕ, Bool, List, Option}
-use Rattle.std.specs.Prelude.{length}
+use Rattle.std.proofs.Common.{◌≡◌, sym, ap, ◌∙◌, ℕ, Bool, List, Option, length}
 use Rattle.toolkit_model.specs.toolkit_commands.declared.envelopes.Envelope.{Envelope}
 use Rattle.toolkit_model.specs.Orderly.{asks}
 use Rattle.toolkit_model.specs.Passing.{ToolkitState}

@@ -1,6 +1,5 @@
 -- A card between two commands: its applets can run, and what a refusal keeps of it.
-use Rattle.std.proofs.Common.{◌≡◌, refl, sym, ap, ◌∙◌, List, Option, arith}
-use Rattle.std.specs.Prelude.{◌≢◌, Ok}
+use Rattle.std.proofs.Common.{◌≡◌, refl, sym, ap, ◌∙◌, List, Option, arith, ◌≢◌, Ok}
 use Rattle.file_model.proofs.uicc_types.CallLemmas.{calm_same}
 use Rattle.file_model.specs.uicc_types.declared.answers.Answer.{Answer}
 use Rattle.file_model.specs.uicc_types.declared.answers.StatusWord.{StatusWord}

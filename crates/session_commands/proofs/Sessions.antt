@@ -1,6 +1,5 @@
 -- FETCH and TERMINAL RESPONSE, of a session.
-use Rattle.std.proofs.Common.{◌≡◌, refl, sym, ap, ◌∙◌, subst, ℕ, true, List, Option, Some, None}
-use Rattle.std.specs.Prelude.{length, is_some, IfSome, option_map, Ok, Err}
+use Rattle.std.proofs.Common.{◌≡◌, refl, sym, ap, ◌∙◌, subst, ℕ, true, List, Option, Some, None, length, is_some, IfSome, option_map, Ok, Err}
 use Rattle.file_model.specs.uicc_types.declared.answers.StatusWord.{StatusWord}
 use Rattle.file_model.specs.apdu_form.Model.{Apdu}
 use Rattle.file_model.specs.card_layout.Memory.{held}

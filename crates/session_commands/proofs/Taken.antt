@@ -1,6 +1,5 @@
 -- The tests of each command come to its refusals, in their order; what passes them is carried out.
-use Rattle.std.proofs.Common.{◌≡◌, refl, sym, ap, ◌∙◌, ℕ, ◌+◌, Bool, true, false, not, List, [], Option, Some, None}
-use Rattle.std.specs.Prelude.{◌==◌, ◌&&◌, ◌||◌, nat_le, length, is_some, option_map, unwrap_or, Result, Ok, Err}
+use Rattle.std.proofs.Common.{◌≡◌, refl, sym, ap, ◌∙◌, ℕ, ◌+◌, Bool, true, false, not, List, [], Option, Some, None, ◌==◌, ◌&&◌, ◌||◌, nat_le, length, is_some, option_map, unwrap_or, Result, Ok, Err}
 use Rattle.file_model.specs.uicc_types.declared.answers.StatusWord.{StatusWord}
 use Rattle.file_model.specs.uicc_types.declared.answers.TheConstants.StatusWord.{WRONG_LENGTH, WRONG_PARAMETERS, WRONG_DATA, CONDITIONS_NOT_SATISFIED, SECURITY_NOT_SATISFIED, TOOLKIT_BUSY}
 use Rattle.file_model.specs.apdu_form.Model.{Apdu}
@@ -20,7 +19,7 @@ use Rattle.toolkit_model.specs.Sessions.{Outstanding}
 use Rattle.toolkit_model.specs.Orderly.{asks}
 use Rattle.toolkit_model.specs.Driving.{is_idle}
 use Rattle.toolkit_model.specs.Registry.{installed_row, deleted_row}
-use Rattle.toolkit_model.specs.Commands.{profiled, enveloped, is_busy, call_data, unfetched, unanswered, pending, command_bytes, fetched, responded, installed, row_deleted}
+use Rattle.toolkit_model.specs.Commands.{profiled, enveloped, is_busy, call_data, unfetched, unanswered, pending, command_bytes, fetched, responded, installed, delete_carried}
 use Rattle.card_model.specs.States.{CardState}
 use Rattle.card_model.specs.Toolkit.{ToolkitOutcome, toolkit_of, coming_to, has_shelf, row_or_status, kind_in, profile_taken, command_fetched, response_taken, envelope_taken, applet_installed, applet_deleted}
 use Rattle.session_commands.specs.Trying.{data_tried, fetch_tried, response_given, response_tried, envelope_given, envelope_tried, install_tried, delete_tried}
@@ -209,16 +208,16 @@ install_refused card seen apdu status is = install_is card seen apdu ∙ refused
 pub install_goes : (card : CardState) (seen : Verified) (apdu : Apdu) (row : Registration) → install_tried card.persistent (kind_in card apdu.p2) seen apdu ≡ Ok row → applet_installed card seen apdu ≡ Ok (installed_by card row)
 install_goes card seen apdu row is = install_is card seen apdu ∙ goes_then (install_tried card.persistent (kind_in card apdu.p2) seen apdu) (λ r. Ok (installed_by card r)) row is
 
-delete_is : (card : CardState) (seen : Verified) (apdu : Apdu) → applet_deleted card seen apdu ≡ and_given (delete_tried card.persistent.rows (is_idle (asks card.session) apdu.p2) seen apdu) (λ row. Ok (coming_to card [] (row_deleted row.shelf (toolkit_of card))))
+delete_is : (card : CardState) (seen : Verified) (apdu : Apdu) → applet_deleted card seen apdu ≡ and_given (delete_tried card.persistent.rows (is_idle (asks card.session) apdu.p2) seen apdu) (λ row. Ok (coming_to card [] (delete_carried row.shelf (toolkit_of card))))
 unfolding applet_deleted delete_tried
 delete_is card seen apdu =
-    three_then (not (apdu.p1 == 0x00 && has_shelf apdu)) (not (has_no_data apdu)) (not seen.adm1) (row_or_status (deleted_row card.persistent.rows apdu.p2 (is_idle (asks card.session) apdu.p2))) (λ row. Ok (coming_to card [] (row_deleted row.shelf (toolkit_of card))))
+    three_then (not (apdu.p1 == 0x00 && has_shelf apdu)) (not (has_no_data apdu)) (not seen.adm1) (row_or_status (deleted_row card.persistent.rows apdu.p2 (is_idle (asks card.session) apdu.p2))) (λ row. Ok (coming_to card [] (delete_carried row.shelf (toolkit_of card))))
 
 pub delete_refused : (card : CardState) (seen : Verified) (apdu : Apdu) (status : StatusWord) → delete_tried card.persistent.rows (is_idle (asks card.session) apdu.p2) seen apdu ≡ Err status → applet_deleted card seen apdu ≡ Err status
 delete_refused card seen apdu status is =
-    delete_is card seen apdu ∙ refused_then (delete_tried card.persistent.rows (is_idle (asks card.session) apdu.p2) seen apdu) (λ row. Ok (coming_to card [] (row_deleted row.shelf (toolkit_of card)))) status is
+    delete_is card seen apdu ∙ refused_then (delete_tried card.persistent.rows (is_idle (asks card.session) apdu.p2) seen apdu) (λ row. Ok (coming_to card [] (delete_carried row.shelf (toolkit_of card)))) status is
 
 pub delete_goes : (card : CardState) (seen : Verified) (apdu : Apdu) (row : Registration) → delete_tried card.persistent.rows (is_idle (asks card.session) apdu.p2) seen apdu ≡ Ok row
-    → applet_deleted card seen apdu ≡ Ok (coming_to card [] (row_deleted row.shelf (toolkit_of card)))
+    → applet_deleted card seen apdu ≡ Ok (coming_to card [] (delete_carried row.shelf (toolkit_of card)))
 delete_goes card seen apdu row is =
-    delete_is card seen apdu ∙ goes_then (delete_tried card.persistent.rows (is_idle (asks card.session) apdu.p2) seen apdu) (λ r. Ok (coming_to card [] (row_deleted r.shelf (toolkit_of card)))) row is
+    delete_is card seen apdu ∙ goes_then (delete_tried card.persistent.rows (is_idle (asks card.session) apdu.p2) seen apdu) (λ r. Ok (coming_to card [] (delete_carried r.shelf (toolkit_of card)))) row is

@@ -1,6 +1,5 @@
 -- The applets that an event or an envelope triggers: their rows are there, and they are different ones.
-use Rattle.std.proofs.Common.{◌≡◌, refl, sym, ap, ◌∙◌, subst, ℕ, zero, suc, ◌+◌, ◌-◌, ◌<◌, Bool, true, false, not, cond, List, [], ◌∷◌, map, get_or, Option, Some, None, arith}
-use Rattle.std.specs.Prelude.{◌≢◌, ◌≤◌, ◌==◌, ◌&&◌, ◌||◌, nat_lt, length, filter, find, slice_get, slice_index_or, All, AllPairs, Contains, IfSome, option_and_then}
+use Rattle.std.proofs.Common.{◌≡◌, refl, sym, ap, ◌∙◌, subst, ℕ, zero, suc, ◌+◌, ◌-◌, ◌<◌, Bool, true, false, not, cond, List, [], ◌∷◌, map, get_or, Option, Some, None, arith, ◌≢◌, ◌≤◌, ◌==◌, ◌&&◌, ◌||◌, nat_lt, length, filter, find, slice_get, slice_index_or, All, AllPairs, Contains, IfSome, option_and_then}
 use Rattle.std.specs.Option.{option_map_or}
 use Rattle.std.proofs.lemmas.Bool.Decides.{nat_tests}
 use Rattle.std.proofs.lemmas.List.Elements.{All-nil, All-cons, All-map, Contains-get_or, filter_agree}

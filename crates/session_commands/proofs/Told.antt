@@ -1,7 +1,5 @@
 -- What is told to applets, and where it begins: with a profile, at a STATUS, and by an envelope.
-use Rattle.std.proofs.Common.{◌≡◌, refl, sym, ap, ◌∙◌, subst, ℕ, ◌+◌, ◌-◌, Bool, true, false, not, cond, List, [], ◌++◌, Option, Some, arith}
-use Rattle.std.specs.Prelude.{◌≤◌, ◌&&◌, ◌||◌, nat_lt, length, filter, Result, Ok, Err}
-use Rattle.std.specs.Result.{IsErr}
+use Rattle.std.proofs.Common.{◌≡◌, refl, sym, ap, ◌∙◌, subst, ℕ, ◌+◌, ◌-◌, Bool, true, false, not, cond, List, [], ◌++◌, Option, Some, arith, ◌≤◌, ◌&&◌, ◌||◌, nat_lt, length, filter, Result, Ok, Err, IsErr}
 use Rattle.std.proofs.lemmas.Bool.Decides.{nat_tests}
 use Rattle.file_model.specs.store_form.declared.store.StoreFault.{StoreFault}
 use Rattle.file_model.specs.store_form.declared.store.StoreFault.TheVariants.{Failed}

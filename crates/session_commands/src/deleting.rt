@@ -1,7 +1,7 @@
 //! DELETE, which this card has of its own.
 ghost use Rattle.std.specs.Prelude.{◌≡◌, ◌≢◌, ◌⊎◌, ◌==◌, ◌&&◌, ℕ, OnOk, IfErr};
 ghost use Rattle.file_model.specs.card_layout.States.{rows_of};
-ghost use Rattle.toolkit_model.specs.Commands.{unregistering, row_deleted};
+ghost use Rattle.toolkit_model.specs.Commands.{unregistering, delete_carried};
 ghost use Rattle.toolkit_model.specs.Driving.{is_idle};
 ghost use Rattle.toolkit_model.specs.Orderly.{asks};
 ghost use Rattle.proactive_handler.specs.Boxes.{kinds_of, IsSameBox, AreForOthers};
@@ -106,7 +106,7 @@ fn remove<S: Store, B: Applet>(
         (scene (memory S.Store store.old loaded.old) index.old session.old (minds_of B.mind cast.old)) cast.old }
     requires may_go { MayGo
         (scene (memory S.Store store.old loaded.old) index.old session.old (minds_of B.mind cast.old)) shelf.0 }
-    ensures moves { Moves (row_deleted shelf.0)
+    ensures moves { Moves (delete_carried shelf.0)
         (scene (memory S.Store store.old loaded.old) index.old session.old (minds_of B.mind cast.old))
         (scene (memory S.Store store.new loaded.new) index.new session.new (minds_of B.mind cast.new)) result }
     ensures untold { (other : ℕ) → other ≢ shelf.0

@@ -1,6 +1,5 @@
 -- A list of writes after one more piece, and what it gives of its pieces.
-use Rattle.std.proofs.Common.{get_or, zero-add, ◌≡◌, ℕ, ◌+◌, ◌-◌, ◌≤◌, ◌<◌, ◌^◌, List, [], ◌∷◌, ◌++◌, length, take, drop, map, refl, sym, ◌∙◌, ap, arith, length-append, length-drop}
-use Rattle.std.specs.Prelude.{All, slice_range, slice_get, option_map, Option, Some}
+use Rattle.std.proofs.Common.{get_or, zero-add, ◌≡◌, ℕ, ◌+◌, ◌-◌, ◌≤◌, ◌<◌, ◌^◌, List, [], ◌∷◌, ◌++◌, length, take, drop, map, refl, sym, ◌∙◌, ap, arith, length-append, length-drop, All, slice_range, slice_get, option_map, Option, Some}
 use Rattle.std.proofs.lemmas.List.{map-append, length-map, take-append-le, drop-append-le, take_all, drop_at}
 use Rattle.std.proofs.lemmas.List.Elements.{All-head, All-tail, All-weaker, All-push, All-map, All-nil}
 use Rattle.std.proofs.lemmas.List.Sums.{sum_by-append}

@@ -1,7 +1,6 @@
 -- Pieces that are written, also again or in part: they change only what stands in their ranges, and once all of them are
 -- written nothing else of those ranges is left.
-use Rattle.std.specs.Prelude.{◌≡◌, ◌⊎◌, ℕ, suc, zero, ◌+◌, ◌≤◌, ◌<◌, List, [], ◌∷◌, length, take, slice_get, Some, None, All}
-use Rattle.std.proofs.Common.{get_or, sym, inl, inr, ⊎_elim, ◌∙◌, subst, arith, refl}
+use Rattle.std.proofs.Common.{◌≡◌, ◌⊎◌, ℕ, suc, zero, ◌+◌, ◌≤◌, ◌<◌, List, [], ◌∷◌, length, take, slice_get, Some, None, All, get_or, sym, inl, inr, ⊎_elim, ◌∙◌, subst, arith, refl}
 use Rattle.std.proofs.lemmas.Bool.{cases_lt}
 use Rattle.std.proofs.lemmas.Option.{same_Some}
 use Rattle.std.proofs.lemmas.List.Elements.{All-head, All-tail}

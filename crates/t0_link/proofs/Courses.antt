@@ -1,6 +1,6 @@
 -- The course of a command.
-use Rattle.std.proofs.Common.{◌≡◌, ℕ, List, Some, None, Ok, Err, ◌∙◌, ap}
-use Rattle.std.specs.Prelude.{◌↔◌, Bool, false, Option, IsTrue, Result, OnOk, ⊤}
+use Rattle.std.proofs.Common.{◌≡◌, ℕ, List, Some, None, Ok, Err, ◌∙◌, ap, ◌↔◌, Bool, false, Option, IsTrue, Result, OnOk}
+use Rattle.std.specs.Prelude.{⊤}
 use Rattle.uicc_types.specs.declared.answers.Answer.{Answer}
 use Rattle.apdu_form.specs.Model.{Apdu}
 use Rattle.t0_link.specs.declared.endpoint.Endpoint.{Ghosts as EndpointWords}
@@ -11,7 +11,7 @@ use Rattle.t0_link.specs.declared.tpdus.Transfer.TheVariants.{GetResponse, Outgo
 use Rattle.t0_link.specs.Tpdus.{transfer_of}
 use Rattle.t0_link.proofs.Passed.{by_transfer, tpdu_fits}
 use Rattle.t0_link.specs.Linking.{Linked, Course, Answers, Passes, given, course_of, link_answer}
-use Rattle.t0_link.specs.Carrying.{is_carried, is_carried_by, carried, tpdu_of, received, then_received, command_answer}
+use Rattle.t0_link.specs.Carrying.{is_carried, is_carried_by, tpdu_of, received, then_received, command_answer}
 use Rattle.t0_link.specs.Exchanging.{HasPassed, Exchanges, IsPassed}
 use Rattle.t0_link.specs.Transmitting.{Transmits}
 

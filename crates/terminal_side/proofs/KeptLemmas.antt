@@ -1,6 +1,5 @@
 -- The clock that is kept.
-use Rattle.std.specs.Prelude.{List}
-use Rattle.std.proofs.Common.{refl, ◌≡◌}
+use Rattle.std.proofs.Common.{List, refl, ◌≡◌}
 use Rattle.handset_model.specs.History.{Happened, known, clock}
 use Rattle.terminal_side.specs.Kept.{kept}
 

@@ -1,7 +1,5 @@
 -- The bytes of what is sent, where a length is that of a text.
-use Rattle.std.proofs.Common.{◌≡◌, ℕ, ◌+◌, ◌≤◌, List, [], ◌∷◌, ◌++◌, length, refl, sym, ap, ◌∙◌, arith}
-use Rattle.std.proofs.lemmas.Bool.{lt-ltb}
-use Rattle.std.proofs.lemmas.List.{append-nil}
+use Rattle.std.proofs.Common.{◌≡◌, ℕ, ◌+◌, ◌≤◌, List, [], ◌∷◌, ◌++◌, length, refl, sym, ap, ◌∙◌, arith, lt-ltb, append-nil}
 use Rattle.comprehension_tlv.specs.Writing.{spellings, tagged}
 use Rattle.handset_model.specs.Sending.{envelope, report_objects, toolkit_apdu}
 use Rattle.handset_model.specs.declared.commands.Report.TheVariants.{Location}

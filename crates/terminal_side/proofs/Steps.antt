@@ -1,6 +1,5 @@
 -- What is kept after one more event is what each call makes of what was kept before.
-use Rattle.std.proofs.Common.{◌≡◌, ℕ, ◌+◌, List, [], ◌∷◌, Option, Some, None, Bool, true, false, refl, ap, arith}
-use Rattle.std.specs.Prelude.{map, ◌==◌, if◌then◌else◌, suc, zero}
+use Rattle.std.proofs.Common.{◌≡◌, ℕ, ◌+◌, List, [], ◌∷◌, Option, Some, None, Bool, true, false, refl, ap, arith, map, ◌==◌, if◌then◌else◌, suc, zero}
 use Rattle.std.proofs.lemmas.Grind.{common_steps}
 use Rattle.toolkit_commands.specs.uicc_types.declared.answers.Answer.{Answer}
 use Rattle.handset_model.specs.script_form.declared.handset.HandsetLine.{HandsetLine}

@@ -11,13 +11,13 @@ use Rattle.toolkit_commands.specs.declared.commands.TimeValue.{TimeValue}
 use Rattle.toolkit_commands.specs.declared.commands.Proactive.{Proactive}
 use Rattle.toolkit_commands.specs.declared.commands.Proactive.TheVariants.{Refresh, MoreTime, PollInterval, SetUpEventList, PlayTone, DisplayText, GetInkey, GetInput, SelectItem, SetUpMenu, LocalInformation, TimerManagement, IdleText}
 use Rattle.toolkit_commands.specs.Table.{item_object, two_digits, timer_objects, row_of, details_of, objects_of_command, IsWritable, IsProperTimer, IsProper}
-use Rattle.toolkit_commands.specs.Values.{number_of, time_of, timer_of, values, items_of, choice_of, no_time}
+use Rattle.toolkit_commands.specs.Values.{swapped_decimal, time_of, timer_of, values, items_of, choice_of, no_time}
 use Rattle.toolkit_commands.specs.Steps.{template_in, needed, items_in, text_in, poll_interval_in, event_list_in, tone_in, input_in, titled_in, choice_in, menu_in, started_timer_in, other_timer_in, command_in, command_of, proactive_read}
 use Rattle.toolkit_commands.specs.Matching.{HasObjects, AreBounded, IsBounded}
 
 -- ---- values
 
-number_again : (n : ℕ) → n ≤ 99 → number_of (two_digits n) ≡ Ok n
+number_again : (n : ℕ) → n ≤ 99 → swapped_decimal (two_digits n) ≡ Ok n
 number_again n le =
     let ones : (16 * (n % 10) + n / 10) / 16 ≡ n % 10 = omega arith in
     let tens : (16 * (n % 10) + n / 10) % 16 ≡ n / 10 = omega arith in

@@ -15,9 +15,8 @@ use Rattle.toolkit_commands.specs.declared.commands.Details.{Details}
 use Rattle.toolkit_commands.specs.declared.commands.Proactive.{Proactive}
 use Rattle.toolkit_commands.specs.declared.commands.Proactive.TheVariants.{Refresh, MoreTime, PollInterval, SetUpEventList, PlayTone, DisplayText, GetInkey, GetInput, SelectItem, SetUpMenu, LocalInformation, TimerManagement, IdleText}
 use Rattle.toolkit_commands.specs.Table.{required, text_string, item_object, menu_objects, two_digits, timer_value, row_of, details_of}
-use Rattle.toolkit_commands.specs.Values.{◌>>=◌, one_byte, two_bytes, three_bytes, seconds_of, text_of, short_text_of, item_of, number_of, time_of, timer_of, values, items_of, at_most_16, choice_of, menu_of, no_time, is_pair}
-use Rattle.toolkit_commands.specs.Steps.{from_tlv, or_missing, template_in, needed, items_in, text_in, poll_interval_in, event_list_in, tone_in, input_in, titled_in, choice_in, menu_in, started_timer_in, other_timer_in, command_in, checked}
-use Rattle.toolkit_commands.specs.Steps.{command_of, proactive_read}
+use Rattle.toolkit_commands.specs.Values.{◌>>=◌, one_byte, two_bytes, three_bytes, seconds_of, text_of, short_text_of, item_read, swapped_decimal, time_of, timer_of, values, items_of, at_most_16, choice_of, menu_read, no_time, is_pair}
+use Rattle.toolkit_commands.specs.Steps.{from_tlv, or_missing, template_in, needed, items_in, text_in, poll_interval_in, event_list_in, tone_in, input_in, titled_in, choice_in, menu_in, started_timer_in, other_timer_in, command_in, checked, command_of, proactive_read}
 use Rattle.toolkit_commands.specs.Matching.{HasObjects, IsCommand}
 use Rattle.toolkit_commands.specs.Reading.{proactive_of}
 use Rattle.toolkit_commands.proofs.RoundTrip.{items_first, menu_first}
@@ -71,7 +70,7 @@ text_is (coding ∷ found) text e =
 short_is : (value text : List ℕ) → short_text_of value ≡ Ok text → value ≡ text
 short_is value text e = (passed (leb (length value) 10) value text e).1
 
-item_is : (value : List ℕ) (item : Item) → item_of value ≡ Ok item → value ≡ item.id ∷ item.text
+item_is : (value : List ℕ) (item : Item) → item_read value ≡ Ok item → value ≡ item.id ∷ item.text
 item_is [] item e = absurd cc
 item_is (id ∷ text) item e =
     let make : List ℕ → Result Item ProactiveFault = λ short. Ok (record { id = id; text = short }) in
@@ -84,7 +83,7 @@ timer_is [] timer e = absurd cc
 timer_is (n ∷ []) timer e = ap (λ (k : ℕ). k ∷ []) (passed (leb 1 n && leb n 8) n timer e).1
 timer_is (n ∷ m ∷ others) timer e = absurd cc
 
-number_is : (byte n : ℕ) → number_of byte ≡ Ok n → byte ≡ two_digits n
+number_is : (byte n : ℕ) → swapped_decimal byte ≡ Ok n → byte ≡ two_digits n
 number_is byte n e =
     let p = passed (leb (byte / 16) 9 && leb (byte % 16) 9) (10 * (byte % 16) + byte / 16) n e in
     let both = and_parts (leb (byte / 16) 9) (leb (byte % 16) 9) p.0 in
@@ -95,13 +94,13 @@ number_is byte n e =
 time_is : (value : List ℕ) (time : TimeValue) → time_of value ≡ Ok time → value ≡ two_digits time.hours ∷ two_digits time.minutes ∷ two_digits time.seconds ∷ []
 time_is value time e =
     let last : ℕ → ℕ → ℕ → Result TimeValue ProactiveFault = λ hours minutes seconds. Ok (record { hours = hours; minutes = minutes; seconds = seconds }) in
-    let third : ℕ × ℕ × ℕ → ℕ → ℕ → Result TimeValue ProactiveFault = λ digits hours minutes. number_of digits.2 >>= last hours minutes in
-    let second : ℕ × ℕ × ℕ → ℕ → Result TimeValue ProactiveFault = λ digits hours. number_of digits.1 >>= third digits hours in
-    let first : ℕ × ℕ × ℕ → Result TimeValue ProactiveFault = λ digits. number_of digits.0 >>= second digits in
+    let third : ℕ × ℕ × ℕ → ℕ → ℕ → Result TimeValue ProactiveFault = λ digits hours minutes. swapped_decimal digits.2 >>= last hours minutes in
+    let second : ℕ × ℕ × ℕ → ℕ → Result TimeValue ProactiveFault = λ digits hours. swapped_decimal digits.1 >>= third digits hours in
+    let first : ℕ × ℕ × ℕ → Result TimeValue ProactiveFault = λ digits. swapped_decimal digits.0 >>= second digits in
     let d = bind_ok (three_bytes value) first time e in
-    let h = bind_ok (number_of d.0.0) (second d.0) time d.2 in
-    let m = bind_ok (number_of d.0.1) (third d.0 h.0) time h.2 in
-    let s = bind_ok (number_of d.0.2) (last h.0 m.0) time m.2 in
+    let h = bind_ok (swapped_decimal d.0.0) (second d.0) time d.2 in
+    let m = bind_ok (swapped_decimal d.0.1) (third d.0 h.0) time h.2 in
+    let s = bind_ok (swapped_decimal d.0.2) (last h.0 m.0) time m.2 in
     let made : TimeValue = record { hours = h.0; minutes = m.0; seconds = s.0 } in
     three_bytes_are value d.0 d.1 ∙
     ap (λ (k : ℕ). k ∷ d.0.1 ∷ d.0.2 ∷ []) (number_is d.0.0 h.0 h.1) ∙
@@ -114,7 +113,7 @@ items_are [] items e = ap (λ (i : List Item). values 0x0F (map item_object i)) 
 items_are (value ∷ others) items e =
     let make : Item → List Item → Result (List Item) ProactiveFault = λ item rest. Ok (item ∷ rest) in
     let after : Item → Result (List Item) ProactiveFault = λ item. items_of others >>= make item in
-    let b = bind_ok (item_of value) after items e in
+    let b = bind_ok (item_read value) after items e in
     let d = bind_ok (items_of others) (make b.0) items b.2 in
     ap (λ (v : List ℕ). v ∷ others) (item_is value b.0 b.1) ∙ ap (λ (v : List (List ℕ)). (b.0.id ∷ b.0.text) ∷ v) (items_are others d.0 d.1) ∙
     ap (λ (i : List Item). values 0x0F (map item_object i)) (ok_is (b.0 ∷ d.0) items d.2)
@@ -129,7 +128,7 @@ menu_from : (found : List (List ℕ)) (items : List Item) → found ≢ [] → f
 menu_from found [] some e = absurd (some e)
 menu_from found (item ∷ others) some e = e
 
-menu_is : (found : List (List ℕ)) (items : List Item) → found ≢ [] → menu_of found ≡ Ok items → found ≡ values 0x0F (menu_objects items)
+menu_is : (found : List (List ℕ)) (items : List Item) → found ≢ [] → menu_read found ≡ Ok items → found ≡ values 0x0F (menu_objects items)
 menu_is [] items some e = absurd (some refl)
 menu_is ([] ∷ []) items some e = ap (λ (i : List Item). values 0x0F (menu_objects i)) (ok_is [] items e)
 menu_is ([] ∷ value ∷ others) items some e = absurd cc
@@ -266,7 +265,7 @@ module _ (content : List ℕ) (list : List Object) (whole : objects_of content �
   menu_in_is : (command : Proactive) → menu_in content ≡ Ok command → Fits list 0x25 command
   unfolding menu_in
   menu_in_is command e =
-      titled_command_is 0x25 (λ title items. SetUpMenu title items) (menu_of (items_in content)) command (λ titled items t i.
+      titled_command_is 0x25 (λ title items. SetUpMenu title items) (menu_read (items_in content)) command (λ titled items t i.
       let some : items_in content ≢ [] = λ none. no_values list titled.1 (titled_is titled t).1 (sym items_in_is ∙ none) in
       (refl, record { firsts = (λ _. (titled_is titled t).0, menu_first list items); items = λ _. sym items_in_is ∙ menu_is (items_in content) items some i })) e
 

@@ -1,11 +1,10 @@
 -- The items read so far, joined with those that are left.
-use Rattle.std.proofs.Common.{◌≡◌, ℕ, ◌<◌, ◌≤◌, List, [], ◌∷◌, ◌++◌, length, Result, Ok, Err, refl, sym, ap, ◌∙◌, append_assoc, arith, inl, inr, ◌⊎◌}
+use Rattle.std.proofs.Common.{◌≡◌, ℕ, ◌<◌, ◌≤◌, List, [], ◌∷◌, ◌++◌, length, Result, Ok, Err, refl, sym, ap, ◌∙◌, append_assoc, arith, inl, inr, ◌⊎◌, length-append}
 use Rattle.std.proofs.lemmas.Bool.{cases_lt, le-leb, lt-leb, eq-eqb}
-use Rattle.std.proofs.lemmas.List.{length-append}
 use Rattle.toolkit_commands.specs.declared.items.Item.{Item}
 use Rattle.toolkit_commands.specs.declared.faults.ProactiveFault.{ProactiveFault}
 use Rattle.toolkit_commands.specs.declared.faults.ProactiveFault.TheVariants.{BadData}
-use Rattle.toolkit_commands.specs.Values.{◌>>=◌, item_of, items_of, at_most_16, values}
+use Rattle.toolkit_commands.specs.Values.{◌>>=◌, item_read, items_of, at_most_16, values}
 use Rattle.comprehension_tlv.specs.Model.{Object}
 use Rattle.comprehension_tlv.specs.Reading.{Outline, begun}
 
@@ -17,13 +16,13 @@ with_item : (front : List Item) (item : Item) (read : Result (List Item) Proacti
 with_item front item (Ok others) = ap at_most_16 (append_assoc front (item ∷ []) others)
 with_item front item (Err fault) = refl
 
-pub with_next : (front : List Item) (item : Item) (value : List ℕ) (others : List (List ℕ)) → item_of value ≡ Ok item → with_front front (items_of (value ∷ others)) ≡ with_front (front ++ item ∷ []) (items_of others)
+pub with_next : (front : List Item) (item : Item) (value : List ℕ) (others : List (List ℕ)) → item_read value ≡ Ok item → with_front front (items_of (value ∷ others)) ≡ with_front (front ++ item ∷ []) (items_of others)
 with_next front item value others e =
     ap (λ (r : Result Item ProactiveFault). with_front front (r >>= λ first. items_of others >>= λ items. Ok (first ∷ items))) e ∙ sym (with_item front item (items_of others))
 
 -- ---- too many items
 
-item_fault : (value : List ℕ) (fault : ProactiveFault) → item_of value ≡ Err fault → fault ≡ BadData
+item_fault : (value : List ℕ) (fault : ProactiveFault) → item_read value ≡ Err fault → fault ≡ BadData
 item_fault [] fault e = cc
 item_fault (id ∷ text) fault e =
     elim (cases_lt 10 (length text)) [
@@ -40,7 +39,7 @@ either (Err fault) = inr (fault, refl)
 items_fault : (found : List (List ℕ)) (fault : ProactiveFault) → items_of found ≡ Err fault → fault ≡ BadData
 items_fault [] fault e = cc
 items_fault (value ∷ others) fault e =
-    elim (either (item_of value)) [
+    elim (either (item_read value)) [
       | inr bad ↦
           let same : items_of (value ∷ others) ≡ Err bad.0 = ap (λ (r : Result Item ProactiveFault). r >>= λ first. items_of others >>= λ items. Ok (first ∷ items)) bad.1 in
           let is = item_fault value bad.0 bad.1 in
@@ -63,7 +62,7 @@ items_fault (value ∷ others) fault e =
 full_at : (front others : List Item) → 16 < length (front ++ others) → at_most_16 (front ++ others) ≡ Err BadData
 full_at front others long = rw (lt-leb (length (front ++ others)) 16 long) refl
 
-pub too_many : (front : List Item) (item : Item) (value : List ℕ) (others : List (List ℕ)) → 16 ≤ length front → item_of value ≡ Ok item → with_front front (items_of (value ∷ others)) ≡ Err BadData
+pub too_many : (front : List Item) (item : Item) (value : List ℕ) (others : List (List ℕ)) → 16 ≤ length front → item_read value ≡ Ok item → with_front front (items_of (value ∷ others)) ≡ Err BadData
 too_many front item value others long e =
     with_next front item value others e ∙
     (elim (either (items_of others)) [

@@ -1,5 +1,5 @@
 -- What follows where an object was found.
-use Rattle.std.proofs.Common.{◌≡◌, ℕ, eqb, List, [], ◌∷◌, Option, Some, None, Result, Ok, inl, inr}
+use Rattle.std.proofs.Common.{◌≡◌, ℕ, eqb, List, [], ◌∷◌, Option, Some, None, Result, Ok, inl, inr, IfOk, Bor, option_copied, ok_or}
 use Rattle.std.proofs.lemmas.Bool.{cases_Bool}
 use Rattle.comprehension_tlv.specs.declared.faults.TlvFault.{TlvFault}
 use Rattle.comprehension_tlv.specs.Model.{Object}
@@ -8,9 +8,6 @@ use Rattle.toolkit_commands.specs.declared.faults.ProactiveFault.{ProactiveFault
 use Rattle.toolkit_commands.specs.declared.faults.ProactiveFault.TheVariants.{Missing}
 use Rattle.toolkit_commands.specs.Values.{values}
 use Rattle.toolkit_commands.specs.Steps.{items_in}
-use Rattle.std.specs.Borrow.{Bor}
-use Rattle.std.specs.Option.{option_copied, ok_or}
-use Rattle.std.specs.Prelude.{IfOk}
 use Rattle.toolkit_commands.specs.Counting.{IsFirst}
 
 first_of : (objects : List Object) (value : List ℕ) → first_value 0x0F objects ≡ Some value → IsFirst (values 0x0F objects) value

@@ -1,7 +1,5 @@
 -- What is spelled with one number is, with another number in its place, what is spelled with that.
-use Rattle.std.proofs.Common.{◌≡◌, ℕ, ◌+◌, ◌<◌, ◌≤◌, List, [], ◌∷◌, length, Ok, refl, ap, sym, ◌∙◌, arith, inl, inr}
-use Rattle.std.proofs.Math.Path.{ap₂}
-use Rattle.std.specs.Prelude.{slice_index_or}
+use Rattle.std.proofs.Common.{◌≡◌, ℕ, ◌+◌, ◌<◌, ◌≤◌, List, [], ◌∷◌, length, Ok, refl, ap, sym, ◌∙◌, arith, inl, inr, slice_index_or, ap₂}
 use Rattle.std.proofs.lemmas.Bool.{cases_lt, lt-ltb, le-ltb, ne_eqb}
 use Rattle.comprehension_tlv.specs.Writing.{tagged, spellings}
 use Rattle.toolkit_commands.specs.declared.commands.Proactive.{Proactive}

@@ -1,19 +1,18 @@
 -- What one walk takes note of is the first value of each tag, and so what it answers is the response.
-use Rattle.std.proofs.Common.{◌≡◌, refl, sym, ap, ◌∙◌, ℕ, ◌+◌, ◌≤◌, Bool, true, false, cond, List, [], ◌∷◌, length, Option, Some, None, Result, Ok, Err, subst, arith}
-use Rattle.std.specs.Prelude.{IfSome, IfOk, unwrap_or, option_map, ◌==◌, ◌-◌}
+use Rattle.std.proofs.Common.{◌≡◌, refl, sym, ap, ◌∙◌, ℕ, ◌+◌, ◌≤◌, Bool, true, false, cond, List, [], ◌∷◌, length, Option, Some, None, Result, Ok, Err, subst, arith, IfSome, IfOk, unwrap_or, option_map, ◌==◌, ◌-◌}
 use Rattle.std.specs.Result.{result_ok, IsErr}
 use Rattle.comprehension_tlv.specs.Model.{Object}
 use Rattle.comprehension_tlv.specs.Reading.{◌>>=◌, first_value, objects_of}
 use Rattle.comprehension_tlv.specs.declared.faults.TlvFault.{TlvFault}
 use Rattle.comprehension_tlv.proofs.Finding.{value_fits}
 use Rattle.comprehension_tlv.proofs.Steps.{IsBytes}
-use Rattle.toolkit_commands.specs.Responses.{item_among, one_or, are_details, with_result, response_among, response_of, text_after}
+use Rattle.toolkit_commands.specs.Responses.{item_among, one_or, details_match, with_result, response_among, response_of, text_after}
 use Rattle.toolkit_commands.specs.declared.commands.Details.{Details}
 use Rattle.toolkit_commands.specs.declared.responses.Response.{Response}
 use Rattle.toolkit_commands.specs.declared.tags.TheConstants.{COMMAND_DETAILS, RESULT, TEXT_STRING, ITEM_IDENTIFIER}
 use Rattle.toolkit_commands.specs.declared.responses.Mismatch.{Mismatch}
 use Rattle.toolkit_commands.specs.declared.responses.ResponseRef.{ResponseRef}
-use Rattle.toolkit_commands.specs.Replies.{replied, Values, nothing, first_of, item_of, with_object, values_from, values_in, answer_with, response_from}
+use Rattle.toolkit_commands.specs.Replies.{replied, Values, nothing, first_of, item_first_found, with_object, values_from, values_in, answer_with, response_from}
 
 abbrev or_first : Option (List ℕ) → Option (List ℕ) → Option (List ℕ)
 or_first (Some before) later = Some before
@@ -50,7 +49,7 @@ text_from : (objects : List Object) (found : Values) → (values_from found obje
 text_from [] found = refl
 text_from (object ∷ others) found = text_from others (with_object object found)
 
-item_met : (b : Bool) (found : Option ℕ) (value : List ℕ) (later : ℕ) → unwrap_or (cond b (item_of found value) found) later ≡ unwrap_or found (cond b (one_or value later) later)
+item_met : (b : Bool) (found : Option ℕ) (value : List ℕ) (later : ℕ) → unwrap_or (cond b (item_first_found found value) found) later ≡ unwrap_or found (cond b (one_or value later) later)
 item_met true (Some item) value later = refl
 item_met true None [] later = refl
 item_met true None (item ∷ []) later = refl
@@ -87,8 +86,8 @@ module _ (objects : List Object) where
 
   answers : (details : Details) → response_from details all ≡ response_among details (Ok objects)
   answers details =
-      ap (λ (d : Option (List ℕ)). cond (are_details details d) (answer_with all all.result) None) details_are
-      ∙ ap (λ (r : Option Response). cond (are_details details (first_value COMMAND_DETAILS objects)) r None)
+      ap (λ (d : Option (List ℕ)). cond (details_match details d) (answer_with all all.result) None) details_are
+      ∙ ap (λ (r : Option Response). cond (details_match details (first_value COMMAND_DETAILS objects)) r None)
       (ap (answer_with all) result_is ∙ with_same (first_value RESULT objects))
 
 abbrev pub answered : Details → Option Values → Option Response
@@ -123,7 +122,7 @@ pub reply_fits : (details : Details) (bytes : List ℕ) (found : Values) (result
     → option_map replied (result_ok result) ≡ response_from details found → IfOk result (λ reply. length reply.text.now ≤ length bytes - 1)
 reply_fits details bytes found (Err mismatch) all there is = tt
 reply_fits details bytes found (Ok reply) all there is =
-    subst (λ (t : List ℕ). length t ≤ length bytes - 1) (sym (text_of (are_details details found.details) found.result is))
+    subst (λ (t : List ℕ). length t ≤ length bytes - 1) (sym (text_of (details_match details found.details) found.result is))
     (after_fits found.text (length bytes) (value_fits TEXT_STRING bytes found.text all (text_value (objects_of bytes) found there))) where
       text_of : (named : Bool) (value : Option (List ℕ)) → Some (replied reply) ≡ cond named (answer_with found value) None → reply.text.now ≡ text_after found.text
       text_of false value is = cc is

@@ -1,6 +1,5 @@
 -- What is read as a command is proper and within its bounds.
-use Rattle.std.proofs.Common.{◌≡◌, ◌≢◌, ℕ, ◌≤◌, Bool, true, false, cond, ◌||◌, eqb, List, [], ◌∷◌, length, Option, Some, None, Ok, refl, arith, inl, inr}
-use Rattle.std.specs.Prelude.{is_none}
+use Rattle.std.proofs.Common.{◌≡◌, ◌≢◌, ℕ, ◌≤◌, Bool, true, false, cond, ◌||◌, eqb, List, [], ◌∷◌, length, Option, Some, None, Ok, refl, arith, inl, inr, is_none}
 use Rattle.std.proofs.lemmas.Bool.{cases_Bool, cases_eq, eq-eqb, ne_eqb, leb-true}
 use Rattle.std.proofs.lemmas.List.Elements.{All-from_recursion}
 use Rattle.comprehension_tlv.specs.Model.{Object}
@@ -11,7 +10,7 @@ use Rattle.toolkit_commands.specs.declared.commands.Proactive.{Proactive}
 use Rattle.toolkit_commands.specs.declared.commands.Proactive.TheVariants.{DisplayText, GetInkey, SelectItem, SetUpMenu, TimerManagement, IdleText}
 use Rattle.toolkit_commands.specs.Table.{IsWritable, IsProper}
 use Rattle.toolkit_commands.specs.Matching.{AreBounded, IsBounded}
-use Rattle.toolkit_commands.specs.Values.{◌>>=◌, one_byte, two_bytes, seconds_of, text_of, short_text_of, timer_of, time_of, no_time, values, choice_of, menu_of}
+use Rattle.toolkit_commands.specs.Values.{◌>>=◌, one_byte, two_bytes, seconds_of, text_of, short_text_of, timer_of, time_of, no_time, values, choice_of, menu_read}
 use Rattle.toolkit_commands.specs.Reading.{value, TypeRow, lacks_one, row_of_type, timer_said}
 use Rattle.toolkit_commands.proofs.Saying.{Says, Anything, IsShort, IsOneOfEight, AreItems, AreFew, then_says, one_byte_says, two_bytes_say, seconds_say, text_says, short_text_says, timer_says, time_says, choice_says, menu_says}
 
@@ -43,10 +42,10 @@ module _ (list : List Object) where
       then_says (AreItems (values 15 list)) IsFit (choice_of (values 15 list)) _ (choice_says (values 15 list)) (λ items are.
       (omega (arith, some, are.all), bounded_by title items short (record { short = are.short; few = are.few }))))
 
-  menu_fits : Says IsFit (short_text_of (value 5 list) >>= λ title. menu_of (values 15 list) >>= λ items. Ok (SetUpMenu title items))
+  menu_fits : Says IsFit (short_text_of (value 5 list) >>= λ title. menu_read (values 15 list) >>= λ items. Ok (SetUpMenu title items))
   menu_fits =
       then_says IsShort IsFit (short_text_of (value 5 list)) _ (short_text_says (value 5 list)) (λ title short.
-      then_says AreFew IsFit (menu_of (values 15 list)) _ (menu_says (values 15 list)) (λ items few.
+      then_says AreFew IsFit (menu_read (values 15 list)) _ (menu_says (values 15 list)) (λ items few.
       (tt, bounded_by title items short few)))
 
   text_fits : (command : List ℕ → Proactive) → ((text : List ℕ) → IsFit (command text)) → Says IsFit (text_of (value 13 list) >>= λ text. Ok (command text))

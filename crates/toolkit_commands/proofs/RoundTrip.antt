@@ -1,8 +1,7 @@
 -- What is spelled is a template with the command's objects, and is read as that command.
-use Rattle.std.proofs.Common.{◌≡◌, ◌≢◌, ℕ, ◌+◌, ◌^◌, ◌<◌, ◌≤◌, Bool, true, false, cond, eqb, List, [], ◌∷◌, length, map, Some, Ok, refl, sym, ◌∙◌, arith, inl, inr}
+use Rattle.std.proofs.Common.{◌≡◌, ◌≢◌, ℕ, ◌+◌, ◌^◌, ◌<◌, ◌≤◌, Bool, true, false, cond, eqb, List, [], ◌∷◌, length, map, Some, Ok, refl, sym, ◌∙◌, arith, inl, inr, length-append}
 use Rattle.std.specs.List.{AllByRecursion}
 use Rattle.std.proofs.lemmas.Bool.{cases_eq, ne_eqb}
-use Rattle.std.proofs.lemmas.List.{length-append}
 use Rattle.comprehension_tlv.specs.Model.{Object, flagged}
 use Rattle.comprehension_tlv.specs.Reading.{first_value}
 use Rattle.comprehension_tlv.specs.Writing.{spelling, spellings, IsWritableObject}

@@ -6,7 +6,7 @@ use Rattle.toolkit_commands.specs.declared.faults.ProactiveFault.{ProactiveFault
 use Rattle.toolkit_commands.specs.declared.faults.ProactiveFault.TheVariants.{BadData}
 use Rattle.toolkit_commands.specs.declared.items.Item.{Item}
 use Rattle.toolkit_commands.specs.Table.{IsWritable}
-use Rattle.toolkit_commands.specs.Values.{◌>>=◌, one_byte, two_bytes, three_bytes, seconds_of, text_of, short_text_of, item_of, number_of, time_of, timer_of, items_of, at_most_16, choice_of, menu_of}
+use Rattle.toolkit_commands.specs.Values.{◌>>=◌, one_byte, two_bytes, three_bytes, seconds_of, text_of, short_text_of, item_read, swapped_decimal, time_of, timer_of, items_of, at_most_16, choice_of, menu_read}
 
 abbrev pub Says : {A : Type 0} → (A → Type 0) → Result A ProactiveFault → Type 0
 Says P (Ok x) = P x
@@ -69,7 +69,7 @@ timer_says (n ∷ m ∷ others) = refl
 abbrev IsBelow100 : ℕ → Type 0
 IsBelow100 number = number ≤ 99
 
-number_says : (byte : ℕ) → Says IsBelow100 (number_of byte)
+number_says : (byte : ℕ) → Says IsBelow100 (swapped_decimal byte)
 number_says byte =
     test_says IsBelow100 (leb (byte / 16) 9 && leb (byte % 16) 9) (10 * (byte % 16) + byte / 16) (λ e.
     let both = and_parts (leb (byte / 16) 9) (leb (byte % 16) 9) e in
@@ -78,14 +78,14 @@ number_says byte =
 pub time_says : (v : List ℕ) → Says IsWritable (time_of v)
 time_says v =
     then_says Anything IsWritable (three_bytes v) _ (three_bytes_say v) (λ digits _.
-    then_says IsBelow100 IsWritable (number_of digits.0) _ (number_says digits.0) (λ hours h.
-    then_says IsBelow100 IsWritable (number_of digits.1) _ (number_says digits.1) (λ minutes m.
-    then_says IsBelow100 IsWritable (number_of digits.2) _ (number_says digits.2) (λ seconds s. record { hours = h; minutes = m; seconds = s }))))
+    then_says IsBelow100 IsWritable (swapped_decimal digits.0) _ (number_says digits.0) (λ hours h.
+    then_says IsBelow100 IsWritable (swapped_decimal digits.1) _ (number_says digits.1) (λ minutes m.
+    then_says IsBelow100 IsWritable (swapped_decimal digits.2) _ (number_says digits.2) (λ seconds s. record { hours = h; minutes = m; seconds = s }))))
 
 abbrev pub HasShort : Item → Type 0
 HasShort item = length item.text ≤ 10
 
-item_says : (v : List ℕ) → Says HasShort (item_of v)
+item_says : (v : List ℕ) → Says HasShort (item_read v)
 item_says [] = refl
 item_says (id ∷ text) = then_says IsShort HasShort (short_text_of text) _ (short_text_says text) (λ short le. le)
 
@@ -95,7 +95,7 @@ AreShort found items = AllByRecursion HasShort items × (length items ≡ length
 items_say : (found : List (List ℕ)) → Says (AreShort found) (items_of found)
 items_say [] = (tt, refl)
 items_say (v ∷ others) =
-    then_says HasShort (AreShort (v ∷ others)) (item_of v) _ (item_says v) (λ item le.
+    then_says HasShort (AreShort (v ∷ others)) (item_read v) _ (item_says v) (λ item le.
     then_says (AreShort others) (AreShort (v ∷ others)) (items_of others) _ (items_say others) (λ items all. ((le, all.0), omega (arith, all.1))))
 
 -- the items of these values
@@ -117,7 +117,7 @@ few_say : (found : List (List ℕ)) (read : Result (List Item) ProactiveFault) �
 few_say found (Ok items) h = record { short = h.short; few = h.few }
 few_say found (Err fault) h = h
 
-pub menu_says : (found : List (List ℕ)) → Says AreFew (menu_of found)
+pub menu_says : (found : List (List ℕ)) → Says AreFew (menu_read found)
 menu_says [] = few_say [] (choice_of []) (choice_says [])
 menu_says ([] ∷ []) = record { short = tt; few = omega arith }
 menu_says ([] ∷ v ∷ others) = few_say ([] ∷ v ∷ others) (choice_of ([] ∷ v ∷ others)) (choice_says ([] ∷ v ∷ others))

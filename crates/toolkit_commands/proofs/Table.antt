@@ -1,6 +1,5 @@
 -- The reader's steps come to the table.
-use Rattle.std.proofs.Common.{◌≡◌, ℕ, Bool, true, false, cond, ◌&&◌, ◌||◌, eqb, leb, List, [], ◌∷◌, Option, Some, None, Result, Ok, Err, refl, sym, ap, subst, ◌∙◌, arith, inl, inr}
-use Rattle.std.specs.Prelude.{is_none, unwrap_or, option_map, option_and_then, slice_get}
+use Rattle.std.proofs.Common.{◌≡◌, ℕ, Bool, true, false, cond, ◌&&◌, ◌||◌, eqb, leb, List, [], ◌∷◌, Option, Some, None, Result, Ok, Err, refl, sym, ap, subst, ◌∙◌, arith, inl, inr, is_none, unwrap_or, option_map, option_and_then, slice_get}
 use Rattle.std.specs.Result.{result_ok}
 use Rattle.std.proofs.lemmas.Bool.{cases_Bool, cases_eq, eq-eqb, ne_eqb, lt-leb}
 use Rattle.comprehension_tlv.specs.declared.faults.TlvFault.{TlvFault}
@@ -13,7 +12,7 @@ use Rattle.toolkit_commands.specs.declared.commands.Details.{Details}
 use Rattle.toolkit_commands.specs.declared.commands.Proactive.{Proactive}
 use Rattle.toolkit_commands.specs.declared.commands.Proactive.TheVariants.{Refresh, MoreTime, SetUpEventList, DisplayText, GetInkey, GetInput, SelectItem, SetUpMenu, LocalInformation, TimerManagement, IdleText}
 use Rattle.toolkit_commands.specs.Table.{row_of, input_qualifier, IsWritable}
-use Rattle.toolkit_commands.specs.Values.{◌>>=◌, one_byte, two_bytes, three_bytes, seconds_of, text_of, short_text_of, time_of, timer_of, values, choice_of, menu_of, no_time, is_pair}
+use Rattle.toolkit_commands.specs.Values.{◌>>=◌, one_byte, two_bytes, three_bytes, seconds_of, text_of, short_text_of, time_of, timer_of, values, choice_of, menu_read, no_time, is_pair}
 use Rattle.toolkit_commands.specs.Steps.{from_tlv, or_missing, template_in, needed, items_in, text_in, poll_interval_in, event_list_in, tone_in, input_in, titled_in, choice_in, menu_in, started_timer_in, other_timer_in, command_in, checked, command_of, proactive_read, details_read}
 use Rattle.toolkit_commands.specs.Reading.{value, TypeRow, lacks_one, type_table, three, details_in, needed_by, type_needs, by_details, row_of_type, by_row, command_among, list_of, in_list, in_template, or_tlv, proactive_of, no_details, details_found, text_said}
 use Rattle.toolkit_commands.proofs.Saying.{Says, Anything, IsShort, IsOneOfEight, AreItems, AreFew, then_says, one_byte_says, two_bytes_say, seconds_say, text_says, short_text_says, timer_says, time_says, choice_says, menu_says}
@@ -168,7 +167,7 @@ module _ (content : List ℕ) (list : List Object) (whole : objects_of content �
   unfolding menu_in titled_in
   menu_row =
       rw (second, needed_as content list whole 5, needed_as content list whole 15, items_as content list whole)
-      (row_agrees details devices _ _ _ _ (titled_needed (first_value 5 list) (first_value 15 list) (λ title. menu_of (values 15 list) >>= λ items. Ok (SetUpMenu title items))) (fixed_says details.qualifier devices _ 0 130 (then_says IsShort (IsFixed 0 130) (short_text_of (value 5 list)) _ (short_text_says (value 5 list)) (λ title _. then_says AreFew (IsFixed 0 130) (menu_of (values 15 list)) _ (menu_says (values 15 list)) (λ items _. (refl, refl))))))
+      (row_agrees details devices _ _ _ _ (titled_needed (first_value 5 list) (first_value 15 list) (λ title. menu_read (values 15 list) >>= λ items. Ok (SetUpMenu title items))) (fixed_says details.qualifier devices _ 0 130 (then_says IsShort (IsFixed 0 130) (short_text_of (value 5 list)) _ (short_text_says (value 5 list)) (λ title _. then_says AreFew (IsFixed 0 130) (menu_read (values 15 list)) _ (menu_says (values 15 list)) (λ items _. (refl, refl))))))
 
   information_row : Agrees details devices list (Ok (LocalInformation details.qualifier)) (get_row 10)
   information_row = rw (second, eq-eqb details.qualifier details.qualifier refl) refl
@@ -203,9 +202,9 @@ module _ (content : List ℕ) (list : List Object) (whole : objects_of content �
   row_step true here later row rest at_here at_later = at_here
   row_step false here later row rest at_here at_later = at_later
 
-  command_row : Agrees details devices list (command_in details.kind details.qualifier content) (row_of_type details.kind)
+  command_agrees : Agrees details devices list (command_in details.kind details.qualifier content) (row_of_type details.kind)
   unfolding command_in
-  command_row =
+  command_agrees =
       row_step (eqb details.kind 1) _ _ _ _ refresh_row
       (row_step (eqb details.kind 2) _ _ _ _ more_time_row
       (row_step (eqb details.kind 3) _ _ _ _ poll_interval_row
@@ -236,7 +235,7 @@ module _ (content : List ℕ) (list : List Object) (whole : objects_of content �
   details_row (n ∷ k ∷ []) devices e f = rw (e, f) refl
   details_row (n ∷ k ∷ q ∷ []) devices e f =
       let details : Details = record { number = n; kind = k; qualifier = q } in
-      command_row content list whole details devices f ∙
+      command_agrees content list whole details devices f ∙
       ap (λ b. cond b (Err Missing) (by_row details list (row_of_type k))) (sym (both_found (first_value 1 list) (first_value 2 list) (n ∷ k ∷ q ∷ []) devices e f (lacks_one list (type_needs (Some details)))))
   details_row (n ∷ k ∷ q ∷ l ∷ others) devices e f = rw (e, f) refl
 

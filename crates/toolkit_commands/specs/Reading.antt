@@ -6,7 +6,7 @@ use Rattle.std.specs.List.{list_any}
 use Rattle.comprehension_tlv.specs.Model.{Object}
 use Rattle.comprehension_tlv.specs.Reading.{first_value, objects_of, template_of}
 use Rattle.comprehension_tlv.specs.declared.faults.TlvFault.{TlvFault}
-use Rattle.toolkit_commands.specs.Values.{◌>>=◌, one_byte, two_bytes, seconds_of, text_of, short_text_of, timer_of, time_of, no_time, is_pair, values, choice_of, menu_of}
+use Rattle.toolkit_commands.specs.Values.{◌>>=◌, one_byte, two_bytes, seconds_of, text_of, short_text_of, timer_of, time_of, no_time, is_pair, values, choice_of, menu_read}
 use Rattle.toolkit_commands.specs.declared.devices.TheConstants.{DISPLAY, EARPIECE, CARD, TERMINAL}
 use Rattle.toolkit_commands.specs.declared.kinds.TheConstants.{REFRESH, MORE_TIME, POLL_INTERVAL, SET_UP_EVENT_LIST, PLAY_TONE, DISPLAY_TEXT, GET_INKEY, GET_INPUT, SELECT_ITEM, SET_UP_MENU, LOCAL_INFORMATION, TIMER_MANAGEMENT, IDLE_TEXT}
 use Rattle.toolkit_commands.specs.declared.qualifiers.TheConstants.{NONE, UNTIL_CLEARED, DIGITS, CHARACTERS, START, GET_VALUE}
@@ -78,7 +78,7 @@ choice_said list = do
 abbrev pub menu_said : List Object → Result Proactive ProactiveFault
 menu_said list = do
   title ← short_text_of (value ALPHA_IDENTIFIER list)
-  items ← menu_of (values ITEM list)
+  items ← menu_read (values ITEM list)
   Ok (SetUpMenu title items)
 
 abbrev pub timer_said : ℕ → List Object → Result Proactive ProactiveFault

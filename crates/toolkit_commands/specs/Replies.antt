@@ -3,7 +3,7 @@
 use Rattle.std.specs.Prelude.{ℕ, List, [], ◌∷◌, Option, Some, None, Result, Ok, Err, unwrap_or, option_copied, ◌==◌, if◌then◌else◌}
 use Rattle.comprehension_tlv.specs.Model.{Object}
 use Rattle.comprehension_tlv.specs.declared.faults.TlvFault.{TlvFault}
-use Rattle.toolkit_commands.specs.Responses.{are_details, text_after}
+use Rattle.toolkit_commands.specs.Responses.{details_match, text_after}
 use Rattle.toolkit_commands.specs.declared.commands.Details.{Details}
 use Rattle.toolkit_commands.specs.declared.responses.Response.{Response}
 use Rattle.toolkit_commands.specs.declared.tags.TheConstants.{COMMAND_DETAILS, RESULT, TEXT_STRING, ITEM_IDENTIFIER}
@@ -40,10 +40,10 @@ first_of (Some before) value = Some before
 first_of None value = Some value
 
 -- an item identifier of one byte, where none was found before
-abbrev pub item_of : Option ℕ → List ℕ → Option ℕ
-item_of (Some item) value = Some item
-item_of None (item ∷ []) = Some item
-item_of None _ = None
+abbrev pub item_first_found : Option ℕ → List ℕ → Option ℕ
+item_first_found (Some item) value = Some item
+item_first_found None (item ∷ []) = Some item
+item_first_found None _ = None
 
 -- once an object was met, each of the four by itself
 abbrev pub with_object : Object → Values → Values
@@ -51,7 +51,7 @@ with_object object found = record {
   details = if object.tag == COMMAND_DETAILS then first_of found.details object.value else found.details;
   result = if object.tag == RESULT then first_of found.result object.value else found.result;
   text = if object.tag == TEXT_STRING then first_of found.text object.value else found.text;
-  item = if object.tag == ITEM_IDENTIFIER then item_of found.item object.value else found.item;
+  item = if object.tag == ITEM_IDENTIFIER then item_first_found found.item object.value else found.item;
 }
 
 -- once all of them were met
@@ -71,4 +71,4 @@ answer_with found _ = None
 
 -- what they answer to the command with these details
 abbrev pub response_from : Details → Values → Option Response
-response_from details found = if are_details details found.details then answer_with found found.result else None
+response_from details found = if details_match details found.details then answer_with found found.result else None

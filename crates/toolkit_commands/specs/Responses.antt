@@ -29,10 +29,10 @@ text_after (Some []) = []
 text_after (Some (coding ∷ text)) = text
 
 -- the details are these
-abbrev pub are_details : Details → Option (List ℕ) → Bool
-are_details details (Some (number ∷ kind ∷ qualifier ∷ [])) =
+abbrev pub details_match : Details → Option (List ℕ) → Bool
+details_match details (Some (number ∷ kind ∷ qualifier ∷ [])) =
     (number == details.number) && (kind == details.kind) && (qualifier == details.qualifier)
-are_details details _ = false
+details_match details _ = false
 
 abbrev pub with_result : List Object → Option (List ℕ) → Option Response
 with_result objects (Some (result ∷ more)) =
@@ -42,7 +42,7 @@ with_result objects _ = None
 abbrev pub response_among : Details → Result (List Object) TlvFault → Option Response
 response_among details (Err fault) = None
 response_among details (Ok objects) =
-    if are_details details (first_value COMMAND_DETAILS objects) then with_result objects (first_value RESULT objects) else None
+    if details_match details (first_value COMMAND_DETAILS objects) then with_result objects (first_value RESULT objects) else None
 
 -- what the bytes answer to the command with these details, if they do
 unfoldable pub response_of : Details → List ℕ → Option Response

@@ -3,7 +3,7 @@ use Rattle.std.specs.Prelude.{◌≡◌, ℕ, ◌&&◌, List, Option, Some, None
 use Rattle.comprehension_tlv.specs.Reading.{outline, value_of, template_of}
 use Rattle.comprehension_tlv.specs.declared.faults.TlvFault.{TlvFault}
 use Rattle.toolkit_commands.specs.Table.{row_of}
-use Rattle.toolkit_commands.specs.Values.{◌>>=◌, one_byte, two_bytes, three_bytes, seconds_of, text_of, short_text_of, timer_of, time_of, no_time, is_pair, values, choice_of, menu_of}
+use Rattle.toolkit_commands.specs.Values.{◌>>=◌, one_byte, two_bytes, three_bytes, seconds_of, text_of, short_text_of, timer_of, time_of, no_time, is_pair, values, choice_of, menu_read}
 use Rattle.toolkit_commands.specs.declared.faults.ProactiveFault.{ProactiveFault}
 use Rattle.toolkit_commands.specs.declared.faults.ProactiveFault.TheVariants.{Tlv, Missing, UnknownType, BadData}
 use Rattle.toolkit_commands.specs.declared.commands.Details.{Details}
@@ -97,7 +97,7 @@ choice_in content = do
 unfoldable pub menu_in : List ℕ → Result Proactive ProactiveFault
 menu_in content = do
   titled ← titled_in content
-  items ← menu_of (items_in content)
+  items ← menu_read (items_in content)
   Ok (SetUpMenu titled.0 items)
 
 unfoldable pub started_timer_in : List ℕ → Result Proactive ProactiveFault

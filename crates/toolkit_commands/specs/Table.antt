@@ -19,8 +19,8 @@ pub record CommandRow : Type 0 where
   pub destination : ℕ
   pub objects : List Object
 
-abbrev pub row_for : ℕ → ℕ → ℕ → List Object → CommandRow
-row_for kind qualifier destination objects =
+abbrev pub command_row : ℕ → ℕ → ℕ → List Object → CommandRow
+command_row kind qualifier destination objects =
     record { kind = kind; qualifier = qualifier; destination = destination; objects = objects }
 
 -- all objects of a command carry the comprehension flag
@@ -57,20 +57,20 @@ input_qualifier true = DIGITS
 input_qualifier false = CHARACTERS
 
 abbrev pub row_of : Proactive → CommandRow
-row_of (Refresh mode) = row_for REFRESH mode TERMINAL []
-row_of MoreTime = row_for MORE_TIME NONE TERMINAL []
-row_of (PollInterval seconds) = row_for POLL_INTERVAL NONE TERMINAL (required DURATION (IN_SECONDS ∷ seconds ∷ []) ∷ [])
-row_of (SetUpEventList events) = row_for SET_UP_EVENT_LIST NONE TERMINAL (required EVENT_LIST events ∷ [])
-row_of (PlayTone tone) = row_for PLAY_TONE NONE EARPIECE (required TONE (tone ∷ []) ∷ [])
-row_of (DisplayText text) = row_for DISPLAY_TEXT UNTIL_CLEARED DISPLAY (text_string text ∷ [])
-row_of (GetInkey text) = row_for GET_INKEY CHARACTERS TERMINAL (text_string text ∷ [])
+row_of (Refresh mode) = command_row REFRESH mode TERMINAL []
+row_of MoreTime = command_row MORE_TIME NONE TERMINAL []
+row_of (PollInterval seconds) = command_row POLL_INTERVAL NONE TERMINAL (required DURATION (IN_SECONDS ∷ seconds ∷ []) ∷ [])
+row_of (SetUpEventList events) = command_row SET_UP_EVENT_LIST NONE TERMINAL (required EVENT_LIST events ∷ [])
+row_of (PlayTone tone) = command_row PLAY_TONE NONE EARPIECE (required TONE (tone ∷ []) ∷ [])
+row_of (DisplayText text) = command_row DISPLAY_TEXT UNTIL_CLEARED DISPLAY (text_string text ∷ [])
+row_of (GetInkey text) = command_row GET_INKEY CHARACTERS TERMINAL (text_string text ∷ [])
 row_of (GetInput text digits least most) =
-    row_for GET_INPUT (input_qualifier digits) TERMINAL (text_string text ∷ required RESPONSE_LENGTH (least ∷ most ∷ []) ∷ [])
-row_of (SelectItem title items) = row_for SELECT_ITEM NONE TERMINAL (required ALPHA_IDENTIFIER title ∷ map item_object items)
-row_of (SetUpMenu title items) = row_for SET_UP_MENU NONE TERMINAL (required ALPHA_IDENTIFIER title ∷ menu_objects items)
-row_of (LocalInformation what) = row_for LOCAL_INFORMATION what TERMINAL []
-row_of (TimerManagement action timer value) = row_for TIMER_MANAGEMENT action TERMINAL (timer_objects action timer value)
-row_of (IdleText text) = row_for IDLE_TEXT NONE TERMINAL (text_string text ∷ [])
+    command_row GET_INPUT (input_qualifier digits) TERMINAL (text_string text ∷ required RESPONSE_LENGTH (least ∷ most ∷ []) ∷ [])
+row_of (SelectItem title items) = command_row SELECT_ITEM NONE TERMINAL (required ALPHA_IDENTIFIER title ∷ map item_object items)
+row_of (SetUpMenu title items) = command_row SET_UP_MENU NONE TERMINAL (required ALPHA_IDENTIFIER title ∷ menu_objects items)
+row_of (LocalInformation what) = command_row LOCAL_INFORMATION what TERMINAL []
+row_of (TimerManagement action timer value) = command_row TIMER_MANAGEMENT action TERMINAL (timer_objects action timer value)
+row_of (IdleText text) = command_row IDLE_TEXT NONE TERMINAL (text_string text ∷ [])
 
 -- the details of a command that has a number
 abbrev pub details_of : Proactive → ℕ → Details

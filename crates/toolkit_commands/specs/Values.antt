@@ -35,25 +35,25 @@ text_of (coding ∷ text) = if coding == EIGHT_BITS then Ok text else Err BadDat
 abbrev pub short_text_of : List ℕ → Result (List ℕ) ProactiveFault
 short_text_of text = if nat_le (length text) 10 then Ok text else Err BadData
 
-abbrev pub item_of : List ℕ → Result Item ProactiveFault
-item_of [] = Err BadData
-item_of (id ∷ text) = short_text_of text >>= λ short. Ok (record { id = id; text = short })
+abbrev pub item_read : List ℕ → Result Item ProactiveFault
+item_read [] = Err BadData
+item_read (id ∷ text) = short_text_of text >>= λ short. Ok (record { id = id; text = short })
 
 abbrev pub timer_of : List ℕ → Result ℕ ProactiveFault
 timer_of (timer ∷ []) = if nat_le 1 timer && nat_le timer 8 then Ok timer else Err BadData
 timer_of _ = Err BadData
 
 -- two decimal digits, the lower one in the upper half of the byte
-abbrev pub number_of : ℕ → Result ℕ ProactiveFault
-number_of byte =
+abbrev pub swapped_decimal : ℕ → Result ℕ ProactiveFault
+swapped_decimal byte =
     if nat_le (byte / 16) 9 && nat_le (byte % 16) 9 then Ok (10 * (byte % 16) + byte / 16) else Err BadData
 
 abbrev pub time_of : List ℕ → Result TimeValue ProactiveFault
 time_of value = do
   digits ← three_bytes value
-  hours ← number_of digits.0
-  minutes ← number_of digits.1
-  seconds ← number_of digits.2
+  hours ← swapped_decimal digits.0
+  minutes ← swapped_decimal digits.1
+  seconds ← swapped_decimal digits.2
   Ok (record { hours = hours; minutes = minutes; seconds = seconds })
 
 -- two device identities
@@ -74,7 +74,7 @@ values tag (object ∷ others) = if object.tag == tag then object.value ∷ valu
 
 abbrev pub items_of : List (List ℕ) → Result (List Item) ProactiveFault
 items_of [] = Ok []
-items_of (value ∷ others) = item_of value >>= λ item. items_of others >>= λ items. Ok (item ∷ items)
+items_of (value ∷ others) = item_read value >>= λ item. items_of others >>= λ items. Ok (item ∷ items)
 
 abbrev pub at_most_16 : List Item → Result (List Item) ProactiveFault
 at_most_16 items = if nat_le (length items) 16 then Ok items else Err BadData
@@ -83,6 +83,6 @@ abbrev pub choice_of : List (List ℕ) → Result (List Item) ProactiveFault
 choice_of found = items_of found >>= at_most_16
 
 -- one item of length 0 alone is the empty menu
-abbrev pub menu_of : List (List ℕ) → Result (List Item) ProactiveFault
-menu_of ([] ∷ []) = Ok []
-menu_of found = choice_of found
+abbrev pub menu_read : List (List ℕ) → Result (List Item) ProactiveFault
+menu_read ([] ∷ []) = Ok []
+menu_read found = choice_of found

@@ -1,7 +1,7 @@
 //! Reading the items of a choice or of a menu.
 ghost use Rattle.std.specs.Prelude.{◌≡◌, None, length, IfOk};
 ghost use Rattle.comprehension_tlv.specs.Reading.{flaw};
-ghost use Rattle.toolkit_commands.specs.Values.{choice_of, menu_of};
+ghost use Rattle.toolkit_commands.specs.Values.{choice_of, menu_read};
 ghost use Rattle.toolkit_commands.specs.Steps.{items_in};
 ghost use Rattle.toolkit_commands.specs.Counting.{counted, IsFirst};
 
@@ -45,7 +45,7 @@ fn count_of(content: &[u8]) -> Result<u8, ProactiveFault>
 pub fn menu_of(content: &[u8], first: &[u8]) -> Result<Items, ProactiveFault>
     requires fault { flaw content.now ≡ None }
     requires first { IsFirst (items_in content.now) first.now }
-    ensures { result ≡ menu_of (items_in content.now) }
+    ensures { result ≡ menu_read (items_in content.now) }
 {
     if first.is_empty() && count_of(content)? == 1 {
         return Ok(Items::new());

@@ -3,8 +3,8 @@ ghost use Rattle.std.specs.Prelude.{◌≡◌, ◌≤◌, ◌-◌, length, IfOk,
 ghost use Rattle.std.specs.Result.{result_ok};
 ghost use Rattle.comprehension_tlv.specs.Reading.{objects_of};
 ghost use Rattle.comprehension_tlv.specs.Seen.{object_of};
-ghost use Rattle.toolkit_commands.specs.Responses.{are_details, response_of, text_after};
-ghost use Rattle.toolkit_commands.specs.Replies.{replied, first_of, item_of, with_object, values_of, values_in, response_from};
+ghost use Rattle.toolkit_commands.specs.Responses.{details_match, response_of, text_after};
+ghost use Rattle.toolkit_commands.specs.Replies.{replied, first_of, item_first_found, with_object, values_of, values_in, response_from};
 
 use crate::Details;
 use crate::tags::{COMMAND_DETAILS, ITEM_IDENTIFIER, RESULT, TEXT_STRING};
@@ -64,7 +64,7 @@ fn first_of<'a>(found: Option<&'a [u8]>, value: &'a [u8]) -> Option<&'a [u8]>
 
 // An item identifier of one byte, where none was found before.
 fn item_of(found: Option<u8>, value: &[u8]) -> Option<u8>
-    ensures { result ≡ item_of found value.now }
+    ensures { result ≡ item_first_found found value.now }
 {
     match found {
         Some(item) => Some(item),
@@ -109,7 +109,7 @@ fn found_in(bytes: &[u8]) -> Result<Found<'_>, Mismatch>
 
 // Whether the details object is that of the command.
 fn is_named(found: Option<&[u8]>, details: &Details) -> bool
-    ensures { result ≡ are_details details.now (option_copied found.entry) }
+    ensures { result ≡ details_match details.now (option_copied found.entry) }
 {
     match found {
         Some([number, kind, qualifier]) => {

@@ -1,6 +1,6 @@
 //! The values of single objects.
 ghost use Rattle.std.specs.Prelude.{◌≡◌, ◌≤◌, length, IfOk};
-ghost use Rattle.toolkit_commands.specs.Values.{one_byte, two_bytes, three_bytes, seconds_of, text_of, short_text_of, item_of, timer_of, number_of, time_of, is_pair};
+ghost use Rattle.toolkit_commands.specs.Values.{one_byte, two_bytes, three_bytes, seconds_of, text_of, short_text_of, item_read, timer_of, swapped_decimal, time_of, is_pair};
 ghost use Rattle.toolkit_commands.specs.Steps.{Gives};
 ghost use Rattle.toolkit_commands.specs.Table.{IsWritable};
 
@@ -67,7 +67,7 @@ pub fn short_text_of(text: &[u8]) -> Result<ShortText, ProactiveFault>
 }
 
 pub fn item_of(value: &[u8]) -> Result<Item, ProactiveFault>
-    ensures { result ≡ item_of value.now }
+    ensures { result ≡ item_read value.now }
 {
     match value {
         [id, text @ ..] => Ok(Item {
@@ -90,7 +90,7 @@ pub fn timer_of(value: &[u8]) -> Result<u8, ProactiveFault>
 
 /// A number of two decimal digits, of which the lower one stands in the upper half of the byte.
 fn number_of(byte: u8) -> Result<u8, ProactiveFault>
-    ensures exact { result ≡ number_of byte }
+    ensures exact { result ≡ swapped_decimal byte }
     ensures two_digits { IfOk result (λ number. number ≤ 99) }
 {
     let ones = byte / 16;

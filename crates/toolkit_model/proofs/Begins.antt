@@ -1,9 +1,7 @@
 -- Which applets a command tells of an event.
-use Rattle.std.proofs.Common.{◌≡◌, ℕ, ◌⊎◌, inl, inr, Bool, true, false, cond, List, [], ◌∷◌, ◌++◌, map, Option, Some, None, ap, refl, sym, ◌∙◌, subst, ⊎_elim, get_or}
+use Rattle.std.proofs.Common.{◌≡◌, ℕ, ◌⊎◌, inl, inr, Bool, true, false, cond, List, [], ◌∷◌, ◌++◌, map, Option, Some, None, ap, refl, sym, ◌∙◌, subst, ⊎_elim, get_or, ◌≢◌, All, AllPairs, filter, option_to_list}
 use Rattle.applet_trait.specs.Minds.{AppletState}
-use Rattle.std.specs.Prelude.{◌≢◌, All, AllPairs, filter}
 use Rattle.std.specs.List.{cons_option}
-use Rattle.std.specs.Option.{option_to_list}
 use Rattle.std.proofs.lemmas.List.Elements.{All-head, All-tail, All-weaker, All-contains, filter_map-append}
 use Rattle.card_layout.proofs.uicc_types.PairLemmas.{pairs_head, pairs_tail}
 use Rattle.toolkit_commands.specs.declared.commands.Proactive.{Proactive}
@@ -15,7 +13,7 @@ use Rattle.toolkit_model.specs.Orderly.{IsRegistered, asks}
 use Rattle.toolkit_model.specs.Order.{targets}
 use Rattle.toolkit_model.specs.Passing.{ToolkitState, Happening, Woke, Fetched, Responded, Given, Turned, Committed, Passed, noting, before, in_turn}
 use Rattle.toolkit_model.specs.Driving.{is_idle, running, kept_late, told_if, given_if, trigger_for, told_one, given_one, driven}
-use Rattle.toolkit_model.specs.Commands.{each_told, triggered_by, reported, triggered, enveloped}
+use Rattle.toolkit_model.specs.Commands.{registered_told, triggered_by, reported, triggered, enveloped}
 use Rattle.toolkit_model.specs.Steps.{HasMind}
 use Rattle.toolkit_model.specs.OrderlySessions.{IsInOrder}
 use Rattle.toolkit_model.specs.Turns.{IsInner, IsCommit}
@@ -155,7 +153,7 @@ have_minds : (state : ToolkitState) (shelves : List ℕ) → IsReady state → A
 have_minds state shelves ready there =
     All-weaker (IsRegistered state.rows) (HasMind state.minds) (λ shelf. All-contains (HasMind state.minds) (map (λ row. row.shelf) state.rows) shelf ready.minds) shelves there
 
-pub told_begin : (code : ℕ) (body : List ℕ) (state : ToolkitState) → IsInOrder state → begun (each_told code body state).log ≡ filter (is_idle (asks state.session)) (targets state.rows code)
+pub told_begin : (code : ℕ) (body : List ℕ) (state : ToolkitState) → IsInOrder state → begun (registered_told code body state).log ≡ filter (is_idle (asks state.session)) (targets state.rows code)
 told_begin code body state is =
     let ready = (good_from state is).ready in
     let to = ordered_targets state.rows code ready.rows_are in

@@ -1,6 +1,5 @@
 -- Where driving ends.
-use Rattle.std.proofs.Common.{◌≡◌, ℕ, zero, suc, ◌≤◌, false, List, [], ◌∷◌, length, Option, Some, None, ap, arith, refl, sym, subst, ⊎_elim}
-use Rattle.std.specs.Prelude.{All, option_map}
+use Rattle.std.proofs.Common.{◌≡◌, ℕ, zero, suc, ◌≤◌, false, List, [], ◌∷◌, length, Option, Some, None, ap, arith, refl, sym, subst, ⊎_elim, All, option_map}
 use Rattle.std.proofs.lemmas.List.Elements.{All-nil, All-cons}
 use Rattle.card_layout.proofs.uicc_types.ChoiceLemmas.{chosen}
 use Rattle.card_layout.proofs.uicc_types.OptionalLemmas.{none_mapped}
@@ -8,7 +7,7 @@ use Rattle.toolkit_model.specs.Sessions.{Sent, LateTrigger}
 use Rattle.toolkit_model.specs.Orderly.{asks}
 use Rattle.toolkit_model.specs.Passing.{ToolkitState}
 use Rattle.applet_trait.specs.declared.stimuli.Stimulus.TheVariants.{Event}
-use Rattle.toolkit_model.specs.Driving.{is_idle, with_session, running, behind, first_idle, catching, caught_up, session_filled, driven}
+use Rattle.toolkit_model.specs.Driving.{is_idle, with_session, running, behind, first_idle, catching, caught_up, with_next_command, driven}
 use Rattle.toolkit_model.proofs.Late.{taken_out}
 use Rattle.toolkit_model.proofs.Settled.{WaitsBehind, settled_behind, settled_asks, settled_late}
 use Rattle.toolkit_model.proofs.Asks.{run_late}
@@ -46,7 +45,7 @@ unfolding driven
 driven_suspends state =
     let caught = (caught_up (length state.session.late) state).state in
     let ends : AreSuspended caught = caught_up_ends (length state.session.late) state (omega arith) in
-    subst (λ (asked : List Sent). All (λ trigger. is_idle asked trigger.shelf ≡ false) (session_filled caught).session.late) (sym (settled_asks caught))
+    subst (λ (asked : List Sent). All (λ trigger. is_idle asked trigger.shelf ≡ false) (with_next_command caught).session.late) (sym (settled_asks caught))
     (subst (All (λ (trigger : LateTrigger). is_idle (asks caught.session) trigger.shelf ≡ false)) (sym (settled_late caught)) ends)
 
 pub driven_behind : (state : ToolkitState) → WaitsBehind (driven state).state.session

@@ -1,9 +1,6 @@
 -- No event is lost, step by step.
-use Rattle.std.proofs.Common.{◌≡◌, ℕ, ◌⊎◌, inl, inr, Bool, true, false, cond, List, [], ◌∷◌, ◌++◌, Option, Some, None, append_assoc, ap, refl, sym, ◌∙◌, subst, ⊎_elim}
-use Rattle.std.specs.Prelude.{◌≢◌, ◌==◌, ◌&&◌, ◌||◌, not, All, option_map}
+use Rattle.std.proofs.Common.{◌≡◌, ℕ, ◌⊎◌, inl, inr, Bool, true, false, cond, List, [], ◌∷◌, ◌++◌, Option, Some, None, append_assoc, ap, refl, sym, ◌∙◌, subst, ⊎_elim, ◌≢◌, ◌==◌, ◌&&◌, ◌||◌, not, All, option_map, option_to_list, append-nil}
 use Rattle.std.specs.List.{filter_map, list_any, cons_option}
-use Rattle.std.specs.Option.{option_to_list}
-use Rattle.std.proofs.lemmas.List.{append-nil}
 use Rattle.std.proofs.lemmas.List.Elements.{All-head, All-tail, filter-append, filter_map-append}
 use Rattle.std.proofs.lemmas.Bool.{eqb-true, eq-eqb, or_parts, and_parts}
 use Rattle.std.proofs.lemmas.Option.{same_Some}

@@ -10,8 +10,8 @@ use Rattle.applet_trait.specs.Minds.{AppletState}
 use Rattle.toolkit_model.specs.Sessions.{Outstanding, Sent, SessionState}
 use Rattle.toolkit_model.specs.Passing.{ToolkitState, Happening, Woke, Fetched, Responded, Given, Turned, Committed, Passed}
 use Rattle.toolkit_model.specs.Running.{run_of_row, sending}
-use Rattle.toolkit_model.specs.Driving.{with_session, wanted, front_out, next_out, filled, session_filled}
-use Rattle.toolkit_model.specs.Commands.{as_fetched, if_fetched, unfetched, unanswered, fetched, resumed, with_nothing_out, answered, woken}
+use Rattle.toolkit_model.specs.Driving.{with_session, wanted, front_out, next_out, filled, with_next_command}
+use Rattle.toolkit_model.specs.Commands.{as_fetched, if_fetched, unfetched, unanswered, fetched, resumed, with_nothing_out, answered, toolkit_woken}
 use Rattle.toolkit_model.specs.Steps.{ToolkitInput, AreAccepted, moved_by}
 use Rattle.toolkit_model.specs.OrderlySessions.{IsInOrder}
 use Rattle.toolkit_model.specs.Turns.{IsCommit}
@@ -127,12 +127,12 @@ filled_unanswered : (rows : List Registration) (session : SessionState) (out : O
 filled_unanswered rows session (Some out) is = refl
 filled_unanswered rows session None is = ap (if_fetched true) is ∙ sym (next_unanswered session (wanted session.profile rows session.announced) is)
 
-settled_follows : (state : ToolkitState) → unanswered state.session ≡ unanswered (session_filled state).session
-unfolding session_filled
+settled_follows : (state : ToolkitState) → unanswered state.session ≡ unanswered (with_next_command state).session
+unfolding with_next_command
 settled_follows state = filled_unanswered state.rows state.session state.session.out refl
 
-woken_follows : (rows : List Registration) (minds : List (Option AppletState)) → None ≡ unanswered (woken rows minds).session
-unfolding woken
+woken_follows : (rows : List Registration) (minds : List (Option AppletState)) → None ≡ unanswered (toolkit_woken rows minds).session
+unfolding toolkit_woken
 woken_follows rows minds = refl
 
 fetching : IsStepping Freely Fetches

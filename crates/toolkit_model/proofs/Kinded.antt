@@ -1,9 +1,7 @@
 -- The kinds of applets, step by step.
-use Rattle.std.proofs.Common.{◌≡◌, ℕ, zero, suc, ◌+◌, Bool, true, false, cond, List, [], ◌∷◌, ◌++◌, map, Option, Some, None, Result, Ok, Err, get_or, arith, refl, sym, ◌∙◌, ap, subst}
-use Rattle.std.specs.Prelude.{◌≢◌, not, nat_lt, filter, All, IfSome, option_map, slice_index_or}
+use Rattle.std.proofs.Common.{◌≡◌, ℕ, zero, suc, ◌+◌, Bool, true, false, cond, List, [], ◌∷◌, ◌++◌, map, Option, Some, None, Result, Ok, Err, get_or, arith, refl, sym, ◌∙◌, ap, subst, ◌≢◌, not, nat_lt, filter, All, IfSome, option_map, slice_index_or, get_or-set_other}
 use Rattle.std.specs.List.{list_any, enumerate_from}
 use Rattle.std.proofs.lemmas.Bool.{eqb-false, not-true, ltb-true, or_parts, cond_both}
-use Rattle.std.proofs.lemmas.List.{get_or-set_other}
 use Rattle.std.proofs.lemmas.List.Folds.{list_any-append}
 use Rattle.std.proofs.lemmas.List.Elements.{All-map, All-push, All-append, All-filter, filter_passes}
 use Rattle.card_layout.proofs.uicc_types.NumberedLemmas.{all_unmapped}
@@ -22,8 +20,8 @@ use Rattle.toolkit_model.specs.Sessions.{Outstanding}
 use Rattle.toolkit_model.specs.Passing.{ToolkitState, Passed}
 use Rattle.toolkit_model.specs.Registry.{is_on, row_on, without_row, with_code, without_code, registers, deregisters}
 use Rattle.toolkit_model.specs.Running.{Setting, Works, Carried, Ran, is_admitted, admitted, is_held_by, carried, changing, taking, going_on, run_on, most_acts, setting_of, works_of, mind_on, with_mind, run_of_mind, run_of_row}
-use Rattle.toolkit_model.specs.Driving.{session_filled}
-use Rattle.toolkit_model.specs.Commands.{fetched, resumed, with_nothing_out, answered, registering, unregistering, woken_mind, woken_box, woken, woken_boxes}
+use Rattle.toolkit_model.specs.Driving.{with_next_command}
+use Rattle.toolkit_model.specs.Commands.{fetched, resumed, with_nothing_out, answered, registering, unregistering, woken_mind, woken_box, toolkit_woken, woken_boxes}
 use Rattle.toolkit_model.specs.Kinds.{AreOfKinds, IsOfKinds, KindsStay, WakesKeepKinds}
 use Rattle.toolkit_model.specs.Owing.{is_wake}
 use Rattle.toolkit_model.proofs.Runs.{changed_map}
@@ -181,8 +179,8 @@ unregistering_stays shelf state are =
     (λ k d low. eqb-false (get_or left k d).shelf shelf (not-true (is_on shelf (get_or left k d)) (filter_passes (λ row. not (is_on shelf row)) state.rows k d low)))
     (All-filter (λ row. not (is_on shelf row)) (HasKind state.minds) state.rows are)
 
-pub settled_stays : (state : ToolkitState) → IsOfKinds state → IsOfKinds (session_filled state)
-unfolding session_filled
+pub settled_stays : (state : ToolkitState) → IsOfKinds state → IsOfKinds (with_next_command state)
+unfolding with_next_command
 settled_stays state are = are
 
 pub fetched_stays : (out : Outstanding) (state : ToolkitState) → IsOfKinds state → IsOfKinds (fetched out state).state
@@ -238,6 +236,6 @@ woken_same rows from [] = refl
 woken_same rows from (mind ∷ others) = λ i. woken_one (row_on rows from) mind i ∷ woken_same rows (from + 1) others i
 
 pub wakes_keep_kinds : WakesKeepKinds
-unfolding woken woken_boxes
+unfolding toolkit_woken woken_boxes
 wakes_keep_kinds rows minds are =
-    untagged rows (woken rows minds).minds (subst (λ (kinds : List (Option ℕ)). All (IsTagged kinds) (tags_of rows)) (sym (woken_same rows 0 minds)) (tagged rows minds are))
+    untagged rows (toolkit_woken rows minds).minds (subst (λ (kinds : List (Option ℕ)). All (IsTagged kinds) (tags_of rows)) (sym (woken_same rows 0 minds)) (tagged rows minds are))

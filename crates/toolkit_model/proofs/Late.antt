@@ -1,6 +1,5 @@
 -- Late triggers: one more, and one that is taken out.
-use Rattle.std.proofs.Common.{◌≡◌, suc, ◌≤◌, ◌<◌, true, List, [], ◌∷◌, length, Some, length-append, ap, arith, refl, sym, subst, ⊎_elim}
-use Rattle.std.specs.Prelude.{◌≢◌, All, AllPairs, option_map}
+use Rattle.std.proofs.Common.{◌≡◌, suc, ◌≤◌, ◌<◌, true, List, [], ◌∷◌, length, Some, length-append, ap, arith, refl, sym, subst, ⊎_elim, ◌≢◌, All, AllPairs, option_map}
 use Rattle.std.proofs.lemmas.List.Elements.{All-cons, All-head, All-tail, All-push}
 use Rattle.std.proofs.lemmas.Option.{same_Some}
 use Rattle.card_layout.proofs.uicc_types.ChoiceLemmas.{mapped_Some, chosen}

@@ -1,7 +1,5 @@
 -- What holds of each smallest step holds of each command.
-use Rattle.std.proofs.Common.{◌≡◌, ℕ, zero, suc, ◌+◌, ◌-◌, ◌≤◌, Bool, true, false, List, [], ◌∷◌, length, Option, Some, None, get_or, ap, arith, refl, sym, ◌∙◌, subst, inl, inr}
-use Rattle.std.specs.Prelude.{◌≢◌, ◌==◌, ◌&&◌, ◌||◌, nat_lt, All, AllPairs, Contains, IfSome, filter, option_map, slice_index_or}
-use Rattle.std.specs.Option.{option_to_list}
+use Rattle.std.proofs.Common.{◌≡◌, ℕ, zero, suc, ◌+◌, ◌-◌, ◌≤◌, Bool, true, false, List, [], ◌∷◌, length, Option, Some, None, get_or, ap, arith, refl, sym, ◌∙◌, subst, inl, inr, ◌≢◌, ◌==◌, ◌&&◌, ◌||◌, nat_lt, All, AllPairs, Contains, IfSome, filter, option_map, slice_index_or, option_to_list}
 use Rattle.std.proofs.lemmas.List.Elements.{All-nil, All-cons, All-head, All-tail, All-weaker, All-map, All-contains_itself, All-filter}
 use Rattle.std.proofs.lemmas.List.Kept.{AllPairs-filter}
 use Rattle.std.proofs.lemmas.Bool.{or_parts, cond_both, ltb-false}
@@ -22,7 +20,7 @@ use Rattle.toolkit_model.specs.Order.{trigger_order, targets}
 use Rattle.toolkit_model.specs.Registry.{item_of}
 use Rattle.toolkit_model.specs.Passing.{ToolkitState, Passed, unmoved, before, in_turn}
 use Rattle.toolkit_model.specs.Driving.{is_idle, with_session, given_one, driven}
-use Rattle.toolkit_model.specs.Commands.{each_told, with_profile, profiled, polled, selected, holders, triggered_by, late_places, is_busy, is_reported_once, forgetting, reported, triggered, enveloped, unfetched, fetched, unanswered, answered, responded, registering, installed, unregistering, row_deleted, woken}
+use Rattle.toolkit_model.specs.Commands.{registered_told, with_profile, profiled, polled, selected, holders, triggered_by, late_places, is_busy, is_reported_once, forgetting, reported, triggered, enveloped, unfetched, fetched, unanswered, answered, responded, registering, installed, unregistering, delete_carried, toolkit_woken}
 use Rattle.toolkit_model.specs.Steps.{AreRows, ToolkitInput, Profile, Status, Report, Fetch, Respond, Install, Delete, Wake, IsAccepted, moved, AreAccepted, moved_by}
 use Rattle.toolkit_model.proofs.StepsLemmas.{apart_of}
 use Rattle.toolkit_model.proofs.Ordered.{order_is_exact}
@@ -158,7 +156,7 @@ profiled_moves laws is bytes state ready =
     let start = with_profile state bytes in
     let now = profile_ready state bytes ready in
     let all = told_all_move laws is PROFILE_DOWNLOAD bytes (targets start.rows PROFILE_DOWNLOAD) start now (ordered_targets start.rows PROFILE_DOWNLOAD now.rows_are).registered (inl refl) in
-    let first = each_told PROFILE_DOWNLOAD bytes start in
+    let first = registered_told PROFILE_DOWNLOAD bytes start in
     let rest = and_driven laws is start first all.moved all.ready in
     record { moved = is.joined state (unmoved start) (before first driven) (is.profiles state bytes) rest.moved; ready = rest.ready }
 
@@ -166,7 +164,7 @@ polled_moves : HasLaws → {Brings : ToolkitInput → Type 0} {R : ToolkitState 
 unfolding polled
 polled_moves laws is state ready =
     let all = told_all_move laws is STATUS_COMMAND [] (targets state.rows STATUS_COMMAND) state ready (ordered_targets state.rows STATUS_COMMAND ready.rows_are).registered (inr refl) in
-    and_driven laws is state (each_told STATUS_COMMAND [] state) all.moved all.ready
+    and_driven laws is state (registered_told STATUS_COMMAND [] state) all.moved all.ready
 
 enveloped_moves : HasLaws → {Brings : ToolkitInput → Type 0} {R : ToolkitState → Passed → Type 0} → IsStepping Brings R → (envelope : Envelope) (state : ToolkitState) → is_busy envelope state ≡ false → IsGood state → Drives R state (enveloped envelope state)
 unfolding enveloped
@@ -183,8 +181,8 @@ installed_moves : HasLaws → {Brings : ToolkitInput → Type 0} {R : ToolkitSta
 unfolding installed
 installed_moves laws is row state accepted brings ready = and_driven laws is state (registering row state) (is.registers state row accepted brings) (registering_ready row state accepted.0 accepted.1 ready)
 
-deleted_moves : HasLaws → {Brings : ToolkitInput → Type 0} {R : ToolkitState → Passed → Type 0} → IsStepping Brings R → (shelf : ℕ) (state : ToolkitState) → is_idle (asks state.session) shelf ≡ true → IsGood state → Drives R state (row_deleted shelf state)
-unfolding row_deleted
+deleted_moves : HasLaws → {Brings : ToolkitInput → Type 0} {R : ToolkitState → Passed → Type 0} → IsStepping Brings R → (shelf : ℕ) (state : ToolkitState) → is_idle (asks state.session) shelf ≡ true → IsGood state → Drives R state (delete_carried shelf state)
+unfolding delete_carried
 deleted_moves laws is shelf state idle good =
     and_driven laws is state (unregistering shelf state) (is.unregisters state shelf good.ready idle) (unregistering_ready shelf state idle (nothing_late state shelf idle good.suspends) good.ready)
 
@@ -227,11 +225,11 @@ after_driving first ready = record { ready = ready; suspends = driven_suspends f
 
 profiled_good : (bytes : List ℕ) (state : ToolkitState) → IsReady (profiled bytes state).state → IsGood (profiled bytes state).state
 unfolding profiled
-profiled_good bytes state ready = after_driving (each_told PROFILE_DOWNLOAD bytes (with_profile state bytes)) ready
+profiled_good bytes state ready = after_driving (registered_told PROFILE_DOWNLOAD bytes (with_profile state bytes)) ready
 
 polled_good : (state : ToolkitState) → IsReady (polled state).state → IsGood (polled state).state
 unfolding polled
-polled_good state ready = after_driving (each_told STATUS_COMMAND [] state) ready
+polled_good state ready = after_driving (registered_told STATUS_COMMAND [] state) ready
 
 enveloped_good : (envelope : Envelope) (state : ToolkitState) → IsReady (enveloped envelope state).state → IsGood (enveloped envelope state).state
 unfolding enveloped
@@ -245,8 +243,8 @@ installed_good : (row : Registration) (state : ToolkitState) → IsReady (instal
 unfolding installed
 installed_good row state ready = after_driving (registering row state) ready
 
-deleted_good : (shelf : ℕ) (state : ToolkitState) → IsReady (row_deleted shelf state).state → IsGood (row_deleted shelf state).state
-unfolding row_deleted
+deleted_good : (shelf : ℕ) (state : ToolkitState) → IsReady (delete_carried shelf state).state → IsGood (delete_carried shelf state).state
+unfolding delete_carried
 deleted_good shelf state ready = after_driving (unregistering shelf state) ready
 
 fetched_late : (out : Outstanding) (state : ToolkitState) → (fetched out state).state.session.late ≡ state.session.late
@@ -265,9 +263,9 @@ fetched_good out state is good ready = record {
   behind = fetched_behind out state;
 }
 
-woken_good : (rows : List Registration) (minds : List (Option AppletState)) → IsReady (woken rows minds) → IsGood (woken rows minds)
-unfolding woken
-woken_good rows minds ready = record { ready = ready; suspends = All-nil (λ trigger. is_idle (asks (woken rows minds).session) trigger.shelf ≡ false); behind = λ none. refl }
+woken_good : (rows : List Registration) (minds : List (Option AppletState)) → IsReady (toolkit_woken rows minds) → IsGood (toolkit_woken rows minds)
+unfolding toolkit_woken
+woken_good rows minds ready = record { ready = ready; suspends = All-nil (λ trigger. is_idle (asks (toolkit_woken rows minds).session) trigger.shelf ≡ false); behind = λ none. refl }
 
 good_if_ready : (command : ToolkitInput) (state : ToolkitState) → IsAccepted command state → IsGood state → IsReady (moved command state).state → IsGood (moved command state).state
 good_if_ready (Profile bytes) state accepted good ready = profiled_good bytes state ready

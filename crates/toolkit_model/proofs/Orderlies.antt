@@ -1,7 +1,6 @@
 -- A session in order, in the words of the laws and in those of the proofs.
-use Rattle.std.proofs.Common.{◌≡◌, ℕ, Bool, false, List, [], ◌∷◌, map, ap, refl, sym, ◌∙◌}
+use Rattle.std.proofs.Common.{◌≡◌, ℕ, Bool, false, List, [], ◌∷◌, map, ap, refl, sym, ◌∙◌, ◌==◌, ◌||◌, not, All, Contains}
 use Rattle.card_layout.proofs.uicc_types.NumberedLemmas.{all_unmapped}
-use Rattle.std.specs.Prelude.{◌==◌, ◌||◌, not, All, Contains}
 use Rattle.std.specs.List.{list_any}
 use Rattle.std.proofs.lemmas.List.Elements.{All-weaker, All-map}
 use Rattle.std.proofs.lemmas.Bool.{not-false}

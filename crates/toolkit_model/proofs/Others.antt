@@ -1,7 +1,6 @@
 -- What the other steps make of a session that is in order.
-use Rattle.std.proofs.Common.{◌<◌, ◌≡◌, ℕ, zero, suc, ◌≤◌, ◌⊎◌, inl, inr, Bool, true, false, cond, List, [], ◌∷◌, ◌++◌, length, map, Option, Some, None, ap, arith, refl, sym, ◌∙◌, subst, ⊎_elim, ◌+◌}
+use Rattle.std.proofs.Common.{◌<◌, ◌≡◌, ℕ, zero, suc, ◌≤◌, ◌⊎◌, inl, inr, Bool, true, false, cond, List, [], ◌∷◌, ◌++◌, length, map, Option, Some, None, ap, arith, refl, sym, ◌∙◌, subst, ⊎_elim, ◌+◌, ◌≢◌, ◌==◌, not, nat_lt, All, AllPairs, Contains, IfSome, filter, is_some, option_map}
 use Rattle.std.specs.List.{enumerate_from}
-use Rattle.std.specs.Prelude.{◌≢◌, ◌==◌, not, nat_lt, All, AllPairs, Contains, IfSome, filter, is_some, option_map}
 use Rattle.std.proofs.lemmas.Bool.Decides.{nat_tests}
 use Rattle.std.proofs.lemmas.Bool.{cases_eq, lt-ltb, cond_both}
 use Rattle.std.proofs.lemmas.List.{length-map}
@@ -28,7 +27,7 @@ use Rattle.toolkit_model.specs.Passing.{ToolkitState}
 use Rattle.toolkit_model.specs.Registry.{is_on, row_on, without_row}
 use Rattle.toolkit_model.specs.Running.{run_of_row, with_mind, sending, putting_out}
 use Rattle.toolkit_model.specs.Driving.{is_idle, with_session}
-use Rattle.toolkit_model.specs.Commands.{with_profile, forgetting, if_fetched, unfetched, unanswered, fetched, resumed, with_nothing_out, answered, registering, unregistering, woken_mind, woken_box, woken_boxes, woken}
+use Rattle.toolkit_model.specs.Commands.{with_profile, forgetting, if_fetched, unfetched, unanswered, fetched, resumed, with_nothing_out, answered, registering, unregistering, woken_mind, woken_box, woken_boxes, toolkit_woken}
 use Rattle.toolkit_model.specs.Steps.{AreRows, HasMind, HaveMinds}
 use Rattle.toolkit_model.proofs.Runs.{ArePlaced}
 use Rattle.toolkit_model.proofs.Logs.{AnyNumber, SendsProper, IsSendableTo}
@@ -394,8 +393,8 @@ woken_has rows from [] shelf has = has
 woken_has rows from (mind ∷ others) zero has = mapped_some (woken_mind (row_on rows from)) mind has
 woken_has rows from (mind ∷ others) (suc shelf) has = woken_has rows (from + 1) others shelf has
 
-pub woken_ready : (rows : List Registration) (minds : List (Option AppletState)) → AreRows rows → HaveMinds rows minds → IsReady (woken rows minds)
-unfolding woken woken_boxes
+pub woken_ready : (rows : List Registration) (minds : List (Option AppletState)) → AreRows rows → HaveMinds rows minds → IsReady (toolkit_woken rows minds)
+unfolding toolkit_woken woken_boxes
 woken_ready rows minds are have = record {
   underway = record {
     apart = subst (AllPairs (λ a b. a.shelf ≢ b.shelf)) (sym asks_fresh) (pairs_nil (λ a b. a.shelf ≢ b.shelf));

@@ -1,6 +1,5 @@
 -- What a run of an applet makes of a session that is in order.
-use Rattle.std.proofs.Common.{◌≡◌, ℕ, Bool, true, false, List, [], ◌∷◌, ◌++◌, map, Option, Some, None, append_assoc, refl, sym, subst, zero, suc}
-use Rattle.std.specs.Prelude.{◌≢◌, ◌==◌, ◌||◌, not, All, AllPairs, Contains, IfSome}
+use Rattle.std.proofs.Common.{◌≡◌, ℕ, Bool, true, false, List, [], ◌∷◌, ◌++◌, map, Option, Some, None, append_assoc, refl, sym, subst, zero, suc, ◌≢◌, ◌==◌, ◌||◌, not, All, AllPairs, Contains, IfSome}
 use Rattle.std.specs.List.{list_any}
 use Rattle.std.proofs.lemmas.List.Elements.{All-nil, All-cons, All-push, All-weaker}
 use Rattle.std.proofs.lemmas.List.Quantifiers.{all_pairs_push}

@@ -1,6 +1,5 @@
 -- A response reaches the applet that asked, step by step.
-use Rattle.std.proofs.Common.{◌≡◌, ℕ, map, ◌⊎◌, inl, inr, Bool, true, false, cond, List, [], ◌∷◌, ◌++◌, Option, Some, None, ap, refl, sym, ◌∙◌, subst, ⊎_elim}
-use Rattle.std.specs.Prelude.{◌≢◌, ◌==◌, All, IfSome, is_some}
+use Rattle.std.proofs.Common.{◌≡◌, ℕ, map, ◌⊎◌, inl, inr, Bool, true, false, cond, List, [], ◌∷◌, ◌++◌, Option, Some, None, ap, refl, sym, ◌∙◌, subst, ⊎_elim, ◌≢◌, ◌==◌, All, IfSome, is_some}
 use Rattle.std.proofs.lemmas.Bool.{cases_eq, ne_eqb, eq-eqb}
 use Rattle.std.proofs.lemmas.List.Elements.{All-head, All-tail, All-contains}
 use Rattle.card_layout.specs.Persistent.{Registration}
@@ -17,7 +16,7 @@ use Rattle.toolkit_model.specs.Orderly.{IsRegistered, sent_by, asks}
 use Rattle.toolkit_model.specs.Passing.{ToolkitState, ShelfTurn, Happening, Woke, Fetched, Responded, Given, Turned, Committed, Passed}
 use Rattle.toolkit_model.specs.Running.{run_of_row, sending}
 use Rattle.toolkit_model.specs.Driving.{is_idle, with_session, running, first_idle}
-use Rattle.toolkit_model.specs.Commands.{with_profile, unanswered, fetched, resumed, with_nothing_out, answered, unregistering, woken}
+use Rattle.toolkit_model.specs.Commands.{with_profile, unanswered, fetched, resumed, with_nothing_out, answered, unregistering, toolkit_woken}
 use Rattle.toolkit_model.specs.Steps.{HasMind, ToolkitInput, AreAccepted, moved_by}
 use Rattle.toolkit_model.specs.OrderlySessions.{IsInOrder}
 use Rattle.toolkit_model.specs.Turns.{IsInner, IsCommit}
@@ -277,8 +276,8 @@ fetched_reaches : (shelf : ℕ) (out : Outstanding) (state : ToolkitState) → a
 unfolding fetched
 fetched_reaches shelf out state same = sym (ap (awaited shelf) same)
 
-woken_reaches : (shelf : ℕ) (rows : List Registration) (minds : List (Option AppletState)) → Nothing ≡ awaited shelf (asks (woken rows minds).session)
-unfolding woken
+woken_reaches : (shelf : ℕ) (rows : List Registration) (minds : List (Option AppletState)) → Nothing ≡ awaited shelf (asks (toolkit_woken rows minds).session)
+unfolding toolkit_woken
 woken_reaches shelf rows minds = sym (ap (awaited shelf) asks_fresh)
 
 pub has_mind : (state : ToolkitState) (shelf : ℕ) → IsReady state → IsRegistered state.rows shelf → HasMind state.minds shelf

@@ -1,8 +1,5 @@
 -- What a run of an applet keeps, and what it sends.
-use Rattle.std.proofs.Common.{◌<◌, ◌≡◌, ℕ, zero, suc, ◌≤◌, Bool, true, false, cond, List, [], ◌∷◌, length, map, Option, Some, None, Result, Ok, Err, ap, arith, refl, sym, ◌∙◌, subst}
-use Rattle.std.specs.Prelude.{◌≢◌, ◌+◌, ◌==◌, not, All, AllPairs, Contains, IfSome, count_by}
-use Rattle.std.specs.List.{fold}
-use Rattle.std.proofs.lemmas.List.{length-set}
+use Rattle.std.proofs.Common.{◌<◌, ◌≡◌, ℕ, zero, suc, ◌≤◌, Bool, true, false, cond, List, [], ◌∷◌, length, map, Option, Some, None, Result, Ok, Err, ap, arith, refl, sym, ◌∙◌, subst, ◌≢◌, ◌+◌, ◌==◌, not, All, AllPairs, Contains, IfSome, count_by, fold, length-set}
 use Rattle.std.proofs.lemmas.List.Elements.{All-set, All-map}
 use Rattle.std.proofs.lemmas.Bool.{cond_both}
 use Rattle.card_layout.proofs.uicc_types.PairLemmas.{pairs_map, pairs_unmap}

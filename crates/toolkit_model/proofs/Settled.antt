@@ -1,7 +1,6 @@
 -- What becomes outstanding where nothing is.
-use Rattle.std.proofs.Common.{◌≡◌, ℕ, ◌≤◌, Bool, true, List, [], ◌∷◌, ◌++◌, length, Option, Some, None, ap, arith, refl, sym, ◌∙◌, subst, lit≤}
+use Rattle.std.proofs.Common.{◌≡◌, ℕ, ◌≤◌, Bool, true, List, [], ◌∷◌, ◌++◌, length, Option, Some, None, ap, arith, refl, sym, ◌∙◌, subst, lit≤, ◌≢◌, ◌&&◌, All, AllPairs, IfSome, is_some, filter}
 use Rattle.std.proofs.lemmas.List.{length-map}
-use Rattle.std.specs.Prelude.{◌≢◌, ◌&&◌, All, AllPairs, IfSome, is_some, filter}
 use Rattle.std.specs.List.{list_any}
 use Rattle.std.proofs.lemmas.List.Elements.{All-head, All-tail, All-map, All-filter}
 use Rattle.std.proofs.lemmas.List.Sums.{length-filter}
@@ -19,7 +18,7 @@ use Rattle.toolkit_model.specs.Passing.{ToolkitState}
 use Rattle.toolkit_model.specs.Order.{is_for}
 use Rattle.toolkit_model.specs.Registry.{item_of, menu_of}
 use Rattle.toolkit_model.specs.Running.{putting_out}
-use Rattle.toolkit_model.specs.Driving.{download_codes, events_for, menu_title, half_a_minute, or_else, if_allowed, event_list_wanted, menu_wanted, polling_wanted, wanted, announcing, front_out, next_out, filled, session_filled}
+use Rattle.toolkit_model.specs.Driving.{download_codes, events_for, menu_title, half_a_minute, or_else, if_allowed, event_list_wanted, menu_wanted, polling_wanted, wanted, announcing, front_out, next_out, filled, with_next_command}
 use Rattle.toolkit_model.specs.Steps.{AreRows}
 use Rattle.toolkit_model.proofs.Ready.{IsReady}
 
@@ -135,8 +134,8 @@ filled_ready short rows session (Some out) is are underway = underway
 filled_ready short rows session None is are underway =
     next_ready rows session (wanted session.profile rows session.announced) is (wanted_sent short session.profile rows session.announced are) underway
 
-pub settled_ready : ShortFits → (state : ToolkitState) → IsReady state → IsReady (session_filled state)
-unfolding session_filled
+pub settled_ready : ShortFits → (state : ToolkitState) → IsReady state → IsReady (with_next_command state)
+unfolding with_next_command
 settled_ready short state ready = record { underway = filled_ready short state.rows state.session state.session.out refl ready.rows_are ready.underway; rows_are = ready.rows_are; minds = ready.minds }
 
 -- commands wait only behind an outstanding one
@@ -155,8 +154,8 @@ filled_behind : (rows : List Registration) (session : SessionState) (out : Optio
 filled_behind rows session (Some out) is = λ none. cc
 filled_behind rows session None is = next_behind session (wanted session.profile rows session.announced)
 
-pub settled_behind : (state : ToolkitState) → WaitsBehind (session_filled state).session
-unfolding session_filled
+pub settled_behind : (state : ToolkitState) → WaitsBehind (with_next_command state).session
+unfolding with_next_command
 settled_behind state = filled_behind state.rows state.session state.session.out refl
 
 -- the same applets ask, and the same triggers are late
@@ -172,8 +171,8 @@ filled_asks : (rows : List Registration) (session : SessionState) (out : Option 
 filled_asks rows session (Some out) is = refl
 filled_asks rows session None is = next_asks session (wanted session.profile rows session.announced) is
 
-pub settled_asks : (state : ToolkitState) → asks (session_filled state).session ≡ asks state.session
-unfolding session_filled
+pub settled_asks : (state : ToolkitState) → asks (with_next_command state).session ≡ asks state.session
+unfolding with_next_command
 settled_asks state = filled_asks state.rows state.session state.session.out refl
 
 front_late : (session : SessionState) (waiting : List Sent) → (front_out waiting session).late ≡ session.late
@@ -188,6 +187,6 @@ filled_late : (rows : List Registration) (session : SessionState) (out : Option 
 filled_late rows session (Some out) = refl
 filled_late rows session None = next_late session (wanted session.profile rows session.announced)
 
-pub settled_late : (state : ToolkitState) → (session_filled state).session.late ≡ state.session.late
-unfolding session_filled
+pub settled_late : (state : ToolkitState) → (with_next_command state).session.late ≡ state.session.late
+unfolding with_next_command
 settled_late state = filled_late state.rows state.session state.session.out

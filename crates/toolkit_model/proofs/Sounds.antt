@@ -1,9 +1,7 @@
 -- Rows that a card may keep, step by step.
-use Rattle.std.proofs.Common.{◌≡◌, ℕ, zero, suc, ◌+◌, ◌≤◌, ◌<◌, Bool, true, false, cond, List, [], ◌∷◌, ◌++◌, length, map, Option, Some, None, Result, Ok, Err, get_or, arith, refl, sym, ◌∙◌, ap, subst, ⊎_elim}
-use Rattle.std.specs.Prelude.{◌==◌, not, ◌&&◌, ◌||◌, nat_le, nat_lt, filter, All, AllPairs, Contains, is_some, IfSome, IsSomeAnd}
+use Rattle.std.proofs.Common.{◌≡◌, ℕ, zero, suc, ◌+◌, ◌≤◌, ◌<◌, Bool, true, false, cond, List, [], ◌∷◌, ◌++◌, length, map, Option, Some, None, Result, Ok, Err, get_or, arith, refl, sym, ◌∙◌, ap, subst, ⊎_elim, ◌==◌, not, ◌&&◌, ◌||◌, nat_le, nat_lt, filter, All, AllPairs, Contains, is_some, IfSome, IsSomeAnd, length-set}
 use Rattle.std.specs.List.{list_any, list_all, enumerate_from}
 use Rattle.std.proofs.lemmas.Bool.{eqb-false, eqb-true, leb-true, ltb-false, or_parts, cond_both, and_parts}
-use Rattle.std.proofs.lemmas.List.{length-set}
 use Rattle.std.proofs.lemmas.List.Elements.{All-nil, All-cons, All-map, All-append, All-filter, All-weaker, All-contains_itself, filter_map-append}
 use Rattle.std.proofs.lemmas.List.Kept.{AllPairs-filter}
 use Rattle.card_layout.proofs.uicc_types.ChoiceLemmas.{chosen, second_false}
@@ -33,8 +31,8 @@ use Rattle.toolkit_model.specs.Sessions.{Outstanding, LateTrigger}
 use Rattle.toolkit_model.specs.Passing.{ToolkitState, Happening, Committed, Passed, noting, rows_in, passed_rows}
 use Rattle.toolkit_model.specs.Registry.{faulty_if, is_on, is_taken, is_menu_full, last_sequence, is_answered, is_registered, without_row, with_changed, with_code, without_code, with_kept, registers, deregisters}
 use Rattle.toolkit_model.specs.Running.{Setting, Works, Carried, Ran, is_admitted, admitted, is_held_by, carried, changing, taking, committed, going_on, run_on, most_acts, setting_of, works_of, mind_on, run_of_mind, run_of_row}
-use Rattle.toolkit_model.specs.Driving.{running, session_filled}
-use Rattle.toolkit_model.specs.Commands.{fetched, resumed, with_nothing_out, answered, registering, unregistering, woken_box, woken, woken_boxes}
+use Rattle.toolkit_model.specs.Driving.{running, with_next_command}
+use Rattle.toolkit_model.specs.Commands.{fetched, resumed, with_nothing_out, answered, registering, unregistering, woken_box, toolkit_woken, woken_boxes}
 use Rattle.toolkit_model.specs.Steps.{AreRows, Install, IsAccepted, moved}
 use Rattle.toolkit_model.specs.Kinds.{AreOfKinds, IsOfKinds}
 use Rattle.toolkit_model.specs.OrderlySessions.{IsInOrder}
@@ -323,8 +321,8 @@ module _ (wide : Bool) (next : ℕ) where
   running_stands : SameKind → (trigger : LateTrigger) (state : ToolkitState) → Stands state → StandsAfter (running trigger state)
   running_stands same trigger state stands = run_stands same trigger.shelf (Event trigger.code trigger.body) false state stands
 
-  settled_stands : (state : ToolkitState) → Stands state → Stands (session_filled state)
-  unfolding session_filled
+  settled_stands : (state : ToolkitState) → Stands state → Stands (with_next_command state)
+  unfolding with_next_command
   settled_stands state stands = record { rows = stands.rows; shelves = stands.shelves; kinds = stands.kinds }
 
   fetched_stands : (out : Outstanding) (state : ToolkitState) → Stands state → StandsAfter (fetched out state)
@@ -402,8 +400,8 @@ module _ (wide : Bool) (next : ℕ) where
   stands_of : (rows : List Registration) (minds : List (Option AppletState)) → IsSoundToolkit wide next rows minds → AreOfKinds rows minds
   stands_of rows minds sound = λ k d low. kind_if (mind_on minds (get_or rows k d).shelf) (get_or rows k d).kind (sound.applets k d low)
 
-  woken_stands : (rows : List Registration) (minds : List (Option AppletState)) → IsSoundToolkit wide next rows minds → Stands (woken rows minds)
-  unfolding woken woken_boxes
+  woken_stands : (rows : List Registration) (minds : List (Option AppletState)) → IsSoundToolkit wide next rows minds → Stands (toolkit_woken rows minds)
+  unfolding toolkit_woken woken_boxes
   woken_stands rows minds sound = record {
     rows = hold_of wide next rows sound.rows_are;
     shelves = woken_count rows 0 minds ∙ sound.shelves;
@@ -436,7 +434,7 @@ module _ (wide : Bool) (next : ℕ) where
         record { state = after.state; commits = after.commits };
     given_late = λ state trigger ready busy stands. record { state = same_stands state _ refl refl stands; commits = All-nil Sound };
     caught = λ state found ready first stands. running_stands same found.0 _ (same_stands state _ refl refl stands);
-    settles = λ state ready stands. quiet (session_filled state) (settled_stands state stands);
+    settles = λ state ready stands. quiet (with_next_command state) (settled_stands state stands);
     profiles = λ state bytes stands. quiet _ (same_stands state _ refl refl stands);
     reports = λ state code stands. quiet _ (same_stands state _ refl refl stands);
     fetches = λ state out ready is stands. fetched_stands out state stands;

@@ -1,7 +1,6 @@
 -- What holds of each smallest step holds of whole commands.
-use Rattle.std.proofs.Common.{◌≡◌, ℕ, zero, suc, ◌+◌, ◌≤◌, Bool, true, false, cond, List, [], ◌∷◌, length, Option, Some, None, length-append, ap, arith, refl, sym, ◌∙◌, subst, ◌⊎◌}
+use Rattle.std.proofs.Common.{◌≡◌, ℕ, zero, suc, ◌+◌, ◌≤◌, Bool, true, false, cond, List, [], ◌∷◌, length, Option, Some, None, length-append, ap, arith, refl, sym, ◌∙◌, subst, ◌⊎◌, ◌≢◌, not, All, AllPairs, Contains}
 use Rattle.card_layout.specs.uicc_types.declared.events.TheConstants.{PROFILE_DOWNLOAD, STATUS_COMMAND}
-use Rattle.std.specs.Prelude.{◌≢◌, not, All, AllPairs, Contains}
 use Rattle.std.proofs.lemmas.List.Elements.{All-head, All-tail, All-push, All-weaker}
 use Rattle.card_layout.proofs.uicc_types.PairLemmas.{pairs_head, pairs_tail}
 use Rattle.card_layout.specs.Persistent.{Registration}
@@ -11,8 +10,8 @@ use Rattle.applet_trait.specs.Minds.{AppletState}
 use Rattle.toolkit_model.specs.Sessions.{Outstanding, Sent, LateTrigger}
 use Rattle.toolkit_model.specs.Orderly.{IsRegistered, asks}
 use Rattle.toolkit_model.specs.Passing.{ToolkitState, Given, Woke, Passed, unmoved, noting, before, in_turn}
-use Rattle.toolkit_model.specs.Driving.{is_idle, with_session, running, kept_late, told_if, given_if, trigger_for, told_one, given_one, first_idle, catching, caught_up, session_filled, driven}
-use Rattle.toolkit_model.specs.Commands.{with_profile, forgetting, unfetched, fetched, unanswered, answered, registering, unregistering, woken}
+use Rattle.toolkit_model.specs.Driving.{is_idle, with_session, running, kept_late, told_if, given_if, trigger_for, told_one, given_one, first_idle, catching, caught_up, with_next_command, driven}
+use Rattle.toolkit_model.specs.Commands.{with_profile, forgetting, unfetched, fetched, unanswered, answered, registering, unregistering, toolkit_woken}
 use Rattle.toolkit_model.specs.Steps.{ToolkitInput, Install, Wake, IsAccepted, moved}
 use Rattle.toolkit_model.proofs.Logs.{AnyNumber, SendsProper}
 use Rattle.toolkit_model.proofs.Ready.{IsReady, run_is, run_ready, shelves_of, placed_now}
@@ -50,14 +49,14 @@ pub record IsStepping (Brings : ToolkitInput → Type 0) (R : ToolkitState → P
       → R state (noting (Given trigger ∷ []) (kept_late trigger state))
   pub caught : (state : ToolkitState) (found : LateTrigger × List LateTrigger) → IsReady state → first_idle (asks state.session) state.session.late ≡ Some found
       → R state (running found.0 (with_session state (record state.session { late = found.1 })))
-  pub settles : (state : ToolkitState) → IsReady state → R state (unmoved (session_filled state))
+  pub settles : (state : ToolkitState) → IsReady state → R state (unmoved (with_next_command state))
   pub profiles : (state : ToolkitState) (bytes : List ℕ) → R state (unmoved (with_profile state bytes))
   pub reports : (state : ToolkitState) (code : ℕ) → R state (unmoved (with_session state (forgetting code state.session)))
   pub fetches : (state : ToolkitState) (out : Outstanding) → IsReady state → unfetched state.session ≡ Some out → R state (fetched out state)
   pub answers : (state : ToolkitState) (out : Outstanding) (reply : Reply) → IsReady state → unanswered state.session ≡ Some out → R state (answered out reply state)
   pub registers : (state : ToolkitState) (row : Registration) → IsAccepted (Install row) state → Brings (Install row) → R state (registering row state)
   pub unregisters : (state : ToolkitState) (shelf : ℕ) → IsReady state → is_idle (asks state.session) shelf ≡ true → R state (unregistering shelf state)
-  pub wakes : (state : ToolkitState) (rows : List Registration) (minds : List (Option AppletState)) → Brings (Wake rows minds) → R state (record { state = woken rows minds; log = Woke ∷ [] })
+  pub wakes : (state : ToolkitState) (rows : List Registration) (minds : List (Option AppletState)) → Brings (Wake rows minds) → R state (record { state = toolkit_woken rows minds; log = Woke ∷ [] })
 
 -- ---- one step, and what it leaves
 
@@ -234,7 +233,7 @@ driven_moves laws is state ready =
     let first = caught_up (length state.session.late) state in
     let caught = caught_up_moves laws is (length state.session.late) state ready in
     record {
-      moved = is.joined state first (unmoved (session_filled first.state)) caught.moved (is.settles first.state caught.ready);
+      moved = is.joined state first (unmoved (with_next_command first.state)) caught.moved (is.settles first.state caught.ready);
       ready = settled_ready laws.short first.state caught.ready;
     }
 

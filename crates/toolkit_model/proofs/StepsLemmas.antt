@@ -1,6 +1,5 @@
 -- Rows stand on different shelves.
-use Rattle.std.specs.Prelude.{◌≢◌, List, AllPairs}
-use Rattle.std.proofs.Common.{arith}
+use Rattle.std.proofs.Common.{◌≢◌, List, AllPairs, arith}
 use Rattle.card_layout.specs.Persistent.{Registration}
 use Rattle.toolkit_model.specs.Steps.{AreRows}
 

@@ -1,7 +1,6 @@
 -- Sessions of a card with the handset, worked out. The commands are those that a handset sends; what is shown after each is
 -- what the card answers: so many bytes to fetch or none, the bytes of a command, the data of call control, or a refusal.
-use Rattle.std.proofs.Common.{◌≡◌, ℕ, List, [], ◌∷◌, Option, Some, None, true, false, refl}
-use Rattle.std.specs.Prelude.{◌+◌, ◌%◌, map, replicate, codes, Result, Ok, Err, if◌then◌else◌, option_map}
+use Rattle.std.proofs.Common.{◌≡◌, ℕ, List, [], ◌∷◌, Option, Some, None, true, false, refl, ◌+◌, ◌%◌, map, replicate, codes, Result, Ok, Err, if◌then◌else◌, option_map}
 use Rattle.std.specs.List.{range_with_len}
 use Rattle.card_layout.specs.uicc_types.declared.identifiers.Shelf.{Shelf}
 use Rattle.card_layout.specs.Persistent.{Registration, Persistent}
@@ -26,8 +25,8 @@ use Rattle.toolkit_model.specs.Order.{trigger_order, targets}
 use Rattle.toolkit_model.specs.Passing.{ToolkitState, Passed, passed_rows}
 use Rattle.toolkit_model.specs.Registry.{installed_row, deleted_row}
 use Rattle.toolkit_model.specs.Running.{Setting, Works, carried, answers, next_number, run_on, run_of_row, mind_on}
-use Rattle.toolkit_model.specs.Driving.{is_idle, told_one, given_one, caught_up, wanted, session_filled, driven}
-use Rattle.toolkit_model.specs.Commands.{profiled, polled, triggered, enveloped, is_busy, call_data, unfetched, unanswered, pending, command_bytes, fetched, reply_to, answered, responded, installed, row_deleted, woken, woken_boxes}
+use Rattle.toolkit_model.specs.Driving.{is_idle, told_one, given_one, caught_up, wanted, with_next_command, driven}
+use Rattle.toolkit_model.specs.Commands.{profiled, polled, triggered, enveloped, is_busy, call_data, unfetched, unanswered, pending, command_bytes, fetched, reply_to, answered, responded, installed, delete_carried, toolkit_woken, woken_boxes}
 
 -- an applet of each kind on its shelf, the kinds going round
 abbrev boxes : List (Option AppletState)
@@ -94,7 +93,7 @@ on_install state (Ok row) = after [] (installed row state)
 on_install state (Err fault) = refused_row fault state
 
 abbrev on_delete : ToolkitState → Result Registration RowFault → ToolkitState × Shown
-on_delete state (Ok row) = after [] (row_deleted row.shelf state)
+on_delete state (Ok row) = after [] (delete_carried row.shelf state)
 on_delete state (Err fault) = refused_row fault state
 
 abbrev sends : Sent → ToolkitState → ToolkitState × Shown
@@ -106,7 +105,7 @@ sends (Respond bytes) state = on_response state bytes (unanswered state.session)
 sends (Install priority shelf content) state =
     on_install state (installed_row (card_with state.rows) (option_map (λ mind. mind.kind) (mind_on state.minds shelf)) shelf priority content)
 sends (Delete shelf) state = on_delete state (deleted_row state.rows shelf (is_idle (asks state.session) shelf))
-sends Reset state = (woken state.rows state.minds, Answers [] None)
+sends Reset state = (toolkit_woken state.rows state.minds, Answers [] None)
 
 abbrev and_then : ToolkitState × Shown → (ToolkitState → List Shown) → List Shown
 and_then (state, shown) next = shown ∷ next state
@@ -116,7 +115,7 @@ played [] state = []
 played (sent ∷ others) state = and_then (sends sent state) (played others)
 
 abbrev start : List Registration → ToolkitState
-start rows = woken rows boxes
+start rows = toolkit_woken rows boxes
 
 abbrev okay : Shown
 okay = Answers [] None
@@ -146,7 +145,7 @@ greets :
     played (Profile able ∷ Fetch ∷ ok_to 1 0x21 0x80 ∷ [])
     (start (row 0 1 0 (0x40 ∷ []) [] [] ∷ []))
     ≡ more 16 ∷ shows hi ∷ okay ∷ []
-unfolding act address_digits row_from allowed allowed_event consulted tagged response_of value_in envelope_in envelope_of Reading.tag_at Reading.length_at Reading.value_at Reading.object_at Reading.outline_within Reading.outline_at Reading.template_of asks trigger_order run_on run_of_row told_one given_one caught_up wanted session_filled driven profiled polled triggered enveloped fetched answered responded installed row_deleted woken woken_boxes
+unfolding act address_digits row_from allowed allowed_event consulted tagged response_of value_in envelope_in envelope_of Reading.tag_at Reading.length_at Reading.value_at Reading.object_at Reading.outline_within Reading.outline_at Reading.template_of asks trigger_order run_on run_of_row told_one given_one caught_up wanted with_next_command driven profiled polled triggered enveloped fetched answered responded installed delete_carried toolkit_woken woken_boxes
 greets = refl
 
 -- an answer has to come after the FETCH, to the right command, and once
@@ -154,7 +153,7 @@ answers_in_time :
     played (Fetch ∷ Profile able ∷ ok_to 1 0x21 0x80 ∷ Fetch ∷ ok_to 2 0x21 0x80 ∷ ok_to 1 0x21 0x80 ∷ ok_to 1 0x21 0x80 ∷ Fetch ∷ [])
     (start (row 0 1 0 (0x40 ∷ []) [] [] ∷ []))
     ≡ Refuses 0x6985 ∷ more 16 ∷ Refuses 0x6985 ∷ shows hi ∷ Refuses 0x6A80 ∷ okay ∷ Refuses 0x6985 ∷ Refuses 0x6985 ∷ []
-unfolding act address_digits row_from allowed allowed_event consulted tagged response_of value_in envelope_in envelope_of Reading.tag_at Reading.length_at Reading.value_at Reading.object_at Reading.outline_within Reading.outline_at Reading.template_of asks trigger_order run_on run_of_row told_one given_one caught_up wanted session_filled driven profiled polled triggered enveloped fetched answered responded installed row_deleted woken woken_boxes
+unfolding act address_digits row_from allowed allowed_event consulted tagged response_of value_in envelope_in envelope_of Reading.tag_at Reading.length_at Reading.value_at Reading.object_at Reading.outline_within Reading.outline_at Reading.template_of asks trigger_order run_on run_of_row told_one given_one caught_up wanted with_next_command driven profiled polled triggered enveloped fetched answered responded installed delete_carried toolkit_woken woken_boxes
 answers_in_time = refl
 
 -- an event triggers by priority, and of one priority the newest first; the first row waits longest
@@ -164,7 +163,7 @@ by_priority :
     ∷ row 6 1 1 (0x03 ∷ []) [] (0x03 ∷ 0x01 ∷ 0x41 ∷ [])
     ∷ row 13 1 2 (0x03 ∷ []) [] (0x03 ∷ 0x01 ∷ 0x42 ∷ []) ∷ []))
     ≡ more 14 ∷ shows (0xD0 ∷ 0x0C ∷ 0x81 ∷ 0x03 ∷ 0x01 ∷ 0x05 ∷ 0x00 ∷ 0x82 ∷ 0x02 ∷ 0x81 ∷ 0x82 ∷ 0x99 ∷ 0x01 ∷ 0x03 ∷ []) ∷ okay ∷ more 15 ∷ shows (0xD0 ∷ 0x0D ∷ 0x81 ∷ 0x03 ∷ 0x02 ∷ 0x21 ∷ 0x80 ∷ 0x82 ∷ 0x02 ∷ 0x81 ∷ 0x02 ∷ 0x8D ∷ 0x02 ∷ 0x04 ∷ 0x42 ∷ []) ∷ more 15 ∷ shows (0xD0 ∷ 0x0D ∷ 0x81 ∷ 0x03 ∷ 0x03 ∷ 0x21 ∷ 0x80 ∷ 0x82 ∷ 0x02 ∷ 0x81 ∷ 0x02 ∷ 0x8D ∷ 0x02 ∷ 0x04 ∷ 0x41 ∷ []) ∷ more 19 ∷ shows (0xD0 ∷ 0x11 ∷ 0x81 ∷ 0x03 ∷ 0x04 ∷ 0x21 ∷ 0x80 ∷ 0x82 ∷ 0x02 ∷ 0x81 ∷ 0x02 ∷ 0x8D ∷ 0x06 ∷ 0x04 ∷ 0x4D ∷ 0x6F ∷ 0x76 ∷ 0x65 ∷ 0x64 ∷ []) ∷ okay ∷ []
-unfolding act address_digits row_from allowed allowed_event consulted tagged response_of value_in envelope_in envelope_of Reading.tag_at Reading.length_at Reading.value_at Reading.object_at Reading.outline_within Reading.outline_at Reading.template_of asks trigger_order run_on run_of_row told_one given_one caught_up wanted session_filled driven profiled polled triggered enveloped fetched answered responded installed row_deleted woken woken_boxes
+unfolding act address_digits row_from allowed allowed_event consulted tagged response_of value_in envelope_in envelope_of Reading.tag_at Reading.length_at Reading.value_at Reading.object_at Reading.outline_within Reading.outline_at Reading.template_of asks trigger_order run_on run_of_row told_one given_one caught_up wanted with_next_command driven profiled polled triggered enveloped fetched answered responded installed delete_carried toolkit_woken woken_boxes
 by_priority = refl
 
 -- a menu selection for an applet that waits is kept until it is done
@@ -172,7 +171,7 @@ keeps_a_selection :
     played (Profile able ∷ Fetch ∷ ok_to 1 0x25 0x00 ∷ Tell (0xD3 ∷ 0x07 ∷ 0x82 ∷ 0x02 ∷ 0x01 ∷ 0x81 ∷ 0x90 ∷ 0x01 ∷ 0x02 ∷ []) ∷ Fetch ∷ Tell (0xD3 ∷ 0x07 ∷ 0x82 ∷ 0x02 ∷ 0x01 ∷ 0x81 ∷ 0x90 ∷ 0x01 ∷ 0x02 ∷ []) ∷ Respond (0x81 ∷ 0x03 ∷ 0x02 ∷ 0x24 ∷ 0x00 ∷ 0x82 ∷ 0x02 ∷ 0x82 ∷ 0x81 ∷ 0x83 ∷ 0x01 ∷ 0x00 ∷ 0x90 ∷ 0x01 ∷ 0x02 ∷ []) ∷ Fetch ∷ ok_to 3 0x20 0x00 ∷ Tell (0xD3 ∷ 0x01 ∷ 0x82 ∷ []) ∷ [])
     (start (row 1 1 0 [] (codes "Menu") [] ∷ []))
     ≡ more 24 ∷ shows (0xD0 ∷ 0x16 ∷ 0x81 ∷ 0x03 ∷ 0x01 ∷ 0x25 ∷ 0x00 ∷ 0x82 ∷ 0x02 ∷ 0x81 ∷ 0x82 ∷ 0x85 ∷ 0x04 ∷ 0x4D ∷ 0x65 ∷ 0x6E ∷ 0x75 ∷ 0x8F ∷ 0x05 ∷ 0x02 ∷ 0x4D ∷ 0x65 ∷ 0x6E ∷ 0x75 ∷ []) ∷ okay ∷ more 31 ∷ shows (0xD0 ∷ 0x1D ∷ 0x81 ∷ 0x03 ∷ 0x02 ∷ 0x24 ∷ 0x00 ∷ 0x82 ∷ 0x02 ∷ 0x81 ∷ 0x82 ∷ 0x85 ∷ 0x04 ∷ 0x50 ∷ 0x69 ∷ 0x63 ∷ 0x6B ∷ 0x8F ∷ 0x05 ∷ 0x01 ∷ 0x54 ∷ 0x65 ∷ 0x78 ∷ 0x74 ∷ 0x8F ∷ 0x05 ∷ 0x02 ∷ 0x54 ∷ 0x6F ∷ 0x6E ∷ 0x65 ∷ []) ∷ okay ∷ more 14 ∷ shows (0xD0 ∷ 0x0C ∷ 0x81 ∷ 0x03 ∷ 0x03 ∷ 0x20 ∷ 0x00 ∷ 0x82 ∷ 0x02 ∷ 0x81 ∷ 0x03 ∷ 0x8E ∷ 0x01 ∷ 0x10 ∷ []) ∷ more 31 ∷ Refuses 0x6A80 ∷ []
-unfolding act address_digits row_from allowed allowed_event consulted tagged response_of value_in envelope_in envelope_of Reading.tag_at Reading.length_at Reading.value_at Reading.object_at Reading.outline_within Reading.outline_at Reading.template_of asks trigger_order run_on run_of_row told_one given_one caught_up wanted session_filled driven profiled polled triggered enveloped fetched answered responded installed row_deleted woken woken_boxes
+unfolding act address_digits row_from allowed allowed_event consulted tagged response_of value_in envelope_in envelope_of Reading.tag_at Reading.length_at Reading.value_at Reading.object_at Reading.outline_within Reading.outline_at Reading.template_of asks trigger_order run_on run_of_row told_one given_one caught_up wanted with_next_command driven profiled polled triggered enveloped fetched answered responded installed delete_carried toolkit_woken woken_boxes
 keeps_a_selection = refl
 
 -- sixteen are kept, and the next one finds no place
@@ -180,7 +179,7 @@ has_16_places :
     played (Profile able ∷ Fetch ∷ ok_to 1 0x25 0x00 ∷ Tell (0xD3 ∷ 0x07 ∷ 0x82 ∷ 0x02 ∷ 0x01 ∷ 0x81 ∷ 0x90 ∷ 0x01 ∷ 0x02 ∷ []) ∷ Fetch ∷ Tell (0xD3 ∷ 0x07 ∷ 0x82 ∷ 0x02 ∷ 0x01 ∷ 0x81 ∷ 0x90 ∷ 0x01 ∷ 0x02 ∷ []) ∷ Tell (0xD3 ∷ 0x07 ∷ 0x82 ∷ 0x02 ∷ 0x01 ∷ 0x81 ∷ 0x90 ∷ 0x01 ∷ 0x02 ∷ []) ∷ Tell (0xD3 ∷ 0x07 ∷ 0x82 ∷ 0x02 ∷ 0x01 ∷ 0x81 ∷ 0x90 ∷ 0x01 ∷ 0x02 ∷ []) ∷ Tell (0xD3 ∷ 0x07 ∷ 0x82 ∷ 0x02 ∷ 0x01 ∷ 0x81 ∷ 0x90 ∷ 0x01 ∷ 0x02 ∷ []) ∷ Tell (0xD3 ∷ 0x07 ∷ 0x82 ∷ 0x02 ∷ 0x01 ∷ 0x81 ∷ 0x90 ∷ 0x01 ∷ 0x02 ∷ []) ∷ Tell (0xD3 ∷ 0x07 ∷ 0x82 ∷ 0x02 ∷ 0x01 ∷ 0x81 ∷ 0x90 ∷ 0x01 ∷ 0x02 ∷ []) ∷ Tell (0xD3 ∷ 0x07 ∷ 0x82 ∷ 0x02 ∷ 0x01 ∷ 0x81 ∷ 0x90 ∷ 0x01 ∷ 0x02 ∷ []) ∷ Tell (0xD3 ∷ 0x07 ∷ 0x82 ∷ 0x02 ∷ 0x01 ∷ 0x81 ∷ 0x90 ∷ 0x01 ∷ 0x02 ∷ []) ∷ Tell (0xD3 ∷ 0x07 ∷ 0x82 ∷ 0x02 ∷ 0x01 ∷ 0x81 ∷ 0x90 ∷ 0x01 ∷ 0x02 ∷ []) ∷ Tell (0xD3 ∷ 0x07 ∷ 0x82 ∷ 0x02 ∷ 0x01 ∷ 0x81 ∷ 0x90 ∷ 0x01 ∷ 0x02 ∷ []) ∷ Tell (0xD3 ∷ 0x07 ∷ 0x82 ∷ 0x02 ∷ 0x01 ∷ 0x81 ∷ 0x90 ∷ 0x01 ∷ 0x02 ∷ []) ∷ Tell (0xD3 ∷ 0x07 ∷ 0x82 ∷ 0x02 ∷ 0x01 ∷ 0x81 ∷ 0x90 ∷ 0x01 ∷ 0x02 ∷ []) ∷ Tell (0xD3 ∷ 0x07 ∷ 0x82 ∷ 0x02 ∷ 0x01 ∷ 0x81 ∷ 0x90 ∷ 0x01 ∷ 0x02 ∷ []) ∷ Tell (0xD3 ∷ 0x07 ∷ 0x82 ∷ 0x02 ∷ 0x01 ∷ 0x81 ∷ 0x90 ∷ 0x01 ∷ 0x02 ∷ []) ∷ Tell (0xD3 ∷ 0x07 ∷ 0x82 ∷ 0x02 ∷ 0x01 ∷ 0x81 ∷ 0x90 ∷ 0x01 ∷ 0x02 ∷ []) ∷ Tell (0xD3 ∷ 0x07 ∷ 0x82 ∷ 0x02 ∷ 0x01 ∷ 0x81 ∷ 0x90 ∷ 0x01 ∷ 0x02 ∷ []) ∷ Tell (0xD3 ∷ 0x07 ∷ 0x82 ∷ 0x02 ∷ 0x01 ∷ 0x81 ∷ 0x90 ∷ 0x01 ∷ 0x02 ∷ []) ∷ [])
     (start (row 1 1 0 [] (codes "Menu") [] ∷ []))
     ≡ more 24 ∷ shows (0xD0 ∷ 0x16 ∷ 0x81 ∷ 0x03 ∷ 0x01 ∷ 0x25 ∷ 0x00 ∷ 0x82 ∷ 0x02 ∷ 0x81 ∷ 0x82 ∷ 0x85 ∷ 0x04 ∷ 0x4D ∷ 0x65 ∷ 0x6E ∷ 0x75 ∷ 0x8F ∷ 0x05 ∷ 0x02 ∷ 0x4D ∷ 0x65 ∷ 0x6E ∷ 0x75 ∷ []) ∷ okay ∷ more 31 ∷ shows (0xD0 ∷ 0x1D ∷ 0x81 ∷ 0x03 ∷ 0x02 ∷ 0x24 ∷ 0x00 ∷ 0x82 ∷ 0x02 ∷ 0x81 ∷ 0x82 ∷ 0x85 ∷ 0x04 ∷ 0x50 ∷ 0x69 ∷ 0x63 ∷ 0x6B ∷ 0x8F ∷ 0x05 ∷ 0x01 ∷ 0x54 ∷ 0x65 ∷ 0x78 ∷ 0x74 ∷ 0x8F ∷ 0x05 ∷ 0x02 ∷ 0x54 ∷ 0x6F ∷ 0x6E ∷ 0x65 ∷ []) ∷ okay ∷ okay ∷ okay ∷ okay ∷ okay ∷ okay ∷ okay ∷ okay ∷ okay ∷ okay ∷ okay ∷ okay ∷ okay ∷ okay ∷ okay ∷ okay ∷ Refuses 0x9300 ∷ []
-unfolding act address_digits row_from allowed allowed_event consulted tagged response_of value_in envelope_in envelope_of Reading.tag_at Reading.length_at Reading.value_at Reading.object_at Reading.outline_within Reading.outline_at Reading.template_of asks trigger_order run_on run_of_row told_one given_one caught_up wanted session_filled driven profiled polled triggered enveloped fetched answered responded installed row_deleted woken woken_boxes
+unfolding act address_digits row_from allowed allowed_event consulted tagged response_of value_in envelope_in envelope_of Reading.tag_at Reading.length_at Reading.value_at Reading.object_at Reading.outline_within Reading.outline_at Reading.template_of asks trigger_order run_on run_of_row told_one given_one caught_up wanted with_next_command driven profiled polled triggered enveloped fetched answered responded installed delete_carried toolkit_woken woken_boxes
 has_16_places = refl
 
 -- an applet that waits is not deleted; one that is idle is, once
@@ -188,7 +187,7 @@ deletes_an_idle_one :
     played (Profile able ∷ Fetch ∷ Delete 0 ∷ ok_to 1 0x21 0x80 ∷ Delete 0 ∷ Delete 0 ∷ [])
     (start (row 0 1 0 (0x40 ∷ []) [] [] ∷ []))
     ≡ more 16 ∷ shows hi ∷ Refuses 0x6985 ∷ okay ∷ okay ∷ Refuses 0x6A88 ∷ []
-unfolding act address_digits row_from allowed allowed_event consulted tagged response_of value_in envelope_in envelope_of Reading.tag_at Reading.length_at Reading.value_at Reading.object_at Reading.outline_within Reading.outline_at Reading.template_of asks trigger_order run_on run_of_row told_one given_one caught_up wanted session_filled driven profiled polled triggered enveloped fetched answered responded installed row_deleted woken woken_boxes
+unfolding act address_digits row_from allowed allowed_event consulted tagged response_of value_in envelope_in envelope_of Reading.tag_at Reading.length_at Reading.value_at Reading.object_at Reading.outline_within Reading.outline_at Reading.template_of asks trigger_order run_on run_of_row told_one given_one caught_up wanted with_next_command driven profiled polled triggered enveloped fetched answered responded installed delete_carried toolkit_woken woken_boxes
 deletes_an_idle_one = refl
 
 -- a number that begins with the kept digits is barred
@@ -196,7 +195,7 @@ answers_a_call :
     played (Tell (0xD4 ∷ 0x0A ∷ 0x82 ∷ 0x02 ∷ 0x82 ∷ 0x81 ∷ 0x86 ∷ 0x04 ∷ 0x81 ∷ 0x21 ∷ 0x43 ∷ 0xF5 ∷ []) ∷ Tell (0xD4 ∷ 0x08 ∷ 0x82 ∷ 0x02 ∷ 0x82 ∷ 0x81 ∷ 0x86 ∷ 0x02 ∷ 0x81 ∷ 0xF2 ∷ []) ∷ [])
     (start (row 4 1 0 (0x45 ∷ []) [] (0x31 ∷ []) ∷ []))
     ≡ shows (0x01 ∷ 0x00 ∷ []) ∷ shows (0x00 ∷ 0x00 ∷ []) ∷ []
-unfolding act address_digits row_from allowed allowed_event consulted tagged response_of value_in envelope_in envelope_of Reading.tag_at Reading.length_at Reading.value_at Reading.object_at Reading.outline_within Reading.outline_at Reading.template_of asks trigger_order run_on run_of_row told_one given_one caught_up wanted session_filled driven profiled polled triggered enveloped fetched answered responded installed row_deleted woken woken_boxes
+unfolding act address_digits row_from allowed allowed_event consulted tagged response_of value_in envelope_in envelope_of Reading.tag_at Reading.length_at Reading.value_at Reading.object_at Reading.outline_within Reading.outline_at Reading.template_of asks trigger_order run_on run_of_row told_one given_one caught_up wanted with_next_command driven profiled polled triggered enveloped fetched answered responded installed delete_carried toolkit_woken woken_boxes
 answers_a_call = refl
 
 -- a note is kept over a reset
@@ -204,7 +203,7 @@ keeps_a_note :
     played (Profile able ∷ Fetch ∷ Respond (0x81 ∷ 0x03 ∷ 0x01 ∷ 0x23 ∷ 0x01 ∷ 0x82 ∷ 0x02 ∷ 0x82 ∷ 0x81 ∷ 0x83 ∷ 0x01 ∷ 0x00 ∷ 0x8D ∷ 0x03 ∷ 0x04 ∷ 0x41 ∷ 0x42 ∷ []) ∷ Reset ∷ Profile able ∷ Fetch ∷ [])
     (start (row 5 1 0 (0x40 ∷ []) [] [] ∷ []))
     ≡ more 23 ∷ shows (0xD0 ∷ 0x15 ∷ 0x81 ∷ 0x03 ∷ 0x01 ∷ 0x23 ∷ 0x01 ∷ 0x82 ∷ 0x02 ∷ 0x81 ∷ 0x82 ∷ 0x8D ∷ 0x06 ∷ 0x04 ∷ 0x4E ∷ 0x6F ∷ 0x74 ∷ 0x65 ∷ 0x3F ∷ 0x91 ∷ 0x02 ∷ 0x00 ∷ 0x14 ∷ []) ∷ okay ∷ okay ∷ more 16 ∷ shows (0xD0 ∷ 0x0E ∷ 0x81 ∷ 0x03 ∷ 0x01 ∷ 0x21 ∷ 0x80 ∷ 0x82 ∷ 0x02 ∷ 0x81 ∷ 0x02 ∷ 0x8D ∷ 0x03 ∷ 0x04 ∷ 0x41 ∷ 0x42 ∷ []) ∷ []
-unfolding act address_digits row_from allowed allowed_event consulted tagged response_of value_in envelope_in envelope_of Reading.tag_at Reading.length_at Reading.value_at Reading.object_at Reading.outline_within Reading.outline_at Reading.template_of asks trigger_order run_on run_of_row told_one given_one caught_up wanted session_filled driven profiled polled triggered enveloped fetched answered responded installed row_deleted woken woken_boxes
+unfolding act address_digits row_from allowed allowed_event consulted tagged response_of value_in envelope_in envelope_of Reading.tag_at Reading.length_at Reading.value_at Reading.object_at Reading.outline_within Reading.outline_at Reading.template_of asks trigger_order run_on run_of_row told_one given_one caught_up wanted with_next_command driven profiled polled triggered enveloped fetched answered responded installed delete_carried toolkit_woken woken_boxes
 keeps_a_note = refl
 
 -- two applets that an event triggered send one after the other, to a handset that can do less
@@ -213,7 +212,7 @@ one_after_the_other :
     (start (row 3 2 0 (0x03 ∷ []) [] []
     ∷ row 10 1 1 (0x03 ∷ []) [] [] ∷ []))
     ≡ okay ∷ more 19 ∷ shows (0xD0 ∷ 0x11 ∷ 0x81 ∷ 0x03 ∷ 0x01 ∷ 0x21 ∷ 0x80 ∷ 0x82 ∷ 0x02 ∷ 0x81 ∷ 0x02 ∷ 0x8D ∷ 0x06 ∷ 0x04 ∷ 0x4D ∷ 0x6F ∷ 0x76 ∷ 0x65 ∷ 0x64 ∷ []) ∷ more 19 ∷ shows (0xD0 ∷ 0x11 ∷ 0x81 ∷ 0x03 ∷ 0x02 ∷ 0x21 ∷ 0x80 ∷ 0x82 ∷ 0x02 ∷ 0x81 ∷ 0x02 ∷ 0x8D ∷ 0x06 ∷ 0x04 ∷ 0x4D ∷ 0x6F ∷ 0x76 ∷ 0x65 ∷ 0x64 ∷ []) ∷ okay ∷ []
-unfolding act address_digits row_from allowed allowed_event consulted tagged response_of value_in envelope_in envelope_of Reading.tag_at Reading.length_at Reading.value_at Reading.object_at Reading.outline_within Reading.outline_at Reading.template_of asks trigger_order run_on run_of_row told_one given_one caught_up wanted session_filled driven profiled polled triggered enveloped fetched answered responded installed row_deleted woken woken_boxes
+unfolding act address_digits row_from allowed allowed_event consulted tagged response_of value_in envelope_in envelope_of Reading.tag_at Reading.length_at Reading.value_at Reading.object_at Reading.outline_within Reading.outline_at Reading.template_of asks trigger_order run_on run_of_row told_one given_one caught_up wanted with_next_command driven profiled polled triggered enveloped fetched answered responded installed delete_carried toolkit_woken woken_boxes
 one_after_the_other = refl
 
 -- a timer that an applet started comes back to it, and one that nobody holds to nobody
@@ -221,7 +220,7 @@ ticks :
     played (Tell (0xD7 ∷ 0x0C ∷ 0x82 ∷ 0x02 ∷ 0x82 ∷ 0x81 ∷ 0xA4 ∷ 0x01 ∷ 0x02 ∷ 0xA5 ∷ 0x03 ∷ 0x00 ∷ 0x50 ∷ 0x00 ∷ []) ∷ Profile able ∷ Fetch ∷ Respond (0x81 ∷ 0x03 ∷ 0x01 ∷ 0x27 ∷ 0x00 ∷ 0x82 ∷ 0x02 ∷ 0x82 ∷ 0x81 ∷ 0x83 ∷ 0x01 ∷ 0x00 ∷ 0xA4 ∷ 0x01 ∷ 0x01 ∷ []) ∷ Tell (0xD7 ∷ 0x0C ∷ 0x82 ∷ 0x02 ∷ 0x82 ∷ 0x81 ∷ 0xA4 ∷ 0x01 ∷ 0x01 ∷ 0xA5 ∷ 0x03 ∷ 0x00 ∷ 0x50 ∷ 0x00 ∷ []) ∷ Fetch ∷ [])
     (start (row 2 1 0 (0x40 ∷ []) [] [] ∷ []))
     ≡ okay ∷ more 19 ∷ shows (0xD0 ∷ 0x11 ∷ 0x81 ∷ 0x03 ∷ 0x01 ∷ 0x27 ∷ 0x00 ∷ 0x82 ∷ 0x02 ∷ 0x81 ∷ 0x82 ∷ 0xA4 ∷ 0x01 ∷ 0x01 ∷ 0xA5 ∷ 0x03 ∷ 0x00 ∷ 0x50 ∷ 0x00 ∷ []) ∷ okay ∷ more 18 ∷ shows (0xD0 ∷ 0x10 ∷ 0x81 ∷ 0x03 ∷ 0x02 ∷ 0x21 ∷ 0x80 ∷ 0x82 ∷ 0x02 ∷ 0x81 ∷ 0x02 ∷ 0x8D ∷ 0x05 ∷ 0x04 ∷ 0x54 ∷ 0x69 ∷ 0x63 ∷ 0x6B ∷ []) ∷ []
-unfolding act address_digits row_from allowed allowed_event consulted tagged response_of value_in envelope_in envelope_of Reading.tag_at Reading.length_at Reading.value_at Reading.object_at Reading.outline_within Reading.outline_at Reading.template_of asks trigger_order run_on run_of_row told_one given_one caught_up wanted session_filled driven profiled polled triggered enveloped fetched answered responded installed row_deleted woken woken_boxes
+unfolding act address_digits row_from allowed allowed_event consulted tagged response_of value_in envelope_in envelope_of Reading.tag_at Reading.length_at Reading.value_at Reading.object_at Reading.outline_within Reading.outline_at Reading.template_of asks trigger_order run_on run_of_row told_one given_one caught_up wanted with_next_command driven profiled polled triggered enveloped fetched answered responded installed delete_carried toolkit_woken woken_boxes
 ticks = refl
 
 -- a row for STATUS makes the card ask to be polled, and STATUS triggers it
@@ -229,7 +228,7 @@ asks_to_be_polled :
     played (Profile able ∷ Fetch ∷ ok_to 1 0x03 0x00 ∷ Status ∷ [])
     (start (row 6 1 0 (0x41 ∷ []) [] (0x41 ∷ 0x01 ∷ 0x41 ∷ []) ∷ []))
     ≡ more 15 ∷ shows (0xD0 ∷ 0x0D ∷ 0x81 ∷ 0x03 ∷ 0x01 ∷ 0x03 ∷ 0x00 ∷ 0x82 ∷ 0x02 ∷ 0x81 ∷ 0x82 ∷ 0x84 ∷ 0x02 ∷ 0x01 ∷ 0x1E ∷ []) ∷ okay ∷ more 15 ∷ []
-unfolding act address_digits row_from allowed allowed_event consulted tagged response_of value_in envelope_in envelope_of Reading.tag_at Reading.length_at Reading.value_at Reading.object_at Reading.outline_within Reading.outline_at Reading.template_of asks trigger_order run_on run_of_row told_one given_one caught_up wanted session_filled driven profiled polled triggered enveloped fetched answered responded installed row_deleted woken woken_boxes
+unfolding act address_digits row_from allowed allowed_event consulted tagged response_of value_in envelope_in envelope_of Reading.tag_at Reading.length_at Reading.value_at Reading.object_at Reading.outline_within Reading.outline_at Reading.template_of asks trigger_order run_on run_of_row told_one given_one caught_up wanted with_next_command driven profiled polled triggered enveloped fetched answered responded installed delete_carried toolkit_woken woken_boxes
 asks_to_be_polled = refl
 
 -- installing: the shelf is taken while its row is there, and once that is deleted no applet is on it
@@ -237,7 +236,7 @@ installs :
     played (Install 1 0 (0x01 ∷ 0x40 ∷ 0x00 ∷ []) ∷ Delete 0 ∷ Install 1 0 (0x01 ∷ 0x40 ∷ 0x00 ∷ []) ∷ Install 1 7 (0x02 ∷ 0x40 ∷ 0x40 ∷ 0x00 ∷ []) ∷ Install 1 7 (0x01 ∷ 0x40 ∷ 0x00 ∷ []) ∷ Profile able ∷ Fetch ∷ [])
     (start (row 0 1 0 (0x40 ∷ []) [] [] ∷ []))
     ≡ Refuses 0x6985 ∷ okay ∷ Refuses 0x6A88 ∷ Refuses 0x6A80 ∷ okay ∷ more 16 ∷ shows hi ∷ []
-unfolding act address_digits row_from allowed allowed_event consulted tagged response_of value_in envelope_in envelope_of Reading.tag_at Reading.length_at Reading.value_at Reading.object_at Reading.outline_within Reading.outline_at Reading.template_of asks trigger_order run_on run_of_row told_one given_one caught_up wanted session_filled driven profiled polled triggered enveloped fetched answered responded installed row_deleted woken woken_boxes
+unfolding act address_digits row_from allowed allowed_event consulted tagged response_of value_in envelope_in envelope_of Reading.tag_at Reading.length_at Reading.value_at Reading.object_at Reading.outline_within Reading.outline_at Reading.template_of asks trigger_order run_on run_of_row told_one given_one caught_up wanted with_next_command driven profiled polled triggered enveloped fetched answered responded installed delete_carried toolkit_woken woken_boxes
 installs = refl
 
 -- a selection that comes before the first is fetched is kept too
@@ -245,7 +244,7 @@ keeps_before_a_fetch :
     played (Profile less_able ∷ Tell (0xD3 ∷ 0x07 ∷ 0x82 ∷ 0x02 ∷ 0x01 ∷ 0x81 ∷ 0x90 ∷ 0x01 ∷ 0x02 ∷ []) ∷ Tell (0xD3 ∷ 0x07 ∷ 0x82 ∷ 0x02 ∷ 0x01 ∷ 0x81 ∷ 0x90 ∷ 0x01 ∷ 0x02 ∷ []) ∷ [])
     (start (row 1 1 0 [] (codes "Menu") [] ∷ []))
     ≡ okay ∷ more 31 ∷ more 31 ∷ []
-unfolding act address_digits row_from allowed allowed_event consulted tagged response_of value_in envelope_in envelope_of Reading.tag_at Reading.length_at Reading.value_at Reading.object_at Reading.outline_within Reading.outline_at Reading.template_of asks trigger_order run_on run_of_row told_one given_one caught_up wanted session_filled driven profiled polled triggered enveloped fetched answered responded installed row_deleted woken woken_boxes
+unfolding act address_digits row_from allowed allowed_event consulted tagged response_of value_in envelope_in envelope_of Reading.tag_at Reading.length_at Reading.value_at Reading.object_at Reading.outline_within Reading.outline_at Reading.template_of asks trigger_order run_on run_of_row told_one given_one caught_up wanted with_next_command driven profiled polled triggered enveloped fetched answered responded installed delete_carried toolkit_woken woken_boxes
 keeps_before_a_fetch = refl
 
 -- what the card itself has to send comes one after the other: the events, the menu, the polling
@@ -255,7 +254,7 @@ sends_its_own_in_order :
     ∷ row 3 1 1 (0x03 ∷ []) [] []
     ∷ row 6 1 2 (0x41 ∷ []) [] (0x41 ∷ 0x01 ∷ 0x41 ∷ []) ∷ []))
     ≡ more 14 ∷ shows (0xD0 ∷ 0x0C ∷ 0x81 ∷ 0x03 ∷ 0x01 ∷ 0x05 ∷ 0x00 ∷ 0x82 ∷ 0x02 ∷ 0x81 ∷ 0x82 ∷ 0x99 ∷ 0x01 ∷ 0x03 ∷ []) ∷ more 24 ∷ shows (0xD0 ∷ 0x16 ∷ 0x81 ∷ 0x03 ∷ 0x02 ∷ 0x25 ∷ 0x00 ∷ 0x82 ∷ 0x02 ∷ 0x81 ∷ 0x82 ∷ 0x85 ∷ 0x04 ∷ 0x4D ∷ 0x65 ∷ 0x6E ∷ 0x75 ∷ 0x8F ∷ 0x05 ∷ 0x02 ∷ 0x4D ∷ 0x65 ∷ 0x6E ∷ 0x75 ∷ []) ∷ more 15 ∷ shows (0xD0 ∷ 0x0D ∷ 0x81 ∷ 0x03 ∷ 0x03 ∷ 0x03 ∷ 0x00 ∷ 0x82 ∷ 0x02 ∷ 0x81 ∷ 0x82 ∷ 0x84 ∷ 0x02 ∷ 0x01 ∷ 0x1E ∷ []) ∷ okay ∷ []
-unfolding act address_digits row_from allowed allowed_event consulted tagged response_of value_in envelope_in envelope_of Reading.tag_at Reading.length_at Reading.value_at Reading.object_at Reading.outline_within Reading.outline_at Reading.template_of asks trigger_order run_on run_of_row told_one given_one caught_up wanted session_filled driven profiled polled triggered enveloped fetched answered responded installed row_deleted woken woken_boxes
+unfolding act address_digits row_from allowed allowed_event consulted tagged response_of value_in envelope_in envelope_of Reading.tag_at Reading.length_at Reading.value_at Reading.object_at Reading.outline_within Reading.outline_at Reading.template_of asks trigger_order run_on run_of_row told_one given_one caught_up wanted with_next_command driven profiled polled triggered enveloped fetched answered responded installed delete_carried toolkit_woken woken_boxes
 sends_its_own_in_order = refl
 
 -- user activity is reported once: the card asks for it again, before the text that it brought
@@ -263,7 +262,7 @@ asks_again :
     played (Profile able ∷ Fetch ∷ ok_to 1 0x05 0x00 ∷ Tell (0xD6 ∷ 0x07 ∷ 0x99 ∷ 0x01 ∷ 0x04 ∷ 0x82 ∷ 0x02 ∷ 0x82 ∷ 0x81 ∷ []) ∷ Fetch ∷ ok_to 2 0x05 0x00 ∷ Fetch ∷ ok_to 3 0x21 0x80 ∷ [])
     (start (row 3 1 0 (0x04 ∷ []) [] [] ∷ []))
     ≡ more 14 ∷ shows (0xD0 ∷ 0x0C ∷ 0x81 ∷ 0x03 ∷ 0x01 ∷ 0x05 ∷ 0x00 ∷ 0x82 ∷ 0x02 ∷ 0x81 ∷ 0x82 ∷ 0x99 ∷ 0x01 ∷ 0x04 ∷ []) ∷ okay ∷ more 14 ∷ shows (0xD0 ∷ 0x0C ∷ 0x81 ∷ 0x03 ∷ 0x02 ∷ 0x05 ∷ 0x00 ∷ 0x82 ∷ 0x02 ∷ 0x81 ∷ 0x82 ∷ 0x99 ∷ 0x01 ∷ 0x04 ∷ []) ∷ more 20 ∷ shows (0xD0 ∷ 0x12 ∷ 0x81 ∷ 0x03 ∷ 0x03 ∷ 0x21 ∷ 0x80 ∷ 0x82 ∷ 0x02 ∷ 0x81 ∷ 0x02 ∷ 0x8D ∷ 0x07 ∷ 0x04 ∷ 0x41 ∷ 0x63 ∷ 0x74 ∷ 0x69 ∷ 0x76 ∷ 0x65 ∷ []) ∷ okay ∷ []
-unfolding act address_digits row_from allowed allowed_event consulted tagged response_of value_in envelope_in envelope_of Reading.tag_at Reading.length_at Reading.value_at Reading.object_at Reading.outline_within Reading.outline_at Reading.template_of asks trigger_order run_on run_of_row told_one given_one caught_up wanted session_filled driven profiled polled triggered enveloped fetched answered responded installed row_deleted woken woken_boxes
+unfolding act address_digits row_from allowed allowed_event consulted tagged response_of value_in envelope_in envelope_of Reading.tag_at Reading.length_at Reading.value_at Reading.object_at Reading.outline_within Reading.outline_at Reading.template_of asks trigger_order run_on run_of_row told_one given_one caught_up wanted with_next_command driven profiled polled triggered enveloped fetched answered responded installed delete_carried toolkit_woken woken_boxes
 asks_again = refl
 
 -- numbers of commands go round from 254 to 1
@@ -285,14 +284,14 @@ registered codes_now = row 6 1 0 codes_now (codes "T") registering ∷ []
 three_commits :
     passed_rows (enveloped (Selected 7) (start (registered []))).log
     ≡ registered (0x03 ∷ []) ∷ registered (0x03 ∷ 0x04 ∷ []) ∷ registered (0x03 ∷ 0x04 ∷ 0x05 ∷ []) ∷ []
-unfolding act address_digits row_from allowed allowed_event consulted tagged response_of value_in envelope_in envelope_of Reading.tag_at Reading.length_at Reading.value_at Reading.object_at Reading.outline_within Reading.outline_at Reading.template_of asks trigger_order run_on run_of_row told_one given_one caught_up wanted session_filled driven profiled polled triggered enveloped fetched answered responded installed row_deleted woken woken_boxes
+unfolding act address_digits row_from allowed allowed_event consulted tagged response_of value_in envelope_in envelope_of Reading.tag_at Reading.length_at Reading.value_at Reading.object_at Reading.outline_within Reading.outline_at Reading.template_of asks trigger_order run_on run_of_row told_one given_one caught_up wanted with_next_command driven profiled polled triggered enveloped fetched answered responded installed delete_carried toolkit_woken woken_boxes
 three_commits = refl
 
 -- what a profile then gives to fetch, over the rows that were left
 after_each :
     map (λ codes_now. played (Profile able ∷ []) (start (registered codes_now))) ([] ∷ (0x03 ∷ []) ∷ (0x03 ∷ 0x04 ∷ []) ∷ (0x03 ∷ 0x04 ∷ 0x05 ∷ []) ∷ [])
     ≡ (more 21 ∷ []) ∷ (more 14 ∷ []) ∷ (more 15 ∷ []) ∷ (more 16 ∷ []) ∷ []
-unfolding act address_digits row_from allowed allowed_event consulted tagged response_of value_in envelope_in envelope_of Reading.tag_at Reading.length_at Reading.value_at Reading.object_at Reading.outline_within Reading.outline_at Reading.template_of asks trigger_order run_on run_of_row told_one given_one caught_up wanted session_filled driven profiled polled triggered enveloped fetched answered responded installed row_deleted woken woken_boxes
+unfolding act address_digits row_from allowed allowed_event consulted tagged response_of value_in envelope_in envelope_of Reading.tag_at Reading.length_at Reading.value_at Reading.object_at Reading.outline_within Reading.outline_at Reading.template_of asks trigger_order run_on run_of_row told_one given_one caught_up wanted with_next_command driven profiled polled triggered enveloped fetched answered responded installed delete_carried toolkit_woken woken_boxes
 after_each = refl
 
 -- after the last act that it may do, an applet begins anew, with what is kept for it
@@ -303,7 +302,7 @@ abbrev setting : Setting
 setting = record { shelf = 6; profile = None; in_call = false }
 
 begins_anew : (run_on 2 setting (Event 0x43 (0x07 ∷ [])) works).works ≡ record works { rows = registered (0x03 ∷ 0x04 ∷ []) }
-unfolding act address_digits row_from allowed allowed_event consulted tagged response_of value_in envelope_in envelope_of Reading.tag_at Reading.length_at Reading.value_at Reading.object_at Reading.outline_within Reading.outline_at Reading.template_of asks trigger_order run_on run_of_row told_one given_one caught_up wanted session_filled driven profiled polled triggered enveloped fetched answered responded installed row_deleted woken woken_boxes
+unfolding act address_digits row_from allowed allowed_event consulted tagged response_of value_in envelope_in envelope_of Reading.tag_at Reading.length_at Reading.value_at Reading.object_at Reading.outline_within Reading.outline_at Reading.template_of asks trigger_order run_on run_of_row told_one given_one caught_up wanted with_next_command driven profiled polled triggered enveloped fetched answered responded installed delete_carried toolkit_woken woken_boxes
 begins_anew = refl
 
 -- there is no ninth timer, and nobody frees another's

@@ -1,8 +1,6 @@
 -- Runs of an applet that are refused what it sends, or end after their last act, worked out. The applet does what a table
 -- says that is kept for it: rows of an event, an action and its argument.
-use Rattle.std.proofs.Common.{◌≡◌, ℕ, Bool, true, false, List, [], ◌∷◌, ◌++◌, Option, Some, None, refl}
-use Rattle.std.specs.Prelude.{length, map, replicate, slice_set}
-use Rattle.std.specs.List.{flat_map}
+use Rattle.std.proofs.Common.{◌≡◌, ℕ, Bool, true, false, List, [], ◌∷◌, ◌++◌, Option, Some, None, refl, length, map, replicate, slice_set, flat_map}
 use Rattle.toolkit_commands.specs.comprehension_tlv.Writing.{tagged}
 use Rattle.toolkit_commands.specs.declared.commands.Proactive.TheVariants.{DisplayText}
 use Rattle.toolkit_model.specs.Profiles.{allowed, consulted}

@@ -27,17 +27,17 @@ use Rattle.toolkit_model.specs.Driving.{is_idle, with_session, told_one, given_o
 -- ---- TERMINAL PROFILE and STATUS
 
 -- the applets that are registered for an event of the card's own
-abbrev pub each_told : ℕ → List ℕ → ToolkitState → Passed
-each_told code body state = in_turn (told_one code body) (targets state.rows code) state
+abbrev pub registered_told : ℕ → List ℕ → ToolkitState → Passed
+registered_told code body state = in_turn (told_one code body) (targets state.rows code) state
 
 abbrev pub with_profile : ToolkitState → List ℕ → ToolkitState
 with_profile state bytes = with_session state (record state.session { profile = Some (consulted bytes) })
 
 unfoldable pub profiled : List ℕ → ToolkitState → Passed
-profiled bytes state = before (each_told PROFILE_DOWNLOAD bytes (with_profile state bytes)) driven
+profiled bytes state = before (registered_told PROFILE_DOWNLOAD bytes (with_profile state bytes)) driven
 
 unfoldable pub polled : ToolkitState → Passed
-polled state = before (each_told STATUS_COMMAND [] state) driven
+polled state = before (registered_told STATUS_COMMAND [] state) driven
 
 -- ---- ENVELOPE
 
@@ -195,8 +195,8 @@ unregistering shelf state =
       log = Committed rows ∷ [];
     }
 
-unfoldable pub row_deleted : ℕ → ToolkitState → Passed
-row_deleted shelf state = before (unregistering shelf state) driven
+unfoldable pub delete_carried : ℕ → ToolkitState → Passed
+delete_carried shelf state = before (unregistering shelf state) driven
 
 -- ---- after a reset
 
@@ -212,5 +212,5 @@ woken_box rows box = option_map (woken_mind (row_on rows box.0)) box.1
 unfoldable pub woken_boxes : List Registration → List (Option AppletState) → List (Option AppletState)
 woken_boxes rows boxes = map (woken_box rows) (enumerate_from 0 boxes)
 
-unfoldable pub woken : List Registration → List (Option AppletState) → ToolkitState
-woken rows minds = record { rows = rows; session = fresh_session; minds = woken_boxes rows minds }
+unfoldable pub toolkit_woken : List Registration → List (Option AppletState) → ToolkitState
+toolkit_woken rows minds = record { rows = rows; session = fresh_session; minds = woken_boxes rows minds }

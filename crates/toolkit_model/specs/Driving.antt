@@ -146,9 +146,9 @@ abbrev pub filled : Option Outstanding → List Registration → SessionState �
 filled (Some out) rows session = session
 filled None rows session = next_out (wanted session.profile rows session.announced) session
 
-unfoldable pub session_filled : ToolkitState → ToolkitState
-session_filled state = with_session state (filled state.session.out state.rows state.session)
+unfoldable pub with_next_command : ToolkitState → ToolkitState
+with_next_command state = with_session state (filled state.session.out state.rows state.session)
 
 -- applets that are idle catch up with what came late; then a command becomes outstanding
 unfoldable pub driven : ToolkitState → Passed
-driven state = before (caught_up (length state.session.late) state) (λ later. unmoved (session_filled later))
+driven state = before (caught_up (length state.session.late) state) (λ later. unmoved (with_next_command later))

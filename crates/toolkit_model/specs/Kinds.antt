@@ -5,7 +5,7 @@ use Rattle.card_layout.specs.Persistent.{Registration}
 use Rattle.applet_trait.specs.Minds.{AppletState}
 use Rattle.toolkit_model.specs.Passing.{ToolkitState}
 use Rattle.toolkit_model.specs.Running.{mind_on}
-use Rattle.toolkit_model.specs.Commands.{woken}
+use Rattle.toolkit_model.specs.Commands.{toolkit_woken}
 use Rattle.toolkit_model.specs.Steps.{ToolkitInput, AreAccepted, moved_by}
 use Rattle.toolkit_model.specs.OrderlySessions.{IsInOrder}
 use Rattle.toolkit_model.specs.Owing.{is_wake}
@@ -25,4 +25,4 @@ KindsStay =
 
 -- and so it does when all wake
 abbrev pub WakesKeepKinds : Type 0
-WakesKeepKinds = (rows : List Registration) (minds : List (Option AppletState)) → AreOfKinds rows minds → IsOfKinds (woken rows minds)
+WakesKeepKinds = (rows : List Registration) (minds : List (Option AppletState)) → AreOfKinds rows minds → IsOfKinds (toolkit_woken rows minds)

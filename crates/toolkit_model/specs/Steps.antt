@@ -11,7 +11,7 @@ use Rattle.toolkit_model.specs.Passing.{ToolkitState, Woke, Passed, in_turn}
 use Rattle.toolkit_model.specs.Registry.{is_taken}
 use Rattle.toolkit_model.specs.Running.{mind_on}
 use Rattle.toolkit_model.specs.Driving.{is_idle}
-use Rattle.toolkit_model.specs.Commands.{profiled, polled, enveloped, is_busy, unfetched, fetched, unanswered, responded, installed, row_deleted, woken}
+use Rattle.toolkit_model.specs.Commands.{profiled, polled, enveloped, is_busy, unfetched, fetched, unanswered, responded, installed, delete_carried, toolkit_woken}
 
 -- Rows that a card may have, as far as the toolkit goes: they stand by their shelves, no two sequence numbers are the same, and
 -- the menu has room for their texts.
@@ -60,8 +60,8 @@ moved (Report envelope) state = enveloped envelope state
 moved (Fetch out) state = fetched out state
 moved (Respond out reply) state = responded out reply state
 moved (Install row) state = installed row state
-moved (Delete shelf) state = row_deleted shelf state
-moved (Wake rows minds) state = record { state = woken rows minds; log = Woke ∷ [] }
+moved (Delete shelf) state = delete_carried shelf state
+moved (Wake rows minds) state = record { state = toolkit_woken rows minds; log = Woke ∷ [] }
 
 -- commands, one after the other
 abbrev pub AreAccepted : List ToolkitInput → ToolkitState → Type 0

@@ -6,7 +6,7 @@ ghost use Rattle.toolkit_model.specs.Orderly.{asks};
 ghost use Rattle.toolkit_model.specs.Order.{trigger_order, targets};
 ghost use Rattle.toolkit_model.specs.Passing.{ToolkitState, before};
 ghost use Rattle.toolkit_model.specs.Driving.{is_idle, driven};
-ghost use Rattle.toolkit_model.specs.Commands.{each_told, triggered_by, triggered, enveloped};
+ghost use Rattle.toolkit_model.specs.Commands.{registered_told, triggered_by, triggered, enveloped};
 ghost use Rattle.toolkit_model.specs.Steps.{AreRows};
 ghost use Rattle.toolkit_model.specs.Orders.{IsTriggerOrder};
 ghost use Rattle.toolkit_model.specs.OrderlySessions.{IsInOrder};
@@ -26,7 +26,7 @@ pub fn idle_targets_run_in_order()
         → begun (triggered envelope state).log
         ≡ filter (is_idle (asks state.session)) (triggered_by envelope state).shelves }
     ensures by_card { (code : ℕ) (body : List ℕ) (state : ToolkitState) → IsInOrder state
-        → begun (each_told code body state).log ≡ filter (is_idle (asks state.session)) (targets state.rows code) }
+        → begun (registered_told code body state).log ≡ filter (is_idle (asks state.session)) (targets state.rows code) }
     ensures before_driving { (envelope : Envelope) (state : ToolkitState)
         → enveloped envelope state ≡ before (triggered envelope state) driven }
 {}

@@ -1,7 +1,5 @@
 -- The outstanding command, before and after it is fetched.
-use Rattle.std.proofs.Common.{◌≡◌, refl, ap, ◌∙◌, Bool, true, false, ℕ, length, Option, Some, None}
-use Rattle.std.specs.Prelude.{if◌then◌else◌}
-use Rattle.std.specs.Option.{option_map}
+use Rattle.std.proofs.Common.{◌≡◌, refl, ap, ◌∙◌, Bool, true, false, ℕ, length, Option, Some, None, if◌then◌else◌, option_map}
 use Rattle.toolkit_model.specs.toolkit_commands.declared.commands.Details.{Details}
 use Rattle.toolkit_model.specs.toolkit_commands.Table.{details_of}
 use Rattle.toolkit_model.specs.Sessions.{Outstanding, SessionState}

@@ -1,6 +1,5 @@
 -- What becomes outstanding, case by case.
-use Rattle.std.proofs.Common.{◌≡◌, refl, ap, true, false, List, Option, Some, None}
-use Rattle.std.specs.Prelude.{is_none}
+use Rattle.std.proofs.Common.{◌≡◌, refl, ap, true, false, List, Option, Some, None, is_none}
 use Rattle.toolkit_model.specs.card_layout.Persistent.{Registration}
 use Rattle.toolkit_model.specs.toolkit_commands.declared.commands.Proactive.{Proactive}
 use Rattle.toolkit_model.specs.Sessions.{Outstanding, SessionState}

@@ -1,7 +1,5 @@
 -- The first late trigger whose applet is idle.
-use Rattle.std.proofs.Common.{◌≡◌, refl, ap, sym, ◌∙◌, ℕ, zero, suc, ◌<◌, ◌+◌, below_more, Bool, true, false, List, [], ◌∷◌, length, remove, Option, Some, None, arith}
-use Rattle.std.specs.Prelude.{slice_get, slice_index_or, if◌then◌else◌}
-use Rattle.std.specs.Option.{option_map}
+use Rattle.std.proofs.Common.{◌≡◌, refl, ap, sym, ◌∙◌, ℕ, zero, suc, ◌<◌, ◌+◌, below_more, Bool, true, false, List, [], ◌∷◌, length, remove, Option, Some, None, arith, slice_get, slice_index_or, if◌then◌else◌, option_map}
 use Rattle.std.proofs.lemmas.Option.{get_or_from_slice_get}
 use Rattle.toolkit_model.specs.Sessions.{Sent, LateTrigger, SessionState}
 use Rattle.toolkit_model.specs.Orderly.{asks}

@@ -1,7 +1,6 @@
 -- The trace shows as many failures and losses of power as the card had.
-use Rattle.std.proofs.Common.{◌≡◌, ℕ, Bool, ◌+◌, ◌≤◌, List, [], ◌∷◌, ◌++◌, Option, Some, None, inl, inr, refl, sym, ap, ◌∙◌, subst, arith}
+use Rattle.std.proofs.Common.{◌≡◌, ℕ, Bool, ◌+◌, ◌≤◌, List, [], ◌∷◌, ◌++◌, Option, Some, None, inl, inr, refl, sym, ap, ◌∙◌, subst, arith, ◌⊎◌, count_by}
 use Rattle.std.proofs.lemmas.List.Sums.{sum_by-append}
-use Rattle.std.specs.Prelude.{◌⊎◌, count_by}
 use Rattle.card_core.specs.card_model.Counts.{is_cut, is_failure}
 use Rattle.card_steps.proofs.LinkCounts.{IsShownOnce, cut, cut_over, failed, fetched_fits, given_shown, kept_shown, left}
 use Rattle.card_steps.specs.Showing.{CourseShows, MayBreakOffTpdu}

@@ -1,6 +1,5 @@
 -- What is told of lines behind others, and the run of the card that it is.
-use Rattle.std.proofs.Common.{◌≡◌, List, [], ◌∷◌, ◌++◌, Option, refl, sym, ap, ◌∙◌, append_assoc, subst}
-use Rattle.std.proofs.lemmas.List.{append-nil}
+use Rattle.std.proofs.Common.{◌≡◌, List, [], ◌∷◌, ◌++◌, Option, refl, sym, ap, ◌∙◌, append_assoc, subst, append-nil}
 use Rattle.card_core.specs.card_model.States.{Machine}
 use Rattle.card_steps.proofs.RunLaws.{run_one, run_then}
 use Rattle.card_steps.specs.Runs.{GoesOn}

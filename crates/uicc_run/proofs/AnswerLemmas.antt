@@ -1,6 +1,5 @@
 -- Runs over devices that are let go, and runs that were not begun.
-use Rattle.std.proofs.Common.{◌≡◌, ℕ, List, [], Option, Some, None, refl, sym, ap, ◌∙◌, inl, inr, arith, subst}
-use Rattle.std.specs.Prelude.{◌⊎◌}
+use Rattle.std.proofs.Common.{◌≡◌, ℕ, List, [], Option, Some, None, refl, sym, ap, ◌∙◌, inl, inr, arith, subst, ◌⊎◌}
 use Rattle.std.specs.Result.{result_ok}
 use Rattle.card_steps.proofs.byte_streams.ReadingLemmas.{IsTaken-none}
 use Rattle.card_core.specs.card_model.Counts.{IsCounted}

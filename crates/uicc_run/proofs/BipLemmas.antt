@@ -1,6 +1,5 @@
 -- What the run of a terminal's channels comes to.
-use Rattle.std.proofs.Common.{◌≡◌, ◌⊎◌, ◌≤◌, ℕ, ◌+◌, List, [], ◌++◌, length, Option, Some, refl, sym, ap, ◌∙◌, inl, inr, arith}
-use Rattle.std.proofs.lemmas.List.{append-nil}
+use Rattle.std.proofs.Common.{◌≡◌, ◌⊎◌, ◌≤◌, ℕ, ◌+◌, List, [], ◌++◌, length, Option, Some, refl, sym, ap, ◌∙◌, inl, inr, arith, append-nil}
 use Rattle.std.specs.Io.KnownBytes.{append_known}
 use Rattle.bip_runs.proofs.ScriptLaws.{bad_ends_not, bad_stops_there, end_was_good, good_stops_not, stop_was_bad}
 use Rattle.bip_runs.specs.Scripts.{IsFirstBadBip, IsGoodBip}

@@ -1,6 +1,5 @@
 -- The applets that are registered in a card that a script describes have their boxes.
-use Rattle.std.proofs.Common.{◌≡◌, ℕ, zero, suc, ◌-◌, List, [], ◌∷◌, ◌++◌, length, replicate, Option, Some, None, refl, sym, subst}
-use Rattle.std.specs.Prelude.{All, IfSome, IsSomeAnd, option_map, slice_index_or}
+use Rattle.std.proofs.Common.{◌≡◌, ℕ, zero, suc, ◌-◌, List, [], ◌∷◌, ◌++◌, length, replicate, Option, Some, None, refl, sym, subst, All, IfSome, IsSomeAnd, option_map, slice_index_or}
 use Rattle.std.proofs.lemmas.List.Elements.{All-nil}
 use Rattle.card_core.specs.applet_trait.Minds.{AppletState}
 use Rattle.card_core.specs.Openings.{with_all_shelves}

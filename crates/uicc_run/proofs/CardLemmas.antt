@@ -1,7 +1,6 @@
 -- The boxes of a card that is handed back, and those of one that was opened.
-use Rattle.std.proofs.Common.{◌≡◌, ℕ, zero, suc, Bool, true, false, List, [], ◌∷◌, Option, Some, None, refl, sym, ap, ◌∙◌, subst, option_map}
+use Rattle.std.proofs.Common.{◌≡◌, ℕ, zero, suc, Bool, true, false, List, [], ◌∷◌, Option, Some, None, refl, sym, ap, ◌∙◌, subst, option_map, All, if◌then◌else◌, is_none, slice_index_or, slice_set}
 use Rattle.std.specs.List.{list_all}
-use Rattle.std.specs.Prelude.{All, if◌then◌else◌, is_none, slice_index_or, slice_set}
 use Rattle.update_journal.proofs.uicc_types.ChoiceLemmas.{mapped_Some}
 use Rattle.card_core.specs.applet_trait.Minds.{AppletState}
 use Rattle.card_core.specs.Cards.{boxes_kept, card_of, card_with, held_by}

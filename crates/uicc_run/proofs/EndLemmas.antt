@@ -1,6 +1,5 @@
 -- A run whose card was open ends as its lines do.
-use Rattle.std.proofs.Common.{◌≡◌, ℕ, Result, Ok, Err, refl, sym, subst, inl}
-use Rattle.std.specs.Prelude.{is_some, IsErr}
+use Rattle.std.proofs.Common.{◌≡◌, ℕ, Result, Ok, Err, refl, sym, subst, inl, is_some, IsErr}
 use Rattle.phone_runs.specs.card_sections.declared.behind.PlayEnd.{PlayEnd}
 use Rattle.phone_runs.specs.card_sections.declared.behind.PlayEnd.TheVariants as play
 use Rattle.phone_runs.specs.declared.counting.MemoryFailed.{MemoryFailed}

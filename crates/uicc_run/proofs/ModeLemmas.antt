@@ -1,6 +1,5 @@
 -- What a run begins with by its mode.
-use Rattle.std.proofs.Common.{◌≡◌, ℕ, Some, sym, ap, ◌∙◌, subst, inl, inr}
-use Rattle.std.specs.Prelude.{◌⊎◌}
+use Rattle.std.proofs.Common.{◌≡◌, ℕ, Some, sym, ap, ◌∙◌, subst, inl, inr, ◌⊎◌}
 use Rattle.card_core.specs.card_layout.Sections.{bare_card}
 use Rattle.run_words.specs.declared.requests.Mode.{Mode}
 use Rattle.run_words.specs.declared.requests.Mode.TheVariants.{Play, Open, Phone, Load, Bip}

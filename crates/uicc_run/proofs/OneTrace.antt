@@ -1,6 +1,5 @@
 -- What is told of the same lines twice, from the same card, is one where nothing fails.
-use Rattle.std.proofs.Common.{◌≡◌, ℕ, false, map, List, [], ◌∷◌, ◌++◌, Option, Some, None, Result, Ok, Err, refl, sym, ap, ◌∙◌, subst, inl}
-use Rattle.std.proofs.lemmas.List.{append-nil}
+use Rattle.std.proofs.Common.{◌≡◌, ℕ, false, map, List, [], ◌∷◌, ◌++◌, Option, Some, None, Result, Ok, Err, refl, sym, ap, ◌∙◌, subst, inl, append-nil}
 use Rattle.update_journal.proofs.uicc_types.MemberLemmas.{front_of, back_of}
 use Rattle.card_core.specs.applet_trait.Minds.{AppletState}
 use Rattle.card_core.specs.card_layout.Persistent.{Persistent}

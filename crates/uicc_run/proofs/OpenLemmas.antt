@@ -1,6 +1,5 @@
 -- From the lines before `start` to the card that is opened.
-use Rattle.std.proofs.Common.{◌≡◌, ℕ, true, false, List, [], ◌∷◌, ◌++◌, Option, Some, None, is_some, Result, Ok, Err, refl, sym, ap, ◌∙◌, arith, inl, inr, option_map, subst}
-use Rattle.std.specs.Prelude.{◌⊎◌, IfSome, IsOkAnd}
+use Rattle.std.proofs.Common.{◌≡◌, ℕ, true, false, List, [], ◌∷◌, ◌++◌, Option, Some, None, is_some, Result, Ok, Err, refl, sym, ap, ◌∙◌, arith, inl, inr, option_map, subst, ◌⊎◌, IfSome, IsOkAnd}
 use Rattle.std.proofs.lemmas.List.Elements.{All-nil}
 use Rattle.std.specs.Result.{result_ok}
 use Rattle.update_journal.proofs.uicc_types.OptionalLemmas.{if_some_at}

@@ -1,6 +1,5 @@
 -- What lines behind others are for.
-use Rattle.std.proofs.Common.{◌≡◌, List, [], ◌∷◌, ◌++◌, ap, ◌∙◌}
-use Rattle.std.proofs.lemmas.List.{append-nil}
+use Rattle.std.proofs.Common.{◌≡◌, List, [], ◌∷◌, ◌++◌, ap, ◌∙◌, append-nil}
 use Rattle.std.proofs.lemmas.List.Concat.{flat_map-append}
 use Rattle.card_steps.specs.script_form.declared.lines.ScriptLine.{ScriptLine}
 use Rattle.uicc_run.specs.Accounts.{Deed}

@@ -1,7 +1,6 @@
 -- The numbers that the code and its definitions share by name, as the standards and the layout have them: a constant that becomes another
 -- number breaks a line here.
-use Rattle.std.specs.Prelude.{◌≡◌, [], ◌∷◌}
-use Rattle.std.proofs.Common.{refl}
+use Rattle.std.proofs.Common.{◌≡◌, [], ◌∷◌, refl}
 use Rattle.update_journal.specs.uicc_types.declared.answers.TheConstants.StatusWord as status
 use Rattle.update_journal.specs.uicc_types.declared.identifiers.TheConstants.FileId as reserved
 use Rattle.update_journal.specs.uicc_types.declared.keys.TheConstants as key

@@ -1,6 +1,5 @@
 -- What a choice between two values, and a conjunction, say of their test.
-use Rattle.std.proofs.Common.{◌≡◌, ◌⊎◌, ℕ, ◌≤◌, List, length, Bool, true, false, cond, refl, inl, inr}
-use Rattle.std.specs.Prelude.{◌&&◌, Option, Some, None, option_map}
+use Rattle.std.proofs.Common.{◌≡◌, ◌⊎◌, ℕ, ◌≤◌, List, length, Bool, true, false, cond, refl, inl, inr, ◌&&◌, Option, Some, None, option_map}
 use Rattle.std.proofs.lemmas.Option.{same_Some}
 
 -- the one or the other was chosen

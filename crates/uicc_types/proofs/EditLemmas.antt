@@ -1,7 +1,5 @@
 -- A list with one element taken out, and one that is put over another from its front on.
-use Rattle.std.proofs.Common.{get_or, set, ◌≡◌, ℕ, zero, suc, ◌+◌, ◌<◌, List, [], ◌∷◌, length, take, drop, map, refl, ap, arith}
-use Rattle.std.specs.Prelude.{◌++◌}
-use Rattle.std.specs.List.{remove}
+use Rattle.std.proofs.Common.{get_or, set, ◌≡◌, ℕ, zero, suc, ◌+◌, ◌<◌, List, [], ◌∷◌, length, take, drop, map, refl, ap, arith, ◌++◌, remove}
 
 pub map-remove : {X Y : Type 0} (f : X → Y) (xs : List X) (i : ℕ) → map f (remove xs i) ≡ remove (map f xs) i
 map-remove f [] zero = refl

@@ -1,8 +1,6 @@
 -- The first element of a list that passes a test.
-use Rattle.std.proofs.Common.{◌≡◌, ℕ, zero, suc, ◌<◌, Bool, true, false, cond, List, [], ◌∷◌, map, refl, ◌∙◌, ap, subst, arith}
-use Rattle.std.specs.Prelude.{◌==◌, ◌&&◌, ◌++◌, filter, find, slice_get, Contains, AllPairs, Option, Some, None, option_map}
+use Rattle.std.proofs.Common.{◌≡◌, ℕ, zero, suc, ◌<◌, Bool, true, false, cond, List, [], ◌∷◌, map, refl, ◌∙◌, ap, subst, arith, ◌==◌, ◌&&◌, ◌++◌, filter, find, slice_get, Contains, AllPairs, Option, Some, None, option_map, eq-eqb, ne_eqb}
 use Rattle.std.specs.Option.{option_or}
-use Rattle.std.proofs.lemmas.Bool.{eq-eqb, ne_eqb}
 use Rattle.std.proofs.lemmas.Option.{same_Some}
 use Rattle.uicc_types.proofs.PairLemmas.{pairs_head, pairs_tail}
 

@@ -1,6 +1,5 @@
 -- Lists whose elements are told by their numbers.
-use Rattle.std.proofs.Common.{get_or, set, ◌≡◌, ℕ, ◌<◌, List, [], ◌∷◌, length, map, replicate, refl, sym, ◌∙◌, ap, subst, ⊎_elim, arith}
-use Rattle.std.specs.Prelude.{◌≢◌, All, Contains}
+use Rattle.std.proofs.Common.{get_or, set, ◌≡◌, ℕ, ◌<◌, List, [], ◌∷◌, length, map, replicate, refl, sym, ◌∙◌, ap, subst, ⊎_elim, arith, ◌≢◌, All, Contains}
 use Rattle.std.specs.List.{range_with_len}
 use Rattle.std.proofs.lemmas.Bool.{cases_eq}
 use Rattle.std.proofs.lemmas.Grind.{get_or-set_at}

@@ -1,6 +1,5 @@
 -- What is known of an optional value, and of a result.
-use Rattle.std.proofs.Common.{◌≡◌, Bool, true, false, cond, Option, Some, None, Result, Ok, Err, refl, subst}
-use Rattle.std.specs.Prelude.{IfSome, IfOk, OnOk, OnErr, option_map, is_some, is_none}
+use Rattle.std.proofs.Common.{◌≡◌, Bool, true, false, cond, Option, Some, None, Result, Ok, Err, refl, subst, IfSome, IfOk, OnOk, OnErr, option_map, is_some, is_none}
 use Rattle.std.proofs.lemmas.Result.{IfOk-weaker}
 
 -- ---- an optional value

@@ -1,6 +1,5 @@
 -- What holds of each two elements of a list, the earlier one first.
-use Rattle.std.proofs.Common.{zero, suc, List, [], ◌∷◌, map, arith}
-use Rattle.std.specs.Prelude.{All, AllPairs}
+use Rattle.std.proofs.Common.{zero, suc, List, [], ◌∷◌, map, arith, All, AllPairs}
 use Rattle.std.proofs.lemmas.List.Elements.{All-map}
 use Rattle.uicc_types.proofs.NumberedLemmas.{all_unmapped}
 

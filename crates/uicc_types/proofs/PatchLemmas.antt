@@ -1,6 +1,5 @@
--- Bytes put into a list of bytes at a place, and what is left of a range whose write was cut short.
-use Rattle.std.specs.Prelude.{◌≡◌, ℕ, ◌+◌, ◌-◌, ◌<◌, ◌≤◌, List, [], ◌++◌, length, take, drop, slice_range, ◌⊎◌, All}
-use Rattle.std.proofs.Common.{add-zero, get_or, sym, ◌∙◌, ap, inl, inr, ⊎_elim, arith, length-append}
+-- What bytes that were put in a list at a place leave, and what is left of a range whose write was cut short.
+use Rattle.std.proofs.Common.{◌≡◌, ℕ, ◌+◌, ◌-◌, ◌<◌, ◌≤◌, List, [], ◌++◌, length, take, drop, slice_range, ◌⊎◌, All, add-zero, get_or, sym, ◌∙◌, ap, inl, inr, ⊎_elim, arith, length-append}
 use Rattle.std.proofs.lemmas.List.{append-nil, length-take, length-drop, places, take-append-drop, drop_all}
 use Rattle.std.proofs.lemmas.List.Elements.{All-append, All-drop, All-take}
 use Rattle.std.proofs.lemmas.Bool.{cases_lt}

@@ -1,4 +1,4 @@
--- Calls of a device or of a store one after the other, the first of them without a fault.
+-- Between two counts no fault and no cut came.
 use Rattle.uicc_types.specs.Counts.{Meter, Caused}
 
 -- no fault and no cut came

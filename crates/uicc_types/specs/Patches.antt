@@ -1,5 +1,5 @@
 -- Bytes put into a list of bytes at a place, and what is left of a range whose write was cut short.
-use Rattle.std.specs.Prelude.{◌≡◌, ℕ, ◌+◌, ◌-◌, ◌<◌, ◌≤◌, List, ◌++◌, length, take, drop, slice_index, ◌⊎◌}
+use Rattle.std.specs.Prelude.{◌≡◌, ℕ, ◌+◌, ◌<◌, ◌≤◌, List, ◌++◌, length, take, drop, slice_index, ◌⊎◌}
 
 -- the image with these bytes in place of as many from `at` on
 unfoldable pub patched : ℕ → List ℕ → List ℕ → List ℕ

@@ -1,7 +1,6 @@
 -- What a journal tells are bytes, where its device tells bytes.
-use Rattle.std.specs.Prelude.{ℕ, zero, suc, ◌<◌, ◌^◌, ◌&&◌, Bool, true, false, nat_le, if◌then◌else◌, List, [], ◌∷◌, ◌++◌, length, take, drop, slice_range, replicate, Option, Some, None, option_map, option_and_then, unwrap_or, All, IfSome}
 use Rattle.std.specs.Int.{w16, from_be_bytes}
-use Rattle.std.proofs.Common.{arith}
+use Rattle.std.proofs.Common.{ℕ, zero, suc, ◌<◌, ◌^◌, ◌&&◌, Bool, true, false, nat_le, if◌then◌else◌, List, [], ◌∷◌, ◌++◌, length, take, drop, slice_range, replicate, Option, Some, None, option_map, option_and_then, unwrap_or, All, IfSome, arith}
 use Rattle.std.proofs.lemmas.List.Elements.{All-append, All-cons, All-drop, All-nil, All-replicate, All-take}
 use Rattle.uicc_types.specs.Told.{AreBytes}
 use Rattle.store_form.specs.Pieces.{Piece, applied}

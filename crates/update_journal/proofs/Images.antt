@@ -1,6 +1,5 @@
 -- What an image stands for after each step of a commit, whole or torn.
-use Rattle.std.proofs.Common.{zero, suc, append_assoc, ◌≡◌, ◌⊎◌, ℕ, ◌+◌, ◌-◌, ◌≤◌, ◌<◌, true, false, ◌==◌, List, [], ◌∷◌, ◌++◌, length, take, drop, get_or, Some, None, refl, sym, inl, inr, ◌∙◌, ap, subst, arith, length-take, length-drop}
-use Rattle.std.specs.Prelude.{slice_range}
+use Rattle.std.proofs.Common.{zero, suc, append_assoc, ◌≡◌, ◌⊎◌, ℕ, ◌+◌, ◌-◌, ◌≤◌, ◌<◌, true, false, ◌==◌, List, [], ◌∷◌, ◌++◌, length, take, drop, get_or, Some, None, refl, sym, inl, inr, ◌∙◌, ap, subst, arith, length-take, length-drop, slice_range}
 use Rattle.std.proofs.lemmas.Bool.{cases_Bool, cases_lt}
 use Rattle.std.proofs.lemmas.List.{get_or-take, get_or-drop, get_or_past, drop_at}
 use Rattle.std.proofs.lemmas.Grind.{same_number_lists}
@@ -12,8 +11,7 @@ use Rattle.update_journal.specs.Hidden.{length-hidden, hidden_own}
 use Rattle.update_journal.proofs.HiddenLemmas.{hidden_below, hidden_above, hidden-Torn, hidden-patched, hidden-applied}
 use Rattle.update_journal.specs.Journal.{is_open, pending, hidden, stable_of}
 use Rattle.store_form.specs.Spared.{AreUsable, Rewritten}
-use Rattle.store_form.proofs.SparedLemmas.{Rewritten_applied}
-use Rattle.store_form.proofs.SparedLemmas.{applied-Rewritten, applied-applied, Spare_own}
+use Rattle.store_form.proofs.SparedLemmas.{Rewritten_applied, applied-Rewritten, applied-applied, Spare_own}
 use Rattle.update_journal.proofs.Spelling.{pieces_back, length-entries}
 
 abbrev pub area : List ℕ → List ℕ

@@ -5,6 +5,6 @@ pub mod Parts
 mod Reading
 pub mod Spelling
 pub mod Told
-pub mod WellFormedLemmas
+mod WellFormedLemmas
 pub use Rattle.store_form.proofs as store_form
 pub use Rattle.uicc_types.proofs as uicc_types

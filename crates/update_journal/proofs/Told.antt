@@ -1,9 +1,7 @@
 -- The steps of a commit on a device that may tell its bytes, or may not.
-use Rattle.std.proofs.Common.{zero, suc, take, drop, ◌≡◌, ℕ, ◌+◌, ◌≤◌, ◌<◌, true, false, List, [], ◌∷◌, length, get_or, Option, Some, None, refl, sym, inl, inr, ⊎_elim, ◌∙◌, ap, subst, arith}
-use Rattle.std.specs.Prelude.{option_map, slice_range, slice_get, IfSome}
+use Rattle.std.proofs.Common.{zero, suc, take, drop, ◌≡◌, ℕ, ◌+◌, ◌≤◌, ◌<◌, true, false, List, [], ◌∷◌, length, get_or, Option, Some, None, refl, sym, inl, inr, ⊎_elim, ◌∙◌, ap, subst, arith, option_map, slice_range, slice_get, IfSome, get_or-take, get_or-drop, take_all}
 use Rattle.std.proofs.lemmas.Bool.{not-true}
 use Rattle.std.proofs.lemmas.Bool.Decides.{nat_tests}
-use Rattle.std.proofs.lemmas.List.{get_or-take, get_or-drop, take_all}
 use Rattle.std.proofs.lemmas.List.Elements.{All-take}
 use Rattle.std.proofs.lemmas.Option.{same_Some, get_or_from_slice_get, slice_get_within}
 use Rattle.uicc_types.specs.Told.{Becomes}
@@ -13,8 +11,7 @@ use Rattle.store_form.specs.Pieces.{Piece, applied, IsUsable, IsUsablePiece, IsW
 use Rattle.update_journal.specs.Entries.{entries, pieces_in}
 use Rattle.update_journal.specs.Journal.{is_open, stable_of, stable, IsWhole, is_settled, IsUnderWay}
 use Rattle.store_form.specs.Spared.{AreUsable, Rewritten}
-use Rattle.store_form.proofs.SparedLemmas.{length-applied, Rewritten_applied}
-use Rattle.store_form.proofs.SparedLemmas.{Rewritten_again, Rewritten_part, Rewritten_take}
+use Rattle.store_form.proofs.SparedLemmas.{length-applied, Rewritten_applied, Rewritten_again, Rewritten_part, Rewritten_take}
 use Rattle.update_journal.proofs.Images.{area, pending_open, pending_none, entries_torn, area_spelled, opening, gate_torn, pieces_torn, closing, closed_gate, opened_gate, prepared, prepared_torn, stable_range}
 use Rattle.update_journal.proofs.Parts.{HasLength}
 use Rattle.update_journal.proofs.Spelling.{length-entries}

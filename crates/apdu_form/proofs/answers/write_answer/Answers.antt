@@ -1,5 +1,4 @@
-use Rattle.std.proofs.Common.{rules, arith, refl, ap, ◌∙◌, ◌++◌, ◌≡◌, ◌+◌, ◌-◌, length, ℕ, length-append}
-use Rattle.std.proofs.lemmas.List.{take_at}
+use Rattle.std.proofs.Common.{rules, arith, refl, ap, ◌∙◌, ◌++◌, ◌≡◌, ◌+◌, ◌-◌, length, ℕ, length-append, take_at}
 use Rattle.std.proofs.lemmas.Slice.{overwrites, take-put_mid}
 use borrow.Rule.Slice.PartMut.{post_of}
 use Rattle.apdu_form.proofs.answers.write_answer.Goals as goal

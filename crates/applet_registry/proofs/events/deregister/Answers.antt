@@ -1,5 +1,4 @@
-use Rattle.std.proofs.Common.{◌≡◌, sym, subst}
-use Rattle.std.specs.Prelude.{◌↔◌, Bool, false}
+use Rattle.std.proofs.Common.{◌≡◌, sym, subst, ◌↔◌, Bool, false}
 use Rattle.toolkit_model.specs.card_layout.States.{rows_of}
 use Rattle.toolkit_model.specs.Registry.{without_code}
 use Rattle.applet_registry.proofs.Changing.{deregistering_changes}

@@ -1,5 +1,4 @@
-use Rattle.std.proofs.Common.{◌≡◌, true, sym, subst, rules}
-use Rattle.std.specs.Prelude.{◌↔◌, Bool, false, not}
+use Rattle.std.proofs.Common.{◌≡◌, true, sym, subst, rules, ◌↔◌, Bool, false, not}
 use Rattle.toolkit_model.specs.card_layout.Sections.{is_code}
 use Rattle.toolkit_model.specs.card_layout.States.{rows_of}
 use Rattle.toolkit_model.specs.Registry.{with_code}

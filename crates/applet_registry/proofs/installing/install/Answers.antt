@@ -1,6 +1,5 @@
 -- The lemma of each refusal wants the answers of all tests before it, and that of the row wants a next number below the last one.
-use Rattle.std.proofs.Common.{◌≡◌, ◌<◌, true, false, sym, ◌∙◌, arith, rules}
-use Rattle.std.specs.Prelude.{◌==◌}
+use Rattle.std.proofs.Common.{◌≡◌, ◌<◌, true, false, sym, ◌∙◌, arith, rules, ◌==◌}
 use Rattle.std.proofs.lemmas.Bool.Decides.{nat_tests}
 use Rattle.toolkit_model.specs.Registry.{last_sequence}
 use Rattle.applet_registry.proofs.Admitting.{too_narrow, is_taken_already, no_room, no_number, is_admitted}

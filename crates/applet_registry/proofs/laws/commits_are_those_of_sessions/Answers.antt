@@ -1,5 +1,4 @@
-use Rattle.std.proofs.Common.{refl, List, ◌++◌, ◌∙◌, ap}
-use Rattle.std.proofs.lemmas.List.{append-nil}
+use Rattle.std.proofs.Common.{refl, List, ◌++◌, ◌∙◌, ap, append-nil}
 use Rattle.toolkit_model.specs.card_layout.Changing.{with_row_changed}
 use Rattle.toolkit_model.specs.card_layout.Persistent.{Registration}
 use Rattle.applet_registry.proofs.OneGoes.{below, above, left}

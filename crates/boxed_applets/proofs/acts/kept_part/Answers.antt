@@ -1,5 +1,4 @@
-use Rattle.std.proofs.Common.{arith, sym}
-use Rattle.std.proofs.lemmas.List.{length-take, take_all}
+use Rattle.std.proofs.Common.{arith, sym, length-take, take_all}
 use Rattle.boxed_applets.proofs.acts.kept_part.Goals as goal
 
 pub slice_bounds-result-end : goal.slice_bounds-result-end

@@ -1,5 +1,4 @@
-use Rattle.std.proofs.Common.{◌≡◌, sym, ◌∙◌, ap, rules}
-use Rattle.std.specs.Prelude.{List, count_by, []}
+use Rattle.std.proofs.Common.{◌≡◌, sym, ◌∙◌, ap, rules, List, count_by, []}
 use Rattle.file_model.specs.card_layout.Persistent.{Registration}
 use Rattle.file_model.specs.card_layout.Sections.{has_text}
 use Rattle.file_model.specs.card_layout.StateLaws.{text_count_of}

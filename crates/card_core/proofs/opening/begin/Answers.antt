@@ -1,5 +1,4 @@
-use Rattle.std.proofs.Common.{◌≡◌, ◌++◌, ◌-◌, List, length, replicate, Option, None, ◌∙◌, ap, subst}
-use Rattle.std.specs.Prelude.{OnOk, IfErr}
+use Rattle.std.proofs.Common.{◌≡◌, ◌++◌, ◌-◌, List, length, replicate, Option, None, ◌∙◌, ap, subst, OnOk, IfErr}
 use Rattle.std.proofs.lemmas.List.{with_items_is}
 use Rattle.std.proofs.lemmas.Result.{on_ok_weaker}
 use Rattle.toolkit_model.specs.applet_trait.Minds.{AppletState, minds_of}

@@ -1,5 +1,4 @@
-use Rattle.std.proofs.Common.{ap, ◌∙◌, set}
-use Rattle.std.specs.Option.{option_map}
+use Rattle.std.proofs.Common.{ap, ◌∙◌, set, option_map}
 use Rattle.std.proofs.lemmas.List.{map-set}
 use Rattle.toolkit_model.specs.applet_trait.Minds.{minds_of}
 use Rattle.card_core.proofs.toolkit.empty.Goals as goal

@@ -1,5 +1,4 @@
-use Rattle.std.proofs.Common.{drop, length, ◌-◌}
-use Rattle.std.proofs.lemmas.List.{take_at, length-drop}
+use Rattle.std.proofs.Common.{drop, length, ◌-◌, take_at, length-drop}
 use Rattle.card_layout.proofs.ReadingBackLemmas.{node_back, pin_back, row_back}
 use Rattle.card_layout.proofs.laws.entries_are_read_back.Goals as goal
 

@@ -1,5 +1,4 @@
-use Rattle.std.proofs.Common.{◌≡◌, ◌-◌, take, drop, length, sym, arith}
-use Rattle.std.proofs.lemmas.List.{take_all, length-drop}
+use Rattle.std.proofs.Common.{◌≡◌, ◌-◌, take, drop, length, sym, arith, take_all, length-drop}
 use Rattle.card_layout.proofs.writers.kept_write.Goals as goal
 
 pub returns-clause-ok : goal.returns-clause-ok

@@ -1,5 +1,4 @@
-use Rattle.std.specs.Prelude.{length}
-use Rattle.std.proofs.Common.{arith}
+use Rattle.std.proofs.Common.{length, arith}
 use Rattle.file_model.specs.card_layout.Places.{memory_size}
 use Rattle.file_model.specs.card_layout.Changing.{with_bytes}
 use Rattle.card_memory.proofs.Found.{bytes_lie, usable, usable_piece, bytes_commit}

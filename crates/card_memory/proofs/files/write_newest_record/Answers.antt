@@ -1,6 +1,5 @@
 -- The oldest record lies in the memory as the ring's records fill its file; with the moved head it is one commit of a new record 1.
-use Rattle.std.specs.Prelude.{length, ◌+◌, ◌*◌, ◌<◌}
-use Rattle.std.proofs.Common.{refl, ◌∙◌, sym, ap, subst, arith}
+use Rattle.std.proofs.Common.{length, ◌+◌, ◌*◌, ◌<◌, refl, ◌∙◌, sym, ap, subst, arith}
 use Rattle.file_model.specs.card_layout.declared.entries.Node.{Node}
 use Rattle.file_model.specs.card_layout.Places.{memory_size}
 use Rattle.file_model.specs.card_layout.Changing.{with_newest_record}

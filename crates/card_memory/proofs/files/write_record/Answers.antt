@@ -1,5 +1,4 @@
-use Rattle.std.specs.Prelude.{length, ◌+◌, ◌*◌, ◌<◌}
-use Rattle.std.proofs.Common.{refl, ◌∙◌, sym, arith}
+use Rattle.std.proofs.Common.{length, ◌+◌, ◌*◌, ◌<◌, refl, ◌∙◌, sym, arith}
 use Rattle.file_model.specs.card_layout.Changing.{with_record}
 use Rattle.card_memory.proofs.Recorded.{linear_lies, record_usable, record_below, one_usable, record_commit}
 use Rattle.card_memory.proofs.files.write_record.Goals as goal

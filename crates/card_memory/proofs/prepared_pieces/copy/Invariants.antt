@@ -1,5 +1,4 @@
-use Rattle.std.proofs.Common.{◌≡◌, ◌-◌, ◌≤◌, true}
-use Rattle.std.specs.Prelude.{option_map, is_some}
+use Rattle.std.proofs.Common.{◌≡◌, ◌-◌, ◌≤◌, true, option_map, is_some}
 use Rattle.card_memory.specs.Prepared.{copied}
 use Rattle.file_model.specs.uicc_types.Calls.{IsCalm}
 use Rattle.card_memory.proofs.prepared_pieces.copy.Given as goal

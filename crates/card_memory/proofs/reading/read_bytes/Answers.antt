@@ -1,5 +1,4 @@
-use Rattle.std.specs.Prelude.{◌+◌, ◌≡◌, ℕ, length, take, drop, slice_range}
-use Rattle.std.proofs.Common.{◌∙◌}
+use Rattle.std.proofs.Common.{◌+◌, ◌≡◌, ℕ, length, take, drop, slice_range, ◌∙◌}
 use Rattle.std.proofs.lemmas.Result.{on_ok_weaker}
 use Rattle.file_model.specs.Holdings.{bytes_in}
 use Rattle.card_memory.proofs.Found.{bytes_lie, usable}

@@ -1,5 +1,4 @@
-use Rattle.std.specs.Prelude.{length, slice_range, slice_index_or, ◌≡◌, ◌+◌, []}
-use Rattle.std.proofs.Common.{◌∙◌, sym}
+use Rattle.std.proofs.Common.{length, slice_range, slice_index_or, ◌≡◌, ◌+◌, [], ◌∙◌, sym}
 use Rattle.std.proofs.lemmas.Result.{on_ok_weaker}
 use Rattle.file_model.specs.Holdings.{records_in}
 use Rattle.card_memory.proofs.Holding.{held_known}

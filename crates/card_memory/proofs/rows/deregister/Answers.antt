@@ -1,5 +1,4 @@
-use Rattle.std.specs.Prelude.{[], ◌∷◌, List}
-use Rattle.std.proofs.Common.{ap, subst, ◌∙◌, inl, arith}
+use Rattle.std.proofs.Common.{[], ◌∷◌, List, ℕ, filter, not, ◌==◌, ap, subst, ◌∙◌, inl, arith}
 use Rattle.std.proofs.lemmas.Result.{on_ok_weaker}
 use Rattle.file_model.specs.card_layout.declared.entries.Row.{Row}
 use Rattle.card_memory.specs.Entries.{row_at, with_row_at}
@@ -7,7 +6,6 @@ use Rattle.file_model.specs.card_layout.Changing.{without_code_committed}
 use Rattle.file_model.specs.card_layout.States.{registration_of, rows_of}
 use Rattle.card_memory.proofs.RowCommits.{events_commit, rows_after, changed_rows, left_call_control}
 use Rattle.card_memory.proofs.rows.deregister.Goals as goal
-use Rattle.std.specs.Prelude.{ℕ, filter, not, ◌==◌}
 use Rattle.file_model.specs.card_layout.Spelling.{row_part}
 use Rattle.file_model.specs.card_layout.Persistent.{Registration}
 use Rattle.card_memory.specs.Commits.{Commits}

@@ -1,6 +1,5 @@
 -- The commit needs that no two rows answer call control: the code is another one, or no other row has it; both cases make one commit.
-use Rattle.std.specs.Prelude.{[], ◌∷◌, List}
-use Rattle.std.proofs.Common.{ap, subst, ◌∙◌, inl, inr, ⊎_elim, arith}
+use Rattle.std.proofs.Common.{[], ◌∷◌, List, ℕ, Contains, ◌⊎◌, ap, subst, ◌∙◌, inl, inr, ⊎_elim, arith}
 use Rattle.std.proofs.lemmas.Result.{on_ok_weaker}
 use Rattle.file_model.specs.card_layout.declared.entries.Row.{Row}
 use Rattle.card_memory.specs.Entries.{row_at, with_row_at}
@@ -9,7 +8,6 @@ use Rattle.file_model.specs.card_layout.Sections.{sorted_codes}
 use Rattle.file_model.specs.card_layout.States.{registration_of, rows_of}
 use Rattle.card_memory.proofs.RowCommits.{events_commit, rows_after, changed_rows, still_call_control}
 use Rattle.card_memory.proofs.rows.register.Goals as goal
-use Rattle.std.specs.Prelude.{ℕ, Contains, ◌⊎◌}
 use Rattle.file_model.specs.card_layout.Kinds.{codes_of, call_control_code}
 use Rattle.file_model.specs.card_layout.Spelling.{row_part}
 use Rattle.file_model.specs.card_layout.Persistent.{Registration}

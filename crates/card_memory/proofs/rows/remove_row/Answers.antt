@@ -1,5 +1,4 @@
-use Rattle.std.specs.Prelude.{None}
-use Rattle.std.proofs.Common.{ap, ◌∙◌, arith}
+use Rattle.std.proofs.Common.{None, ap, ◌∙◌, arith}
 use Rattle.std.proofs.lemmas.Result.{on_ok_weaker}
 use Rattle.card_memory.specs.Entries.{with_row_at}
 use Rattle.card_memory.specs.Rows.{without_row_on}

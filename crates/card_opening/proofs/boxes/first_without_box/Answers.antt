@@ -1,6 +1,5 @@
 -- The loop keeps that all shelves so far have their box, of one of the seven kinds; so the shelf that lacks one is the first.
-use Rattle.std.proofs.Common.{◌≡◌, ◌<◌, ℕ, false, length, slice_get, slice_index_or, Option, Some, None, option_map, sym, ◌∙◌, ap, subst, arith}
-use Rattle.std.specs.Prelude.{IfSome}
+use Rattle.std.proofs.Common.{◌≡◌, ◌<◌, ℕ, false, length, slice_get, slice_index_or, Option, Some, None, option_map, sym, ◌∙◌, ap, subst, arith, IfSome}
 use Rattle.std.proofs.lemmas.List.{length-map}
 use Rattle.card_model.specs.applet_trait.Minds.{AppletState, minds_of}
 use Rattle.card_model.specs.States.{IsOfSevenKinds}

@@ -1,6 +1,5 @@
 -- The rows of the shelves that were passed have their boxes, and the boxes on them are of the seven kinds.
-use Rattle.std.proofs.Common.{◌≡◌, ℕ, ◌<◌, false, Some, None, slice_get, get_or}
-use Rattle.std.specs.Prelude.{IfSome}
+use Rattle.std.proofs.Common.{◌≡◌, ℕ, ◌<◌, false, Some, None, slice_get, get_or, IfSome}
 use Rattle.card_layout.specs.declared.entries.Row.{Row}
 use Rattle.card_model.specs.States.{IsOfSevenKinds}
 use Rattle.card_opening.specs.Boxes.{lacks_box}

@@ -1,6 +1,5 @@
 -- A box is missing or no card is read only where the store doesn't tell its bytes; so the table that was kept still agrees with it.
-use Rattle.std.proofs.Common.{◌≡◌, None, ◌∙◌, ap, rules}
-use Rattle.std.specs.Prelude.{Err, is_some}
+use Rattle.std.proofs.Common.{◌≡◌, None, ◌∙◌, ap, rules, Err, is_some}
 use Rattle.card_model.specs.applet_trait.Minds.{minds_of}
 use Rattle.card_opening.proofs.Started.{silent_without_box, silent_without_card, kept_agrees, table_moved}
 use Rattle.card_opening.proofs.Openings.{agrees_of, read_anew, read_without_box, read_no_card}

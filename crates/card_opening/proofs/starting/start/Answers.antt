@@ -1,6 +1,5 @@
 -- The recovery and the mount leave the mark, the bytes and the commits, so what the rest says of the card holds of it before them.
-use Rattle.std.proofs.Common.{◌∙◌, ap}
-use Rattle.std.specs.Prelude.{Err}
+use Rattle.std.proofs.Common.{◌∙◌, ap, Err}
 use Rattle.std.proofs.lemmas.Result.{IfErr-weaker, on_ok_weaker}
 use Rattle.card_layout.specs.Memory.{memory}
 use Rattle.layout_mount.specs.Mounted.{unread}

@@ -1,6 +1,5 @@
 -- The boxes were tested before the migration, which keeps the rows; a fault in it leaves the old card or the migrated one.
-use Rattle.std.proofs.Common.{List, refl, sym, subst, ◌∙◌}
-use Rattle.std.specs.Prelude.{All}
+use Rattle.std.proofs.Common.{List, refl, sym, subst, ◌∙◌, All}
 use Rattle.card_layout.specs.Memory.{memory}
 use Rattle.card_layout.specs.Persistent.{Registration}
 use Rattle.card_model.specs.States.{HasBox}

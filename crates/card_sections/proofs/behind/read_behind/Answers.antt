@@ -1,4 +1,4 @@
-use Rattle.card_sections.proofs.BehindLemmas.{in_script}
+use Rattle.card_sections.proofs.BehindLemmas.{stops_so}
 use Rattle.card_sections.proofs.behind.read_behind.Goals as goal
 
 pub returns-in-Ok-true-clause-gives : goal.returns-in-Ok-true-clause-gives
@@ -13,4 +13,4 @@ returns-in-Ok-false-clause-gives g c = λ may text found follows.
 
 pub returns-in-Err-clause-gives : goal.returns-in-Err-clause-gives
 returns-in-Err-clause-gives g c = λ may text found follows.
-    in_script may text found c.next.new.self (g.R.Source.left c.next.new.source) c.next.new.line c.in-Err.fault c.end_for.result c.end_for.ensures (c.in-Err.ensures.next text found follows)
+    stops_so may text found c.next.new.self (g.R.Source.left c.next.new.source) c.next.new.line c.in-Err.fault c.end_for.result c.end_for.ensures (c.in-Err.ensures.next text found follows)

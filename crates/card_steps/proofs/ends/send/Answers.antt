@@ -1,7 +1,6 @@
 -- A card that answers had power, as one without answers NoPower; 6581 alone shows that the memory failed, and a cut that power was lost.
-use Rattle.std.proofs.Common.{ap, refl, inl, ◌∙◌, rules}
+use Rattle.std.proofs.Common.{ap, refl, inl, ◌∙◌, rules, ◌==◌}
 use Rattle.std.proofs.lemmas.Bool.{eqb-true, false≢true}
-use Rattle.std.specs.Prelude.{◌==◌}
 use Rattle.script_form.specs.uicc_types.declared.answers.StatusWord.{StatusWord}
 use Rattle.script_form.specs.uicc_types.declared.answers.TheConstants.StatusWord.{MEMORY_PROBLEM}
 use Rattle.card_core.specs.Cards.{parts_of}

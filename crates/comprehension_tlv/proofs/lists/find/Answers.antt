@@ -1,5 +1,4 @@
-use Rattle.std.proofs.Common.{arith}
-use Rattle.std.specs.Option.{option_copied}
+use Rattle.std.proofs.Common.{arith, option_copied}
 use Rattle.comprehension_tlv.proofs.Finding.{value_at_end, value_fits, no_fault, value_of_list}
 use Rattle.comprehension_tlv.proofs.lists.find.Goals as goal
 

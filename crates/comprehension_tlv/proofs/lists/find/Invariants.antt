@@ -1,5 +1,4 @@
-use Rattle.std.proofs.Common.{◌≡◌, length}
-use Rattle.std.specs.Option.{option_copied}
+use Rattle.std.proofs.Common.{◌≡◌, length, option_copied}
 use Rattle.comprehension_tlv.specs.Reading.{outline, first_value}
 use Rattle.comprehension_tlv.proofs.Finding.{first_or}
 use Rattle.comprehension_tlv.proofs.lists.find.Given as goal

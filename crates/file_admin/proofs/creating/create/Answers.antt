@@ -1,5 +1,4 @@
-use Rattle.std.proofs.Common.{◌≡◌, false, refl, sym, subst}
-use Rattle.std.specs.Prelude.{ℕ, IsTrue, IsSomeAnd}
+use Rattle.std.proofs.Common.{◌≡◌, false, refl, sym, subst, ℕ, IsTrue, IsSomeAnd}
 use Rattle.file_model.specs.declared.descriptors.Wanted.TheVariants.{Number}
 use Rattle.file_model.specs.Files.{descriptors_of, file_found, is_df}
 use Rattle.file_making.specs.Creating.{is_there, created_if_room}

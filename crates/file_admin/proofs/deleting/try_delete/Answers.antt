@@ -1,6 +1,5 @@
-use Rattle.std.proofs.Common.{◌≡◌, sym, ◌∙◌}
+use Rattle.std.proofs.Common.{◌≡◌, sym, ◌∙◌, Ok}
 use Rattle.file_tree.specs.card_model.Channels.{channel_of}
-use Rattle.std.specs.Prelude.{Ok}
 use Rattle.file_making.specs.Deleting.{deleting, deleted}
 use Rattle.file_admin.proofs.Answering.{refused, alike, still_alike}
 use Rattle.file_admin.proofs.Known.{listed}

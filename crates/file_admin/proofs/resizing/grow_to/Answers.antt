@@ -1,6 +1,5 @@
 -- The room found in the table is that of every state it stands for: with one the file grows there in a commit, without one it is refused.
-use Rattle.std.proofs.Common.{◌≡◌, ℕ, List, ◌<◌, sym, ◌∙◌, ap, subst, arith}
-use Rattle.std.specs.Prelude.{◌≢◌}
+use Rattle.std.proofs.Common.{◌≡◌, ℕ, List, ◌<◌, sym, ◌∙◌, ap, subst, arith, ◌≢◌}
 use Rattle.file_model.specs.card_layout.declared.entries.Loaded.{Loaded}
 use Rattle.file_model.specs.card_layout.Kinds.{transparent_kind}
 use Rattle.file_model.specs.card_layout.Laws.{after}

@@ -1,5 +1,4 @@
-use Rattle.std.proofs.Common.{◌≡◌, sym, subst, arith}
-use Rattle.std.specs.Prelude.{◌≢◌}
+use Rattle.std.proofs.Common.{◌≡◌, sym, subst, arith, ◌≢◌}
 use Rattle.file_model.specs.card_layout.declared.entries.Loaded.{Loaded}
 use Rattle.file_model.specs.card_layout.Kinds.{transparent_kind}
 use Rattle.file_model.specs.card_layout.Laws.{after}

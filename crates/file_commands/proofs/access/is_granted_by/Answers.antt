@@ -1,5 +1,4 @@
-use Rattle.std.proofs.Common.{List, ℕ, Option, sym, ap, ◌∙◌, inl, inr}
-use Rattle.std.specs.Prelude.{IsTrue}
+use Rattle.std.proofs.Common.{List, ℕ, Option, sym, ap, ◌∙◌, inl, inr, IsTrue}
 use Rattle.file_model.proofs.uicc_types.OptionalLemmas.{if_some, if_some_at}
 use Rattle.file_model.specs.Reading.{grants}
 use Rattle.file_model.specs.card_layout.Kinds.{has_records}

@@ -1,5 +1,4 @@
-use Rattle.std.proofs.Common.{ℕ, Option, None, sym, ◌∙◌, subst}
-use Rattle.std.specs.Prelude.{IfOk, Result}
+use Rattle.std.proofs.Common.{ℕ, Option, None, sym, ◌∙◌, subst, IfOk, Result}
 use Rattle.file_model.proofs.uicc_types.OptionalLemmas.{if_some_at}
 use Rattle.file_model.specs.uicc_types.declared.answers.StatusWord.{StatusWord}
 use Rattle.file_model.specs.declared.descriptors.Descriptor.{Descriptor}

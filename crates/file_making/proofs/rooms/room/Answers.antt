@@ -1,6 +1,5 @@
 -- Each step goes behind files that are in the way and passes no room, so the place found is the smallest, of which there is one.
-use Rattle.std.proofs.Common.{ℕ, ◌+◌, ◌≤◌, Some, None, List, arith, ap, ◌∙◌, sym, subst}
-use Rattle.std.specs.Prelude.{find}
+use Rattle.std.proofs.Common.{ℕ, ◌+◌, ◌≤◌, Some, None, List, arith, ap, ◌∙◌, sym, subst, find}
 use Rattle.file_model.specs.card_layout.declared.entries.Node.{Node}
 use Rattle.file_model.specs.card_layout.Places.{data_end}
 use Rattle.file_model.specs.card_layout.States.{state_of}

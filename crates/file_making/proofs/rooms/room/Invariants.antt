@@ -1,5 +1,4 @@
-use Rattle.std.proofs.Common.{◌≡◌, ℕ, ◌≤◌, List}
-use Rattle.std.specs.Prelude.{◌-◌, ◌^◌, ◌<◌}
+use Rattle.std.proofs.Common.{◌≡◌, ℕ, ◌≤◌, List, ◌-◌, ◌^◌, ◌<◌}
 use Rattle.file_model.specs.card_layout.Places.{data_place}
 use Rattle.file_model.specs.card_layout.States.{state_of}
 use Rattle.file_making.specs.Rooms.{IsRoom}

@@ -1,6 +1,5 @@
 -- Each wanted file has this number, so the entries of other numbers fail, and the search of all finds this entry's file or none.
-use Rattle.std.proofs.Common.{◌≡◌, ℕ, Bool, true, false, Some, length, ap, ◌∙◌, sym, subst, arith}
-use Rattle.std.specs.Prelude.{◌&&◌}
+use Rattle.std.proofs.Common.{◌≡◌, ℕ, Bool, true, false, Some, length, ap, ◌∙◌, sym, subst, arith, ◌&&◌}
 use Rattle.file_model.specs.card_layout.declared.entries.Node.{Node}
 use Rattle.file_model.specs.Files.{descriptor_of, descriptors_of, is_wanted}
 use Rattle.file_tree.specs.Tables.{IsNumbered}

@@ -1,5 +1,5 @@
 -- `house` hands the room to `lodge`. Assumes `Logic`.
-use Rattle.std.proofs.Common.{◌≡◌, ℕ, ◌^◌, ◌<◌, List, [], ◌∷◌, ◌++◌, refl, sym, ap, ◌∙◌, subst, lit<, Vec}
+use Rattle.std.proofs.Common.{◌≡◌, ℕ, List, [], ◌∷◌, ◌++◌, refl, sym, ap, ◌∙◌, subst, Vec}
 use seplogic.Ra.Ura.{Ura}
 use mir.Syntax.{Fn, Callee, a_type, w64}
 use mir.Val.{Val, vptr, vint}

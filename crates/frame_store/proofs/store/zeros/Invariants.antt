@@ -1,4 +1,4 @@
-use Rattle.std.proofs.Common.{◌≡◌, ◌≤◌, ◌-◌, length}
+use Rattle.std.proofs.Common.{◌≡◌, ◌≤◌, ◌-◌}
 use Rattle.std.specs.Vec.{vec_len, vec_capacity, vec_ptr}
 use Rattle.frame_store.proofs.store.zeros.Given as goal
 

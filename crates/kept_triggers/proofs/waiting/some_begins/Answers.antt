@@ -1,5 +1,4 @@
-use Rattle.std.proofs.Common.{◌≡◌, ◌+◌, ℕ, true, false, Bool, List, [], sym, ap, ◌∙◌, arith, drop}
-use Rattle.std.specs.Prelude.{◌==◌, ◌||◌, slice_index_or}
+use Rattle.std.proofs.Common.{◌≡◌, ◌+◌, ℕ, true, false, Bool, List, [], sym, ap, ◌∙◌, arith, drop, ◌==◌, ◌||◌, slice_index_or}
 use Rattle.std.specs.List.{list_any}
 use Rattle.kept_triggers.proofs.Parts.{any_from, any_past}
 use Rattle.kept_triggers.proofs.waiting.some_begins.Goals as goal

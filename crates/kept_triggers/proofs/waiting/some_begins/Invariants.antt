@@ -1,5 +1,4 @@
-use Rattle.std.proofs.Common.{◌≡◌, drop}
-use Rattle.std.specs.Prelude.{◌==◌, slice_index_or}
+use Rattle.std.proofs.Common.{◌≡◌, drop, ◌==◌, slice_index_or}
 use Rattle.std.specs.List.{list_any}
 use Rattle.kept_triggers.proofs.waiting.some_begins.Given as goal
 

@@ -1,5 +1,4 @@
-use Rattle.std.proofs.Common.{◌≡◌, ℕ, ◌+◌, ◌*◌, ◌≤◌, List, length, ap, ◌∙◌, arith}
-use Rattle.std.specs.Prelude.{slice_index_or}
+use Rattle.std.proofs.Common.{◌≡◌, ℕ, ◌+◌, ◌*◌, ◌≤◌, List, length, ap, ◌∙◌, arith, slice_index_or}
 use Rattle.uicc_types.proofs.PatchLemmas.{length-patched}
 use Rattle.card_layout.specs.Blank.{unused_node}
 use Rattle.card_layout.specs.Decoding.{bytes_at}

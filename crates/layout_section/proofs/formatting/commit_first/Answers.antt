@@ -1,6 +1,5 @@
 -- The first bytes join the parts that were prepared.
-use Rattle.std.proofs.Common.{◌≡◌, ◌⊎◌, List, [], ◌∷◌, ◌++◌, ap, ◌∙◌, inl, inr, ⊎_elim, arith}
-use Rattle.std.specs.Prelude.{IfSome, option_map}
+use Rattle.std.proofs.Common.{◌≡◌, ◌⊎◌, List, [], ◌∷◌, ◌++◌, ap, ◌∙◌, inl, inr, ⊎_elim, arith, IfSome, option_map}
 use Rattle.std.proofs.lemmas.Result.{on_ok_weaker, on_err_weaker}
 use Rattle.card_layout.specs.store_form.Pieces.{Piece, applied}
 use Rattle.layout_section.specs.Laying.{IsWritten}

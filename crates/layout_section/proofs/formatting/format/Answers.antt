@@ -1,5 +1,4 @@
-use Rattle.std.proofs.Common.{◌≡◌, ◌⊎◌, ℕ, subst, ◌∙◌, inl, inr, ⊎_elim}
-use Rattle.std.specs.Prelude.{IfSome, Ok}
+use Rattle.std.proofs.Common.{◌≡◌, ◌⊎◌, ℕ, subst, ◌∙◌, inl, inr, ⊎_elim, IfSome, Ok}
 use Rattle.std.proofs.lemmas.Result.{on_ok_weaker, on_err_weaker}
 use Rattle.card_layout.specs.Standing.{stands_for}
 use Rattle.layout_section.proofs.Keeping.{kept_same, kept_then, kept_last}

@@ -1,5 +1,4 @@
-use Rattle.std.proofs.Common.{ℕ, List, Option, ap, ◌∙◌, arith}
-use Rattle.std.specs.Prelude.{option_map}
+use Rattle.std.proofs.Common.{ℕ, List, Option, ap, ◌∙◌, arith, option_map}
 use Rattle.std.proofs.lemmas.Result.{on_ok_weaker}
 use Rattle.uicc_types.specs.Patches.{patched}
 use Rattle.layout_section.proofs.Writing.{HasLengths, told_narrow, told_wide}

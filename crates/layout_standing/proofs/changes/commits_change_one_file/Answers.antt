@@ -1,6 +1,5 @@
 use Rattle.std.proofs.Common.{refl, lit≤}
-use Rattle.card_layout.specs.Fields.{merged_node}
-use Rattle.card_layout.specs.Fields.{reread_node}
+use Rattle.card_layout.specs.Fields.{merged_node, reread_node}
 use Rattle.layout_standing.proofs.FileChanges.{file_anew, file_written, file_changed}
 use Rattle.layout_standing.proofs.changes.commits_change_one_file.Goals as goal
 

@@ -1,5 +1,4 @@
-use Rattle.std.proofs.Common.{List, inl, inr, sym, ap, ◌∙◌, subst, map, ⊎_elim}
-use Rattle.std.specs.Prelude.{option_map}
+use Rattle.std.proofs.Common.{List, inl, inr, sym, ap, ◌∙◌, subst, map, ⊎_elim, option_map}
 use Rattle.std.proofs.lemmas.Result.{on_ok_weaker, on_err_weaker}
 use Rattle.update_journal.specs.store_form.Pieces.{Piece, applied}
 use Rattle.update_journal.specs.store_form.Spared.{AreUsable}

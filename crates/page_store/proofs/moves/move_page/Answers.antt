@@ -1,6 +1,5 @@
 -- The page is written to one that the map of the commit's beginning doesn't name, so what a fault leaves there isn't seen through it.
-use Rattle.std.proofs.Common.{◌≡◌, ◌+◌, ◌*◌, List, ℕ, Option, sym, ap, ◌∙◌, subst, rules}
-use Rattle.std.specs.Prelude.{option_map}
+use Rattle.std.proofs.Common.{◌≡◌, ◌+◌, ◌*◌, List, ℕ, Option, sym, ap, ◌∙◌, subst, rules, option_map}
 use Rattle.update_journal.proofs.uicc_types.OptionalLemmas.{on_err}
 use Rattle.update_journal.specs.uicc_types.Told.{Becomes}
 use Rattle.update_journal.specs.uicc_types.Patches.{patched, Torn}

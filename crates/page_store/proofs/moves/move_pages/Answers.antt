@@ -1,6 +1,5 @@
 -- The touched pages below this one have moved since the commit began, so a fault at the next page leaves the content as it was then.
-use Rattle.std.specs.Prelude.{if◌then◌else◌}
-use Rattle.std.proofs.Common.{◌≡◌, sym, ap, ◌∙◌, refl, subst, arith}
+use Rattle.std.proofs.Common.{if◌then◌else◌, ◌≡◌, sym, ap, ◌∙◌, refl, subst, arith}
 use Rattle.update_journal.proofs.uicc_types.OptionalLemmas.{on_err}
 use Rattle.update_journal.proofs.uicc_types.CallLemmas.{calm_same, caused_then, calm_ok}
 use Rattle.page_store.specs.Commits.{is_touched, moved_below, Moves}

@@ -1,5 +1,4 @@
-use Rattle.std.proofs.Common.{List, take, ap, ◌∙◌, arith}
-use Rattle.std.proofs.lemmas.List.{take_all}
+use Rattle.std.proofs.Common.{List, take, ap, ◌∙◌, arith, take_all}
 use Rattle.update_journal.specs.store_form.Pieces.{Piece, applied}
 use Rattle.page_store.specs.Commits.{bytes_of_page}
 use Rattle.page_store.proofs.Putting.{put_next, front_length}

@@ -1,5 +1,4 @@
-use Rattle.std.proofs.Common.{◌≡◌, List, ℕ, Option, rules, sym, subst}
-use Rattle.std.specs.Prelude.{IfSome, slice_range}
+use Rattle.std.proofs.Common.{◌≡◌, List, ℕ, Option, rules, sym, subst, IfSome, slice_range}
 use Rattle.page_store.specs.Paged.{IsKnown}
 use Rattle.page_store.proofs.Recovering.{known_read}
 use Rattle.page_store.proofs.paged.recover.Goals as goal

@@ -1,7 +1,5 @@
 -- What was put page by page joins to one write of the bytes so far, and a part that a fault tears lies inside the whole range.
-use Rattle.std.proofs.Common.{◌+◌, ◌-◌, List, ℕ, drop, refl, ap, ◌∙◌, arith, rules}
-use Rattle.std.specs.Prelude.{option_map}
-use Rattle.std.proofs.lemmas.List.{length-drop, length-take, take_all}
+use Rattle.std.proofs.Common.{◌+◌, ◌-◌, List, ℕ, drop, refl, ap, ◌∙◌, arith, rules, option_map, length-drop, length-take, take_all}
 use Rattle.update_journal.proofs.uicc_types.OptionalLemmas.{on_err}
 use Rattle.update_journal.specs.uicc_types.Patches.{patched}
 use Rattle.update_journal.proofs.uicc_types.CallLemmas.{calm_same, caused_then, calm_ok}

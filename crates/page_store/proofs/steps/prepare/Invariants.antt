@@ -1,5 +1,4 @@
-use Rattle.std.proofs.Common.{◌≡◌, ◌-◌, ◌≤◌, length, take, true}
-use Rattle.std.specs.Prelude.{option_map}
+use Rattle.std.proofs.Common.{◌≡◌, ◌-◌, ◌≤◌, length, take, true, option_map}
 use Rattle.update_journal.specs.uicc_types.Patches.{patched}
 use Rattle.update_journal.specs.uicc_types.Calls.{IsCalm}
 use Rattle.page_store.specs.Pages.{content}

@@ -1,5 +1,4 @@
-use Rattle.std.proofs.Common.{◌≡◌, ◌≤◌, ◌+◌, ℕ, length, sym, ◌∙◌, subst, arith}
-use Rattle.std.specs.Prelude.{slice_range, IfSome}
+use Rattle.std.proofs.Common.{◌≡◌, ◌≤◌, ◌+◌, ℕ, length, sym, ◌∙◌, subst, arith, slice_range, IfSome}
 use Rattle.update_journal.proofs.uicc_types.CallLemmas.{caused_then, calm_ok}
 use Rattle.page_store.specs.Pages.{content}
 use Rattle.page_store.specs.Laws.{told_content}

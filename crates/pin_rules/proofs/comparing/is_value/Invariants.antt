@@ -1,6 +1,4 @@
-use Rattle.std.proofs.Common.{◌≡◌, drop}
-use Rattle.std.specs.Prelude.{◌&&◌}
-use Rattle.std.specs.Str.{bytes_eq}
+use Rattle.std.proofs.Common.{◌≡◌, drop, ◌&&◌, bytes_eq}
 use Rattle.pin_rules.proofs.comparing.is_value.Given as goal
 
 abbrev pub invariant-loop-index : goal.invariant-loop-index

@@ -1,6 +1,5 @@
 -- Whatever change a right value brings, it gives all tries back; each of the four endings is told by the PIN that the slot shows then.
-use Rattle.std.proofs.Common.{◌-◌, refl, sym, ◌∙◌, arith}
-use Rattle.std.specs.Str.{bytes_eq}
+use Rattle.std.proofs.Common.{◌-◌, refl, sym, ◌∙◌, arith, bytes_eq}
 use Rattle.file_model.specs.card_layout.States.{pin_state}
 use Rattle.file_model.specs.Pins.{pin_presented}
 use Rattle.card_memory.specs.declared.pins.PinChange.TheVariants.{Tries}

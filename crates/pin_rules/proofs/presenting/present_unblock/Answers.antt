@@ -1,6 +1,5 @@
 -- The slot shows one unblocking try less after the first commit and the unblocked PIN after the second; a fault may stop either.
-use Rattle.std.proofs.Common.{◌-◌, true, sym, ◌∙◌, arith}
-use Rattle.std.specs.Str.{bytes_eq}
+use Rattle.std.proofs.Common.{◌-◌, true, sym, ◌∙◌, arith, bytes_eq}
 use Rattle.file_model.specs.card_layout.States.{pin_state}
 use Rattle.file_model.specs.Pins.{marked, unblock_presented}
 use Rattle.card_memory.specs.declared.pins.PinChange.TheVariants.{UnblockTries, Unblocked}

@@ -1,8 +1,7 @@
 -- The first slot with the key is one of the table's, and the one that the model finds there; an unused slot, of key 0, is never it.
-use Rattle.std.proofs.Common.{◌<◌, List, length, get_or, sym, ap, ◌∙◌, arith}
+use Rattle.std.proofs.Common.{◌<◌, List, length, get_or, sym, ap, ◌∙◌, arith, option_map, find, slice_get}
 use Rattle.std.proofs.lemmas.Bool.{eqb-false}
 use Rattle.std.proofs.lemmas.Option.{slice_get-get_or}
-use Rattle.std.specs.Prelude.{option_map, find, slice_get}
 use Rattle.file_model.specs.card_layout.declared.entries.PinSlot.{PinSlot}
 use Rattle.file_model.specs.card_layout.States.{pin_state}
 use Rattle.pin_rules.proofs.Finding.{is_key, no_slot, pin_in_slots, found_at, found_nowhere, place_low, has_key}

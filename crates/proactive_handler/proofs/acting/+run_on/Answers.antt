@@ -1,6 +1,5 @@
 -- A step and the run of the acts that are left make one run; its answer is the last one given, its command that of the last act.
-use Rattle.std.proofs.Common.{refl, sym, ap, ◌∙◌, subst, ◌-◌, Bool, Option, None, arith}
-use Rattle.std.specs.Prelude.{is_some, IfSome}
+use Rattle.std.proofs.Common.{refl, sym, ap, ◌∙◌, subst, ◌-◌, Bool, Option, None, arith, is_some, IfSome}
 use Rattle.std.specs.Option.{option_or}
 use Rattle.toolkit_model.specs.toolkit_commands.declared.commands.Proactive.{Proactive}
 use Rattle.toolkit_model.specs.Orderly.{CanBeSent}

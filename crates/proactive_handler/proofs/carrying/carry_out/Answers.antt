@@ -1,6 +1,5 @@
 -- Each kind of act has its lemma for any mind; that a told timer is one of eight is read from it with a fresh mind put in.
-use Rattle.std.proofs.Common.{refl, sym, ap, ◌∙◌, ℕ, List, [], rules}
-use Rattle.std.specs.Prelude.{Ok}
+use Rattle.std.proofs.Common.{refl, sym, ap, ◌∙◌, ℕ, List, [], rules, Ok}
 use Rattle.std.proofs.lemmas.Result.{on_ok_weaker}
 use Rattle.proactive_handler.specs.declared.endings.Reply.TheVariants.{Went}
 use Rattle.toolkit_model.specs.applet_trait.declared.stimuli.Act.TheVariants.{Done, Send, Keep, Register, Deregister, TakeTimer, FreeTimer, Answer}

@@ -9,8 +9,7 @@ use Rattle.proactive_handler.specs.Scenes.{IsInService}
 use Rattle.proactive_handler.proofs.ScenesLemmas.{scene_then, scene_done, scene_fault}
 use Rattle.proactive_handler.specs.Steps.{scene}
 use Rattle.proactive_handler.proofs.MovedLemmas.{has_rows}
-use Rattle.proactive_handler.proofs.Told.{stopped_tells, turn_stops, turns_stop, turns_done, turns_answer, nobody_done, nobody_answers, none_of, rows_later, apart_later, first_apart, room_later, not_first, not_later}
-use Rattle.proactive_handler.proofs.Told.{turn_leaves, turns_leave, turns_left, nobody_leaves}
+use Rattle.proactive_handler.proofs.Told.{stopped_tells, turn_stops, turns_stop, turns_done, turns_answer, nobody_done, nobody_answers, none_of, rows_later, apart_later, first_apart, room_later, not_first, not_later, turn_leaves, turns_leave, turns_left, nobody_leaves}
 use Rattle.proactive_handler.proofs.triggering.+trigger_each.Goals as goal
 
 pub returns-in_err-answer-in-Some-clause-tells : goal.returns-in_err-answer-in-Some-clause-tells

@@ -1,5 +1,4 @@
-use Rattle.std.proofs.Common.{sym, subst, ℕ}
-use Rattle.std.specs.Prelude.{◌≢◌, All, AllPairs}
+use Rattle.std.proofs.Common.{sym, subst, ℕ, ◌≢◌, All, AllPairs}
 use Rattle.card_memory.proofs.uicc_types.NumberedLemmas.{all_unmapped}
 use Rattle.card_memory.proofs.uicc_types.PairLemmas.{pairs_unmap}
 use Rattle.card_memory.specs.Model.{HasRowOn}

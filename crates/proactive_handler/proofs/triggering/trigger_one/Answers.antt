@@ -14,9 +14,8 @@ use Rattle.proactive_handler.specs.Reached.{TurnsOnly}
 use Rattle.proactive_handler.proofs.MovedLemmas.{on_done, has_rows}
 use Rattle.proactive_handler.proofs.Places.{run_places, kept_places}
 use Rattle.proactive_handler.proofs.Serving.{late_served}
-use Rattle.proactive_handler.proofs.Told.{idle_moves, idle_answers, missed, busy_done, busy_answers}
+use Rattle.proactive_handler.proofs.Told.{idle_moves, idle_answers, missed, busy_done, busy_answers, idle_turns}
 use Rattle.card_memory.specs.card_layout.Memory.{memory}
-use Rattle.proactive_handler.proofs.Told.{idle_turns}
 use Rattle.proactive_handler.proofs.triggering.trigger_one.Goals as goal
 
 pub returns-then-idle-clause-tells : goal.returns-then-idle-clause-tells

@@ -1,5 +1,4 @@
-use Rattle.std.proofs.Common.{get_or, ◌≡◌, ℕ, ◌-◌, ◌<◌, ◌∙◌, arith}
-use Rattle.std.proofs.lemmas.List.{length-set, get_or-set_other}
+use Rattle.std.proofs.Common.{get_or, ◌≡◌, ℕ, ◌-◌, ◌<◌, ◌∙◌, arith, length-set, get_or-set_other}
 use Rattle.record_commands.proofs.Sums.{added_at, one_more, one_more_carried, all_carried}
 use Rattle.record_commands.proofs.adding.add.Goals as goal
 

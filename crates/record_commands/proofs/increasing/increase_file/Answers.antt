@@ -1,6 +1,5 @@
 -- The sum was read from the state the store still has; it passes one state, that with the sum as newest record, and a fault leaves either.
-use Rattle.std.proofs.Common.{◌≡◌, Option, Some, sym, ◌∙◌, true, [], ◌∷◌}
-use Rattle.std.specs.Prelude.{Ok}
+use Rattle.std.proofs.Common.{◌≡◌, Option, Some, sym, ◌∙◌, true, [], ◌∷◌, Ok}
 use Rattle.file_model.proofs.uicc_types.OptionalLemmas.{on_err, if_some, if_some_at}
 use Rattle.file_model.specs.card_layout.Persistent.{Persistent}
 use Rattle.file_model.specs.card_layout.Changing.{with_newest_record}

@@ -1,6 +1,5 @@
 -- A life cycle status that is new passes one state: a fault leaves that or the one before, and all other files are as they were.
-use Rattle.std.proofs.Common.{◌≡◌, Option, Some, [], ◌∷◌, refl, sym, ◌∙◌, true, rules}
-use Rattle.std.proofs.lemmas.Bool.{ne_eqb}
+use Rattle.std.proofs.Common.{◌≡◌, Option, Some, [], ◌∷◌, refl, sym, ◌∙◌, true, rules, ne_eqb}
 use Rattle.file_model.proofs.uicc_types.OptionalLemmas.{on_err, if_some, if_some_at}
 use Rattle.file_model.specs.card_layout.Persistent.{Persistent}
 use Rattle.file_model.specs.card_layout.Changing.{with_life}

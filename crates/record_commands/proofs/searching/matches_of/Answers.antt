@@ -1,5 +1,4 @@
-use Rattle.std.proofs.Common.{◌≡◌, ◌-◌, ◌++◌, ◌∷◌, [], ℕ, Bool, Option, cond, List, sym, ap, ◌∙◌, arith, rules}
-use Rattle.std.specs.Prelude.{filter}
+use Rattle.std.proofs.Common.{◌≡◌, ◌-◌, ◌++◌, ◌∷◌, [], ℕ, Bool, Option, cond, List, sym, ap, ◌∙◌, arith, rules, filter}
 use Rattle.file_model.proofs.uicc_types.OptionalLemmas.{if_some, if_some_at}
 use Rattle.file_model.specs.card_layout.Persistent.{Persistent}
 use Rattle.card_memory.specs.Model.{held_by}

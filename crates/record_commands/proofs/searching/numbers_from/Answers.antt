@@ -1,5 +1,4 @@
-use Rattle.std.proofs.Common.{ℕ, ◌∙◌, ap}
-use Rattle.std.specs.Prelude.{◌==◌, filter}
+use Rattle.std.proofs.Common.{ℕ, ◌∙◌, ap, ◌==◌, filter}
 use Rattle.file_model.proofs.uicc_types.OptionalLemmas.{if_some, if_some_at, if_ok_from}
 use Rattle.card_memory.specs.Model.{held_by}
 use Rattle.record_commands.specs.Searching.{is_match, left_from, numbers_left}

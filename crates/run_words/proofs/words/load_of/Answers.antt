@@ -1,5 +1,4 @@
-use Rattle.std.proofs.Common.{List, ℕ, ◌∷◌, string_bytes, subst}
-use Rattle.std.specs.Prelude.{codes}
+use Rattle.std.proofs.Common.{List, ℕ, ◌∷◌, string_bytes, subst, codes}
 use Rattle.script_form.specs.Reads.{Reads}
 use Rattle.run_words.specs.Model.{IsRequest}
 use Rattle.run_words.proofs.Listed.{two_and_rest}

@@ -1,6 +1,5 @@
 -- The bytes are those of the path so far, and what is left of them.
-use Rattle.std.proofs.Common.{◌≡◌, ◌<◌, ◌++◌, length}
-use Rattle.std.specs.Prelude.{All}
+use Rattle.std.proofs.Common.{◌≡◌, ◌<◌, ◌++◌, length, All}
 use Rattle.script_form.specs.Values.{IsFree, path_bytes}
 use Rattle.script_form.proofs.files.path_in.Given as goal
 

@@ -1,5 +1,4 @@
-use Rattle.std.proofs.Common.{◌≡◌, ◌+◌, ◌++◌, length, take}
-use Rattle.std.specs.Prelude.{map}
+use Rattle.std.proofs.Common.{◌≡◌, ◌+◌, ◌++◌, length, take, map}
 use Rattle.script_form.specs.Traces.{shown}
 use Rattle.script_form.proofs.notes.put_printable.Given as goal
 

@@ -1,5 +1,4 @@
-use Rattle.std.proofs.Common.{ℕ, List, ◌++◌, ◌∙◌, ap, sym, arith}
-use Rattle.std.proofs.lemmas.List.{take_all}
+use Rattle.std.proofs.Common.{ℕ, List, ◌++◌, ◌∙◌, ap, sym, arith, take_all}
 use Rattle.hex.specs.Hex.{upper_digits}
 use Rattle.script_form.proofs.Digits.{encode_more, encode_none}
 use Rattle.script_form.proofs.trace.put_hex.Goals as goal

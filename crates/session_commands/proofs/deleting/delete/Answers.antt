@@ -1,12 +1,11 @@
 -- That the row may go is taken from what was tested to the card itself; the shelf that is emptied is P2 of the command as it came.
-use Rattle.std.proofs.Common.{inr, ℕ, refl, sym, ap, subst, ◌∙◌, []}
-use Rattle.std.specs.Prelude.{Ok, Err}
+use Rattle.std.proofs.Common.{inr, ℕ, refl, sym, ap, subst, ◌∙◌, [], Ok, Err}
 use Rattle.file_model.specs.apdu_form.Model.{Apdu}
 use Rattle.file_model.specs.card_layout.Memory.{memory}
 use Rattle.file_model.specs.card_layout.States.{rows_of}
 use Rattle.toolkit_model.specs.Orderly.{asks}
 use Rattle.toolkit_model.specs.Driving.{is_idle}
-use Rattle.toolkit_model.specs.Commands.{row_deleted}
+use Rattle.toolkit_model.specs.Commands.{delete_carried}
 use Rattle.toolkit_model.specs.Steps.{Delete}
 use Rattle.toolkit_model.specs.applet_trait.Minds.{minds_of}
 use Rattle.proactive_handler.specs.Steps.{scene, toolkit}
@@ -28,19 +27,19 @@ pub returns-in_err-remove-in-Ok-clause-carries : goal.returns-in_err-remove-in-O
 returns-in_err-remove-in-Ok-clause-carries g c =
     λ card has.
     let old = (scene (memory g.S.Store c.args.store.now c.args.loaded.now) c.args.index.now c.args.session.now (minds_of g.B.Applet.mind c.args.cast.now)) in
-    card_stops card old has [] (row_deleted c.args.command.now.p2) (scene (memory g.S.Store c.remove.new.store c.remove.new.loaded) c.remove.new.index c.remove.new.session (minds_of g.B.Applet.mind c.remove.new.cast)) (tells_here c.tables_tell_states.ensures old c.requires.rests.mounted) c.remove.ensures.keeps.table
+    card_stops card old has [] (delete_carried c.args.command.now.p2) (scene (memory g.S.Store c.remove.new.store c.remove.new.loaded) c.remove.new.index c.remove.new.session (minds_of g.B.Applet.mind c.remove.new.cast)) (tells_here c.tables_tell_states.ensures old c.requires.rests.mounted) c.remove.ensures.keeps.table
     (applet_deleted card c.args.seen.now c.args.command.now) _
     (delete_at card old has c.args.seen.now c.args.command.now (is_allowed (rows_of c.args.loaded.now) (is_idle (asks c.args.session.now) c.args.command.now.p2) c.args.seen.now c.args.command.now c.in-Ok.field-0 (sym c.try_delete.ensures.value ∙ c.in-Ok.is)))
-    (row_deleted c.command.inside.p2) (ap row_deleted (ap (λ (a : Apdu). a.p2) c.command.view_is)) c.from_residual.result c.from_residual.ensures.0 c.in_err-remove-in-Ok.ensures.moves
+    (delete_carried c.command.inside.p2) (ap delete_carried (ap (λ (a : Apdu). a.p2) c.command.view_is)) c.from_residual.result c.from_residual.ensures.0 c.in_err-remove-in-Ok.ensures.moves
 
 pub returns-in_ok-remove-in-Ok-clause-carries : goal.returns-in_ok-remove-in-Ok-clause-carries
 returns-in_ok-remove-in-Ok-clause-carries g c =
     λ card has.
     let old = (scene (memory g.S.Store c.args.store.now c.args.loaded.now) c.args.index.now c.args.session.now (minds_of g.B.Applet.mind c.args.cast.now)) in
-    card_done card old has [] (row_deleted c.args.command.now.p2) (scene (memory g.S.Store c.remove.new.store c.remove.new.loaded) c.remove.new.index c.remove.new.session (minds_of g.B.Applet.mind c.remove.new.cast)) (tells_here c.tables_tell_states.ensures old c.requires.rests.mounted) c.remove.ensures.keeps.table
+    card_done card old has [] (delete_carried c.args.command.now.p2) (scene (memory g.S.Store c.remove.new.store c.remove.new.loaded) c.remove.new.index c.remove.new.session (minds_of g.B.Applet.mind c.remove.new.cast)) (tells_here c.tables_tell_states.ensures old c.requires.rests.mounted) c.remove.ensures.keeps.table
     (applet_deleted card c.args.seen.now c.args.command.now) _
     (delete_at card old has c.args.seen.now c.args.command.now (is_allowed (rows_of c.args.loaded.now) (is_idle (asks c.args.session.now) c.args.command.now.p2) c.args.seen.now c.args.command.now c.in-Ok.field-0 (sym c.try_delete.ensures.value ∙ c.in-Ok.is)))
-    (row_deleted c.command.inside.p2) (ap row_deleted (ap (λ (a : Apdu). a.p2) c.command.view_is)) tt c.clear.ensures refl c.in_ok-remove-in-Ok.ensures.moves
+    (delete_carried c.command.inside.p2) (ap delete_carried (ap (λ (a : Apdu). a.p2) c.command.view_is)) tt c.clear.ensures refl c.in_ok-remove-in-Ok.ensures.moves
 
 pub returns-in_ok-remove-in-Ok-clause-ends : goal.returns-in_ok-remove-in-Ok-clause-ends
 returns-in_ok-remove-in-Ok-clause-ends g c =

@@ -1,6 +1,5 @@
 -- The shelves that the index found are those the envelope triggers on the card: busy is the same on both, and past it each has its place.
-use Rattle.std.proofs.Common.{refl, sym, ap, ◌∙◌, ℕ, subst}
-use Rattle.std.specs.Prelude.{◌≢◌, All}
+use Rattle.std.proofs.Common.{refl, sym, ap, ◌∙◌, ℕ, subst, ◌≢◌, All}
 use Rattle.file_model.specs.uicc_types.declared.answers.TheConstants.StatusWord.{TOOLKIT_BUSY}
 use Rattle.toolkit_model.specs.toolkit_commands.Reports.{reported}
 use Rattle.file_model.specs.card_layout.Memory.{memory}

@@ -1,7 +1,5 @@
 -- The new row stands in the table of rows, so its shelf has one: the index takes it in there, and the applet that wakes is of its kind.
-use Rattle.std.proofs.Common.{ℕ, List, Option, None, refl, sym, ◌∙◌, ap, subst}
-use Rattle.std.specs.Prelude.{Contains}
-use Rattle.std.proofs.lemmas.List.{get_or-set_other}
+use Rattle.std.proofs.Common.{ℕ, List, Option, None, refl, sym, ◌∙◌, ap, subst, Contains, get_or-set_other}
 use Rattle.toolkit_model.specs.applet_trait.Minds.{AppletState, minds_of}
 use Rattle.proactive_handler.specs.card_memory.Model.{HasRowOn}
 use Rattle.file_model.specs.card_layout.Memory.{memory}

@@ -1,6 +1,5 @@
 -- The profile is set first, and leaves what is late as it was; what the applets answered is dropped, also from the result of a fault.
-use Rattle.std.proofs.Common.{refl, ap, ℕ, sym, subst, List}
-use Rattle.std.specs.Prelude.{◌≢◌, All, Ok, Err}
+use Rattle.std.proofs.Common.{refl, ap, ℕ, sym, subst, List, ◌≢◌, All, Ok, Err}
 use Rattle.file_model.specs.store_form.declared.store.StoreFault.TheVariants.{Failed}
 use Rattle.file_model.specs.card_layout.Memory.{memory}
 use Rattle.toolkit_model.specs.Sessions.{LateTrigger, SessionState}

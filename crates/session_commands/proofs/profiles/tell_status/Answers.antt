@@ -1,6 +1,5 @@
 -- The shelves that the index has for STATUS are the targets of the event; a fault in telling them is handed on without an answer.
-use Rattle.std.proofs.Common.{ℕ, sym, subst, refl, []}
-use Rattle.std.specs.Prelude.{◌≢◌, All, Ok, Err}
+use Rattle.std.proofs.Common.{ℕ, sym, subst, refl, [], ◌≢◌, All, Ok, Err}
 use Rattle.file_model.specs.store_form.declared.store.StoreFault.TheVariants.{Failed}
 use Rattle.file_model.specs.card_layout.Memory.{memory}
 use Rattle.toolkit_model.specs.Commands.{polled}

@@ -1,8 +1,6 @@
-use Rattle.std.proofs.Common.{ap, ◌∙◌, set, None}
-use Rattle.std.specs.Option.{option_map}
-use Rattle.std.proofs.lemmas.List.{map-set}
+use Rattle.std.proofs.Common.{ap, ◌∙◌, set, None, option_map}
+use Rattle.std.proofs.lemmas.List.{map-set, get_or-set_other}
 use Rattle.toolkit_model.specs.applet_trait.Minds.{minds_of}
-use Rattle.std.proofs.lemmas.List.{get_or-set_other}
 use Rattle.session_commands.proofs.shelves.put_back.Goals as goal
 
 pub returns-clause-minds : goal.returns-clause-minds

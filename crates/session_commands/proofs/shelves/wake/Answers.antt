@@ -1,7 +1,6 @@
-use Rattle.std.proofs.Common.{sym, subst, ◌<◌, length, ◌∙◌, None}
+use Rattle.std.proofs.Common.{sym, subst, ◌<◌, length, ◌∙◌, None, get_or-set_other}
 use Rattle.toolkit_model.specs.applet_trait.Minds.{fresh}
 use Rattle.session_commands.proofs.Boxed.{woken_there}
-use Rattle.std.proofs.lemmas.List.{get_or-set_other}
 use Rattle.session_commands.proofs.shelves.wake.Goals as goal
 
 pub returns-clause-minds : goal.returns-clause-minds

@@ -1,5 +1,4 @@
-use Rattle.std.proofs.Common.{sym, subst}
-use Rattle.std.specs.Prelude.{All}
+use Rattle.std.proofs.Common.{sym, subst, All}
 use Rattle.proactive_handler.specs.card_memory.Model.{HasRowOn}
 use Rattle.file_model.specs.card_layout.States.{rows_of}
 use Rattle.session_commands.proofs.Targets.{Apart, targets_have, targets_apart}

@@ -1,5 +1,4 @@
-use Rattle.std.proofs.Common.{◌≡◌, ◌≤◌, length, take}
-use Rattle.std.specs.Prelude.{◌==◌, not, filter}
+use Rattle.std.proofs.Common.{◌≡◌, ◌≤◌, length, take, ◌==◌, not, filter}
 use Rattle.toolkit_session.proofs.announced.without.Given as goal
 
 -- those but the code among the first ones

@@ -1,6 +1,4 @@
-use Rattle.std.proofs.Common.{◌≡◌, ℕ, List, true, ap, ◌∙◌}
-use Rattle.std.proofs.Math.Path.{ap₂}
-use Rattle.std.specs.Prelude.{nat_eq}
+use Rattle.std.proofs.Common.{◌≡◌, ℕ, List, true, ap, ◌∙◌, nat_eq, ap₂}
 use Rattle.std.specs.Cmp.Lexicographic.{pointwise}
 use Rattle.toolkit_model.specs.card_layout.States.{rows_of}
 use Rattle.toolkit_model.specs.toolkit_commands.declared.commands.Proactive.TheVariants.{SetUpEventList}

@@ -1,5 +1,4 @@
-use Rattle.std.proofs.Common.{◌≡◌, ◌≤◌, length, take}
-use Rattle.std.specs.Prelude.{filter}
+use Rattle.std.proofs.Common.{◌≡◌, ◌≤◌, length, take, filter}
 use Rattle.toolkit_model.specs.Driving.{download_codes}
 use Rattle.toolkit_session.specs.Events.{is_asked_for}
 use Rattle.toolkit_session.proofs.wanting.events_for.Given as goal

@@ -1,5 +1,4 @@
-use Rattle.std.proofs.Common.{◌≡◌, ap, sym, ◌∙◌, subst}
-use Rattle.std.proofs.Math.Path.{ap₂}
+use Rattle.std.proofs.Common.{◌≡◌, ap, sym, ◌∙◌, subst, ap₂}
 use Rattle.std.specs.Cmp.Lexicographic.{pointwise}
 use Rattle.toolkit_model.specs.card_layout.States.{rows_of}
 use Rattle.toolkit_model.specs.toolkit_commands.declared.commands.Proactive.TheVariants.{SetUpMenu}

@@ -1,5 +1,4 @@
-use Rattle.std.proofs.Common.{◌≡◌, Some, Ok, ap, sym, ◌∙◌, subst, inl, inr, refl}
-use Rattle.std.specs.Prelude.{IfSome}
+use Rattle.std.proofs.Common.{◌≡◌, Some, Ok, ap, sym, ◌∙◌, subst, inl, inr, refl, IfSome}
 use Rattle.card_core.specs.card_layout.Standing.{stands_for}
 use Rattle.card_core.specs.applet_trait.Minds.{minds_of}
 use Rattle.phone_runs.specs.card_sections.Script.{with_lines}

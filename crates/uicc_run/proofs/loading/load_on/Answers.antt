@@ -1,5 +1,4 @@
-use Rattle.std.proofs.Common.{◌≡◌, true, false, ap, sym, ◌∙◌, subst, Ok}
-use Rattle.std.specs.Prelude.{IfSome}
+use Rattle.std.proofs.Common.{◌≡◌, true, false, ap, sym, ◌∙◌, subst, Ok, IfSome}
 use Rattle.card_core.specs.card_layout.Standing.{stands_for}
 use Rattle.card_core.specs.applet_trait.Minds.{minds_of}
 use Rattle.uicc_run.specs.Loading.{ComesToLoad}

@@ -1,5 +1,4 @@
-use Rattle.std.proofs.Common.{◌≡◌, sym, subst, Ok}
-use Rattle.std.specs.Prelude.{IfSome}
+use Rattle.std.proofs.Common.{◌≡◌, sym, subst, Ok, IfSome}
 use Rattle.card_core.specs.card_layout.Standing.{stands_for}
 use Rattle.uicc_run.proofs.LoadLemmas.{counted_from, kept_from, stands_now}
 use Rattle.uicc_run.proofs.OpenLemmas.{memory_tells}

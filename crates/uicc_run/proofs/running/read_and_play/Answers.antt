@@ -1,6 +1,5 @@
 -- Over moving pages as over the journal, what is said of the store is led to its device, by whose bytes the memory is told.
-use Rattle.std.proofs.Common.{◌≡◌, [], None, refl, true, false, ap, sym, inr, ◌∙◌, subst}
-use Rattle.std.specs.Prelude.{IfSome, Ok}
+use Rattle.std.proofs.Common.{◌≡◌, [], None, refl, true, false, ap, sym, inr, ◌∙◌, subst, IfSome, Ok}
 use Rattle.card_core.specs.card_layout.Standing.{stands_for}
 use Rattle.card_steps.proofs.byte_streams.ReadingLemmas.{IsTaken-within, IsWithin-start}
 use Rattle.card_core.specs.card_model.Counts.{IsCounted}

@@ -1,5 +1,4 @@
-use Rattle.std.proofs.Common.{◌≡◌, ◌≤◌, ◌-◌, length}
-use Rattle.std.specs.Prelude.{All}
+use Rattle.std.proofs.Common.{◌≡◌, ◌≤◌, ◌-◌, length, All}
 use Rattle.store_form.specs.Pieces.{byte_total, IsUsablePiece}
 use Rattle.update_journal.proofs.Reading.{Reads}
 use Rattle.update_journal.proofs.entries.read_entries.Given as goal

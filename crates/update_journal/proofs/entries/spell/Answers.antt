@@ -1,7 +1,5 @@
 -- The count and the entries up to each piece are the front of all entries, so where one of them doesn't fit, all are too long.
-use Rattle.std.proofs.Common.{◌∷◌, ◌++◌, ℕ, List, length, sym, ap, ◌∙◌, arith}
-use Rattle.std.specs.List.{flat_map}
-use Rattle.std.proofs.lemmas.List.{take_all}
+use Rattle.std.proofs.Common.{◌∷◌, ◌++◌, ℕ, List, length, sym, ap, ◌∙◌, arith, flat_map, take_all}
 use Rattle.uicc_types.proofs.OptionalLemmas.{on_err}
 use Rattle.update_journal.specs.Entries.{entry, entries}
 use Rattle.update_journal.proofs.Spelling.{next_entry, length-entries}

@@ -1,5 +1,4 @@
-use Rattle.std.proofs.Common.{◌≡◌, ◌∷◌, length, take}
-use Rattle.std.specs.List.{flat_map}
+use Rattle.std.proofs.Common.{◌≡◌, ◌∷◌, length, take, flat_map}
 use Rattle.update_journal.specs.Entries.{entry}
 use Rattle.update_journal.proofs.entries.spell.Given as goal
 

@@ -1,5 +1,4 @@
-use Rattle.std.proofs.Common.{◌≡◌, List, ℕ, Option, sym, subst, ◌∙◌}
-use Rattle.std.specs.Prelude.{IfSome, slice_range}
+use Rattle.std.proofs.Common.{◌≡◌, List, ℕ, Option, sym, subst, ◌∙◌, IfSome, slice_range}
 use Rattle.store_form.specs.Pieces.{Piece}
 use Rattle.update_journal.specs.Journal.{IsUnderWay}
 use Rattle.update_journal.proofs.Parts.{HasLength}

@@ -1,5 +1,4 @@
-use Rattle.std.proofs.Common.{◌≡◌, ℕ, refl, subst, ◌∙◌, arith, length}
-use Rattle.std.specs.Prelude.{option_map}
+use Rattle.std.proofs.Common.{◌≡◌, ℕ, refl, subst, ◌∙◌, arith, length, option_map}
 use Rattle.uicc_types.proofs.OptionalLemmas.{on_err}
 use Rattle.uicc_types.specs.Patches.{patched, Torn}
 use Rattle.uicc_types.specs.Told.{Becomes}

@@ -1,5 +1,4 @@
-use Rattle.std.proofs.Common.{◌≡◌, take}
-use Rattle.std.specs.Prelude.{option_map}
+use Rattle.std.proofs.Common.{◌≡◌, take, option_map}
 use Rattle.uicc_types.specs.Calls.{IsCalm}
 use Rattle.store_form.specs.Pieces.{applied}
 use Rattle.update_journal.proofs.steps.write_pieces.Given as goal

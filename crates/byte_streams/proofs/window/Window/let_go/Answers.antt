@@ -1,5 +1,4 @@
-use Rattle.std.proofs.Common.{ℕ, ◌+◌, ◌≤◌, length, drop, ap, ◌∙◌, arith}
-use Rattle.std.proofs.lemmas.List.{length-take, length-drop}
+use Rattle.std.proofs.Common.{ℕ, ◌+◌, ◌≤◌, length, drop, ap, ◌∙◌, arith, length-take, length-drop}
 use Rattle.byte_streams.proofs.WindowLemmas.{let_go}
 use Rattle.byte_streams.proofs.window.Window.let_go.Goals as goal
 

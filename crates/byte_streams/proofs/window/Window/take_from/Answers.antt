@@ -1,5 +1,4 @@
-use Rattle.std.proofs.Common.{◌≤◌, ◌++◌, List, ℕ, length, take, ap, ◌∙◌, arith}
-use Rattle.std.proofs.lemmas.List.{length-take-le}
+use Rattle.std.proofs.Common.{◌≤◌, ◌++◌, List, ℕ, length, take, ap, ◌∙◌, arith, length-take-le}
 use Rattle.byte_streams.proofs.WindowLemmas.{grown}
 use Rattle.byte_streams.proofs.window.Window.take_from.Goals as goal
 

@@ -1,6 +1,5 @@
 -- A fault puts the noted rows back: no row had come but by INSTALL, so table and boxes fit again, whatever was committed.
-use Rattle.std.proofs.Common.{◌∷◌, Err, Option, ap, subst, sym, ◌∙◌, rules}
-use Rattle.std.specs.Prelude.{All, IfSome, IsSomeAnd}
+use Rattle.std.proofs.Common.{◌∷◌, Err, Option, ap, subst, sym, ◌∙◌, rules, All, IfSome, IsSomeAnd}
 use Rattle.file_model.specs.card_layout.declared.entries.Loaded.{Loaded}
 use Rattle.card_model.specs.Answers.{settled, carried_out}
 use Rattle.card_model.specs.Runs.{IsLeft}

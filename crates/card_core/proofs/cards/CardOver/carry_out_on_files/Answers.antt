@@ -1,6 +1,5 @@
 -- A refusal and STATUS put back what their channel had selected and meet no fault; else a fault leaves one of the states passed.
-use Rattle.std.proofs.Common.{◌≡◌, ℕ, List, Option, Some, refl, sym, ◌∙◌, ap, subst, rules}
-use Rattle.std.specs.Prelude.{slice_set, unwrap_or, Ok, Err}
+use Rattle.std.proofs.Common.{◌≡◌, ℕ, List, Option, Some, refl, sym, ◌∙◌, ap, subst, rules, slice_set, unwrap_or, Ok, Err}
 use Rattle.std.proofs.lemmas.Bool.{false≢true}
 use Rattle.file_model.specs.apdu_form.Model.{Apdu}
 use Rattle.file_model.specs.card_layout.declared.entries.Loaded.{Loaded}

@@ -1,8 +1,6 @@
 -- A fault puts the old PINs back in the table, whatever was committed: the store holds one of the states that the command passes.
-use Rattle.std.specs.Prelude.{None}
 use Rattle.card_core.proofs.Restored.{silent_agrees}
-use Rattle.std.proofs.Common.{ℕ, List, ◌∷◌, Option, refl, sym, ◌∙◌, ap, subst, rules}
-use Rattle.std.specs.Prelude.{Contains, Ok, Err}
+use Rattle.std.proofs.Common.{None, Contains, Ok, Err, ℕ, List, ◌∷◌, Option, refl, sym, ◌∙◌, ap, subst, rules}
 use Rattle.std.proofs.lemmas.Bool.{false≢true}
 use Rattle.file_model.specs.card_layout.Standing.{standing, Agrees}
 use Rattle.file_model.specs.card_layout.declared.entries.Loaded.{Loaded}

@@ -1,5 +1,4 @@
-use Rattle.std.proofs.Common.{sym, ◌∙◌}
-use Rattle.std.proofs.lemmas.Bool.{true≢false}
+use Rattle.std.proofs.Common.{sym, ◌∙◌, true≢false}
 use Rattle.card_core.specs.Cards.{parts_of}
 use Rattle.card_core.proofs.Restarts.{boxes_there, due_is}
 use Rattle.card_core.proofs.cards.CardOver.catch_up.Goals as goal

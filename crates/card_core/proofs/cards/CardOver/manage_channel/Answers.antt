@@ -1,6 +1,5 @@
 -- A channel opened, one closed and a refusal are each read from what manage says of the channels; nothing is committed in any of the three.
-use Rattle.std.proofs.Common.{ℕ, Option, Some, None, refl, ◌∙◌, ap, rules}
-use Rattle.std.specs.Prelude.{Result, Ok, Err}
+use Rattle.std.proofs.Common.{ℕ, Option, Some, None, refl, ◌∙◌, ap, rules, Result, Ok, Err}
 use Rattle.file_model.specs.uicc_types.declared.answers.StatusWord.{StatusWord}
 use Rattle.card_core.specs.Cards.{parts_of}
 use Rattle.card_core.specs.Commands.{channels_managed}

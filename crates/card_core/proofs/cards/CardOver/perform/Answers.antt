@@ -1,7 +1,6 @@
 -- What was due is done first and leaves the same card: a fault in that leaves what the command may leave, and else it meets that card.
-use Rattle.std.proofs.Common.{◌≡◌, ℕ, [], Option, sym, ◌∙◌, ap, subst, rules}
+use Rattle.std.proofs.Common.{◌≡◌, ℕ, [], Option, sym, ◌∙◌, ap, subst, rules, IfSome, IsSomeAnd, is_some}
 use Rattle.std.proofs.lemmas.Bool.{false≢true}
-use Rattle.std.specs.Prelude.{IfSome, IsSomeAnd, is_some}
 use Rattle.file_model.specs.card_layout.Standing.{standing}
 use Rattle.card_model.specs.States.{CardState, IsGood}
 use Rattle.card_model.specs.Answers.{answer, passed}

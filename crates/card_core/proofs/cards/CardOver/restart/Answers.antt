@@ -1,6 +1,5 @@
 -- The boxes that were lent and woken are the card's again: with them it is the card that was due, and where a fault came it still is.
-use Rattle.std.proofs.Common.{List, Option, None, true, false, refl, sym, ◌∙◌, ap, subst, rules}
-use Rattle.std.specs.Prelude.{All}
+use Rattle.std.proofs.Common.{List, Option, None, true, false, refl, sym, ◌∙◌, ap, subst, rules, All}
 use Rattle.std.specs.Vec.{with_items}
 use Rattle.std.proofs.lemmas.List.{with_items_is}
 use Rattle.file_model.specs.card_layout.States.{rows_of}

@@ -1,6 +1,5 @@
 -- A fault puts the noted rows back: telling of STATUS gives no shelf a row that had none, so the table is the old one and boxes fit.
-use Rattle.std.proofs.Common.{◌∷◌, Option, ap, subst, sym, ◌∙◌, rules}
-use Rattle.std.specs.Prelude.{All, IfSome, IsSomeAnd}
+use Rattle.std.proofs.Common.{◌∷◌, Option, ap, subst, sym, ◌∙◌, rules, All, IfSome, IsSomeAnd}
 use Rattle.file_model.specs.card_layout.declared.entries.Loaded.{Loaded}
 use Rattle.card_model.specs.Runs.{IsLeft}
 use Rattle.card_model.specs.States.{CardState}

@@ -1,6 +1,5 @@
 -- STATUS alone meets no fault and commits nothing: what both steps commit, and what a fault leaves, is what telling the applets does.
-use Rattle.std.proofs.Common.{◌≡◌, false, refl, subst, rules, Ok, Err}
-use Rattle.std.specs.Prelude.{OnErr}
+use Rattle.std.proofs.Common.{◌≡◌, false, refl, subst, rules, Ok, Err, OnErr}
 use Rattle.file_model.specs.card_layout.declared.entries.Loaded.{Loaded}
 use Rattle.std.proofs.lemmas.Bool.{eq-eqb, false≢true, ne_eqb}
 use Rattle.file_model.specs.uicc_types.declared.answers.TheConstants.StatusWord.{DONE}

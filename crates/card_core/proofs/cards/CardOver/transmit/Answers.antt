@@ -1,7 +1,6 @@
 -- After a fault the card is the one due, and all but power stays as perform left it; no command answers 6581 of itself.
-use Rattle.std.proofs.Common.{◌≡◌, [], length, Option, true, refl, sym, ◌∙◌, ap, subst, Err, inl, inr, Ok}
+use Rattle.std.proofs.Common.{◌≡◌, [], length, Option, true, refl, sym, ◌∙◌, ap, subst, Err, inl, inr, Ok, IfSome, IsSomeAnd}
 use Rattle.std.proofs.lemmas.Bool.{false≢true}
-use Rattle.std.specs.Prelude.{IfSome, IsSomeAnd}
 use Rattle.file_model.proofs.uicc_types.OptionalLemmas.{on_err}
 use Rattle.file_model.specs.uicc_types.declared.answers.StatusWord.{StatusWord}
 use Rattle.proactive_handler.specs.card_memory.Performing.{CommitsAtMost}

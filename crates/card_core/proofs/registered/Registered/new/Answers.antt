@@ -1,5 +1,4 @@
-use Rattle.std.proofs.Common.{◌≡◌, List, replicate, rules, sym, subst, refl}
-use Rattle.std.specs.Prelude.{All}
+use Rattle.std.proofs.Common.{◌≡◌, List, replicate, rules, sym, subst, refl, All}
 use Rattle.std.proofs.lemmas.List.Elements.{All-replicate}
 use Rattle.file_model.proofs.uicc_types.NumberedLemmas.{all_alike}
 use Rattle.file_model.specs.card_layout.Blank.{unused_row}

@@ -1,4 +1,4 @@
-use Rattle.std.proofs.Common.{◌≡◌, ◌<◌, ◌≤◌, ◌+◌, ap, sym, refl, ◌∙◌, length, arith, ℕ, List, [], ◌∷◌, ◌++◌, take, drop}
+use Rattle.std.proofs.Common.{◌+◌, ap, refl, ◌∙◌, length, arith, ℕ, List, [], ◌∷◌, ◌++◌, take}
 use Rattle.std.specs.Vec.{with_items_from}
 use Rattle.frame_store.specs.Model.{Frames, parted}
 use Rattle.frame_store.proofs.Changes.{changed, counts, placed, pushed}

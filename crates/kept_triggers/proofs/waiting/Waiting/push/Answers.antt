@@ -1,5 +1,4 @@
-use Rattle.std.proofs.Common.{◌≡◌, ◌≤◌, ◌<◌, ◌+◌, false, true, ap, sym, subst, ◌∙◌, ℕ, List, [], ◌∷◌, ◌++◌, map, length, All, arith}
-use Rattle.std.proofs.Math.Path.{ap₂}
+use Rattle.std.proofs.Common.{◌≡◌, ◌≤◌, ◌<◌, ◌+◌, false, true, ap, sym, subst, ◌∙◌, ℕ, List, [], ◌∷◌, ◌++◌, map, length, All, arith, ap₂}
 use Rattle.std.proofs.lemmas.List.{length-map, map-append}
 use Rattle.std.proofs.lemmas.List.Elements.{All-append}
 use Rattle.toolkit_model.specs.Sessions.{Sent}

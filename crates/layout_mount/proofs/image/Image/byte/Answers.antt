@@ -1,5 +1,4 @@
-use Rattle.std.proofs.Common.{ℕ, List, get_or, drop, ap, ◌∙◌, zero-add, arith}
-use Rattle.std.proofs.lemmas.List.{get_or-take, get_or-drop}
+use Rattle.std.proofs.Common.{ℕ, List, get_or, drop, ap, ◌∙◌, zero-add, arith, get_or-take, get_or-drop}
 use Rattle.layout_mount.proofs.Parts.{first_slice}
 use Rattle.layout_mount.proofs.image.Image.byte.Goals as goal
 

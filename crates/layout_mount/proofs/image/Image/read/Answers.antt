@@ -1,5 +1,4 @@
-use Rattle.std.proofs.Common.{◌≡◌, ℕ, List, ◌∙◌, arith}
-use Rattle.std.specs.Prelude.{slice_range}
+use Rattle.std.proofs.Common.{◌≡◌, ℕ, List, ◌∙◌, arith, slice_range}
 use Rattle.layout_mount.proofs.Parts.{same_entries, same_told, length-whole}
 use Rattle.layout_mount.proofs.image.Image.read.Goals as goal
 

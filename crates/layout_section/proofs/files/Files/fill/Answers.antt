@@ -1,6 +1,5 @@
 -- The bytes lie inside one file's range, apart from the others', so its contents alone change; without a place none can be filled.
-use Rattle.std.proofs.Common.{◌≡◌, ◌≢◌, ℕ, ◌+◌, ◌<◌, ◌≤◌, List, length, take, get_or, ap, sym, subst, ◌∙◌, arith}
-use Rattle.std.specs.Prelude.{Ok, Err}
+use Rattle.std.proofs.Common.{◌≡◌, ◌≢◌, ℕ, ◌+◌, ◌<◌, ◌≤◌, List, length, take, get_or, ap, sym, subst, ◌∙◌, arith, Ok, Err}
 use Rattle.std.specs.Vec.{with_items}
 use Rattle.uicc_types.specs.Patches.{patched}
 use Rattle.uicc_types.proofs.PatchLemmas.{length-patched}

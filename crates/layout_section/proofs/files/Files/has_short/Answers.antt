@@ -1,5 +1,4 @@
-use Rattle.std.proofs.Common.{List, take, ap, sym, ◌∙◌}
-use Rattle.std.specs.Prelude.{◌&&◌, ◌==◌}
+use Rattle.std.proofs.Common.{List, take, ap, sym, ◌∙◌, ◌&&◌, ◌==◌}
 use Rattle.std.specs.List.{list_any}
 use Rattle.card_layout.specs.Kinds.{is_ef_kind}
 use Rattle.card_layout.specs.Persistent.{File}

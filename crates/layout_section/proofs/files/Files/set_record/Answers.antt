@@ -1,9 +1,7 @@
 -- A record filled up with FF lies inside its file's range, so it alone changes; without a place the file has no such record.
-use Rattle.std.proofs.Common.{◌≡◌, ◌≢◌, ℕ, ◌+◌, ◌-◌, ◌<◌, ◌≤◌, List, ◌++◌, length, take, get_or, replicate, ap, sym, subst, ◌∙◌, arith}
-use Rattle.std.specs.Prelude.{Ok, Err}
+use Rattle.std.proofs.Common.{◌≡◌, ◌≢◌, ℕ, ◌+◌, ◌-◌, ◌<◌, ◌≤◌, List, ◌++◌, length, take, get_or, replicate, ap, sym, subst, ◌∙◌, arith, length-append, Ok, Err}
 use Rattle.std.specs.Vec.{with_items}
 use Rattle.std.proofs.lemmas.List.{length-replicate}
-use Rattle.std.proofs.Common.{length-append}
 use Rattle.uicc_types.specs.Patches.{patched}
 use Rattle.uicc_types.proofs.PatchLemmas.{length-patched}
 use Rattle.card_layout.specs.declared.entries.Node.{Node}

@@ -1,5 +1,4 @@
-use Rattle.std.proofs.Common.{List, set, subst, arith}
-use Rattle.std.specs.Prelude.{Ok, Err}
+use Rattle.std.proofs.Common.{List, set, subst, arith, Ok, Err}
 use Rattle.card_layout.specs.Persistent.{Pin}
 use Rattle.card_layout.specs.declared.entries.PinSlot.{PinSlot}
 use Rattle.card_layout.specs.declared.faults.SectionFault.TheVariants.{Bad}

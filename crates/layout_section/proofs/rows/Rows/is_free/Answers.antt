@@ -1,5 +1,4 @@
-use Rattle.std.proofs.Common.{◌≡◌, ◌∙◌, sym, ap, arith}
-use Rattle.std.specs.Prelude.{not, ◌==◌, slice_index_or}
+use Rattle.std.proofs.Common.{◌≡◌, ◌∙◌, sym, ap, arith, not, ◌==◌, slice_index_or}
 use Rattle.std.specs.List.{list_any}
 use Rattle.layout_section.specs.Adding.{RowList}
 use Rattle.layout_section.proofs.Shelving.{shelf_taken}

@@ -1,5 +1,4 @@
-use Rattle.std.proofs.Common.{◌∙◌, sym, ap}
-use Rattle.std.specs.Prelude.{count_by}
+use Rattle.std.proofs.Common.{◌∙◌, sym, ap, count_by}
 use Rattle.card_layout.specs.Sections.{has_text}
 use Rattle.layout_section.specs.Adding.{RowList}
 use Rattle.layout_section.proofs.Shelving.{rows_show}

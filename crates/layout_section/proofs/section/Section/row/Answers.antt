@@ -1,6 +1,5 @@
 -- The kind is from 1 to 7 and the rows so far fit the files, so the tests of the row alone decide between Bad, NoRoom and Ok.
-use Rattle.std.proofs.Common.{◌≡◌, ℕ, List, ◌+◌, true, false, Option, Some, sym, ap, subst, ◌∙◌}
-use Rattle.std.specs.Prelude.{IfSome, Ok, Err}
+use Rattle.std.proofs.Common.{◌≡◌, ℕ, List, ◌+◌, true, false, Option, Some, sym, ap, subst, ◌∙◌, IfSome, Ok, Err}
 use Rattle.card_layout.specs.declared.faults.SectionFault.TheVariants.{Bad, NoRoom}
 use Rattle.card_layout.specs.Persistent.{Registration, Persistent}
 use Rattle.card_layout.specs.Sections.{RowLine, installation_of, with_row, rows_fit, byte_total_of}

@@ -1,5 +1,4 @@
-use Rattle.std.proofs.Common.{ℕ, ◌+◌, ◌≤◌, length, subst, sym}
-use Rattle.std.specs.Prelude.{nat_le}
+use Rattle.std.proofs.Common.{ℕ, ◌+◌, ◌≤◌, length, subst, sym, nat_le}
 use Rattle.card_layout.specs.Places.{data_place, data_end}
 use Rattle.layout_section.proofs.Writing.{held_total, fits_before}
 use Rattle.layout_section.proofs.section.Section.spelled.Goals as goal

@@ -1,5 +1,4 @@
-use Rattle.std.proofs.Common.{◌∙◌, ap}
-use Rattle.std.specs.Prelude.{Err}
+use Rattle.std.proofs.Common.{◌∙◌, ap, Err}
 use Rattle.layout_trials.proofs.stored.Stored.mount.Goals as goal
 
 pub invariant_of-self-in-Err-NotACard : goal.invariant_of-self-in-Err-NotACard

@@ -1,5 +1,4 @@
-use Rattle.std.proofs.Common.{get_or, ◌≡◌, ◌++◌, List, ℕ, length, sym, ap, ◌∙◌, arith}
-use Rattle.std.specs.Prelude.{slice_range}
+use Rattle.std.proofs.Common.{get_or, ◌≡◌, ◌++◌, List, ℕ, length, sym, ap, ◌∙◌, arith, slice_range}
 use Rattle.std.specs.Int.{w16, to_be_bytes}
 use Rattle.page_store.specs.Tables.{Kept}
 use Rattle.page_store.proofs.Finishing.{bytes_of}

@@ -1,7 +1,5 @@
-use Rattle.std.proofs.Common.{◌≡◌}
+use Rattle.std.proofs.Common.{◌≡◌, slice_range, flat_map}
 use Rattle.std.specs.Int.{w16, to_be_bytes}
-use Rattle.std.specs.List.{flat_map}
-use Rattle.std.specs.Prelude.{slice_range}
 use Rattle.page_store.proofs.tables.Table.spelled.Given as goal
 
 abbrev pub invariant-loop-k : goal.invariant-loop-k

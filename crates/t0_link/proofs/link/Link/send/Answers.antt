@@ -1,6 +1,5 @@
-use Rattle.std.specs.Prelude.{Option}
 use Rattle.apdu_form.specs.Model.{Apdu}
-use Rattle.std.proofs.Common.{◌≡◌, ℕ, Ok, Err, sym, ◌∙◌, ap, subst}
+use Rattle.std.proofs.Common.{Option, ◌≡◌, ℕ, Ok, Err, sym, ◌∙◌, ap, subst}
 use Rattle.t0_link.specs.Carrying.{received}
 use Rattle.t0_link.specs.Exchanging.{Exchanges, IsPassed}
 use Rattle.t0_link.specs.Linking.{link_answer}

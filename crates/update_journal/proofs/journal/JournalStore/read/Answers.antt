@@ -1,5 +1,4 @@
-use Rattle.std.proofs.Common.{◌≡◌, ◌+◌, length, subst}
-use Rattle.std.specs.Prelude.{IfSome, slice_range}
+use Rattle.std.proofs.Common.{◌≡◌, ◌+◌, length, subst, IfSome, slice_range}
 use Rattle.std.proofs.lemmas.Result.{on_ok_weaker}
 use Rattle.update_journal.specs.Journal.{Journaled}
 use Rattle.update_journal.proofs.Told.{read_stable}
