@@ -15,7 +15,8 @@ use toolkit_commands::lengths_of_commands;
 pub fn one_command_is_outstanding()
     ensures one { (commands : List ToolkitInput) (state : ToolkitState) → IsInOrder state → AreAccepted commands state
         → OneAtATime (unanswered state.session) (moved_by commands state).log }
-    ensures between { (commands : List ToolkitInput) (state : ToolkitState) → IsInOrder state → AreAccepted commands state
+    ensures between { (commands : List ToolkitInput) (state : ToolkitState)
+        → IsInOrder state → AreAccepted commands state
         → AnsweredBetween (moved_by commands state).log }
 {
     lengths_of_commands();

@@ -26,7 +26,8 @@ pub fn idle_targets_run_in_order()
         → begun (triggered envelope state).log
         ≡ filter (is_idle (asks state.session)) (triggered_by envelope state).shelves }
     ensures by_card { (code : ℕ) (body : List ℕ) (state : ToolkitState) → IsInOrder state
-        → begun (registered_told code body state).log ≡ filter (is_idle (asks state.session)) (targets state.rows code) }
+        → begun (registered_told code body state).log
+        ≡ filter (is_idle (asks state.session)) (targets state.rows code) }
     ensures before_driving { (envelope : Envelope) (state : ToolkitState)
         → enveloped envelope state ≡ before (triggered envelope state) driven }
 {}
