@@ -1,6 +1,5 @@
 -- Commands on files, and those that make, delete and resize files, change no more than files.
-use Rattle.std.proofs.Common.{◌≡◌, List, [], ◌∷◌}
-use Rattle.std.specs.Prelude.{⊤}
+use Rattle.std.specs.Prelude.{⊤, ◌≡◌, List, [], ◌∷◌}
 use Rattle.file_model.specs.card_layout.Persistent.{Persistent}
 
 -- each state passed is the one before the command with other files

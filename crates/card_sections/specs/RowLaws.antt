@@ -1,6 +1,5 @@
 -- Each row that a section describes is of the kind of the box on its shelf.
-use Rattle.std.proofs.Common.{◌≡◌, List, Option, Some, Ok}
-use Rattle.std.specs.Prelude.{All}
+use Rattle.std.specs.Prelude.{All, ◌≡◌, List, Option, Some, Ok}
 use Rattle.applet_trait.specs.Minds.{AppletState}
 use Rattle.card_layout.specs.Persistent.{Registration, Persistent}
 use Rattle.card_sections.specs.Cast.{kind_of_box}

@@ -1,5 +1,5 @@
 -- The card of a machine, and its power.
-use Rattle.std.proofs.Common.{◌≡◌, Some}
+use Rattle.std.specs.Prelude.{◌≡◌, Some}
 use Rattle.card_core.specs.Cards.{card_of}
 use Rattle.card_core.specs.Parts.{CardParts}
 use Rattle.card_core.specs.card_model.States.{Machine}

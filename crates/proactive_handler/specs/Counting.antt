@@ -1,5 +1,5 @@
 -- How often a memory is committed.
-use Rattle.std.proofs.Common.{◌≡◌, List, [], length}
+use Rattle.std.specs.Prelude.{◌≡◌, List, [], length}
 use Rattle.card_memory.specs.uicc_types.Counts.{raised_by}
 use Rattle.card_memory.specs.card_layout.Memory.{Memory}
 

@@ -1,5 +1,5 @@
 -- The rows of the state that a store stands for.
-use Rattle.std.proofs.Common.{◌≡◌, List, Option, Some}
+use Rattle.std.specs.Prelude.{◌≡◌, List, Option, Some}
 use Rattle.card_memory.specs.card_layout.Persistent.{Registration, Persistent}
 
 -- the state, where the store tells one, has these rows

@@ -1,6 +1,5 @@
 -- Whose boxes a step leaves as they were, and what of it came to pass before a fault.
-use Rattle.std.proofs.Common.{◌≡◌, ℕ, List, ◌∷◌, ◌++◌, length}
-use Rattle.std.specs.Prelude.{◌≢◌, Bool, All, Option, Result, Ok, Err, IfOk}
+use Rattle.std.specs.Prelude.{◌≢◌, Bool, All, Option, Result, Ok, Err, IfOk, ◌≡◌, ℕ, List, ◌∷◌, ◌++◌, length}
 use Rattle.card_memory.specs.uicc_types.Counts.{raised_by}
 use Rattle.card_memory.specs.store_form.declared.store.StoreFault.{StoreFault}
 use Rattle.card_memory.specs.card_layout.Persistent.{Registration}

@@ -1,5 +1,5 @@
 -- What a command of the toolkit makes of a card, be the bytes of its store told or not.
-use Rattle.std.proofs.Common.{◌≡◌}
+use Rattle.std.specs.Prelude.{◌≡◌}
 use Rattle.file_model.specs.uicc_types.declared.answers.Answer.{Answer}
 use Rattle.proactive_handler.specs.Steps.{Scene}
 use Rattle.card_model.specs.States.{CardState}

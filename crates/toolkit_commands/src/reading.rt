@@ -9,7 +9,6 @@ ghost use Rattle.toolkit_commands.specs.Steps.{Gives, Tells, Writes, items_in, t
 ghost use Rattle.toolkit_commands.specs.Reading.{proactive_of, details_found};
 ghost use Rattle.toolkit_commands.specs.declared.commands.Details.{Details as ADetails};
 ghost use Rattle.toolkit_commands.specs.declared.commands.Proactive.{Proactive as ACommand};
-ghost use Rattle.toolkit_commands.specs.Reading.{proactive_of};
 
 use crate::choices::{choice_of, menu_of};
 use crate::kinds::{
