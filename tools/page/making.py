@@ -4,6 +4,7 @@ import gzip
 import hashlib
 import json
 import os
+import re
 import shlex
 import shutil
 import subprocess
@@ -20,8 +21,11 @@ PROGRAM = "uicc_program"
 # the digits of a commit that are shown
 SHORT = 12
 STACK = 8 << 20
+RELEASED = os.path.join(TOP, "dist", "uicc_run.html")
 TABLES = ("commands", "files", "status", "toolkit")
-GIVEN = "The module of this page was given and not built with it, so that nothing is known of its proof. "
+PACKED = re.compile(r'(?<=const packedModule = ")[^"]*')
+GIVEN = "The module of this page was given and not built with it, so that nothing is known of its proof."
+TAKEN = "The module of this page was taken from the released one, and the rest of it is what stood beside it."
 HANDSET_WORDS = ("user ", "net ", "time ")
 
 
@@ -128,6 +132,20 @@ def built_module(folder):
         return content.read()
 
 
+def module_in(page):
+    """The module that the text of a page holds; None where it holds none."""
+    found = PACKED.search(page)
+    return gzip.decompress(base64.b64decode(found[0])) if found else None
+
+
+def released_module():
+    """The module of the released page."""
+    module = module_in(read(RELEASED))
+    if module is None:
+        raise Failed(f"no module is in {RELEASED}")
+    return module
+
+
 # the page
 
 def sources():
@@ -175,21 +193,25 @@ def kit_name():
     return told_by_rt("version")
 
 
+def size_of(module):
+    return f"the module has {len(module):,} bytes, SHA-256 {hashlib.sha256(module).hexdigest()}."
+
+
 def made_from(module, commit):
-    return (f"Made from commit {commit}, with {kit_name()}; the module has {len(module):,} bytes, SHA-256 "
-            f"{hashlib.sha256(module).hexdigest()}.")
+    return f"Made from commit {commit}, with {kit_name()}; {size_of(module)}"
 
 
 def tables():
     return constant("tables", {name: json.loads(read(DATA, name + ".json")) for name in TABLES})
 
 
-def page_of(module, commit, is_given=False):
+def page_of(module, told):
+    """The text of a page over a module; `told` says what both were made from."""
     packed = base64.b64encode(gzip.compress(module, 9, mtime=0)).decode()
     made = {
         "tables": tables(),
         "packed": constant("packedModule", packed) + constant("workerText", bundle.bundle("worker"))
-        + constant("examples", examples()) + constant("madeFrom", GIVEN * is_given + made_from(module, commit)),
+        + constant("examples", examples()) + constant("madeFrom", told),
     }
     page = read(HERE, "page.html").replace("/* STYLE */", read(HERE, "page.css"))
     return page.replace("/* SCRIPT */", in_page(bundle.bundle("page", made)))

@@ -23,6 +23,18 @@ export function byId(id) {
     return document.getElementById(id);
 }
 
+// Brings a row of a list into sight by scrolling the list, and nothing around it. Of a row that is higher its top is shown.
+export function scrollWithin(list, row) {
+    const { top, bottom, height } = row.getBoundingClientRect();
+    const from = list.getBoundingClientRect().top + list.clientTop;
+    const to = from + list.clientHeight;
+    if (top < from || height > list.clientHeight) {
+        list.scrollTop += top - from;
+    } else if (bottom > to) {
+        list.scrollTop += bottom - to;
+    }
+}
+
 // Gives a file to be saved.
 export function save(name, content) {
     const address = URL.createObjectURL(new Blob([content]));

@@ -22,7 +22,7 @@ const NOTHING = new Uint8Array();
 class Page {
     constructor() {
         this.runner = new Runner();
-        this.script = new ScriptPane(() => this.play(), () => this.play());
+        this.script = new ScriptPane(() => this.play(), () => this.play(), (line) => this.visit(line));
         this.trace = new TracePane((line) => this.chooseLine(line));
         this.handset = new HandsetPane((line) => this.addLine(line));
         this.cut = new CutPane((request) => this.runner.run(request), (memory) => this.opened(memory), (outcome) => this.showCut(outcome),
@@ -135,7 +135,7 @@ class Page {
 
     addLine(line) {
         this.script.append(line);
-        this.play();
+        return this.play();
     }
 
     putPlan(line, plan) {
@@ -219,9 +219,16 @@ class Page {
         this.trace.show(steps, mode === "open" ? cardIn(played.request.image) ?? script.card : script.card, script.lines);
         this.handset.show(mode === "phone" ? screenAfter(steps) : null);
         if (steps.length) {
-            this.trace.choose(steps.length - 1);
+            this.trace.chooseLine(this.script.caretLine || Infinity);
         } else {
             this.chooseLine(script.lines.length);
+        }
+    }
+
+    // Chooses the step of the line that the user went to.
+    visit(line) {
+        if (this.played?.steps.length && !this.isRunning) {
+            this.trace.chooseLine(line);
         }
     }
 

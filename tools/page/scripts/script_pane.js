@@ -4,19 +4,19 @@ import { byId } from "./dom.js";
 const AWAIT_TYPING = 300;
 
 export class ScriptPane {
-    // `changed` is called when the text was changed by the user, `asked` when it is to be played at once.
-    constructor(changed, asked) {
+    // `changed` is called when the text was changed by the user, `asked` when it is to be played at once, and `moved` when the user went
+    // to another line without changing anything.
+    constructor(changed, asked, moved) {
         this.area = byId("script");
         this.gutter = byId("gutter");
         this.numbers = byId("numbers");
         this.message = byId("bad-line");
         this.bands = { chosen: { band: byId("band-chosen"), line: 0 }, bad: { band: byId("band-bad"), line: 0 } };
         this.lineCount = 0;
-        this.area.addEventListener("input", () => {
-            this.count();
-            clearTimeout(this.timer);
-            this.timer = setTimeout(changed, AWAIT_TYPING);
-        });
+        this.isTyping = false;
+        this.lastCaretLine = 0;
+        this.area.addEventListener("input", () => this.hearTyping(changed));
+        document.addEventListener("selectionchange", () => this.hearCaret(moved));
         this.area.addEventListener("scroll", () => this.place());
         this.area.addEventListener("keydown", (event) => {
             if (event.key === "Enter" && (event.ctrlKey || event.metaKey)) {
@@ -31,8 +31,43 @@ export class ScriptPane {
         return this.area.value;
     }
 
+    get isFocused() {
+        return document.activeElement === this.area;
+    }
+
+    // The line that the user is in; 0 where the user isn't in the script.
+    get caretLine() {
+        return this.isFocused ? this.text.slice(0, this.area.selectionStart).split("\n").length : 0;
+    }
+
+    hearTyping(changed) {
+        this.count();
+        this.isTyping = true;
+        clearTimeout(this.typingTimer);
+        this.typingTimer = setTimeout(() => {
+            this.isTyping = false;
+            changed();
+        }, AWAIT_TYPING);
+    }
+
+    hearCaret(moved) {
+        const line = this.caretLine;
+        if (!line || line === this.lastCaretLine) {
+            return;
+        }
+        this.lastCaretLine = line;
+        clearTimeout(this.caretTimer);
+        this.caretTimer = setTimeout(() => {
+            // what is typed is played, and its step chosen then
+            if (!this.isTyping && this.isFocused) {
+                moved(line);
+            }
+        }, AWAIT_TYPING);
+    }
+
     set text(text) {
-        clearTimeout(this.timer);
+        clearTimeout(this.typingTimer);
+        this.isTyping = false;
         this.area.value = text;
         this.count();
     }
@@ -40,7 +75,6 @@ export class ScriptPane {
     append(line) {
         const text = this.text;
         this.text = `${text}${text === "" || text.endsWith("\n") ? "" : "\n"}${line}\n`;
-        this.area.scrollTop = this.area.scrollHeight;
     }
 
     // Puts a line before the line of a number.
@@ -80,15 +114,16 @@ export class ScriptPane {
         return parseFloat(getComputedStyle(this.area).paddingTop) + (line - 1) * this.lineHeight();
     }
 
+    // Brings a line into sight, unless the user is in the script: the place where somebody writes isn't moved.
     reveal(line) {
         const top = this.topOf(line);
         const { scrollTop, clientHeight } = this.area;
-        if (line && (top < scrollTop || top + this.lineHeight() > scrollTop + clientHeight)) {
+        if (line && !this.isFocused && (top < scrollTop || top + this.lineHeight() > scrollTop + clientHeight)) {
             this.area.scrollTop = Math.max(0, top - clientHeight / 3);
         }
     }
 
-    // Shows the numbers of the lines that are in sight, and puts the bands behind their lines.
+    // Shows the numbers of the lines that are in sight, and puts the bands under their lines.
     place() {
         const { scrollTop, clientHeight } = this.area;
         const height = this.lineHeight();

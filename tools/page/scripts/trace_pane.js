@@ -1,6 +1,6 @@
 // The trace, step by step, in words, each with the line of the script that it belongs to.
 import { plural } from "./bytes.js";
-import { byId, element, objectList } from "./dom.js";
+import { byId, element, objectList, scrollWithin } from "./dom.js";
 import { TraceReader } from "./trace.js";
 
 const FARTHER = 10;
@@ -64,6 +64,12 @@ export class TracePane {
         this.chosen(this.reader.steps[this.number].line);
     }
 
+    // Chooses the last step that a line of the script or one before it sends, or else the first.
+    chooseLine(line) {
+        const after = this.reader.steps.findIndex((step) => step.line > line);
+        this.choose(after < 0 ? this.reader.steps.length - 1 : after - 1);
+    }
+
     mark() {
         this.list.querySelector("[aria-selected=true]")?.setAttribute("aria-selected", "false");
         this.list.querySelector(".more")?.remove();
@@ -76,7 +82,7 @@ export class TracePane {
         row.setAttribute("aria-selected", "true");
         row.append(this.more(entry));
         this.list.setAttribute("aria-activedescendant", row.id);
-        row.scrollIntoView({ block: "nearest" });
+        scrollWithin(this.list, row);
     }
 
     more({ step, details }) {

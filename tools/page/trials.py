@@ -1,0 +1,169 @@
+"""What a person does at the page, and what has to come of it. Each trial is given a browser that has the page open, and answers in
+words what it tried; it wants nothing but the page."""
+import json
+
+WIDE, NARROW = (1280, 800), (390, 844)
+# a file of ten bytes, and lines that read it
+READS = "ef 2FE2 t 10 2 -\nstart\n" + "apdu 00B0820004\n" * 60
+# an applet with a menu of two entries: a choice, and a text
+MENU = "row 1 1 00044D656E75\nstart\n"
+
+
+class Wrong(Exception):
+    pass
+
+
+def expect(what, found, wanted):
+    if found != wanted:
+        raise Wrong(f"{what}: {str(found)[:400]}, where {str(wanted)[:400]} is wanted")
+
+
+def play(browser, mode, script):
+    """Plays a script in the page, and answers its trace."""
+    browser.evaluate(f"""(async () => {{
+        document.getElementById("mode").value = {json.dumps(mode)};
+        uicc.script.text = {json.dumps(script)};
+        await uicc.play();
+    }})()""")
+    return trace_shown(browser)
+
+
+def trace_shown(browser):
+    return browser.evaluate("uicc.played.result.trace.map((line) => line + '\\n').join('')")
+
+
+def has_lines(count):
+    return f"uicc.played?.script.lines.length === {count}"
+
+
+def text_of(browser, selector):
+    return browser.evaluate(f"document.querySelector({json.dumps(selector)}).textContent")
+
+
+# writing a script
+
+def go_to(browser, line):
+    """Puts the caret at the end of a line of the script, of which the beginning is in sight."""
+    browser.evaluate(f"""(() => {{
+        const area = document.getElementById("script");
+        const end = area.value.split("\\n").slice(0, {line}).join("\\n").length;
+        area.focus();
+        area.setSelectionRange(end, end);
+        area.scrollTop = 0;
+    }})()""")
+
+
+def typing(browser):
+    """While somebody writes, the script stays where it is, and the step of the line that is written is chosen."""
+    play(browser, "play", READS)
+    go_to(browser, 10)
+    browser.type("\nreset")
+    browser.wait(f"{has_lines(63)} && uicc.line === 11 && uicc.trace.number === 8")
+    expect("how far the script is scrolled", browser.evaluate("document.getElementById('script').scrollTop"), 0)
+    expect("where the caret is", browser.evaluate("uicc.script.caretLine"), 11)
+    for _ in range(3):
+        browser.press("ArrowUp")
+    browser.wait("uicc.line === 8 && uicc.trace.number === 5")
+    expect("how far the script is scrolled", browser.evaluate("document.getElementById('script').scrollTop"), 0)
+    go_to(browser, 1)
+    browser.type(" ")
+    browser.wait("uicc.played.result.status === 2")
+    expect("where the caret is", browser.evaluate("uicc.script.caretLine"), 1)
+    # a step that is chosen in the trace is shown in the script
+    play(browser, "play", READS)
+    browser.click("#trace")
+    browser.press("End")
+    browser.wait("uicc.line === 62")
+    expect("whether the line of the last step is in sight", browser.evaluate("document.getElementById('script').scrollTop > 0"), True)
+    return "a script that is written while it is played"
+
+
+# a narrow screen
+
+def narrow(browser):
+    """On a narrow screen the page stays where it is, and isn't wider than the screen."""
+    browser.size(*NARROW)
+    play(browser, "phone", MENU)
+    browser.evaluate("scrollTo(0, 0)")
+    play(browser, "play", READS)
+    expect("how far the page is scrolled after a run", browser.evaluate("scrollY"), 0)
+    play(browser, "phone", MENU)
+    keys = ("user pick 2", "user pick 1", "user ok", "net poll", "time 60", "reset")
+    for count, key in enumerate(keys, 3):
+        browser.evaluate(f"document.querySelector('#handset [data-key=\"{key}\"]').scrollIntoView({{ block: 'center' }})")
+        at = browser.evaluate("scrollY")
+        browser.click(f'#handset [data-key="{key}"]')
+        browser.wait(has_lines(count))
+        moved = abs(browser.evaluate("scrollY") - at)
+        expect(f"by how much the page is scrolled after `{key}`", moved if moved > 1 else 0, 0)
+    expect("by how much the page is wider than the screen",
+           browser.evaluate("document.documentElement.scrollWidth - document.documentElement.clientWidth"), 0)
+    browser.size(*WIDE)
+    return f"{len(keys)} keys on a narrow screen"
+
+
+# by keyboard
+
+FOCUSED = "document.activeElement.dataset.key ?? document.activeElement.className"
+
+
+def keyboard(browser):
+    """After an answer to the card the focus is on what comes next, which is said and which a second Enter doesn't answer."""
+    play(browser, "phone", MENU)
+    browser.evaluate("document.querySelector('[data-key=\"user pick 2\"]').focus()")
+    browser.press("Enter")
+    browser.press("Enter")
+    browser.wait(has_lines(3))
+    browser.press("Enter")
+    expect("the focus after a choice", browser.evaluate(FOCUSED), "screen")
+    expect("what is said", text_of(browser, "#handset [role=status]"), "Pick, 1 Text, 2 Tone")
+    browser.press("Tab")
+    expect("the focus after the key Tab", browser.evaluate(FOCUSED), "user pick 1")
+    browser.press("Enter")
+    browser.wait(has_lines(4))
+    expect("the focus after another choice", browser.evaluate(FOCUSED), "screen")
+    expect("what is said", text_of(browser, "#handset [role=status]"), "Text")
+    browser.press("Tab")
+    expect("the focus after the key Tab", browser.evaluate(FOCUSED), "user ok")
+    browser.press("Enter")
+    browser.wait(has_lines(5))
+    expect("the focus after OK", browser.evaluate(FOCUSED), "screen")
+    expect("what is said", text_of(browser, "#handset [role=status]"), "Menu, 2 Menu")
+    browser.evaluate("document.querySelector('[data-key=\"net poll\"]').focus()")
+    browser.press("Enter")
+    browser.wait(has_lines(6))
+    expect("the focus after a poll", browser.evaluate(FOCUSED), "net poll")
+    expect("the script", browser.evaluate("uicc.script.text"), MENU + "user pick 2\nuser pick 1\nuser ok\nnet poll\n")
+    return "the handset by keyboard"
+
+
+# the rest
+
+def bad_line(browser):
+    play(browser, "play", "df 7F10\nef 2FE2 t 40000 2 -\nstart\n")
+    expect("the reason of a bad line", text_of(browser, "#bad-line"), "Line 2: SIZE is 1 to 32767, not 40000")
+    return "a bad line"
+
+
+def link(browser):
+    script = "row 1 1 00044D656E75\nstart\nuser pick 2\n"
+    play(browser, "phone", script)
+    browser.evaluate("uicc.makeLink()")
+    browser.wait("location.hash.startsWith('#script=phone.journal.')")
+    address = browser.evaluate("location.hash")
+    play(browser, "play", "start\n")
+    browser.evaluate(f"history.replaceState(null, '', {json.dumps(address)}); uicc.useLink()")
+    browser.wait(f"uicc.mode === 'phone' && {has_lines(3)}")
+    expect("the script of the link", browser.evaluate("uicc.script.text"), script)
+    return "a link"
+
+
+def trap(browser):
+    """A run that fails in the worker is told, and the next one works."""
+    told = browser.evaluate("uicc.runner.run({ words: 7, script: new Uint8Array(), image: new Uint8Array() }).catch((fault) => fault.message)")
+    expect("whether the fault is told", bool(told), True)
+    expect("the trace after it", play(browser, "play", "start\nreset\n"), "! reset\n")
+    return "a module that stops is made anew"
+
+
+ALL = (typing, narrow, keyboard, bad_line, link, trap)
