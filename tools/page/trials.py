@@ -1,6 +1,8 @@
 """What a person does at the page, and what has to come of it. Each trial is given a browser that has the page open, and answers in
 words what it tried; it wants nothing but the page."""
 import json
+import os
+import tempfile
 
 WIDE, NARROW = (1280, 800), (390, 844)
 # a file of ten bytes, and lines that read it
@@ -76,6 +78,81 @@ def typing(browser):
     browser.wait("uicc.line === 62")
     expect("whether the line of the last step is in sight", browser.evaluate("document.getElementById('script').scrollTop > 0"), True)
     return "a script that is written while it is played"
+
+
+# loading, and taking back
+
+def choose_file(browser, kind, name, content):
+    """Gives the page a file of these bytes, to be loaded as a script, a trace or an image."""
+    with tempfile.TemporaryDirectory(prefix="uicc-page-") as folder:
+        path = os.path.join(folder, name)
+        with open(path, "wb") as out:
+            out.write(content)
+        browser.choose_file(f"#load-{kind}", path)
+        # the file is read, and what is to be loaded is played or refused
+        browser.wait(f"document.getElementById('load-{kind}').value === '' && !uicc.isRunning")
+
+
+def stands(browser):
+    return browser.evaluate("[uicc.script.text, uicc.mode, uicc.store, uicc.played.result.status]")
+
+
+def refuses(browser):
+    """What can't be loaded takes the place of nothing, and why is said."""
+    play(browser, "play", READS)
+    before = stands(browser)
+    image = bytes(browser.evaluate("Array.from(uicc.played.result.image)"))
+    wrong = (
+        ("image", "notes.txt", b"no memory\n",
+         "notes.txt: no card is in it: byte 0 isn't as a card has it; it has 10 bytes, and a memory has 65,536 or 71,680. Nothing was replaced."),
+        ("image", "other.img", image[:832] + b"\x09" + image[833:],
+         "other.img: no card is in it: byte 832 isn't as a card has it. Nothing was replaced."),
+        ("image", "long.img", bytes(2_000_000), "long.img: it has 2,000,000 bytes, and a memory has at most 1,048,576. Nothing was replaced."),
+        ("script", "card.img", image, f"card.img: its byte {image.index(0)} is 00, and a script is a text. Nothing was replaced."),
+        ("trace", "card.script", READS.encode(), "card.script: its line 1 is none of a trace. Nothing was replaced."),
+        ("trace", "empty", b"", "empty: it is empty. Nothing was replaced."),
+    )
+    for kind, name, content, why in wrong:
+        choose_file(browser, kind, name, content)
+        expect(f"what is said of {name}", text_of(browser, f"#{kind}-told"), why)
+        expect(f"what stands after {name}", stands(browser), before)
+    play(browser, "play", "df\nstart\n")
+    before = stands(browser)
+    browser.evaluate("uicc.goOn()")
+    expect("what is said of a run that left no card", text_of(browser, "#image-told"),
+           "The memory of the last run: no card is in it: byte 0 isn't as a card has it. Nothing was replaced.")
+    expect("what stands after it", stands(browser), before)
+    return f"{len(wrong)} files that can't be loaded"
+
+
+def takes_back(browser):
+    """What was replaced can be had again, and so can what replaced it."""
+    browser.evaluate("document.getElementById('store').value = 'pages'")
+    play(browser, "play", READS)
+    image = bytes(browser.evaluate("Array.from(uicc.played.result.image)"))
+    browser.evaluate("document.getElementById('store').value = 'journal'")
+    play(browser, "play", "start\n")
+    choose_file(browser, "image", "card.img", image)
+    opened = ["start\n", "open", "pages", 0]
+    expect("what stands after a memory is loaded", stands(browser), opened)
+    expect("what `Undo` takes back", browser.evaluate("document.getElementById('undo').title"), "Take back: card.img")
+    browser.evaluate("document.getElementById('script').focus()")
+    browser.type("reset\n")
+    browser.wait(has_lines(2))
+    written = stands(browser)
+    choose_file(browser, "script", "latin.script", b"# \xE9\nstart\n")
+    expect("the letters of another encoding", browser.evaluate("uicc.script.text"), "# \u00e9\nstart\n")
+    browser.evaluate("document.getElementById('mode').value = 'play'")
+    browser.click("#undo")
+    browser.wait(f"{has_lines(2)} && uicc.mode === 'open' && !uicc.isRunning")
+    expect("what stands after a script is taken back", stands(browser), written)
+    browser.click("#undo")
+    browser.wait(f"{has_lines(1)} && uicc.mode === 'play' && !uicc.isRunning")
+    expect("what stands after a memory is taken back", stands(browser), ["start\n", "play", "journal", 0])
+    browser.click("#redo")
+    browser.wait(f"{has_lines(2)} && uicc.mode === 'open' && !uicc.isRunning")
+    expect("what stands after it is done again", stands(browser), written)
+    return "what was replaced, taken back and done again"
 
 
 # a narrow screen
@@ -166,4 +243,4 @@ def trap(browser):
     return "a module that stops is made anew"
 
 
-ALL = (typing, narrow, keyboard, bad_line, link, trap)
+ALL = (typing, refuses, takes_back, narrow, keyboard, bad_line, link, trap)

@@ -27,7 +27,7 @@ const STRUCTURES = { 0x41: "t", 0x42: "l", 0x46: "c" };
 const DEACTIVATED = 0x04;
 const EVENT_BITS = [0x00, 0x01, 0x02, 0x03, 0x04, 0x05, 0x07, 0x09, 0x0a, 0x40, 0x41, 0x45];
 
-function isPaged(image) {
+export function isPaged(image) {
     return image.length >= SIZES.pages && image[STORE] === PAGED;
 }
 

@@ -3,7 +3,7 @@ import { bytesOfText } from "./bytes.js";
 import { OF_CARD, OF_COMMANDS, OF_HANDSET, PLANS, Wrong, readLine } from "./grammar.js";
 import { Card } from "./layout.js";
 
-const MOST_BYTES = 16_777_216;
+export const MOST_BYTES = 16_777_216;
 const LINE_FEED = 10;
 // how many lines of a trace a line of a script for a card shows
 const LINES_SHOWN = { apdu: 2, tpdu: 2, reset: 1 };

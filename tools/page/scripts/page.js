@@ -5,9 +5,11 @@ import { byId, element, save } from "./dom.js";
 import { FilesPane } from "./files_pane.js";
 import { screenAfter } from "./handset.js";
 import { HandsetPane } from "./handset_pane.js";
+import { History } from "./history.js";
 import { cardIn, changesBetween, entriesOf } from "./image.js";
 import { linkOf, linked } from "./link.js";
-import { Script, linesOf } from "./lint.js";
+import { Script } from "./lint.js";
+import { NotLoaded, memoryIn, scriptIn, storeOf, traceIn, whyNotOpened } from "./loading.js";
 import { memoryBehind } from "./memory.js";
 import { examples, madeFrom } from "./packed.js";
 import { NotRunnable, Runner, Stopped } from "./runner.js";
@@ -18,6 +20,11 @@ import { stepsOf } from "./trace.js";
 const SHOW_PROGRESS_AFTER = 300;
 const FIRST_EXAMPLE = "day";
 const NOTHING = new Uint8Array();
+
+function exampleOf(name) {
+    const { mode, script } = examples.find((each) => each.name === name);
+    return { mode, script };
+}
 
 class Page {
     constructor() {
@@ -32,18 +39,22 @@ class Page {
         this.image = NOTHING;
         this.played = null;
         this.asked = 0;
+        this.history = new History();
         this.hearControls();
         this.hearFiles();
+        this.tellHistory();
     }
 
     hearControls() {
         const chooser = byId("example");
         chooser.append(...examples.map(({ name }) => element("option", { value: name }, name)));
-        chooser.addEventListener("change", () => this.useExample(chooser.value));
+        chooser.addEventListener("change", () => this.useExample(chooser));
         byId("mode").addEventListener("change", () => this.play());
         byId("store").addEventListener("change", () => this.play());
         byId("play").addEventListener("click", () => this.play());
         byId("stop").addEventListener("click", () => this.runner.stop());
+        byId("undo").addEventListener("click", () => this.undo());
+        byId("redo").addEventListener("click", () => this.redo());
         byId("link").addEventListener("click", () => this.makeLink());
         byId("go-on").addEventListener("click", () => this.goOn());
         globalThis.addEventListener("hashchange", () => this.useLink());
@@ -54,57 +65,106 @@ class Page {
         byId("save-script").addEventListener("click", () => save("card.script", this.script.text));
         byId("save-trace").addEventListener("click", () => save("card.trace", this.played?.result.trace.map((line) => `${line}\n`).join("") ?? ""));
         byId("save-image").addEventListener("click", () => save("card.img", this.played?.result.image ?? NOTHING));
-        this.hearLoad("load-script", async (file) => {
-            this.script.text = await file.text();
-            this.play();
+        this.hearLoad("script", async (file) => {
+            const script = await scriptIn(file);
+            this.replace(file.name, { script });
         });
-        this.hearLoad("load-trace", async (file) => this.showTrace(linesOf(await file.text())));
-        this.hearLoad("load-image", async (file) => {
-            this.goOnWith(new Uint8Array(await file.arrayBuffer()));
-        });
+        this.hearLoad("trace", async (file) => this.showTrace(await traceIn(file), file.name));
+        this.hearLoad("image", async (file) => this.goOnWith(await memoryIn(file), file.name));
     }
 
-    hearLoad(id, load) {
-        const input = byId(id);
+    // Loads a file that the user chose. What can't be loaded is refused, and takes the place of nothing.
+    hearLoad(kind, load) {
+        const input = byId(`load-${kind}`);
         input.addEventListener("change", async () => {
-            if (input.files.length) {
-                await load(input.files[0]);
+            const [file] = input.files;
+            if (file) {
+                await this.unlessRefused(kind, file.name, () => load(file));
                 input.value = "";
             }
         });
     }
 
-    // Begins with the script of the link, or else with an example.
-    async begin() {
-        if (!await this.useLink()) {
-            this.useExample(FIRST_EXAMPLE);
+    async unlessRefused(kind, name, load) {
+        const told = byId(`${kind}-told`);
+        told.textContent = "";
+        try {
+            await load();
+        } catch (fault) {
+            told.textContent = `${name}: ${fault.message}. Nothing was replaced.`;
         }
     }
 
-    useExample(name) {
-        const example = examples.find((each) => each.name === name);
-        if (example) {
-            byId("mode").value = example.mode;
-            this.script.text = example.script;
-            this.play();
+    // All that is played: the script, how it is played, and the memory that a card is opened in.
+    get state() {
+        return { script: this.script.text, mode: this.mode, store: this.store, image: this.image };
+    }
+
+    set state({ script, mode, store, image }) {
+        byId("mode").value = mode;
+        byId("store").value = store;
+        this.image = image;
+        this.script.text = script;
+    }
+
+    // Plays something else, so that what stood before can be had again.
+    replace(reason, change) {
+        this.history.keep(this.state, reason);
+        this.state = { ...this.state, ...change };
+        this.tellHistory();
+        return this.play();
+    }
+
+    undo() {
+        if (this.history.earlier.length) {
+            this.goTo(this.history.undone(this.state));
         }
+    }
+
+    redo() {
+        if (this.history.later.length) {
+            this.goTo(this.history.redone(this.state));
+        }
+    }
+
+    goTo(state) {
+        this.state = state;
+        this.tellHistory();
+        this.play();
+    }
+
+    tellHistory() {
+        const { earlier, later } = this.history;
+        for (const [id, words, list] of [["undo", "Take back", earlier], ["redo", "Do again", later]]) {
+            const reason = list.at(-1)?.reason;
+            byId(id).title = reason ? `${words}: ${reason}` : "";
+            byId(id).setAttribute("aria-disabled", String(!reason));
+        }
+    }
+
+    // Begins with the script of the link, or else with an example.
+    async begin() {
+        this.goTo({ ...this.state, ...await linked(location.hash) ?? exampleOf(FIRST_EXAMPLE) });
+    }
+
+    useExample(chooser) {
+        const name = chooser.value;
+        // so that the same one can be chosen again
+        chooser.value = "";
+        this.replace(`the example ${name}`, exampleOf(name));
     }
 
     async useLink() {
         const found = await linked(location.hash);
         if (found) {
-            byId("mode").value = found.mode;
-            byId("store").value = found.store;
-            this.script.text = found.script;
-            this.play();
+            this.replace("the link", found);
         }
-        return found !== null;
     }
 
     async makeLink() {
         const hash = await linkOf({ mode: this.mode, store: this.store, script: this.script.text });
         history.replaceState(null, "", hash);
-        const told = byId("link-told");
+        const told = byId("script-told");
         try {
             await navigator.clipboard.writeText(location.href);
             told.textContent = "copied";
@@ -123,24 +183,32 @@ class Page {
 
     // Goes on with the card that the last run left.
     goOn() {
-        this.goOnWith(this.played?.result.image ?? NOTHING);
+        return this.unlessRefused("image", "The memory of the last run", () => {
+            if (!this.played) {
+                throw new NotLoaded("no run is shown");
+            }
+            return this.goOnWith(this.played.result.image, "Go on with it");
+        });
     }
 
-    goOnWith(image) {
-        this.image = image;
-        byId("mode").value = "open";
-        this.script.text = "start\n";
-        this.play();
+    // Plays a new script to the card in a memory, where one can be opened there.
+    async goOnWith(image, reason) {
+        const store = storeOf(image);
+        const why = whyNotOpened(image, await this.opening(image, store));
+        if (why) {
+            throw new NotLoaded(why);
+        }
+        await this.replace(reason, { script: "start\n", mode: "open", store, image });
     }
 
     addLine(line) {
-        this.script.append(line);
-        return this.play();
+        return this.replace(line, { script: this.script.withLine(line) });
     }
 
     putPlan(line, plan) {
-        this.script.insert(line, plan);
-        this.play();
+        this.replace(plan, { script: this.script.withLineBefore(line, plan) });
+        // what was pressed is gone, and the trace shows what comes of it
+        byId("trace").focus({ preventScroll: true });
     }
 
     read(text, mode) {
@@ -233,7 +301,9 @@ class Page {
     }
 
     // Shows a trace that was kept, beside the script as it stands. Nothing is played, so of the card nothing more is known.
-    showTrace(trace) {
+    showTrace(trace, reason) {
+        this.history.keep(this.state, reason);
+        this.tellHistory();
         const script = this.read(this.script.text, this.mode);
         const steps = stepsOf(trace, script.placesOf(trace, this.mode));
         this.asked += 1;
@@ -275,8 +345,11 @@ class Page {
 
     // What stands in a memory once the card in it was opened again.
     async opened(memory) {
-        const request = { words: ["open", "--store", this.played.request.words[2]], script: bytesOfText("start\n"), image: memory };
-        return (await this.runner.run(request)).image;
+        return (await this.opening(memory, this.played.request.words[2])).image;
+    }
+
+    opening(image, store) {
+        return this.runner.run({ words: ["open", "--store", store], script: bytesOfText("start\n"), image });
     }
 
     async cardBehind(line) {

@@ -2,7 +2,11 @@
 import { packedModule, workerText } from "./packed.js";
 
 // A run was stopped by the user.
-export class Stopped extends Error {}
+export class Stopped extends Error {
+    constructor() {
+        super("the run was stopped");
+    }
+}
 
 // The module stopped in a way that no run of it should.
 export class Trapped extends Error {}

@@ -72,16 +72,15 @@ export class ScriptPane {
         this.count();
     }
 
-    append(line) {
-        const text = this.text;
-        this.text = `${text}${text === "" || text.endsWith("\n") ? "" : "\n"}${line}\n`;
+    // The text with a line at its end.
+    withLine(line) {
+        const { text } = this;
+        return `${text}${text === "" || text.endsWith("\n") ? "" : "\n"}${line}\n`;
     }
 
-    // Puts a line before the line of a number.
-    insert(number, line) {
-        const lines = this.text.split("\n");
-        lines.splice(number - 1, 0, line);
-        this.text = lines.join("\n");
+    // The text with a line before the line of a number.
+    withLineBefore(number, line) {
+        return this.text.split("\n").toSpliced(number - 1, 0, line).join("\n");
     }
 
     count() {

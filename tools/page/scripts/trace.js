@@ -57,6 +57,11 @@ class Step {
     }
 }
 
+// Whether a line is one that a run shows.
+export function isTraceLine(line) {
+    return /^([<>] ([0-9A-F]{2})+|! (cut|off|reset)|\* .+|(line|not a card|no applet) \d+|lines \d+ .+)$/.test(line) || Object.hasOwn(MARKS, line);
+}
+
 export function stepsOf(trace, places) {
     const steps = [];
     let open = null;
