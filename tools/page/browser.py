@@ -9,11 +9,11 @@ import subprocess
 import tempfile
 import time
 
-PATIENCE = 300
-STARTING = 60
+# a machine that is busy with proofs lets a browser wait long
+PATIENCE = 600
 # of keys that are no letter: the number that Chromium knows each by, and the letter that WebDriver has for it
 KEYS = {
-    "Tab": (9, "\ue004"), "Enter": (13, "\ue007"), "End": (35, "\ue010"), "Home": (36, "\ue011"), "ArrowLeft": (37, "\ue012"),
+    "Tab": (9, "\ue004"), "Enter": (13, "\ue007"), "Escape": (27, "\ue00c"), "End": (35, "\ue010"), "Home": (36, "\ue011"), "ArrowLeft": (37, "\ue012"),
     "ArrowUp": (38, "\ue013"), "ArrowRight": (39, "\ue014"), "ArrowDown": (40, "\ue015"),
 }
 # what a key writes
@@ -68,7 +68,7 @@ class Browser:
         self.go("file://" + path)
         self.wait("document.readyState === 'complete' && Boolean(globalThis.uicc)")
 
-    def wait(self, condition, seconds=30):
+    def wait(self, condition, seconds=PATIENCE):
         until = time.monotonic() + seconds
         while not self.evaluate(f"Boolean({condition})"):
             if time.monotonic() > until:
@@ -203,7 +203,7 @@ class Firefox(Browser):
 
     def _port(self):
         """The port that the browser listens on, which it writes into its folder."""
-        path, until = os.path.join(self.folder, "MarionetteActivePort"), time.monotonic() + STARTING
+        path, until = os.path.join(self.folder, "MarionetteActivePort"), time.monotonic() + PATIENCE
         while time.monotonic() < until and self.process.poll() is None:
             try:
                 with open(path, encoding="ascii") as text:

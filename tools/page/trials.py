@@ -214,12 +214,89 @@ def keyboard(browser):
     return "the handset by keyboard"
 
 
-# the rest
+# what is read at first sight
+
+def first_sight(browser):
+    """The page says what it is, stands on a wide screen as a whole, and has what is proved in a window of its own."""
+    expect("whether the page says what it is", "smart card of a mobile telephone (UICC)" in text_of(browser, "header p"), True)
+    for script in (MENU, READS):
+        play(browser, "phone" if script == MENU else "play", script)
+        expect("by how much the page is higher than the screen", browser.evaluate("document.documentElement.scrollHeight - innerHeight"), 0)
+    browser.click("#about")
+    expect("whether it is said what is proved", browser.evaluate("document.getElementById('about-text').innerText.includes('every function of it')"), True)
+    browser.press("Escape")
+    browser.wait("!document.getElementById('about-text').open")
+    return "what the page is"
+
+
+def colour(browser, words):
+    """The colour of the words in the trace."""
+    return browser.evaluate(f"""(() => {{
+        const found = [...document.querySelectorAll("#trace span")].findLast((span) => span.textContent.includes({json.dumps(words)}));
+        return getComputedStyle(found).color;
+    }})()""")
+
+
+def colours(browser):
+    """A refusal and a loss of power are red; a reset, and tries that are left, aren't."""
+    pin = "pin 01 31323334FFFFFFFF on 3132333435363738\n"
+    ends = "apdu 0020000100\napdu 00A40004026F07\nreset\ncut 1\napdu 002000010831323334FFFFFFFF\n"
+    play(browser, "play", pin + "start\n" + ends)
+    red = colour(browser, "file not found")
+    expect("the colour of a loss of power", colour(browser, "the power was lost"), red)
+    for words in ("the card was reset", "tries left: 3"):
+        expect(f"whether `{words}` is red", colour(browser, words) == red, False)
+    return "colours of a trace"
+
 
 def bad_line(browser):
+    """Why a line is bad is said once, at the script."""
     play(browser, "play", "df 7F10\nef 2FE2 t 40000 2 -\nstart\n")
     expect("the reason of a bad line", text_of(browser, "#bad-line"), "Line 2: SIZE is 1 to 32767, not 40000")
+    expect("how often the line is told", browser.evaluate("document.querySelector('main').innerText.match(/\\bwrong\\b|no room|is 1 to/g).length"), 1)
     return "a bad line"
+
+
+def many_writes(browser):
+    """The cuts of a line with many writes are all in sight, from side to side."""
+    play(browser, "play", "ef 2FE2 t 255 2 -\nstart\napdu 00D68200FF" + "AB" * 255 + "\n")
+    browser.wait("uicc.cut.trials && uicc.cut.trials.outcomes.size === 4 * uicc.cut.trials.writes.length")
+    count = browser.evaluate("uicc.cut.trials.writes.length")
+    expect("whether the line makes many writes", count > 6, True)
+    for size in (WIDE, NARROW):
+        browser.size(*size)
+        expect("how many rows there are", browser.evaluate("document.querySelectorAll('#cut tr').length"), 1 + count)
+        expect("by how much the cuts are wider than their place", browser.evaluate(
+            "(({ scrollWidth, clientWidth }) => scrollWidth - clientWidth)(document.querySelector('.grid-frame'))"), 0)
+    browser.size(*WIDE)
+    return f"the cuts of {count} writes"
+
+
+def words_of_a_script(browser):
+    """There is help for each word that the linter takes, and the linter takes the lines that it shows."""
+    play(browser, "play", READS)
+    browser.click("#help summary")
+    found = browser.evaluate("[...document.querySelectorAll('#help dt')].map((term) => term.dataset.word)")
+    taken = [word for word in (*found, "cmd", "wrong") if "no line begins" not in browser.evaluate(
+        f"uicc.read({json.dumps(word)} + ' -\\n', 'play').firstBad?.reason ?? ''")]
+    expect("the words that there is help for", found, taken)
+    lines = browser.evaluate("[...document.querySelectorAll('#help .example')].map((code) => code.textContent)")
+    at = lines.index("start")
+    groups = {"phone": [line for line in lines[at:] if not line.startswith(("apdu", "tpdu"))],
+              "play": [line for line in lines[at:] if not line.startswith(("user", "net", "time"))]}
+    for mode, rest in groups.items():
+        script = "".join(line + "\n" for line in [*lines[:at], *rest])
+        expect(f"the bad line among the lines of help for `{mode}`", browser.evaluate(f"uicc.read({json.dumps(script)}, '{mode}').firstBad"), None)
+    go_to(browser, 1)
+    browser.press("End")
+    browser.wait("document.querySelector('#help .current')?.dataset.word === 'ef'")
+    go_to(browser, 10)
+    browser.wait("document.querySelector('#help .current')?.dataset.word === 'apdu'")
+    browser.click("#help summary")
+    return f"help for {len(found)} words"
+
+
+# the rest
 
 
 def link(browser):
@@ -243,4 +320,6 @@ def trap(browser):
     return "a module that stops is made anew"
 
 
-ALL = (typing, refuses, takes_back, narrow, keyboard, bad_line, link, trap)
+ALL = (
+    typing, refuses, takes_back, narrow, keyboard, first_sight, colours, bad_line, many_writes, words_of_a_script, link, trap,
+)

@@ -6,12 +6,12 @@ import { cardIn, changesBetween, entriesOf, isSame } from "./image.js";
 import { memoryBehind, writesIn } from "./memory.js";
 import { CUT } from "./trace.js";
 
-// Each way by its name and its line of a script, of the K-th write of so many bytes.
+// Each way by a word, its name, and its line of a script, of the K-th write of so many bytes.
 export const WAYS = [
-    { name: "none of it written, all FF", plan: (call) => `cut ${call} 0 FF` },
-    { name: "half of it written, then 5A", plan: (call, length) => `cut ${call} ${Math.floor(length / 2)} 5A` },
-    { name: "all of it written", plan: (call, length) => `cut ${call} ${length} FF` },
-    { name: "fails, all FF", plan: (call) => `fail ${call} FF` },
+    { short: "none", name: "none of it written, all FF", plan: (call) => `cut ${call} 0 FF` },
+    { short: "half", name: "half of it written, then 5A", plan: (call, length) => `cut ${call} ${Math.floor(length / 2)} 5A` },
+    { short: "all", name: "all of it written", plan: (call, length) => `cut ${call} ${length} FF` },
+    { short: "fails", name: "fails, all FF", plan: (call) => `fail ${call} FF` },
 ];
 
 // What stands after a cut, in one word, its letter and in words.

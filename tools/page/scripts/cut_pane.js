@@ -56,18 +56,19 @@ export class CutPane {
             ...WAYS.map(({ name }, way) => element("option", { value: way }, name)));
         this.told = element("div", { "aria-live": "polite" });
         return [
-            element("p", {}, `Line ${line} makes ${plural(writes.length, "write")}. Each can be cut in three ways, and can fail:`), this.grid,
+            element("p", {}, `Line ${line} makes ${plural(writes.length, "write")} to the memory. Each is cut with none, half or all of it `
+                + "written, and fails:"), this.grid,
             this.legend, element("label", { class: "slider" }, "Cut in write", this.slider), element("label", {}, "left so: ", this.way), this.told,
         ];
     }
 
     draw() {
         const { writes } = this.trials;
-        const cells = (way) => writes.map((_, number) => element("td", {}, this.cell(number, way)));
+        const cells = (number) => WAYS.map((_, way) => element("td", {}, this.cell(number, way)));
         this.grid.replaceChildren(element(
             "table", { class: "grid" },
-            element("tr", {}, element("th", {}, "write"), ...writes.map((_, number) => element("th", { scope: "col" }, String(number + 1)))),
-            ...WAYS.map(({ name }, way) => element("tr", {}, element("th", { scope: "row" }, name), ...cells(way)))));
+            element("tr", {}, element("th", {}, "write"), ...WAYS.map(({ short, name }) => element("th", { scope: "col", title: name }, short))),
+            ...writes.map((_, number) => element("tr", {}, element("th", { scope: "row" }, String(number + 1)), ...cells(number)))));
         const outcomes = [...this.trials.outcomes.values()];
         this.legend.replaceChildren(...Object.entries(STATES).map(([state, { letter, words }]) => {
             const count = outcomes.filter((outcome) => outcome.state === state).length;

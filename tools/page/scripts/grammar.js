@@ -15,8 +15,8 @@ const MOST_DIGITS = 20;
 const LONGEST_PLACE = 32;
 const PAGE = 64;
 
-// what stands in a line behind its first word, as the documents show it
-const FORMS = {
+// what stands in a line after its first word, as the documents show it
+export const FORMS = {
     df: "df PATH",
     ef: "ef PATH t SIZE SHORT RULE, or ef PATH l (or c) LENGTH COUNT SHORT RULE",
     fill: "fill PATH OFFSET HEX",

@@ -50,6 +50,7 @@ export class HandsetPane {
     // Shows a screen. Where it comes of a key, it is said too, and the focus goes to it.
     show(screen) {
         this.part.hidden = screen === null;
+        byId("to-handset").hidden = screen === null;
         if (screen === null) {
             return;
         }

@@ -5,6 +5,7 @@ import { byId, element, save } from "./dom.js";
 import { FilesPane } from "./files_pane.js";
 import { screenAfter } from "./handset.js";
 import { HandsetPane } from "./handset_pane.js";
+import { HelpPane } from "./help_pane.js";
 import { History } from "./history.js";
 import { cardIn, changesBetween, entriesOf } from "./image.js";
 import { linkOf, linked } from "./link.js";
@@ -15,11 +16,17 @@ import { examples, madeFrom } from "./packed.js";
 import { NotRunnable, Runner, Stopped } from "./runner.js";
 import { ScriptPane } from "./script_pane.js";
 import { TracePane } from "./trace_pane.js";
-import { stepsOf } from "./trace.js";
+import { markWords, stepsOf } from "./trace.js";
 
 const SHOW_PROGRESS_AFTER = 300;
 const FIRST_EXAMPLE = "day";
 const NOTHING = new Uint8Array();
+const ENDS = { 0: "played to its end" };
+
+// How a run ended.
+function endOf({ status, trace }) {
+    return ENDS[status] ?? markWords(trace.at(-1) ?? "");
+}
 
 function exampleOf(name) {
     const { mode, script } = examples.find((each) => each.name === name);
@@ -35,6 +42,7 @@ class Page {
         this.cut = new CutPane((request) => this.runner.run(request), (memory) => this.opened(memory), (outcome) => this.showCut(outcome),
             (line, plan) => this.putPlan(line, plan));
         this.files = new FilesPane();
+        this.help = new HelpPane();
         // the memory that a card is opened in
         this.image = NOTHING;
         this.played = null;
@@ -58,6 +66,7 @@ class Page {
         byId("link").addEventListener("click", () => this.makeLink());
         byId("go-on").addEventListener("click", () => this.goOn());
         globalThis.addEventListener("hashchange", () => this.useLink());
+        byId("about").addEventListener("click", () => byId("about-text").showModal());
         byId("made-from").textContent = madeFrom;
     }
 
@@ -282,19 +291,22 @@ class Page {
         const { script, result, steps, mode } = played;
         this.played = played;
         this.stands = new Map();
-        this.tell(`status ${result.status}, ${plural(steps.length, "step")}`);
+        this.tell(`${endOf(result)}, ${plural(steps.length, "step")}`);
         this.blame(played);
         this.trace.show(steps, mode === "open" ? cardIn(played.request.image) ?? script.card : script.card, script.lines);
         this.handset.show(mode === "phone" ? screenAfter(steps) : null);
+        const caret = this.script.caretLine;
+        this.help.mark(script.lines[caret - 1] ?? "");
         if (steps.length) {
-            this.trace.chooseLine(this.script.caretLine || Infinity);
+            this.trace.chooseLine(caret || Infinity);
         } else {
             this.chooseLine(script.lines.length);
         }
     }
 
-    // Chooses the step of the line that the user went to.
+    // Chooses the step of the line that the user went to, and has help for it.
     visit(line) {
+        this.help.mark(this.played?.script.lines[line - 1] ?? "");
         if (this.played?.steps.length && !this.isRunning) {
             this.trace.chooseLine(line);
         }

@@ -17,7 +17,9 @@ const ON_FILES = [READ_BINARY, UPDATE_BINARY, READ_RECORD, UPDATE_RECORD, SEARCH
 const MARKS = {
     "! cut": "the power was lost", "! off": "the card has no power", "! reset": "the card was reset",
     "usage": "the words are in no form", "read failed": "the script could not be read on", "no memory": "there was no memory to begin with",
-    "eeprom failed": "the memory failed or lost power in a reset or before the card was open",
+    "eeprom failed": "memory problem, or the power was lost, in a reset or before the card was open",
+    line: "line {} ends the run", "not a card": "the memory holds no card that can be opened: byte {}",
+    "no applet": "applet {} of the card isn't there",
 };
 const NOTES = {
     text: "shows a text", ask: "asks for", choose: "offers a choice; items:", menu: "has a menu; entries:", tone: "plays the tone",
@@ -78,11 +80,10 @@ export function stepsOf(trace, places) {
     return steps;
 }
 
-function markWords(text) {
-    if (text.startsWith("line ")) {
-        return `${text} of the script is wrong, or there is no room for what it describes`;
-    }
-    return MARKS[text] ?? text;
+// A line of a trace that is no exchange, in words. Why a line of the script ends a run stands at that line.
+export function markWords(text) {
+    const [word, number] = text.split(/ (?=\d+$)/);
+    return MARKS[word]?.replace("{}", number) ?? text;
 }
 
 function noteWords(text) {

@@ -5,6 +5,19 @@ import { TraceReader } from "./trace.js";
 
 const FARTHER = 10;
 
+// Whether a line of a trace tells of what went wrong. A reset is no such line.
+function isLoss(text) {
+    return !/^([>*] |! reset$)/.test(text);
+}
+
+// What kind of answer a step has: one that is done, a warning (SW1 62 or 63), or a refusal.
+function kindOf({ answer, status }) {
+    if (!answer || /^(9[01]|61)/.test(status)) {
+        return "";
+    }
+    return /^6[23]/.test(status) ? "warning" : "refused";
+}
+
 export class TracePane {
     // `chosen` is told the script's line of the step that is chosen.
     constructor(chosen) {
@@ -14,8 +27,9 @@ export class TracePane {
         this.page = 0;
         this.number = -1;
         this.list.addEventListener("keydown", (event) => this.press(event));
+        new ResizeObserver(() => this.reveal()).observe(this.list);
         byId("page-before").addEventListener("click", () => this.turn(this.page - 1));
-        byId("page-behind").addEventListener("click", () => this.turn(this.page + 1));
+        byId("page-after").addEventListener("click", () => this.turn(this.page + 1));
     }
 
     // Shows the steps of a run; `card` is what its script describes, `lines` are those of the script.
@@ -35,18 +49,17 @@ export class TracePane {
         byId("page-shown").textContent = this.entries.length
             ? `${this.entries[0].number + 1} to ${this.entries.at(-1).number + 1} of ${plural(length, "step")}` : "";
         byId("page-before").disabled = this.page === 0;
-        byId("page-behind").disabled = this.page === this.reader.pageCount - 1;
+        byId("page-after").disabled = this.page === this.reader.pageCount - 1;
         this.mark();
     }
 
     row({ step, number, title, outcome }) {
-        const isRefused = !/^(9000|91|6282)/.test(outcome);
-        const kind = step.isNote ? "note" : step.isCommand ? "" : "lost";
+        const kind = step.isNote ? "note" : isLoss(step.text) ? "lost" : "";
         return element(
             "li", { id: `step-${number}`, role: "option", "aria-selected": "false", click: () => this.choose(number) },
             element("span", { class: "line" }, step.line ? String(step.line) : ""),
             element("span", {}, element("span", { class: kind }, title), " ",
-                element("span", { class: isRefused ? "outcome refused" : "outcome" }, outcome)));
+                element("span", { class: `outcome ${kindOf(step)}` }, outcome)));
     }
 
     // Chooses a step, and shows what stands in it.
@@ -82,7 +95,15 @@ export class TracePane {
         row.setAttribute("aria-selected", "true");
         row.append(this.more(entry));
         this.list.setAttribute("aria-activedescendant", row.id);
-        scrollWithin(this.list, row);
+        this.reveal();
+    }
+
+    // Brings the chosen step into sight.
+    reveal() {
+        const row = byId(`step-${this.number}`);
+        if (row) {
+            scrollWithin(this.list, row);
+        }
     }
 
     more({ step, details }) {
