@@ -249,6 +249,72 @@ def colours(browser):
     return "colours of a trace"
 
 
+# a card whose refusals have many causes
+GUARDED = """pin 01 31323334FFFFFFFF on 3132333435363738
+pin 0A 3838383838383838 on 3838383838383838
+ef 2F06 l 40 3 - -
+rec 2F06 1 8001019000800102A010A406830101950108A40683010A950108
+rec 2F06 2 8001019700800102A406830181950108
+rec 2F06 3 800103AF10A406830101950108A40683010A950108
+ef 2F01 t 4 1 2F06:1
+ef 2F02 t 4 2 2F06:2
+ef 2F03 t 4 3 2F06:3
+ef 2F04 t 4 4 2F06:9
+ef 2F05 t 32000 5 -
+df 7F10
+ef 7F106F01 t 4 - -
+row 4 1 014504426172733132
+start
+"""
+ACCESS = "6982 the access rule isn't satisfied: "
+CONDITIONS = "6985 conditions of use aren't satisfied: "
+ROOM = "6A84 there is no room: "
+# commands, and what is said of the answer; nothing where the command is done
+CAUSES = (
+    ("00D6810001AA", ACCESS + "update wants PIN 1 or ADM1 (rule 2F06:1); PIN 1 isn't verified, ADM1 isn't verified"),
+    ("00B0820001", ACCESS + "nobody has the right to read (rule 2F06:2)"),
+    ("00D6820001AA", ACCESS + "update wants PIN 2 (rule 2F06:2); PIN 2 isn't on the card"),
+    ("00B0840001", ACCESS + "its rule 2F06:9 is no record of an EF_ARR, so that nobody may do anything"),
+    ("00E40000027F10", ACCESS + "ADM1 isn't verified"),
+    ("F0E4000400", ACCESS + "ADM1 isn't verified"),
+    ("002000010831323334FFFFFFFF", ""),
+    ("00D6810001AA", ""),
+    ("00B0830001", ACCESS + "read wants PIN 1 and ADM1 (rule 2F06:3); ADM1 isn't verified"),
+    ("0028000108" + "31323334FFFFFFFF", CONDITIONS + "PIN 1 is enabled already"),
+    ("8012000010", CONDITIONS + "no command waits to be fetched"),
+    ("801400000C810301250082028281830100", CONDITIONS + "no command was fetched that it could answer"),
+    ("0070800200", CONDITIONS + "channel 2 isn't open"),
+    ("0020000A083838383838383838", ""),
+    ("00A4000C022F06", ""),
+    ("00DC010428" + "80010190008001029700" + "FF" * 30, ""),
+    ("00D6810001AA", ACCESS + "nobody has the right to update (rule 2F06:1)"),
+    ("00E40000027F10", CONDITIONS + "files lie in it"),
+    ("00A4000C027F10", ""),
+    ("00E40000026F01", ""),
+    ("00A4000C023F00", ""),
+    ("0070000001", ""),
+    ("01A4000C027F10", ""),
+    ("00E40000027F10", CONDITIONS + "it is the current DF of channel 1"),
+    ("F0E6010403014000", CONDITIONS + "applet 4 is registered already"),
+    ("F0E6010B03014500", CONDITIONS + "applet 4 has call control, which one applet alone may have"),
+    ("00E0000010620E8202412183022F5080027FFF8800", ROOM + "32,767 bytes are wanted, and 27,384 are free"),
+    ("00A4000C022F05", ""),
+    ("00040000", ""),
+    ("00B0850001", CONDITIONS + "2F05 EF.PL is deactivated"),
+    ("00A4000C022F02", ""),
+)
+
+
+def causes(browser):
+    """A refusal says which condition of a rule wasn't met, which condition of use, or of what there is no room."""
+    commands = [command for command, _ in CAUSES]
+    play(browser, "play", GUARDED + "".join(f"apdu {command}\n" for command in commands))
+    found = browser.evaluate("[...document.querySelectorAll('#trace .outcome')].map((span) => span.textContent)")
+    for (command, wanted), outcome in zip(CAUSES, found, strict=True):
+        expect(f"what is said of {command}", "" if outcome.startswith("9000") else outcome, wanted)
+    return f"why {sum(bool(wanted) for _, wanted in CAUSES)} commands are refused"
+
+
 def bad_line(browser):
     """Why a line is bad is said once, at the script."""
     play(browser, "play", "df 7F10\nef 2FE2 t 40000 2 -\nstart\n")
@@ -321,5 +387,5 @@ def trap(browser):
 
 
 ALL = (
-    typing, refuses, takes_back, narrow, keyboard, first_sight, colours, bad_line, many_writes, words_of_a_script, link, trap,
+    typing, refuses, takes_back, narrow, keyboard, first_sight, colours, causes, bad_line, many_writes, words_of_a_script, link, trap,
 )

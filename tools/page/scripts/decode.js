@@ -22,7 +22,7 @@ export const PROFILE = 0x10;
 export const FETCH = 0x12;
 export const RESPONSE = 0x14;
 export const ENVELOPE = 0xc2;
-const INSTALL = 0xe6;
+export const INSTALL = 0xe6;
 const DELETE = 0xe4;
 export const CREATE_FILE = 0xe0;
 // it has its instruction byte from DELETE, and another class
@@ -30,7 +30,12 @@ export const DELETE_FILE = 0xe4;
 export const RESIZE_FILE = 0xd4;
 const OWN_CLASS = 0xf0;
 export const GET_RESPONSE = 0xc0;
-const PINS = [0x20, 0x24, 0x26, 0x28, 0x2c];
+const VERIFY_PIN = 0x20;
+const CHANGE_PIN = 0x24;
+export const DISABLE_PIN = 0x26;
+export const ENABLE_PIN = 0x28;
+export const UNBLOCK_PIN = 0x2c;
+export const PINS = [VERIFY_PIN, CHANGE_PIN, DISABLE_PIN, ENABLE_PIN, UNBLOCK_PIN];
 const SELECTIONS = { 0: "by identifier", 3: "the parent", 4: "by name", 8: "by path from the MF", 9: "by path" };
 const RECORD_MODES = { 2: "the next record", 3: "the record before" };
 

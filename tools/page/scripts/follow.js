@@ -1,16 +1,19 @@
-// Follows the commands of a trace: which file is the current one on each logical channel, so that what is read can be decoded.
+// Follows the commands of a trace: which file is the current one on each logical channel, so that what is read can be decoded, and
+// which PINs are verified and what was changed, so that a refusal can be explained.
 import { bigEndian, hexed } from "./bytes.js";
 import { meaningOf } from "./contents.js";
 import {
-    CHANNEL, CREATE_FILE, DELETE_FILE, INCREASE, READ_BINARY, READ_RECORD, RESIZE_FILE, SEARCH_RECORD, SELECT, UPDATE_BINARY, UPDATE_RECORD, newFile,
+    ACTIVATE, CHANNEL, CREATE_FILE, DEACTIVATE, DELETE_FILE, DISABLE_PIN, ENABLE_PIN, INCREASE, INSTALL, PINS, READ_BINARY, READ_RECORD, RESIZE_FILE,
+    SEARCH_RECORD, SELECT, UNBLOCK_PIN, UPDATE_BINARY, UPDATE_RECORD, newFile,
 } from "./decode.js";
-import { File } from "./layout.js";
+import { File, installation } from "./layout.js";
 import { standardFile } from "./names.js";
 
 const BY_IDENTIFIER = 0x00;
 const PARENT = 0x03;
 const FROM_MF = 0x08;
 const FROM_DF = 0x09;
+const ABSOLUTE = 4;
 export const ON_CHILDREN = [CREATE_FILE, DELETE_FILE, RESIZE_FILE];
 
 // after these answers a command has made its file the current one; by 61XX the data of a TPDU wait
@@ -31,16 +34,38 @@ export function isUsim(card) {
 }
 
 export class Follower {
-    // Files are made, resized and deleted in a copy of the card.
+    // What commands change is changed in a copy of the card.
     constructor(card) {
         this.card = card.copy();
         this.usim = isUsim(card);
+        // the paths of EFs of whose records one was written that isn't known
+        this.unsure = new Set();
         this.reset();
+    }
+
+    copy() {
+        const copy = new Follower(this.card);
+        copy.usim = this.usim;
+        copy.unsure = new Set(this.unsure);
+        copy.current = new Map(this.current);
+        copy.verified = new Set(this.verified);
+        return copy;
+    }
+
+    isUnsure(path) {
+        return this.unsure.has(path.join("/"));
+    }
+
+    // Whether the condition of a PIN is met: it is on the card, and verified or disabled.
+    meets(key) {
+        const pin = this.card.pins.get(key);
+        return pin !== undefined && (!pin.enabled || this.verified.has(key));
     }
 
     reset() {
         // of each channel that is open: the path of the current DF, and that of the current EF or null
         this.current = new Map([[0, { df: [], ef: null }]]);
+        this.verified = new Set();
     }
 
     on(apdu) {
@@ -96,18 +121,76 @@ export class Follower {
 
     // Takes note of a command that was answered so.
     take(apdu, status) {
-        if (!apdu.isCommand || apdu.isOnApplets) {
+        if (!apdu.isCommand) {
             return;
         }
-        if (apdu.ins === SELECT && (isTaken(status) || status === "6283")) {
+        if (apdu.isOnApplets) {
+            this.changeApplets(apdu, status);
+        } else if (PINS.includes(apdu.ins)) {
+            this.takePin(apdu, status);
+        } else if (apdu.ins === SELECT && (isTaken(status) || status === "6283")) {
             this.select(apdu);
         } else if (apdu.ins === CHANNEL && isTaken(status) && apdu.p1 === 0x80) {
             this.current.delete(apdu.p2 || apdu.channel);
         } else if (ON_CHILDREN.includes(apdu.ins) && isTaken(status)) {
             this.changeChild(apdu, this.child(apdu));
-        } else if (shortIdentifier(apdu) && isTaken(status)) {
-            this.current.set(apdu.channel, { df: this.on(apdu).df, ef: this.target(apdu) });
+        } else if (isTaken(status)) {
+            this.changeFile(apdu, this.target(apdu));
+            if (shortIdentifier(apdu)) {
+                this.current.set(apdu.channel, { df: this.on(apdu).df, ef: this.target(apdu) });
+            }
         }
+    }
+
+    changeApplets(apdu, status) {
+        if (isTaken(status) && apdu.ins === INSTALL) {
+            this.card.rows.set(apdu.p2, { shelf: apdu.p2, priority: apdu.p1, ...installation(apdu.data) });
+        } else if (isTaken(status)) {
+            this.card.rows.delete(apdu.p2);
+        }
+    }
+
+    takePin(apdu, status) {
+        const key = apdu.p2;
+        const pin = this.card.pins.get(key);
+        if (!apdu.data.length || !pin) {
+            return;
+        }
+        if (!isTaken(status)) {
+            // a wrong value
+            if (status.startsWith("63")) {
+                this.verified.delete(key);
+            }
+        } else if (apdu.ins === DISABLE_PIN) {
+            this.card.pins.set(key, { ...pin, enabled: false });
+        } else {
+            this.verified.add(key);
+            this.card.pins.set(key, { ...pin, enabled: pin.enabled || [ENABLE_PIN, UNBLOCK_PIN].includes(apdu.ins) });
+        }
+    }
+
+    // Takes note of what is done to an EF, as far as a refusal may come of it.
+    changeFile(apdu, path) {
+        const file = path && this.card.file(path);
+        if (!file) {
+            return;
+        }
+        if (apdu.ins === ACTIVATE || apdu.ins === DEACTIVATE) {
+            this.card.put(new File(path, { ...file, active: apdu.ins === ACTIVATE }, file.line));
+        } else if (apdu.ins === UPDATE_RECORD && file.structure === "l") {
+            this.changeRecord(apdu, file);
+        }
+    }
+
+    changeRecord(apdu, file) {
+        const isKnown = (apdu.p2 & 7) === ABSOLUTE && apdu.p1 >= 1 && apdu.p1 <= file.count;
+        if (!isKnown) {
+            this.unsure.add(file.path.join("/"));
+            return;
+        }
+        const content = file.content.slice();
+        content.set(apdu.data, (apdu.p1 - 1) * file.length);
+        this.card.put(new File(file.path, { ...file, content }, file.line));
     }
 
     changeChild(apdu, path) {

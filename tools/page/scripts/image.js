@@ -107,6 +107,8 @@ export function cardIn(image) {
         }
     }
     const isWide = content[FORM] === WIDE;
+    // a card of the older form becomes one of the newer, where its files leave room, when it is opened
+    card.wasWide = isWide || null;
     for (let shelf = 0; shelf < (isWide ? SHELVES : LOWER_SHELVES); shelf += 1) {
         const row = rowIn(content, shelf, isWide);
         if (row) {

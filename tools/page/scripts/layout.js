@@ -2,18 +2,18 @@
 import { hexByte } from "./bytes.js";
 import { Wrong } from "./grammar.js";
 
-const MOST_FILES = 128;
-const ALL_BYTES = 61_568;
+export const MOST_FILES = 128;
+export const ALL_BYTES = 61_568;
 // with more bytes of files than this a card has no room for rows that only a wide one holds
-const WIDE_BYTES = 59_520;
+export const WIDE_BYTES = 59_520;
 const SHELVES = 32;
-const LOWER_SHELVES = 16;
-const NARROW_KEPT = 32;
+export const LOWER_SHELVES = 16;
+export const NARROW_KEPT = 32;
 const LONGEST_KEPT = 64;
 const LONGEST_MENU_TEXT = 10;
-const MOST_MENU_ENTRIES = 16;
+export const MOST_MENU_ENTRIES = 16;
 const EVENTS = [0x00, 0x01, 0x02, 0x03, 0x04, 0x05, 0x07, 0x09, 0x0a, 0x40, 0x41, 0x45];
-const CALL_CONTROL = 0x45;
+export const CALL_CONTROL = 0x45;
 
 // There is no room for what a line describes.
 export class NoRoom extends Wrong {}
@@ -87,7 +87,8 @@ export function installation(content) {
     return { events: [...codes], text, kept };
 }
 
-function needsWide(shelf, kept) {
+// Whether an applet wants the room that only a card with few bytes of files has.
+export function needsWide(shelf, kept) {
     return shelf >= LOWER_SHELVES || kept.length > NARROW_KEPT;
 }
 
@@ -98,6 +99,12 @@ export class Card {
         this.files = new Map([["", new File([])]]);
         this.pins = new Map();
         this.rows = new Map();
+        this.wasWide = null;
+    }
+
+    // Whether it has room for 32 applets, which is settled when it is made.
+    get isWide() {
+        return this.wasWide ?? this.total <= WIDE_BYTES;
     }
 
     file(path) {
@@ -109,10 +116,13 @@ export class Card {
             && path.every((identifier, depth) => file.path[depth] === identifier));
     }
 
-    // A card of the same files, of which some may be taken away and others put in their place.
+    // A card of the same, of which some may be taken away and others put in their place.
     copy() {
         const copy = new Card();
         copy.files = new Map(this.files);
+        copy.pins = new Map(this.pins);
+        copy.rows = new Map(this.rows);
+        copy.wasWide = this.isWide;
         return copy;
     }
 

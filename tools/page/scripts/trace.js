@@ -4,6 +4,7 @@ import {
     ACTIVATE, Apdu, CHANNEL, DEACTIVATE, ENVELOPE, FETCH, GET_RESPONSE, INCREASE, READ_BINARY, READ_RECORD, RESPONSE, SEARCH_RECORD,
     SELECT, STATUS, UPDATE_BINARY, UPDATE_RECORD, detailsOf, parameterLines, proactiveLines, titleOf,
 } from "./decode.js";
+import { causeOf } from "./causes.js";
 import { Follower, ON_CHILDREN } from "./follow.js";
 import { shownPath, statusWords } from "./names.js";
 
@@ -110,11 +111,11 @@ export class TraceReader {
     follower(page) {
         while (this.followers.length <= page) {
             const last = this.followers.length - 1;
-            const next = copyOf(this.followers[last]);
+            const next = this.followers[last].copy();
             this.steps.slice(last * PAGE, (last + 1) * PAGE).forEach((step) => passOver(next, step));
             this.followers.push(next);
         }
-        return copyOf(this.followers[page]);
+        return this.followers[page].copy();
     }
 
     // Each step of a page, with its number and its words.
@@ -126,12 +127,6 @@ export class TraceReader {
             return { step, number: page * PAGE + place, ...words };
         });
     }
-}
-
-function copyOf(follower) {
-    const copy = new Follower(follower.card);
-    copy.current = new Map(follower.current);
-    return copy;
 }
 
 function passOver(follower, step) {
@@ -156,7 +151,8 @@ function wordsOf(step, follower) {
     const name = path ? shownPath(path, follower.usim) : "";
     const where = path ? (apdu.ins === SELECT || ON_CHILDREN.includes(apdu.ins) ? ` (${name})` : ` in ${name}`) : "";
     const details = [...detailsOf(apdu), ...answerLines(step, apdu, path, follower)];
-    return { title: titleOf(apdu) + where + aboutToolkit(apdu, details), outcome: outcomeOf(step), details };
+    const cause = causeOf(apdu, step.status, path, follower);
+    return { title: titleOf(apdu) + where + aboutToolkit(apdu, details), outcome: outcomeOf(step) + (cause ? `: ${cause}` : ""), details };
 }
 
 // What a command of the toolkit carries: the command that is fetched, the result of one, or what happened.

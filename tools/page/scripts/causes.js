@@ -1,0 +1,137 @@
+// Why a command was refused, where its status word stands for several causes: which condition of the access rule isn't met (6982),
+// which condition of use (6985), and of what there is no room (6A84).
+import { bigEndian } from "./bytes.js";
+import {
+    CHANNEL, CREATE_FILE, DELETE_FILE, ENABLE_PIN, FETCH, GET_RESPONSE, INSTALL, RESIZE_FILE, RESPONSE, newFile,
+} from "./decode.js";
+import { ON_CHILDREN } from "./follow.js";
+import { ALL_BYTES, CALL_CONTROL, LOWER_SHELVES, MOST_FILES, MOST_MENU_ENTRIES, NARROW_KEPT, WIDE_BYTES, installation, needsWide } from "./layout.js";
+import { keyName, shownPath } from "./names.js";
+import { NoRule, conditionWords, holds, keysIn, operationsOf, ruleIn } from "./rules.js";
+
+const ADM1 = 0x0a;
+
+function notMet(key, follower) {
+    return `${keyName(key)} ${follower.card.pins.has(key) ? "isn't verified" : "isn't on the card"}`;
+}
+
+function whyNoAccess(apdu, path, follower) {
+    if (apdu.isOnApplets || ON_CHILDREN.includes(apdu.ins)) {
+        return follower.meets(ADM1) ? null : notMet(ADM1, follower);
+    }
+    const file = path && follower.card.file(path);
+    return file?.rule ? whyNotAllowed(apdu, file, follower) : null;
+}
+
+function whyNotAllowed(apdu, file, follower) {
+    const name = `rule ${file.rule.file}:${file.rule.record}`;
+    const rules = follower.card.ruleFile(file);
+    if (rules?.structure !== "l" || file.rule.record > rules.count) {
+        return `its ${name} is no record of an EF_ARR, so that nobody may do anything`;
+    }
+    if (follower.isUnsure(rules.path)) {
+        return null;
+    }
+    try {
+        return whyNotGranted(apdu, ruleIn(rules.record(file.rule.record)), name, follower);
+    } catch (fault) {
+        if (fault instanceof NoRule) {
+            return `its ${name} has no form of a rule (${fault.message}), so that nobody may do anything`;
+        }
+        throw fault;
+    }
+}
+
+function whyNotGranted(apdu, pairs, name, follower) {
+    const [operation, ...others] = operationsOf(apdu.ins);
+    const conditions = pairs.filter(({ operations }) => [operation, ...others].some((each) => operations.includes(each)))
+        .map(({ condition }) => condition);
+    const isMet = (key) => follower.meets(key);
+    if (conditions.some((condition) => holds(condition, isMet))) {
+        return null;
+    }
+    const keys = [...new Set(conditions.flatMap(keysIn))];
+    const missing = keys.filter((key) => !isMet(key)).map((key) => notMet(key, follower)).join(", ");
+    const wanted = conditions.filter((condition) => keysIn(condition).length).map((condition) => conditionWords(condition, keyName)).join(" or ");
+    return missing ? `${operation} wants ${wanted} (${name}); ${missing}` : `nobody has the right to ${operation} (${name})`;
+}
+
+function whyNotUsed(apdu, path, follower) {
+    if (apdu.isOnApplets) {
+        return apdu.ins === INSTALL ? whyTaken(apdu, follower.card) : "the applet waits for a response, or to send a command";
+    }
+    switch (apdu.ins) {
+        case FETCH: return "no command waits to be fetched";
+        case RESPONSE: return "no command was fetched that it could answer";
+        case GET_RESPONSE: return "no data wait";
+        case ENABLE_PIN: return `${keyName(apdu.p2)} is enabled already`;
+        case CHANNEL: return `channel ${apdu.p2} isn't open`;
+        case DELETE_FILE: return whyInUse(path, follower);
+        default: return path ? `${shownPath(path, follower.usim)} is deactivated` : null;
+    }
+}
+
+function whyTaken(apdu, card) {
+    const control = [...card.rows.values()].find((row) => row.events.includes(CALL_CONTROL));
+    if (card.rows.has(apdu.p2)) {
+        return `applet ${apdu.p2} is registered already`;
+    }
+    return control ? `applet ${control.shelf} has call control, which one applet alone may have` : null;
+}
+
+function whyInUse(path, follower) {
+    if (!path) {
+        return null;
+    }
+    if (follower.card.children(path).length) {
+        return "files lie in it";
+    }
+    const channels = [...follower.current].filter(([, { df }]) => df.join("/") === path.join("/")).map(([channel]) => channel);
+    return channels.length ? `it is the current DF of channel ${channels.join(", ")}` : null;
+}
+
+function whyNoRoom(apdu, follower) {
+    if (apdu.isOnApplets) {
+        return whyNoRoomForApplet(apdu, follower.card);
+    }
+    if (apdu.ins === RESIZE_FILE) {
+        return whyNoBytes(bigEndian(apdu.data.slice(2)), follower.card);
+    }
+    if (follower.card.files.size >= MOST_FILES) {
+        return `the card has ${MOST_FILES} files already`;
+    }
+    const made = apdu.ins === CREATE_FILE ? newFile(apdu.data) : null;
+    if (made === null) {
+        return null;
+    }
+    return made.structure ? whyNoBytes(made.length * made.count, follower.card) : "no number above that of its DF is free";
+}
+
+function whyNoBytes(size, card) {
+    const free = (card.isWide ? WIDE_BYTES : ALL_BYTES) - card.total;
+    const counted = (count) => count.toLocaleString("en");
+    return size > free ? `${counted(size)} bytes are wanted, and ${counted(free)} are free`
+        : `${counted(size)} bytes are wanted, and ${counted(free)} are free, not so many of them in one piece`;
+}
+
+function whyNoRoomForApplet(apdu, card) {
+    const { text, kept } = installation(apdu.data);
+    if (!card.isWide && needsWide(apdu.p2, kept)) {
+        return `its files leave room for applets 0 to ${LOWER_SHELVES - 1} alone, with at most ${NARROW_KEPT} bytes each`;
+    }
+    const entries = [...card.rows.values()].filter((row) => row.text.length).length;
+    return text.length && entries >= MOST_MENU_ENTRIES ? `${entries} applets have an entry in the menu already` : "no sequence number is left";
+}
+
+// Why a command was answered so, by what was followed up to it; null where the status word says all, or nothing more is known.
+export function causeOf(apdu, status, path, follower) {
+    if (!apdu.isCommand) {
+        return null;
+    }
+    switch (status) {
+        case "6982": return whyNoAccess(apdu, path, follower);
+        case "6985": return whyNotUsed(apdu, path, follower);
+        case "6A84": return whyNoRoom(apdu, follower);
+        default: return null;
+    }
+}
