@@ -23,7 +23,7 @@ def bundle(entry, made=None):
         done[name] = None
         for _, other in IMPORT.findall(text):
             take(other)
-        # behind those that it imports
+        # after those that it imports
         del done[name]
         done[name] = body(name, text)
     take(entry)

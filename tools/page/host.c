@@ -86,7 +86,7 @@ ssize_t rattle_arg(size_t number, byte *at, size_t room)
     return length;
 }
 
-/* the heap: blocks one behind the other, each behind its size. What is let go is taken again where it was the last one, and a run
+/* the heap: blocks one after the other, each after its size. What is let go is taken again where it was the last one, and a run
    that is over leaves the whole. */
 
 enum { ALIGNMENT = 16, PAGE = 65536 };

@@ -271,32 +271,32 @@ CONDITIONS = "6985 conditions of use aren't satisfied: "
 ROOM = "6A84 there is no room: "
 # commands, and what is said of the answer; nothing where the command is done
 CAUSES = (
-    ("00D6810001AA", ACCESS + "update wants PIN 1 or ADM1 (rule 2F06:1); PIN 1 isn't verified, ADM1 isn't verified"),
-    ("00B0820001", ACCESS + "nobody has the right to read (rule 2F06:2)"),
-    ("00D6820001AA", ACCESS + "update wants PIN 2 (rule 2F06:2); PIN 2 isn't on the card"),
-    ("00B0840001", ACCESS + "its rule 2F06:9 is no record of an EF_ARR, so that nobody may do anything"),
+    ("00D6810001AA", ACCESS + "rule 2F06:1 asks for PIN 1 or ADM1 to update; PIN 1 isn't verified, ADM1 isn't verified"),
+    ("00B0820001", ACCESS + "rule 2F06:2 lets nobody read"),
+    ("00D6820001AA", ACCESS + "rule 2F06:2 asks for PIN 2 to update; PIN 2 isn't on the card"),
+    ("00B0840001", ACCESS + "rule 2F06:9 allows nothing: 2F06 EF.ARR has 3 records"),
     ("00E40000027F10", ACCESS + "ADM1 isn't verified"),
     ("F0E4000400", ACCESS + "ADM1 isn't verified"),
     ("002000010831323334FFFFFFFF", ""),
     ("00D6810001AA", ""),
-    ("00B0830001", ACCESS + "read wants PIN 1 and ADM1 (rule 2F06:3); ADM1 isn't verified"),
-    ("0028000108" + "31323334FFFFFFFF", CONDITIONS + "PIN 1 is enabled already"),
+    ("00B0830001", ACCESS + "rule 2F06:3 asks for PIN 1 and ADM1 to read; ADM1 isn't verified"),
+    ("0028000108" + "31323334FFFFFFFF", CONDITIONS + "the PIN is enabled already"),
     ("8012000010", CONDITIONS + "no command waits to be fetched"),
-    ("801400000C810301250082028281830100", CONDITIONS + "no command was fetched that it could answer"),
-    ("0070800200", CONDITIONS + "channel 2 isn't open"),
+    ("801400000C810301250082028281830100", CONDITIONS + "no command that was fetched waits for a response"),
+    ("0070800200", CONDITIONS + "that channel is closed already"),
     ("0020000A083838383838383838", ""),
     ("00A4000C022F06", ""),
     ("00DC010428" + "80010190008001029700" + "FF" * 30, ""),
-    ("00D6810001AA", ACCESS + "nobody has the right to update (rule 2F06:1)"),
-    ("00E40000027F10", CONDITIONS + "files lie in it"),
+    ("00D6810001AA", ACCESS + "rule 2F06:1 lets nobody update"),
+    ("00E40000027F10", CONDITIONS + "7F10/6F01 lies in it"),
     ("00A4000C027F10", ""),
     ("00E40000026F01", ""),
     ("00A4000C023F00", ""),
     ("0070000001", ""),
     ("01A4000C027F10", ""),
     ("00E40000027F10", CONDITIONS + "it is the current DF of channel 1"),
-    ("F0E6010403014000", CONDITIONS + "applet 4 is registered already"),
-    ("F0E6010B03014500", CONDITIONS + "applet 4 has call control, which one applet alone may have"),
+    ("F0E6010403014000", CONDITIONS + "an applet is registered there already"),
+    ("F0E6010B03014500", CONDITIONS + "the applet on shelf 4 has call control already"),
     ("00E0000010620E8202412183022F5080027FFF8800", ROOM + "32,767 bytes are wanted, and 27,384 are free"),
     ("00A4000C022F05", ""),
     ("00040000", ""),
@@ -313,6 +313,16 @@ def causes(browser):
     for (command, wanted), outcome in zip(CAUSES, found, strict=True):
         expect(f"what is said of {command}", "" if outcome.startswith("9000") else outcome, wanted)
     return f"why {sum(bool(wanted) for _, wanted in CAUSES)} commands are refused"
+
+
+def terms(browser):
+    """What the page says is in the standard's terms."""
+    play(browser, "play", GUARDED + "apdu 00A4000C023F00\napdu 00A40004023F00\n")
+    browser.wait("document.querySelector('#files .tree')")
+    trace, card = (browser.evaluate(f"document.getElementById('{part}').innerText") for part in ("trace", "files"))
+    for words, text in (("no data returned", trace), ("PIN 1 enabled", trace), ("PIN 1 enabled, 1234, 3 tries left", card), ("kept data", card)):
+        expect(f"whether `{words}` is said", words in text, True)
+    return "words of the standard"
 
 
 def bad_line(browser):
@@ -387,5 +397,5 @@ def trap(browser):
 
 
 ALL = (
-    typing, refuses, takes_back, narrow, keyboard, first_sight, colours, causes, bad_line, many_writes, words_of_a_script, link, trap,
+    typing, refuses, takes_back, narrow, keyboard, first_sight, colours, causes, terms, bad_line, many_writes, words_of_a_script, link, trap,
 )

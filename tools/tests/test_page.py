@@ -34,7 +34,7 @@ class Bundles(unittest.TestCase):
                 bundle.body("some", text)
 
     def test_order(self):
-        """Each module stands once, behind those that it imports."""
+        """Each module stands once, after those that it imports."""
         made = {
             "top": 'import { a } from "./left.js";\nimport { b } from "./right.js";\n',
             "left": 'import { c } from "./below.js";\nexport const a = c;\n',
@@ -45,6 +45,16 @@ class Bundles(unittest.TestCase):
         places = [text.index(f"const of_{name} =") for name in ("below", "left", "right", "top")]
         self.assertEqual(places, sorted(places))
         self.assertEqual(text.count("const of_below ="), 1)
+
+    def test_words(self):
+        """What comes later is said to be after, and terms are those of the standard."""
+        texts = {name: bundle.read(name.removesuffix(".js")) for name in os.listdir(bundle.SCRIPTS)}
+        with open(os.path.join(TOOLS, "page", "page.html"), encoding="utf-8") as page:
+            texts["page.html"] = page.read()
+        for name, text in texts.items():
+            for words in ("behind", "without an answer", "memory failed"):
+                with self.subTest(name=name, words=words):
+                    self.assertNotIn(words, text.lower())
 
     def test_page(self):
         """The page's own modules are of the forms that are understood."""

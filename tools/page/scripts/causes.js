@@ -11,61 +11,69 @@ import { NoRule, conditionWords, holds, keysIn, operationsOf, ruleIn } from "./r
 
 const ADM1 = 0x0a;
 
-function notMet(key, follower) {
-    return `${keyName(key)} ${follower.card.pins.has(key) ? "isn't verified" : "isn't on the card"}`;
-}
-
 function whyNoAccess(apdu, path, follower) {
     if (apdu.isOnApplets || ON_CHILDREN.includes(apdu.ins)) {
-        return follower.meets(ADM1) ? null : notMet(ADM1, follower);
+        return follower.meets(ADM1) ? null : `${keyName(ADM1)} ${whyNotMet(ADM1, follower)}`;
     }
     const file = path && follower.card.file(path);
     return file?.rule ? whyNotAllowed(apdu, file, follower) : null;
 }
 
+function whyNotMet(key, follower) {
+    return follower.card.pins.has(key) ? "isn't verified" : "isn't on the card";
+}
+
 function whyNotAllowed(apdu, file, follower) {
-    const name = `rule ${file.rule.file}:${file.rule.record}`;
+    const { file: identifier, record } = file.rule;
+    const rule = `rule ${identifier}:${record}`;
     const rules = follower.card.ruleFile(file);
-    if (rules?.structure !== "l" || file.rule.record > rules.count) {
-        return `its ${name} is no record of an EF_ARR, so that nobody may do anything`;
+    if (!rules) {
+        return `${rule} allows nothing: ${identifier} is neither in its own DF nor in one above`;
+    }
+    if (rules.structure !== "l") {
+        return `${rule} allows nothing: ${shownPath(rules.path, follower.usim)} is no linear fixed file`;
+    }
+    if (record > rules.count) {
+        return `${rule} allows nothing: ${shownPath(rules.path, follower.usim)} has ${rules.count} records`;
     }
     if (follower.isUnsure(rules.path)) {
         return null;
     }
     try {
-        return whyNotGranted(apdu, ruleIn(rules.record(file.rule.record)), name, follower);
+        return whyNotGranted(apdu, ruleIn(rules.record(record)), rule, follower);
     } catch (fault) {
         if (fault instanceof NoRule) {
-            return `its ${name} has no form of a rule (${fault.message}), so that nobody may do anything`;
+            return `${rule} allows nothing: its record is no rule (${fault.message})`;
         }
         throw fault;
     }
 }
 
-function whyNotGranted(apdu, pairs, name, follower) {
-    const [operation, ...others] = operationsOf(apdu.ins);
-    const conditions = pairs.filter(({ operations }) => [operation, ...others].some((each) => operations.includes(each)))
-        .map(({ condition }) => condition);
+function whyNotGranted(apdu, pairs, rule, follower) {
+    const names = operationsOf(apdu.ins);
+    const conditions = pairs.filter(({ operations }) => names.some((name) => operations.includes(name))).map(({ condition }) => condition);
     const isMet = (key) => follower.meets(key);
     if (conditions.some((condition) => holds(condition, isMet))) {
         return null;
     }
-    const keys = [...new Set(conditions.flatMap(keysIn))];
-    const missing = keys.filter((key) => !isMet(key)).map((key) => notMet(key, follower)).join(", ");
-    const wanted = conditions.filter((condition) => keysIn(condition).length).map((condition) => conditionWords(condition, keyName)).join(" or ");
-    return missing ? `${operation} wants ${wanted} (${name}); ${missing}` : `nobody has the right to ${operation} (${name})`;
+    const missing = [...new Set(conditions.flatMap(keysIn))].filter((key) => !isMet(key));
+    if (!missing.length) {
+        return `${rule} lets nobody ${names[0]}`;
+    }
+    const asked = conditions.filter((condition) => keysIn(condition).length).map((condition) => conditionWords(condition, keyName)).join(" or ");
+    return `${rule} asks for ${asked} to ${names[0]}; ${missing.map((key) => `${keyName(key)} ${whyNotMet(key, follower)}`).join(", ")}`;
 }
 
 function whyNotUsed(apdu, path, follower) {
     if (apdu.isOnApplets) {
-        return apdu.ins === INSTALL ? whyTaken(apdu, follower.card) : "the applet waits for a response, or to send a command";
+        return apdu.ins === INSTALL ? whyTaken(apdu, follower.card) : "the applet waits for a response, or to send";
     }
     switch (apdu.ins) {
         case FETCH: return "no command waits to be fetched";
-        case RESPONSE: return "no command was fetched that it could answer";
+        case RESPONSE: return "no command that was fetched waits for a response";
         case GET_RESPONSE: return "no data wait";
-        case ENABLE_PIN: return `${keyName(apdu.p2)} is enabled already`;
-        case CHANNEL: return `channel ${apdu.p2} isn't open`;
+        case ENABLE_PIN: return "the PIN is enabled already";
+        case CHANNEL: return "that channel is closed already";
         case DELETE_FILE: return whyInUse(path, follower);
         default: return path ? `${shownPath(path, follower.usim)} is deactivated` : null;
     }
@@ -74,9 +82,9 @@ function whyNotUsed(apdu, path, follower) {
 function whyTaken(apdu, card) {
     const control = [...card.rows.values()].find((row) => row.events.includes(CALL_CONTROL));
     if (card.rows.has(apdu.p2)) {
-        return `applet ${apdu.p2} is registered already`;
+        return "an applet is registered there already";
     }
-    return control ? `applet ${control.shelf} has call control, which one applet alone may have` : null;
+    return control ? `the applet on shelf ${control.shelf} has call control already` : null;
 }
 
 function whyInUse(path, follower) {
@@ -84,7 +92,7 @@ function whyInUse(path, follower) {
         return null;
     }
     if (follower.card.children(path).length) {
-        return "files lie in it";
+        return `${shownPath(follower.card.children(path)[0].path, follower.usim)} lies in it`;
     }
     const channels = [...follower.current].filter(([, { df }]) => df.join("/") === path.join("/")).map(([channel]) => channel);
     return channels.length ? `it is the current DF of channel ${channels.join(", ")}` : null;
@@ -117,7 +125,7 @@ function whyNoBytes(size, card) {
 function whyNoRoomForApplet(apdu, card) {
     const { text, kept } = installation(apdu.data);
     if (!card.isWide && needsWide(apdu.p2, kept)) {
-        return `its files leave room for applets 0 to ${LOWER_SHELVES - 1} alone, with at most ${NARROW_KEPT} bytes each`;
+        return `its files leave room for the shelves 0 to ${LOWER_SHELVES - 1} alone, and for ${NARROW_KEPT} bytes that an applet keeps`;
     }
     const entries = [...card.rows.values()].filter((row) => row.text.length).length;
     return text.length && entries >= MOST_MENU_ENTRIES ? `${entries} applets have an entry in the menu already` : "no sequence number is left";

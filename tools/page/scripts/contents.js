@@ -33,7 +33,7 @@ function digitsOf(bytes) {
     return digits.join("");
 }
 
-// The check digit behind some digits (ITU-T E.118).
+// The check digit after some digits (ITU-T E.118).
 function luhn(digits) {
     const total = [...digits].reverse().reduce((sum, digit, place) => {
         const value = Number(digit) * (place % 2 ? 1 : 2);
@@ -95,7 +95,7 @@ function plmnsByAccess(bytes) {
     return found.join(", ") || "none";
 }
 
-// A name of 7-bit letters, one a byte, up to the first FF; UCS2 behind 80.
+// A name of 7-bit letters, one a byte, up to the first FF; UCS2 after 80.
 function nameOf(bytes) {
     if (bytes[0] === 0x80) {
         return parts(trimmed(bytes.slice(1)), 2).map((pair) => String.fromCharCode(bigEndian(pair))).join("");

@@ -3,7 +3,7 @@ import { bytesOfText } from "./bytes.js";
 import { ENVELOPE, FETCH, PROFILE, RESPONSE, STATUS } from "./decode.js";
 import { OF_COMMANDS } from "./grammar.js";
 import { cardIn, changesBetween, entriesOf, isSame } from "./image.js";
-import { memoryBehind, writesIn } from "./memory.js";
+import { memoryAfter, writesIn } from "./memory.js";
 import { CUT } from "./trace.js";
 
 // Each way by a word, its name, and its line of a script, of the K-th write of so many bytes.
@@ -68,10 +68,10 @@ export class Trials {
     // Carries the trials out by `run`, one after the other, as long as `each`, called before each of them, says so.
     async carryOut(run, stands, each) {
         const { result, request } = this.played;
-        const before = memoryBehind(request.image, result.writes, this.line - 1);
+        const before = memoryAfter(request.image, result.writes, this.line - 1);
         this.old = cardIn(await stands(before));
         this.around = {
-            old: entriesOf(this.old), now: entriesOf(cardIn(await stands(memoryBehind(request.image, result.writes, this.line)))),
+            old: entriesOf(this.old), now: entriesOf(cardIn(await stands(memoryAfter(request.image, result.writes, this.line)))),
         };
         for (const [number, write] of this.writes.entries()) {
             for (const [way, { plan }] of WAYS.entries()) {

@@ -70,7 +70,7 @@ const TITLES = {
     [SELECT](apdu) {
         const isPath = [0, 8, 9].includes(apdu.p1);
         const what = isPath ? hexed(apdu.data).match(/..../g)?.join("/") ?? "" : hexed(apdu.data);
-        const back = { 0x04: "", 0x0c: ", without an answer" }[apdu.p2] ?? `, P2 ${hexByte(apdu.p2)}`;
+        const back = { 0x04: "", 0x0c: ", no data returned" }[apdu.p2] ?? `, P2 ${hexByte(apdu.p2)}`;
         return `${SELECTIONS[apdu.p1] ?? `P1 ${hexByte(apdu.p1)}`} ${what}${back}`;
     },
     [READ_BINARY]: (apdu) => `${binaryPlace(apdu)}, ${apdu.le === 0 ? "all up to 256" : `${apdu.le ?? 0} bytes`}`,
@@ -196,7 +196,7 @@ export function appletLines(shelf, { events, text, kept }) {
         lines.push(line(0, "menu entry", printable(text)));
     }
     if (kept.length) {
-        lines.push(line(0, "keeps", hexed(kept)));
+        lines.push(line(0, "kept data", hexed(kept)));
     }
     for (let at = 0; shelf % 7 === 6 && at + 2 < kept.length; at += 3) {
         lines.push(line(1, event(kept[at]), action(kept[at + 1], kept[at + 2])));
@@ -316,10 +316,10 @@ export function newFile(data) {
     }
 }
 
-// Which PINs are on: bits of the object 90, and the keys in objects 83 behind it.
+// Which PINs are enabled: bits of the object 90, and the keys in objects 83 after it.
 function pinStatus(value) {
     const keys = shortObjects(value).filter(({ tag }) => tag === 0x83).map((object) => object.value[0]);
-    return keys.map((key, place) => `${keyName(key)} ${(value[2] >> (7 - place)) & 1 ? "on" : "off"}`).join(", ") || "none";
+    return keys.map((key, place) => `${keyName(key)} ${(value[2] >> (7 - place)) & 1 ? "enabled" : "disabled"}`).join(", ") || "none";
 }
 
 // The control parameters of a file (ETSI TS 102 221, 11.1.1.3).

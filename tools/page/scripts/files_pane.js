@@ -50,8 +50,8 @@ export class FilesPane {
         this.place.replaceChildren();
     }
 
-    // Shows a card, with the entries that are changed marked; `behind` says where it stands so.
-    show(card, changes, behind) {
+    // Shows a card, with the entries that are changed marked; `when` says when it stands so.
+    show(card, changes, when) {
         if (!card) {
             this.place.replaceChildren(element("p", { class: "faint" }, "The memory holds no card."));
             return;
@@ -59,7 +59,7 @@ export class FilesPane {
         this.changes = changes;
         this.usim = isUsim(card);
         this.place.replaceChildren(
-            element("p", { class: "faint" }, behind), ...this.listed("Files", [this.directory(card, card.file([]))]),
+            element("p", { class: "faint" }, when), ...this.listed("Files", [this.directory(card, card.file([]))]),
             ...this.listed("PINs", [...card.pins.values()].map((pin) => this.pin(pin))),
             ...this.listed("Applets", [...card.rows.values()].map((row) => this.row(row))));
     }
@@ -97,12 +97,12 @@ export class FilesPane {
 
     pin(pin) {
         return element("li", { class: this.classOf(`pin ${pin.key}`) }, element("span", { class: "name" }, keyName(pin.key)), " ",
-            element("span", { class: "facts" }, `${pin.enabled ? "on" : "off"}, ${pinValue(pin.value)}, ${pin.tries} tries left; unblocked by `
+            element("span", { class: "facts" }, `${pin.enabled ? "enabled" : "disabled"}, ${pinValue(pin.value)}, ${pin.tries} tries left; unblocked by `
                 + `${pinValue(pin.unblock)}, ${pin.unblockTries} tries left`));
     }
 
     row(row) {
-        return element("li", { class: this.classOf(`row ${row.shelf}`) }, element("span", { class: "name" }, `shelf ${row.shelf}`), " ",
+        return element("li", { class: this.classOf(`row ${row.shelf}`) }, element("span", { class: "name" }, `applet on shelf ${row.shelf}`), " ",
             element("span", { class: "facts" }, `${appletKind(row.shelf)}, priority ${row.priority}`), objectList(appletLines(row.shelf, row)));
     }
 }

@@ -95,7 +95,7 @@ class Words {
             return;
         }
         throw new Wrong(this.rest.trim() ? `\`${this.rest}\` is too much: ${this.form}`
-            : `nothing may stand behind the last word, not even a space: ${this.form}`);
+            : `nothing may stand after the last word, not even a space: ${this.form}`);
     }
 }
 
@@ -232,7 +232,7 @@ function readUser(words) {
 
 function readTyped(words) {
     if (words.isRead()) {
-        throw new Wrong("TEXT stands behind a second space, also where it is empty: user type TEXT");
+        throw new Wrong("TEXT stands after a second space, also where it is empty: user type TEXT");
     }
     const text = words.takeAll("TEXT");
     if (text.length > LONGEST_TEXT) {

@@ -84,7 +84,7 @@ class Screen {
     }
 }
 
-// The screen behind the steps of a trace, with the notes that the last line of the script that shows something brought.
+// The screen after the steps of a trace, with the notes that the last line of the script that shows something brought.
 export function screenAfter(steps) {
     const screen = new Screen();
     steps.forEach((step) => screen.take(step));

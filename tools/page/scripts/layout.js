@@ -53,7 +53,7 @@ export class File {
     }
 }
 
-// A length, so many bytes, and what stands behind them.
+// A length, so many bytes, and what stands after them.
 function counted(what, content) {
     if (!content.length) {
         throw new Wrong(`HEX ends before the length of ${what}`);
@@ -68,8 +68,8 @@ function counted(what, content) {
 
 // What the data of a `row` line or of INSTALL say.
 export function installation(content) {
-    const [codes, behind] = counted("the codes of events", content);
-    const [text, kept] = counted("the menu text", behind);
+    const [codes, after] = counted("the codes of events", content);
+    const [text, kept] = counted("the menu text", after);
     codes.forEach((code, place) => {
         if (!EVENTS.includes(code)) {
             throw new Wrong(`${hexByte(code)} is no event that an applet is registered for: these are ${EVENTS.map(hexByte).join(" ")}`);
@@ -212,7 +212,7 @@ export class Card {
         }
         const end = said.offset + said.content.length;
         if (end > file.size) {
-            throw new Wrong(`${shown(said.path)} has ${file.size} bytes (line ${file.line}), and HEX would end behind byte ${end}`);
+            throw new Wrong(`${shown(said.path)} has ${file.size} bytes (line ${file.line}), and HEX would end after byte ${end}`);
         }
         file.content.set(said.content, said.offset);
     }

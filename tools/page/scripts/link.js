@@ -1,4 +1,4 @@
-// A link that holds a script, and how it is to be played, behind its `#`.
+// A link that holds a script, and how it is to be played, after its `#`.
 
 async function through(bytes, stream) {
     const piped = new Blob([bytes]).stream().pipeThrough(stream);

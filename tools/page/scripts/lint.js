@@ -1,4 +1,4 @@
-// A script as a whole: its lines, what stands behind `start`, and the first line that is bad.
+// A script as a whole: its lines, what stands after `start`, and the first line that is bad.
 import { bytesOfText } from "./bytes.js";
 import { OF_CARD, OF_COMMANDS, OF_HANDSET, PLANS, Wrong, readLine } from "./grammar.js";
 import { Card } from "./layout.js";
@@ -15,13 +15,13 @@ export function linesOf(text) {
 }
 
 // The number of the line that holds the first byte too much, its end counted with it; none has it where it is infinite.
-function lineBehindRoom(text) {
+function lineTooMuch(text) {
     const bytes = text.length > MOST_BYTES / 3 ? bytesOfText(text) : [];
     return bytes.length > MOST_BYTES ? 1 + bytes.subarray(0, MOST_BYTES).filter((byte) => byte === LINE_FEED).length : Infinity;
 }
 
-// Why a line may not stand behind `start`; null where it may.
-function whyNotBehind(said, mode) {
+// Why a line may not stand after `start`; null where it may.
+function whyNotAfter(said, mode) {
     if (said.word === "start") {
         return "`start` stands once";
     }
@@ -47,7 +47,7 @@ function whyNotBefore(said, mode) {
     return null;
 }
 
-// What was made of a script: the card that the lines before `start` describe, the lines behind it by their numbers, the number of
+// What was made of a script: the card that the lines before `start` describe, the lines after it by their numbers, the number of
 // `start`, and the first line that is bad with its reason, or null.
 export class Script {
     constructor(text, mode) {
@@ -56,14 +56,14 @@ export class Script {
         this.steps = new Map();
         this.startsAt = 0;
         this.firstBad = null;
-        this.read(mode, lineBehindRoom(text));
+        this.read(mode, lineTooMuch(text));
     }
 
-    read(mode, behindRoom) {
+    read(mode, tooMuch) {
         for (let number = 1; number <= this.lines.length; number += 1) {
             try {
-                if (number === behindRoom) {
-                    throw new Wrong(`a script has at most ${MOST_BYTES.toLocaleString("en")} bytes, and this line ends behind them`);
+                if (number === tooMuch) {
+                    throw new Wrong(`a script has at most ${MOST_BYTES.toLocaleString("en")} bytes, and this line ends after them`);
                 }
                 this.take(number, mode);
             } catch (fault) {
@@ -84,7 +84,7 @@ export class Script {
         if (said === null) {
             return;
         }
-        const why = this.startsAt ? whyNotBehind(said, mode) : whyNotBefore(said, mode);
+        const why = this.startsAt ? whyNotAfter(said, mode) : whyNotBefore(said, mode);
         if (why) {
             throw new Wrong(why);
         }

@@ -1,7 +1,7 @@
-// The memory as it stood behind a line of a script, by the writes of the run.
+// The memory as it stood after a line of a script, by the writes of the run.
 
-// The bytes that stood behind a line, of a memory that held `image` before the run.
-export function memoryBehind(image, writes, line) {
+// The bytes that stood after a line, in a memory that held `image` before the run.
+export function memoryAfter(image, writes, line) {
     const count = writesUpTo(writes, line);
     let length = image.length;
     for (let number = 0; number < count; number += 1) {
@@ -17,8 +17,8 @@ export function memoryBehind(image, writes, line) {
 
 // How many writes were made up to a line and in it.
 function writesUpTo(writes, line) {
-    const behind = writes.lines.findIndex((each) => each > line);
-    return behind < 0 ? writes.lines.length : behind;
+    const after = writes.lines.findIndex((each) => each > line);
+    return after < 0 ? writes.lines.length : after;
 }
 
 function bytesOf(writes, number) {

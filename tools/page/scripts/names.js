@@ -70,7 +70,7 @@ export function standardFile(path, usim) {
     return placed ?? found[0];
 }
 
-// A path with its standard name behind it.
+// A path with its standard name after it.
 export function shownPath(path, usim) {
     const text = path.length ? path.join("/") : "3F00";
     const entry = standardFile(path, usim);

@@ -11,7 +11,7 @@ import { cardIn, changesBetween, entriesOf } from "./image.js";
 import { linkOf, linked } from "./link.js";
 import { Script } from "./lint.js";
 import { NotLoaded, memoryIn, scriptIn, storeOf, traceIn, whyNotOpened } from "./loading.js";
-import { memoryBehind } from "./memory.js";
+import { memoryAfter } from "./memory.js";
 import { examples, madeFrom } from "./packed.js";
 import { NotRunnable, Runner, Stopped } from "./runner.js";
 import { ScriptPane } from "./script_pane.js";
@@ -364,10 +364,10 @@ class Page {
         return this.runner.run({ words: ["open", "--store", store], script: bytesOfText("start\n"), image });
     }
 
-    async cardBehind(line) {
+    async cardAfter(line) {
         const { played, stands } = this;
         if (!stands.has(line)) {
-            const memory = memoryBehind(played.request.image, played.result.writes, line);
+            const memory = memoryAfter(played.request.image, played.result.writes, line);
             stands.set(line, cardIn(await this.opened(memory)));
         }
         return stands.get(line);
@@ -375,10 +375,10 @@ class Page {
 
     async showFiles(line) {
         const { played } = this;
-        const [before, card] = [await this.cardBehind(line - 1), await this.cardBehind(line)];
+        const [before, card] = [await this.cardAfter(line - 1), await this.cardAfter(line)];
         if (this.played === played && this.line === line) {
             const changes = before ? changesBetween(entriesOf(before), entriesOf(card)) : new Set();
-            this.files.show(card, changes, `As it stands behind line ${line}, and as the card is found when it is opened next.`);
+            this.files.show(card, changes, `As it stands after line ${line}, and as the card is found when it is opened next.`);
         }
     }
 

@@ -67,7 +67,7 @@ export class Runner {
     }
 
     // Carries a script out over an image: words without `--image`, the script's bytes, the image's bytes, and whether the card is to be
-    // opened again behind it.
+    // opened again after it.
     async run(request, progress = () => {}) {
         await this.ready;
         return this.send(this.worker, request, progress);

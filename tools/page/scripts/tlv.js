@@ -3,7 +3,7 @@ import { bigEndian, hexByte } from "./bytes.js";
 
 export class BadTlv extends Error {}
 
-// A length at a place, and the place behind it.
+// A length at a place, and the place after it.
 function lengthAt(content, at) {
     if (at >= content.length) {
         throw new BadTlv("a length is missing");
