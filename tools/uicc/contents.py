@@ -1,6 +1,8 @@
 """What the bytes of standard files say: each kind of content is decoded to words, and encoded from them.
 
 Decoding raises BadContent where the bytes can't be right, encoding where the words can't."""
+import difflib
+
 from . import rules
 from .names import table
 
@@ -28,9 +30,13 @@ def digits_of(content):
     return found
 
 
+def is_digits(text):
+    return text.isascii() and text.isdecimal()
+
+
 def packed(digits, size):
     """Digits two a byte, filled up with F."""
-    if not digits.isdecimal() and digits:
+    if digits and not is_digits(digits):
         raise BadContent(f"`{digits}` are no decimal digits")
     if len(digits) > 2 * size:
         raise BadContent(f"{len(digits)} digits are more than {size} bytes hold")
@@ -75,7 +81,7 @@ def decode_imsi(content):
 
 
 def encode_imsi(digits):
-    if not digits.isdecimal() or not 6 <= len(digits) <= 15:
+    if not is_digits(digits) or not 6 <= len(digits) <= 15:
         raise BadContent(f"an IMSI has 6 to 15 digits, and `{digits}` is none")
     coded = ("9" if len(digits) % 2 else "1") + digits
     coded = packed(coded, (len(coded) + 1) // 2)
@@ -96,7 +102,7 @@ def decode_plmn(content):
 
 def encode_plmn(text):
     country, _, network = text.partition("-")
-    if not (country.isdecimal() and network.isdecimal() and len(country) == 3 and len(network) in (2, 3)):
+    if not (is_digits(country) and is_digits(network) and len(country) == 3 and len(network) in (2, 3)):
         raise BadContent(f"a PLMN is a country of three digits and a network of two or three, as 001-01, and not {text}")
     third = network[2] if len(network) == 3 else "F"
     return bytes(int(text, 16) for text in (country[1] + country[0], third + country[2], network[1] + network[0]))
@@ -180,6 +186,8 @@ DIALLED = "0123456789*#pw?F"
 
 def encode_dialling(entry, length):
     """`entry` has a name and a number, which begins with + where it is international."""
+    if length < 14:
+        raise BadContent(f"a record of numbers has at least 14 bytes, and not {length}")
     number = str(entry.get("number", ""))
     international, digits = number.startswith("+"), number.lstrip("+")
     if any(digit not in DIALLED[:14] for digit in digits) or len(digits) > 20:
@@ -262,12 +270,13 @@ MOST_SERVICES = 2040
 
 def services(given, names):
     for one in given:
-        if isinstance(one, int) and 1 <= one <= MOST_SERVICES:
+        if isinstance(one, int) and not isinstance(one, bool) and 1 <= one <= MOST_SERVICES:
             yield one
         elif one in names:
             yield names.index(one) + 1
         else:
-            raise BadContent(f"`{one}` is no service by number or name")
+            meant = difflib.get_close_matches(str(one), names, 1)
+            raise BadContent(f"`{one}` is no service by number or name" + (f", but `{meant[0]}` is" if meant else ""))
 
 
 def encode_ust(given, size=None):
@@ -295,6 +304,17 @@ def sized(bits, size):
 UPDATES = {0: "updated", 1: "not updated", 2: "PLMN not allowed", 3: "location area not allowed", 7: "reserved"}
 
 
+def exact_bytes(digits, size, what):
+    """So many bytes, told by hexadecimal digits."""
+    try:
+        content = bytes.fromhex(digits)
+    except ValueError:
+        content = b""
+    if len(content) != size:
+        raise BadContent(f"{what} has {2 * size} hexadecimal digits, and `{digits}` is none")
+    return content
+
+
 def decode_loci(content):
     if len(content) != 11:
         raise BadContent(f"location information has 11 bytes, and not {len(content)}")
@@ -315,11 +335,11 @@ def decode_psloci(content):
 
 
 def encode_loci(given):
-    area = int(given.get("area", "0000"), 16).to_bytes(2, "big")
+    area = exact_bytes(given.get("area", "0000"), 2, "a location area")
     updated = next((n for n, name in UPDATES.items() if name == given.get("status", "not updated")), None)
     if updated is None:
         raise BadContent(f"`{given['status']}` is no status: {', '.join(UPDATES.values())}")
-    return (bytes.fromhex(given.get("tmsi", "FFFFFFFF")) + encode_plmn(given["plmn"]) + area + b"\x00" + bytes((updated,)))
+    return exact_bytes(given.get("tmsi", "FFFFFFFF"), 4, "a TMSI") + encode_plmn(given["plmn"]) + area + b"\x00" + bytes((updated,))
 
 
 # others

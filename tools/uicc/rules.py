@@ -10,6 +10,8 @@ INCREASE = 0x32
 INSTRUCTIONS = {0xB0: "read binary", 0xB2: "read record", 0xA2: "search record", 0xD6: "update binary", 0xDC: "update record",
                 INCREASE: "increase", 0x04: "deactivate", 0x44: "activate"}
 KEYS = {"pin1": 0x01, "pin2": 0x81, "adm": 0x0A}
+# what is written for a condition that has another name here
+SLIPS = {"adm1": "adm", "alw": "always", "nev": "never", "chv1": "pin1", "chv2": "pin2", "1": "pin1", "2": "pin2"}
 KEY_NAMES = {key: name for name, key in KEYS.items()}
 ALWAYS, NEVER, BY_KEY, ONE_OF, ALL_OF = 0x90, 0x97, 0xA4, 0xA0, 0xAF
 DEEPEST = 4
@@ -84,6 +86,8 @@ def shown(record):
 # from words
 
 def spelled(tag, value):
+    if len(value) > 0xFF:
+        raise NoRule(f"the object {tag:02X} would have {len(value)} bytes, and has at most 255")
     head = bytes((tag, len(value))) if len(value) < 0x80 else bytes((tag, 0x81, len(value)))
     return head + value
 
@@ -98,7 +102,8 @@ def condition_of(words):
         return bytes((ALWAYS if words == "always" else NEVER, 0))
     if words in KEYS:
         return bytes((BY_KEY, 6, 0x83, 1, KEYS[words], 0x95, 1, 8))
-    raise NoRule(f"`{words}` is no condition: always, never, {', '.join(KEYS)}, joined by `or` or `and`")
+    meant = f", but `{SLIPS[words.lower()]}` is" if words.lower() in SLIPS else ""
+    raise NoRule(f"`{words}` is no condition{meant}: always, never, {', '.join(KEYS)}, joined by `or` or `and`")
 
 
 def written(words):
