@@ -166,14 +166,14 @@ def trouble(seed):
     """What is wrong with how a spoilt profile is taken; None where nothing is."""
     content = Spoiler(seed).spoilt(GOOD).encode("utf-8", "replace")
     try:
-        lines = profile.script_in(content, "card.toml")
+        made = profile.made_in(content, "card.toml")
     except profile.BadProfile as bad:
         # the words of a value may be long, and stand in one line
         wrong = [fault.reason for fault in bad.faults if not re.match(r"card\.toml, line [1-9]\d*: \S", fault.reason) or "\n" in fault.reason]
         return f"seed {seed}: {wrong[0] if wrong else 'no reason'}" if wrong or not bad.faults else None
     except Exception:  # noqa: BLE001 (that is what is looked for)
         return f"seed {seed}: {traceback.format_exc()}"
-    found = lint.read("".join(line + "\n" for line in lines)).first()
+    found = lint.read(made.text).first()
     return f"seed {seed}: lint says {found}" if found else None
 
 

@@ -8,7 +8,7 @@ import unittest
 
 import fuzz_profile
 from common import TOOLS
-from uicc import checking, lint, process, profile, rules
+from uicc import access, checking, lint, process, profile, rules
 
 EXAMPLES = os.path.join(process.TOP, "examples")
 
@@ -16,7 +16,7 @@ EXAMPLES = os.path.join(process.TOP, "examples")
 def card_of(text):
     lines = profile.build(profile.merged({}, tomllib.loads(text)))
     script = lint.read("".join(line + "\n" for line in lines))
-    assert not script.findings, script.findings
+    assert not script.first(), script.findings
     return script.card
 
 
@@ -144,7 +144,7 @@ class Mistakes(unittest.TestCase):
     def test_mistakes(self):
         for text, reasons in self.TABLE:
             with self.subTest(text=text), self.assertRaises(profile.BadProfile) as caught:
-                profile.script_in((self.HEAD + text + "\n").encode(), "card.toml")
+                profile.made_in((self.HEAD + text + "\n").encode(), "card.toml")
             told = [fault.reason for fault in caught.exception.faults]
             self.assertEqual(len(told), len(reasons), told)
             for reason, part in zip(told, reasons):
@@ -152,19 +152,19 @@ class Mistakes(unittest.TestCase):
 
     def test_spoilt_profiles(self):
         """No mutation of a good profile gives a traceback, or a script that lint has something against."""
-        self.assertTrue(profile.script_in(fuzz_profile.GOOD.encode(), "card.toml"))
+        self.assertTrue(profile.made_in(fuzz_profile.GOOD.encode(), "card.toml").lines)
         self.assertEqual([trouble for trouble in map(fuzz_profile.trouble, range(100)) if trouble], [])
 
     def test_no_profiles(self):
         for content, reason in ((b"\x7fELF\n\x00\xFF", "card.toml, line 2: it isn't UTF-8"), (b"\x00", "card.toml, line 1: "), (b"\xEF\xBB\xBFa", "card.toml, line 1: ")):
             with self.assertRaises(profile.BadProfile) as caught:
-                profile.script_in(content, "card.toml")
+                profile.made_in(content, "card.toml")
             self.assertIn(reason, str(caught.exception))
 
     def test_what_a_profile_says_takes_the_place_of_the_template(self):
         """The content of a file in another form, and one value of a PIN."""
-        lines = profile.script_in(b'like = "usim"\n[EF_IMSI]\nhex = "00"\n[pins]\npin1 = { value = "0000" }\n', "card.toml")
-        card = lint.read("".join(line + "\n" for line in lines)).card
+        made = profile.made_in(b'like = "usim"\n[EF_IMSI]\nhex = "00"\n[pins]\npin1 = { value = "0000" }\n', "card.toml")
+        card = lint.read(made.text).card
         self.assertEqual(card.files[("7F20", "6F07")].content.hex().upper(), "00" + "FF" * 8)
         self.assertEqual((card.pins[1].value, card.pins[1].unblock), (b"0000" + b"\xFF" * 4, b"12345678"))
 
@@ -185,6 +185,50 @@ class Checking(unittest.TestCase):
         ("ef 2FE2 t 10 2 2F06:1\n", "its rule 2F06:1 allows nothing"),
         ("ef 2F05 t 2 5 -\n", "2FE2 EF.ICCID is missing"),
     ]
+
+    # lines of a card like the template's, in place of lines of it, and what is found in it
+    CHANGES = [
+        ('[EF_ICCID]\niccid = "8999901000000123459"', "2FE2 EF.ICCID: the check digit of 8999901000000123459 is 9, and should be 0"),
+        ('["7F10/EF_SMSP"]\nlength = 1\nrecords = []', "7F10/6F42 EF.SMSP has 1 byte a record, and should have at least 28"),
+        ('["7F20/EF_FDN"]\nentries = []', "7F20/6F3B EF.FDN is there, and its service 2 (fixed dialling numbers) is off in EF.UST"),
+        ("[EF_UST]\nservices = [10, 12, 19, 20, 21, 27, 33]",
+         "7F10/6F3A EF.ADN is there, and its service 1 (local phone book) is off in EF.UST"),
+        ("[EF_UST]\nservices = [1, 2, 10, 12, 19, 20, 21, 27, 33]",
+         "service 2 (fixed dialling numbers) is on in EF.UST, and no file of it is there: EF.FDN, EF.EST"),
+        ('["7F10/EF_ADN"]\nlength = 13', "7F10/6F3A EF.ADN has 13 bytes a record, and should have at least 14"),
+        ('[pins]\npin1 = { on = false }', "7F10/6F3A EF.ADN, rule 2F06:6, read, update: it asks for PIN 1, which is off, so that everybody "
+                                         "may (and 15 more files go by it)"),
+        ('[EF_SPN]\nupdate = "pin1 or pin2"\n[pins]\npin2 = { on = false }',
+         "7F20/6F46 EF.SPN, rule 2F06:7, update: it asks for PIN 2, which is off, so that everybody may"),
+        ('[EF_SPN]\nupdate = "pin1 and pin2"\n[pins]\npin2 = { on = false }',
+         "7F20/6F46 EF.SPN, rule 2F06:7, update: it asks for PIN 2, which is off, so that what is left is `pin1`"),
+    ]
+
+    def test_changes_of_a_template(self):
+        for text, said in self.CHANGES:
+            with self.subTest(text=text):
+                card = lint.read(profile.made_in(f'like = "usim"\n{text}\n'.encode(), "card.toml").text).card
+                self.assertIn(said, list(checking.findings(card, "usim")))
+
+    def test_pin_2_protects(self):
+        """The template's PIN 2 is on, so that a rule by it says who may update."""
+        given = b'like = "usim"\n["7F20/EF_FDN"]\nentries = []\nupdate = "pin2"\n[EF_UST]\nservices = [1, 2, 10, 12, 19, 20, 21, 27, 33]\n'
+        made = profile.made_in(given, "card.toml")
+        card = lint.read(made.text).card
+        self.assertTrue(card.pins[0x81].enabled)
+        self.assertEqual((made.warnings, list(checking.findings(card, "usim"))), ([], []))
+        file = card.files[("7F20", "6F3B")]
+        self.assertEqual(access.effective(card, access.condition(card, file, "update")), (rules.BY_KEY, 0x81))
+
+    def test_a_rule_by_a_pin_that_is_off_is_a_warning_of_build_and_lint(self):
+        given = b'like = "usim"\n[EF_SPN]\nspn = "A"\nupdate = "pin2"\n[pins]\npin2 = { on = false }\n'
+        made = profile.made_in(given, "card.toml")
+        self.assertEqual(made.warnings, ['card.toml, line 2: [EF_SPN]: RULE 2F06:7, update: it asks for PIN 2, which is off, so that everybody may'])
+        self.assertEqual([finding.kind for finding in lint.read(made.text).findings], ["warning"])
+        absent = "pin 01 31323334FFFFFFFF on 3132333435363738\nef 2F06 l 8 1 - -\nrec 2F06 1 800101A40683010A950108\nef 2F05 t 2 5 2F06:1\nstart\n"
+        finding, = lint.read(absent.replace("l 8 1", "l 11 1")).findings
+        self.assertEqual((finding.line, finding.reason),
+                         (4, "RULE 2F06:1, read: it asks for ADM1, which the card hasn't got, so that nobody may"))
 
     def test_findings(self):
         for text, part in self.TABLE:

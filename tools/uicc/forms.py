@@ -97,6 +97,19 @@ class TableOf(Form):
         return f"isn't known: `{meant}` is" if meant else f"isn't known: {', '.join(self.keys)} are"
 
 
+class OneOf:
+    """A value that is of one of two forms; of a table the second one says what is wrong."""
+
+    def __init__(self, simple, table):
+        self.simple, self.table = simple, table
+        self.name = f"{simple.name}, or {table.name}"
+
+    def wrong(self, value):
+        if isinstance(value, dict):
+            return self.table.wrong(value)
+        return None if self.simple.wrong(value) is None else f"is {called(value)}, and has to be {self.name}"
+
+
 TEXT = Form("text in quotes", str)
 NUMBER = Form("a number", int)
 TRUTH = Form("true or false", bool)

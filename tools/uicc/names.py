@@ -49,6 +49,7 @@ def cause(result, value):
     return table("toolkit")["result_causes"].get(f"{result:02X}", {}).get(f"{value:02X}")
 
 
+@functools.cache
 def files_of(identifier):
     return [entry for entry in table("files")["files"] if entry["id"] == identifier]
 
@@ -73,6 +74,7 @@ def usual_folder(entry):
     return (*usual_folder(above), above["id"])
 
 
+@functools.cache
 def file(path, usim=True):
     """The standard file at a path from the MF; None where there is none. In 7F20 it is that of a USIM where `usim` is so, else
     that of GSM. In a folder that no standard has it there it is the one file that goes by its identifier."""
@@ -83,7 +85,7 @@ def file(path, usim=True):
         for entry in found:
             if place in entry["in"]:
                 return entry
-    return found[0] if len(found) == 1 and len(path) > 1 else None
+    return found[0] if len(found) == 1 and len(path) > 1 and found[0]["in"][0] in FOLDERS else None
 
 
 def name_of(path, usim=True):
@@ -104,6 +106,7 @@ def normal(word):
     return word.replace("_", ".").upper()
 
 
+@functools.cache
 def by_name(word):
     """The standard files of a name, with or without its EF. or DF."""
     wanted = normal(word)

@@ -6,7 +6,7 @@ import re
 import tomllib
 import typing
 
-from . import contents, dump, fields, forms, grammar, layout, lint, located, names, rules, tree
+from . import contents, dump, fields, forms, grammar, layout, lint, located, names, rules, structured, tree
 from .contents import BadContent
 
 TEMPLATES = os.path.join(names.DATA, "profiles")
@@ -68,31 +68,44 @@ class BadProfile(Exception):
         self.faults = reason if isinstance(reason, list) else [Fault(path, reason)]
         super().__init__("; ".join(fault.reason for fault in self.faults))
 
-    def located(self, name, text):
-        """The same, with the line of a file for each reason."""
-        lines = located.Lines(text)
-        told = sorted({(lines.of(path), reason) for path, reason in self.faults})
-        return BadProfile([Fault((), f"{name}, line {line}: {reason}") for line, reason in told])
+
+class Made(typing.NamedTuple):
+    """What a profile becomes: the lines of a script, and what is doubtful in it."""
+    lines: list
+    warnings: list
+
+    @property
+    def text(self):
+        return "".join(line + "\n" for line in self.lines)
 
 
-def script_of(path):
-    """The lines of the script that a profile in a file says. BadProfile names lines of the file."""
+def made_of(path):
+    """What a profile in a file becomes. BadProfile, and the warnings, name lines of the file."""
     with open(path, "rb") as file:
         content = file.read()
-    return script_in(content, path)
+    return made_in(content, path)
 
 
-def script_in(content, name, over=None):
-    """The lines of the script of a profile's bytes, which are called so. `over` is a profile whose keys take the place of those there."""
+def made_in(content, name, over=None):
+    """What a profile's bytes become, which are called so. `over` is a profile whose keys take the place of those there."""
     try:
         given, text = located.read(content)
     except located.Unreadable as fault:
         where = f", line {fault.line}" if fault.line else ""
         raise BadProfile(f"{name}{where}: {fault}") from None
     try:
-        return build(merged(over_template(given), over or {}))
+        lines, warnings = made(merged(over_template(given), over or {}))
     except BadProfile as bad:
-        raise bad.located(name, text) from None
+        raise BadProfile(with_lines(bad.faults, name, text)) from None
+    return Made(lines, [fault.reason for fault in with_lines(warnings, name, text)])
+
+
+def with_lines(faults, name, text):
+    """Faults with the lines of a file that they are of, in the order of these."""
+    if not faults:
+        return []
+    lines = located.Lines(text)
+    return [Fault((), f"{name}, line {line}: {reason}") for line, reason in sorted({(lines.of(path), reason) for path, reason in faults})]
 
 
 def over_template(given):
@@ -434,7 +447,7 @@ class Builder:
             other = next((key for key in given if key not in (fields.RECORDS, "length", "count", "short", "rule", *OPERATIONS)), None)
             if other:
                 raise BadContent(f"`{other}` isn't said of EF_ARR: it is linear fixed, and `{fields.RECORDS}` are what it holds")
-            self.rules += [fields.hexadecimal(record).rstrip(b"\xFF") for record in given.get(fields.RECORDS, [])]
+            self.rules += [structured.hexadecimal(record).rstrip(b"\xFF") for record in given.get(fields.RECORDS, [])]
 
     def _arr(self, name, given):
         """The shape of EF_ARR and its own rule; None where there is none. The rules that words say stand after the records that the
@@ -599,7 +612,7 @@ def applet_content(applet):
             raise BadContent(f"on: `{event}` {wrong}: on = {{ location = [\"show A\"] }}")
     if "keeps" in applet and "keeps_text" in applet:
         raise BadContent("what it keeps is said by `keeps` and by `keeps_text`, and one of them does")
-    kept = fields.hexadecimal(applet.get("keeps", "")) or applet.get("keeps_text", "").encode()
+    kept = structured.hexadecimal(applet.get("keeps", "")) or applet.get("keeps_text", "").encode()
     kept += b"".join(bytes((event_code(event),)) + action_bytes(text) for event, actions in on.items() for text in actions)
     if "events" in applet:
         events = [event_code(word) for word in applet["events"]]
@@ -637,6 +650,11 @@ def action_bytes(text):
 
 def build(profile):
     """The lines of the script of a profile, which `uicc_run` takes. BadProfile, where it can't be had."""
+    return made(profile)[0]
+
+
+def made(profile):
+    """The lines of the script of a profile, and what is doubtful in it: a fault each."""
     faults = list(faults_at_top(profile))
     tables = [(name, value) for name, value in profile.items() if is_file_table(name, value)]
     usim = is_usim(path for name, _ in tables if (path := path_or_none(name)))
@@ -646,11 +664,14 @@ def build(profile):
         raise BadProfile(faults)
     builder = Builder(profile, usim)
     lines = builder.script()
-    bad = [finding for finding in lint.read("".join(line + "\n" for line in lines)).findings if finding.kind in lint.STATUSES]
+    bad, doubtful = [], []
+    for finding in lint.read("".join(line + "\n" for line in lines)).findings:
+        origin = builder.origins[min(finding.line, len(lines)) - 1]
+        fault = Fault(origin, f"{told_origin(origin)}: {OF_SCRIPT.sub('', finding.reason)}")
+        (bad if finding.kind in lint.STATUSES else doubtful).append(fault)
     if bad:
-        raise BadProfile([Fault(origin, f"{told_origin(origin)}: {OF_SCRIPT.sub('', finding.reason)}") for finding in bad
-                          for origin in (builder.origins[min(finding.line, len(lines)) - 1],)])
-    return lines
+        raise BadProfile(bad)
+    return lines, doubtful
 
 
 def told_origin(origin):

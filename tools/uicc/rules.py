@@ -39,15 +39,21 @@ def objects(content):
         at = start + length
 
 
-def read(record):
-    """The pairs of a record: what may be done, as (names of operations), and the condition in words."""
+def pairs(record):
+    """The pairs of a record: the tag and the byte that say what may be done, and the condition as a tree: ALWAYS or NEVER alone, BY_KEY
+    with a key, or ONE_OF or ALL_OF with conditions."""
     content = record.rstrip(b"\xFF")
     found = list(objects(content))
     if not found:
         raise NoRule("it is empty")
     if len(found) % 2:
         raise NoRule("an operation has no condition")
-    return [(operations(*found[n]), condition(*found[n + 1], DEEPEST)) for n in range(0, len(found), 2)]
+    return [(*found[n], condition(*found[n + 1], DEEPEST)) for n in range(0, len(found), 2)]
+
+
+def read(record):
+    """The pairs of a record: what may be done, as (names of operations), and the condition in words."""
+    return [(operations(tag, value), in_words(tree)) for tag, value, tree in pairs(record)]
 
 
 def operations(tag, value):
@@ -61,21 +67,29 @@ def operations(tag, value):
 
 
 def condition(tag, value, levels):
-    if tag == ALWAYS and not value:
-        return "always"
-    if tag == NEVER and not value:
-        return "never"
+    if tag in (ALWAYS, NEVER) and not value:
+        return (tag,)
     if tag == BY_KEY and len(value) == 6 and value[:2] == b"\x83\x01" and value[3:] == b"\x95\x01\x08":
-        return KEY_NAMES.get(value[2], f"key {value[2]:02X}, which no card has")
+        return (tag, value[2])
     if tag in (ONE_OF, ALL_OF):
         if not levels:
             raise NoRule(f"conditions stand more than {DEEPEST} deep")
         inner = [condition(*each, levels - 1) for each in objects(value)]
         if not inner:
             raise NoRule(f"{tag:02X} holds no condition")
-        word = " or " if tag == ONE_OF else " and "
-        return word.join(f"({text})" if " " in text and len(inner) > 1 else text for text in inner)
+        return (tag, *inner)
     raise NoRule(f"{tag:02X} with {value.hex().upper() or 'nothing'} is no condition")
+
+
+def in_words(tree):
+    """A condition in words."""
+    tag, *inner = tree
+    if tag in (ALWAYS, NEVER):
+        return "always" if tag == ALWAYS else "never"
+    if tag == BY_KEY:
+        return KEY_NAMES.get(inner[0], f"key {inner[0]:02X}, which no card has")
+    texts = map(in_words, inner)
+    return (" or " if tag == ONE_OF else " and ").join(f"({text})" if " " in text and len(inner) > 1 else text for text in texts)
 
 
 def shown(record):
