@@ -6,8 +6,9 @@ import tempfile
 import tomllib
 import unittest
 
+import fuzz_profile
 from common import TOOLS
-from uicc import lint, process, profile, rules
+from uicc import access, checking, lint, process, profile, rules
 
 EXAMPLES = os.path.join(process.TOP, "examples")
 
@@ -15,7 +16,7 @@ EXAMPLES = os.path.join(process.TOP, "examples")
 def card_of(text):
     lines = profile.build(profile.merged({}, tomllib.loads(text)))
     script = lint.read("".join(line + "\n" for line in lines))
-    assert not script.findings, script.findings
+    assert not script.first(), script.findings
     return script.card
 
 
@@ -37,9 +38,9 @@ class Building(unittest.TestCase):
     ]
     WRONG = [
         ('[EF_NONE]\nhex = "00"', "EF_NONE: no standard file is called so"),
-        ('[EF_IMSI]\nimsi = "12"', "[EF_IMSI]: an IMSI has 6 to 15 digits"),
+        ('[EF_IMSI]\nimsi = "12"', "[EF_IMSI] imsi: an IMSI has 6 to 15 digits"),
         ('[EF_IMSI]\nimsi = "262019876543210"\nhex = "00"', "imsi and hex"),
-        ('[EF_IMSI]\nimsy = "262019876543210"', "`imsy` is no content"),
+        ('[EF_IMSI]\nimsy = "262019876543210"', "[EF_IMSI] imsy isn't known: `imsi = \"262019876543210\"` is"),
         ('[EF_SPN]\nspn = "a name that is much too long"', "there is room for 16"),
         ('[EF_IMSI]\nimsi = "262019876543210"\nread = "pin3"', "`pin3` is no condition"),
         ('["7F10/6F99"]\nshort = 1', "its size is not said"),
@@ -83,7 +84,7 @@ class Building(unittest.TestCase):
     def test_templates_have_all_that_is_mandatory(self):
         for kind in ("usim", "sim"):
             card = lint.read("".join(line + "\n" for line in profile.build(profile.template(kind)))).card
-            self.assertEqual(list(profile.findings(card, kind)), [])
+            self.assertEqual(list(checking.findings(card, kind)), [])
 
     def test_a_profile_over_a_template(self):
         given = profile.merged(profile.template("usim"), tomllib.loads('[EF_IMSI]\nimsi = "262019876543210"\n'))
@@ -91,6 +92,88 @@ class Building(unittest.TestCase):
         file = card.files[("7F20", "6F07")]
         self.assertEqual(file.content.hex().upper(), "082926108967452301")
         self.assertIn("read: pin1", rules.shown(card.rule_file(file).record(file.rule[1])))
+
+
+class Mistakes(unittest.TestCase):
+    """Everyday mistakes: each is told with its line, what is wrong, and what would be right."""
+    HEAD = 'like = "usim"\n'
+    # what stands after that line, and what is said
+    TABLE = [
+        ("[EF_IMSI]\nimsi = 262019876543210", ['line 3: [EF_IMSI] imsi is a number, and has to be text in quotes: imsi = "262019876543210"']),
+        ("[EF_IMSI]\nimsi = 001010123456789",
+         ["line 3: Expected newline or end of document after a statement: digits that begin with 0 stand in quotes"]),
+        ('[pins]\npin1 = "1234"',
+         ['line 3: [pins] pin1 is text, and has to be a table of value, unblock, on: pin1 = { value = "1234", unblock = "12345678" }']),
+        ('[EF_IMSI]\nimsi = ["262019876543210"]', ['line 3: [EF_IMSI] imsi is a list, and has to be text in quotes: imsi = "262019876543210"']),
+        ('[EF_ADN]\n\nentries = ["A"]',
+         ["line 4: [EF_ADN] entries has a wrong entry 1: it is text, and has to be a table of name, number: "
+          'entries = [{ name = "Anna", number = "+491701234567" }]']),
+        ('[EF_ADN]\nentries = [{ name = "A", nmber = "1" }]',
+         ["line 3: [EF_ADN] entries has a wrong entry 1: it has a wrong `nmber`: it isn't known: `number` is: "
+          'entries = [{ name = "Anna", number = "+491701234567" }]']),
+        ('pins = "1234"', ["line 2: pins is text, and has to be a table of pin1, pin2, adm: [pins] and below it "
+                           'pin1 = { value = "1234", unblock = "12345678" }']),
+        ('default = "always"', ["line 2: default is text, and has to be a table of read, update, deactivate, activate, increase: [default] and "
+                                'below it read = "always"']),
+        ('applet = "greeter"', ['line 2: applet is text, and has to be a list of tables: [[applet]] and below it kind = "greeter"']),
+        ("[EF_ACC]\nacc = 9", ["line 3: [EF_ACC] acc is a number, and has to be a list of numbers: acc = [9]"]),
+        ("[EF_ACC]\nacces = [9]", ["line 3: [EF_ACC] acces isn't known: `acc = [9]` is"]),
+        ('lik = "sim"', ["line 2: `lik` isn't known at the top of a profile: `like` is"]),
+        ("colour = 1", ["line 2: `colour` isn't known at the top of a profile: `like`, [pins], [default], [[applet]] and tables of files are"]),
+        ('EF_IMSI = "262019876543210"', ["line 2: `EF_IMSI` is text, and has to be a table: [EF_IMSI] and below it what the file holds"]),
+        ('[pins]\nadm1 = { value = "1234" }', ["line 3: [pins] adm1 isn't known: it is called `adm`"]),
+        ('[pins]\npuk1 = "12345678"', ["line 3: [pins] puk1 isn't known: the PUK of a PIN stands with it: "
+                                      'pin1 = { value = "1234", unblock = "12345678" }']),
+        ("[7F20]", ['line 2: [7F20] is a folder (DF.GSM): its files have tables of their own, as ["7F20/EF_IMSI"]; `folder = true` alone '
+                    "makes an empty one"]),
+        ('[EF_PNNN]\nhex = "00"', ["line 2: [EF_PNNN] EF_PNNN: no standard file is called so, but EF_PNN is; an identifier of four digits "
+                                  "names any other"]),
+        ('[EF_SPN]\nspn = "A"\nread = "adm1"', ["line 4: [EF_SPN] read: `adm1` is no condition, but `adm` is: always, never, pin1, pin2, adm, "
+                                            "joined by `or` or `and`"]),
+        ('[EF_SPN]\nspn = "A"\nshort = 7', ["line 2: [EF_SPN]: the short identifier 7 is taken by 7F20/6F07"]),
+        ('[EF_SPN]\nspn = "A"\nsize = 100000', ["line 4: [EF_SPN] size is 100000, and has to be a number from 1 to 32767: size = 17"]),
+        ('[EF_SPN]\niccid = "1"', ["line 3: [EF_SPN] iccid is nothing that EF.SPN holds: `spn = \"Nordlicht\"` is"]),
+        ('[[applet]]\nkind = "menu"\n[[applet]]\nkind = "menu"\nmenue = "x"', ["line 6: [[applet]] menue isn't known: `menu` is"]),
+        ('[[applet]]\nkind = "table"\non = { locaton = ["show A"] }', ["line 2: [[applet]]: the applet on shelf 6: `locaton` is no event, but "
+                                                                  "`location` is: "]),
+        ('[EF_IMSI]\nimsi = "262019876543210"\n["7F20/6F07"]\nsize = 9', ['line 4: ["7F20/6F07"] is the same file as [EF_IMSI]']),
+        ('[EF_IMSI]\nimsi = "1"\n[EF_ACC]\nacc = [10]', ["line 3: [EF_IMSI] imsi: an IMSI has 6 to 15 digits", "line 5: [EF_ACC] acc: an access "
+                                                      "control class is 0 to 9"]),
+    ]
+
+    def test_mistakes(self):
+        for text, reasons in self.TABLE:
+            with self.subTest(text=text), self.assertRaises(profile.BadProfile) as caught:
+                profile.made_in((self.HEAD + text + "\n").encode(), "card.toml")
+            told = [fault.reason for fault in caught.exception.faults]
+            self.assertEqual(len(told), len(reasons), told)
+            for reason, part in zip(told, reasons):
+                self.assertTrue(reason.startswith("card.toml, " + part), reason)
+
+    def test_spoilt_profiles(self):
+        """No mutation of a good profile gives a traceback, or a script that lint has something against."""
+        self.assertTrue(profile.made_in(fuzz_profile.GOOD.encode(), "card.toml").lines)
+        self.assertEqual([trouble for trouble in map(fuzz_profile.trouble, range(100)) if trouble], [])
+
+    def test_no_profiles(self):
+        for content, reason in ((b"\x7fELF\n\x00\xFF", "card.toml, line 2: it isn't UTF-8"), (b"\x00", "card.toml, line 1: "), (b"\xEF\xBB\xBFa", "card.toml, line 1: ")):
+            with self.assertRaises(profile.BadProfile) as caught:
+                profile.made_in(content, "card.toml")
+            self.assertIn(reason, str(caught.exception))
+
+    def test_what_a_profile_says_takes_the_place_of_the_template(self):
+        """The content of a file in another form, and one value of a PIN."""
+        made = profile.made_in(b'like = "usim"\n[EF_IMSI]\nhex = "00"\n[pins]\npin1 = { value = "0000" }\n', "card.toml")
+        card = lint.read(made.text).card
+        self.assertEqual(card.files[("7F20", "6F07")].content.hex().upper(), "00" + "FF" * 8)
+        self.assertEqual((card.pins[1].value, card.pins[1].unblock), (b"0000" + b"\xFF" * 4, b"12345678"))
+
+    def test_rules_as_they_are(self):
+        """Records of EF_ARR in bytes keep their numbers, and files name them; words are written after them."""
+        card = card_of('[EF_ARR]\nrecords = ["84013290009700", "8001019000"]\n["7F10/6F99"]\nsize = 1\nrule = "2F06:2"\n'
+                       '["7F10/6F98"]\nsize = 1\nread = "always"\n["7F10/6F97"]\nsize = 1\nread = "never"\n["7F10/6F96"]\nsize = 1\nrule = "none"\n')
+        self.assertEqual([card.files[("7F10", name)].rule for name in ("6F99", "6F98", "6F97", "6F96")], [("2F06", 2), ("2F06", 2), ("2F06", 3), None])
+        self.assertEqual(card.files[("2F06",)].record(1).hex().upper()[:14], "84013290009700")
 
 
 class Checking(unittest.TestCase):
@@ -103,10 +186,54 @@ class Checking(unittest.TestCase):
         ("ef 2F05 t 2 5 -\n", "2FE2 EF.ICCID is missing"),
     ]
 
+    # lines of a card like the template's, in place of lines of it, and what is found in it
+    CHANGES = [
+        ('[EF_ICCID]\niccid = "8999901000000123459"', "2FE2 EF.ICCID: the check digit of 8999901000000123459 is 9, and should be 0"),
+        ('["7F10/EF_SMSP"]\nlength = 1\nrecords = []', "7F10/6F42 EF.SMSP has 1 byte a record, and should have at least 28"),
+        ('["7F20/EF_FDN"]\nentries = []', "7F20/6F3B EF.FDN is there, and its service 2 (fixed dialling numbers) is off in EF.UST"),
+        ("[EF_UST]\nservices = [10, 12, 19, 20, 21, 27, 33]",
+         "7F10/6F3A EF.ADN is there, and its service 1 (local phone book) is off in EF.UST"),
+        ("[EF_UST]\nservices = [1, 2, 10, 12, 19, 20, 21, 27, 33]",
+         "service 2 (fixed dialling numbers) is on in EF.UST, and no file of it is there: EF.FDN, EF.EST"),
+        ('["7F10/EF_ADN"]\nlength = 13', "7F10/6F3A EF.ADN has 13 bytes a record, and should have at least 14"),
+        ('[pins]\npin1 = { on = false }', "7F10/6F3A EF.ADN, rule 2F06:6, read, update: it asks for PIN 1, which is off, so that everybody "
+                                         "may (and 15 more files go by it)"),
+        ('[EF_SPN]\nupdate = "pin1 or pin2"\n[pins]\npin2 = { on = false }',
+         "7F20/6F46 EF.SPN, rule 2F06:7, update: it asks for PIN 2, which is off, so that everybody may"),
+        ('[EF_SPN]\nupdate = "pin1 and pin2"\n[pins]\npin2 = { on = false }',
+         "7F20/6F46 EF.SPN, rule 2F06:7, update: it asks for PIN 2, which is off, so that what is left is `pin1`"),
+    ]
+
+    def test_changes_of_a_template(self):
+        for text, said in self.CHANGES:
+            with self.subTest(text=text):
+                card = lint.read(profile.made_in(f'like = "usim"\n{text}\n'.encode(), "card.toml").text).card
+                self.assertIn(said, list(checking.findings(card, "usim")))
+
+    def test_pin_2_protects(self):
+        """The template's PIN 2 is on, so that a rule by it says who may update."""
+        given = b'like = "usim"\n["7F20/EF_FDN"]\nentries = []\nupdate = "pin2"\n[EF_UST]\nservices = [1, 2, 10, 12, 19, 20, 21, 27, 33]\n'
+        made = profile.made_in(given, "card.toml")
+        card = lint.read(made.text).card
+        self.assertTrue(card.pins[0x81].enabled)
+        self.assertEqual((made.warnings, list(checking.findings(card, "usim"))), ([], []))
+        file = card.files[("7F20", "6F3B")]
+        self.assertEqual(access.effective(card, access.condition(card, file, "update")), (rules.BY_KEY, 0x81))
+
+    def test_a_rule_by_a_pin_that_is_off_is_a_warning_of_build_and_lint(self):
+        given = b'like = "usim"\n[EF_SPN]\nspn = "A"\nupdate = "pin2"\n[pins]\npin2 = { on = false }\n'
+        made = profile.made_in(given, "card.toml")
+        self.assertEqual(made.warnings, ['card.toml, line 2: [EF_SPN]: RULE 2F06:7, update: it asks for PIN 2, which is off, so that everybody may'])
+        self.assertEqual([finding.kind for finding in lint.read(made.text).findings], ["warning"])
+        absent = "pin 01 31323334FFFFFFFF on 3132333435363738\nef 2F06 l 8 1 - -\nrec 2F06 1 800101A40683010A950108\nef 2F05 t 2 5 2F06:1\nstart\n"
+        finding, = lint.read(absent.replace("l 8 1", "l 11 1")).findings
+        self.assertEqual((finding.line, finding.reason),
+                         (4, "RULE 2F06:1, read: it asks for ADM1, which the card hasn't got, so that nobody may"))
+
     def test_findings(self):
         for text, part in self.TABLE:
             with self.subTest(text=text):
-                found = list(profile.findings(lint.read(text + "start\n").card, "usim"))
+                found = list(checking.findings(lint.read(text + "start\n").card, "usim"))
                 self.assertTrue(any(part in one for one in found), found)
 
 

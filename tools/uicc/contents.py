@@ -1,41 +1,13 @@
 """What the bytes of standard files say: each kind of content is decoded to words, and encoded from them.
 
 Decoding raises BadContent where the bytes can't be right, encoding where the words can't."""
-from . import rules
+import difflib
+
+from . import rules, structured
+from .coding import (
+    DIALLED, UPDATES, BadContent, coded_text, decode_plmn, dialled_digits, digits_of, encode_plmn, exact_bytes, is_blank, is_digits,
+    packed, text_of)
 from .names import table
-
-
-class BadContent(ValueError):
-    """Bytes that can't be right, or words that no bytes say."""
-
-
-def is_blank(content):
-    return not content.strip(b"\xFF")
-
-
-# digits: two a byte, the first in the lower half
-
-def digits_of(content):
-    """The digits up to the first half byte that is F."""
-    found = ""
-    for byte in content:
-        for half in (byte & 15, byte >> 4):
-            if half == 15:
-                return found
-            if half > 9:
-                raise BadContent(f"{half:X} is no decimal digit")
-            found += str(half)
-    return found
-
-
-def packed(digits, size):
-    """Digits two a byte, filled up with F."""
-    if not digits.isdecimal() and digits:
-        raise BadContent(f"`{digits}` are no decimal digits")
-    if len(digits) > 2 * size:
-        raise BadContent(f"{len(digits)} digits are more than {size} bytes hold")
-    digits = digits.ljust(2 * size, "F")
-    return bytes(int(digits[n + 1] + digits[n], 16) for n in range(0, 2 * size, 2))
 
 
 def decode_iccid(content):
@@ -43,6 +15,15 @@ def decode_iccid(content):
     if len(digits) < 18:
         raise BadContent(f"a card's number has 18 to 20 digits, and this one {len(digits)}")
     return digits + ("" if len(digits) == 18 or luhn(digits[:-1]) == digits[-1] else f" (its check digit would be {luhn(digits[:-1])})")
+
+
+def check_iccid(content):
+    """BadContent, where the check digit of a card's number is wrong: one of 18 digits may have none."""
+    digits = digits_of(content)
+    if is_blank(content):
+        raise BadContent("the card has no number")
+    if len(digits) > 18 and luhn(digits[:-1]) != digits[-1]:
+        raise BadContent(f"the check digit of {digits} is {digits[-1]}, and should be {luhn(digits[:-1])}")
 
 
 def luhn(digits):
@@ -75,7 +56,7 @@ def decode_imsi(content):
 
 
 def encode_imsi(digits):
-    if not digits.isdecimal() or not 6 <= len(digits) <= 15:
+    if not is_digits(digits) or not 6 <= len(digits) <= 15:
         raise BadContent(f"an IMSI has 6 to 15 digits, and `{digits}` is none")
     coded = ("9" if len(digits) % 2 else "1") + digits
     coded = packed(coded, (len(coded) + 1) // 2)
@@ -83,24 +64,6 @@ def encode_imsi(digits):
 
 
 # PLMNs
-
-def decode_plmn(content):
-    if is_blank(content):
-        return None
-    first, middle, last = content
-    halves = [first & 15, first >> 4, middle & 15, last & 15, last >> 4, middle >> 4]
-    if any(half > 9 for half in halves[:5]) or halves[5] > 9 and halves[5] != 15:
-        raise BadContent(f"{content.hex().upper()} is no PLMN: its digits are decimal")
-    return "".join(map(str, halves[:3])) + "-" + "".join(str(half) for half in halves[3:] if half != 15)
-
-
-def encode_plmn(text):
-    country, _, network = text.partition("-")
-    if not (country.isdecimal() and network.isdecimal() and len(country) == 3 and len(network) in (2, 3)):
-        raise BadContent(f"a PLMN is a country of three digits and a network of two or three, as 001-01, and not {text}")
-    third = network[2] if len(network) == 3 else "F"
-    return bytes(int(text, 16) for text in (country[1] + country[0], third + country[2], network[1] + network[0]))
-
 
 def decode_plmns(content):
     found = [decode_plmn(content[n:n + 3]) for n in range(0, len(content) - 2, 3)]
@@ -139,24 +102,6 @@ def encode_plmns_act(plmns):
 
 # names and numbers
 
-def text_of(content):
-    """A name of 7-bit letters, one a byte, up to the first FF; UCS2 behind 80."""
-    if content[:1] == b"\x80":
-        return content[1:].rstrip(b"\xFF").decode("utf-16-be", "replace")
-    content = content.split(b"\xFF")[0]
-    return "".join(chr(byte) if 0x20 <= byte < 0x7F else f"\\{byte:02X}" for byte in content)
-
-
-def coded_text(text, most):
-    if not text.isascii() or not text.isprintable():
-        content = b"\x80" + text.encode("utf-16-be")
-    else:
-        content = text.encode()
-    if len(content) > most:
-        raise BadContent(f"`{text}` has {len(content)} bytes, and there is room for {most}")
-    return content
-
-
 def decode_dialling(record):
     if is_blank(record):
         return None
@@ -171,15 +116,10 @@ def decode_dialling(record):
     return f"{text_of(name)}: {dialled_digits(rest[2:1 + length], kind)}"
 
 
-def dialled_digits(content, kind):
-    return "+" * (kind & 0x70 == 0x10) + "".join(DIALLED[half] for byte in content for half in (byte & 15, byte >> 4)).rstrip("F")
-
-
-DIALLED = "0123456789*#pw?F"
-
-
 def encode_dialling(entry, length):
     """`entry` has a name and a number, which begins with + where it is international."""
+    if length < 14:
+        raise BadContent(f"a record of numbers has at least 14 bytes, and not {length}")
     number = str(entry.get("number", ""))
     international, digits = number.startswith("+"), number.lstrip("+")
     if any(digit not in DIALLED[:14] for digit in digits) or len(digits) > 20:
@@ -219,8 +159,8 @@ def encode_acc(classes):
     return bits.to_bytes(2, "big")
 
 
-MODES = {0x00: "normal", 0x80: "type approval", 0x01: "normal, with features of the specification", 0x02: "maintenance",
-         0x04: "cell test"}
+MODES = {0x00: "normal", 0x80: "type approval", 0x01: "normal, with features of the specification",
+         0x81: "type approval, with features of the specification", 0x02: "maintenance", 0x04: "cell test"}
 
 
 def decode_ad(content):
@@ -240,7 +180,12 @@ def encode_ad(given):
 
 
 def decode_ust(content):
-    names, found = table("files")["ust"], []
+    return decode_bits(content, table("files")["ust"])
+
+
+def decode_bits(content, names):
+    """The services that are on, with their numbers."""
+    found = []
     for place in range(8 * len(content)):
         if content[place // 8] >> place % 8 & 1:
             found.append(f"{place + 1} {names[place]}" if place < len(names) else str(place + 1))
@@ -262,19 +207,29 @@ MOST_SERVICES = 2040
 
 def services(given, names):
     for one in given:
-        if isinstance(one, int) and 1 <= one <= MOST_SERVICES:
+        if isinstance(one, int) and not isinstance(one, bool) and 1 <= one <= MOST_SERVICES:
             yield one
         elif one in names:
             yield names.index(one) + 1
         else:
-            raise BadContent(f"`{one}` is no service by number or name")
+            meant = difflib.get_close_matches(str(one), names, 1)
+            raise BadContent(f"`{one}` is no service by number or name" + (f", but `{meant[0]}` is" if meant else ""))
 
 
-def encode_ust(given, size=None):
+def encode_ust(given, size=None, kind="ust"):
     bits = 0
-    for number in services(given, table("files")["ust"]):
+    for number in services(given, table("files")[kind]):
         bits |= 1 << number - 1
     return sized(bits, size or max(1, (bits.bit_length() + 7) // 8))
+
+
+def services_on(kind, content):
+    """The numbers of the services that are on in a table; None where it is blank."""
+    if is_blank(content):
+        return None
+    width = 2 if kind == "sst" else 1
+    bits = int.from_bytes(content, "little")
+    return {place + 1 for place in range(8 * len(content) // width) if bits >> width * place & (1 << width) - 1 == (1 << width) - 1}
 
 
 def encode_sst(given, size=None):
@@ -291,9 +246,6 @@ def sized(bits, size):
 
 
 # locations
-
-UPDATES = {0: "updated", 1: "not updated", 2: "PLMN not allowed", 3: "location area not allowed", 7: "reserved"}
-
 
 def decode_loci(content):
     if len(content) != 11:
@@ -315,11 +267,11 @@ def decode_psloci(content):
 
 
 def encode_loci(given):
-    area = int(given.get("area", "0000"), 16).to_bytes(2, "big")
+    area = exact_bytes(given.get("area", "0000"), 2, "a location area")
     updated = next((n for n, name in UPDATES.items() if name == given.get("status", "not updated")), None)
     if updated is None:
         raise BadContent(f"`{given['status']}` is no status: {', '.join(UPDATES.values())}")
-    return (bytes.fromhex(given.get("tmsi", "FFFFFFFF")) + encode_plmn(given["plmn"]) + area + b"\x00" + bytes((updated,)))
+    return exact_bytes(given.get("tmsi", "FFFFFFFF"), 4, "a TMSI") + encode_plmn(given["plmn"]) + area + b"\x00" + bytes((updated,))
 
 
 # others
@@ -372,6 +324,8 @@ def decode_sms(record):
 def decode_smsp(record):
     if is_blank(record):
         return None
+    if len(record) < structured.PARAMETERS:
+        raise BadContent(f"a record of parameters has at least {structured.PARAMETERS} bytes, and not {len(record)}")
     name, rest = record[:-28], record[-28:]
     centre = rest[13:25]
     has = not rest[0] & 0x02 and 1 <= centre[0] <= 11
@@ -386,11 +340,43 @@ def decode_keys(content):
     return "none" if content[0] == 7 else f"set {content[0]}, {content[1:].hex().upper()}"
 
 
+def decode_barred(record):
+    return None if is_blank(record) else decode_dialling(record[:-1])
+
+
+def decode_services(kind):
+    return lambda content: decode_bits(content, table("files")[kind])
+
+
+def told(read):
+    """A decoder that tells the fields of a content, each with its name."""
+    def decode_fields(content):
+        found = read(content)
+        return in_words(found) if found or found == 0 else None
+    return decode_fields
+
+
+def in_words(value):
+    if isinstance(value, dict):
+        return ", ".join(f"{key} {in_words(each)}" for key, each in value.items())
+    if isinstance(value, list):
+        return "; ".join(map(in_words, value)) or "none"
+    return str(value)
+
+
 DECODERS = {
     "iccid": decode_iccid, "imsi": decode_imsi, "plmns": decode_plmns, "plmns-act": decode_plmns_act, "dialling": decode_dialling,
     "spn": decode_spn, "acc": decode_acc, "ad": decode_ad, "ust": decode_ust, "sst": decode_sst, "loci": decode_loci,
     "psloci": decode_psloci, "languages": decode_languages, "minutes6": decode_minutes, "application": decode_application,
     "rule": decode_rule, "ecc": decode_ecc, "sms": decode_sms, "smsp": decode_smsp, "number": decode_number, "keys": decode_keys,
+    "barred": decode_barred, "ist": decode_services("ist"), "est": decode_services("est"), "pnn": told(structured.names_of),
+    "opl": told(lambda record: structured.areas_of(record, 2)), "opl5g": told(lambda record: structured.areas_of(record, 3)),
+    "spdi": told(structured.displayed_of), "mbi": told(structured.mailboxes_of),
+    "epsloci": told(lambda content: structured.location_of(content, 12, 2)),
+    "5gsloci": told(lambda content: structured.location_of(content, 13, 3)),
+    "access-identities": told(structured.access_identities_of), "routing": told(structured.routing_of),
+    "suci": told(structured.concealing_of), "supi-nai": told(structured.identifiers_of), "uri": told(structured.uri_of),
+    "uris": told(structured.uri_of), "servers": told(structured.server_of),
 }
 
 

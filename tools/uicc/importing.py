@@ -1,8 +1,5 @@
 """Makes a profile of a dump (`dump`), as far as its files fit on a card here."""
-import json
-import tomllib
-
-from . import contents, dump, grammar, layout, names, profile, rules
+from . import dump, fields, grammar, layout, located, names, profile, rules
 from .contents import BadContent
 from .dump import Unread
 
@@ -137,16 +134,12 @@ def told_shape(file, path):
 
 # the words of a profile
 
-def quoted(text):
-    return json.dumps(text, ensure_ascii=False)
-
-
 def table_name(path):
     """The name of a file's table: with the standard name of the file where it has one that leads there."""
     words = [names.name_of(path).replace(".", "_"), path[-1]]
     wholes = [name for word in words for name in ((word, "MF/" + word) if len(path) == 1 else ("/".join((*path[:-1], word)),))]
     whole = next(name for name in wholes if leads_to(name, path))
-    return quoted(whole) if "/" in whole else whole
+    return located.written(whole) if "/" in whole else whole
 
 
 def leads_to(name, path):
@@ -179,7 +172,7 @@ def content_lines(kept, entry, usim):
         records.pop()
     if not records:
         return
-    words = words_of(kept, entry, usim) if entry.get("structure") == shape.structure else None
+    words = words_of(kept, entry, usim, len(records)) if entry.get("structure") == shape.structure else None
     if words:
         yield words
     elif shape.structure == "t":
@@ -188,78 +181,25 @@ def content_lines(kept, entry, usim):
         yield "records = [" + ", ".join(f'"{(content or BLANK).hex().upper()}"' for content in records) + "]"
 
 
-def words_of(kept, entry, usim):
-    """The line that says a file's content in words; None where none becomes the same bytes."""
+def words_of(kept, entry, usim, told):
+    """The line that says a file's content in words, that of so many records; None where none becomes the same bytes."""
+    kind = fields.KINDS.get(entry.get("content"))
+    if kind is None or kind.value is None:
+        return None
     try:
-        key, text = WORDS[entry.get("content")](kept)
-        given = tomllib.loads(f"{key} = {text}\n" + shape_words(kept.shape))
-        _, content = profile.Builder({}, usim).described(kept.path, given)
+        value = [kind.value(record) for record in kept.records[:told]] if kind.of_records else kind.value(kept.records[0])
+        if kind.form.wrong(value):
+            return None
+        given = {kind.key: value} | shape_words(kept.shape)
+        _, content = profile.described(kept.path, given, usim)
     except (KeyError, IndexError, ValueError):
         return None
     width = kept.shape.length
-    told = [record.ljust(width, b"\xFF") for record in kept.records]
+    held = [record.ljust(width, b"\xFF") for record in kept.records]
     made = [content] if kept.shape.structure == "t" else content
     made = [record.ljust(width, b"\xFF") for record in made] + [b"\xFF" * width] * (kept.shape.count - len(made))
-    return f"{key} = {text}" if made == told else None
+    return f"{kind.key} = {located.written(value)}" if made == held else None
 
 
 def shape_words(shape):
-    return f"size = {shape.length}\n" if shape.structure == "t" else f"length = {shape.length}\ncount = {shape.count}\n"
-
-
-def listed(texts):
-    return "[" + ", ".join(texts) + "]"
-
-
-def plmn_words(kept):
-    return "plmns", listed(quoted(text) for text in contents.decode_plmns(kept.records[0]).split(", ") if text != "none")
-
-
-def plmn_act_words(kept):
-    return "plmns", listed(quoted(text) for text in contents.decode_plmns_act(kept.records[0]).split(", ") if text != "none")
-
-
-def language_words(kept):
-    return "languages", listed(quoted(text) for text in contents.decode_languages(kept.records[0]).split(", ") if text != "none")
-
-
-def class_words(kept):
-    bits = int.from_bytes(kept.records[0], "big")
-    return "acc", listed(str(number) for number in range(16) if bits >> number & 1)
-
-
-def service_words(kept):
-    bits = int.from_bytes(kept.records[0], "little")
-    return "services", listed(str(number + 1) for number in range(bits.bit_length()) if bits >> number & 1)
-
-
-def sim_service_words(kept):
-    bits = int.from_bytes(kept.records[0], "little")
-    return "services", listed(str(number // 2 + 1) for number in range(0, bits.bit_length(), 2) if bits >> number & 3)
-
-
-def dialling_words(kept):
-    records = list(kept.records)
-    while contents.is_blank(records[-1]):
-        records.pop()
-    return "entries", listed(map(dialling_entry, records))
-
-
-def dialling_entry(record):
-    if contents.is_blank(record):
-        return "{}"
-    name, rest = contents.text_of(record[:-14]), record[-14:]
-    number = contents.dialled_digits(rest[2:1 + rest[0]], rest[1]) if rest[0] != 0xFF else ""
-    parts = [f"name = {quoted(name)}"] + ([f"number = {quoted(number)}"] if number else [])
-    return "{ " + ", ".join(parts) + " }"
-
-
-# a line's key and value by the kind of content
-WORDS = {
-    "iccid": lambda kept: ("iccid", quoted(contents.digits_of(kept.records[0]))),
-    "imsi": lambda kept: ("imsi", quoted(contents.decode_imsi(kept.records[0]))),
-    "spn": lambda kept: ("spn", quoted(contents.text_of(kept.records[0][1:]))),
-    "minutes6": lambda kept: ("minutes", str(6 * kept.records[0][0])),
-    "plmns": plmn_words, "plmns-act": plmn_act_words, "languages": language_words, "acc": class_words,
-    "ust": service_words, "sst": sim_service_words, "dialling": dialling_words,
-}
+    return {"size": shape.length} if shape.structure == "t" else {"length": shape.length, "count": shape.count}

@@ -1,7 +1,7 @@
 """What is wrong with the lines of a script. The first bad line is the one that the program names, for the same cause."""
 import dataclasses
 
-from . import layout
+from . import access, layout
 from .grammar import OF_CARD, OF_TERMINAL, Apdu, Handset, Start, Tpdu, Wrong, read_line
 
 MOST_BYTES = 16_777_216
@@ -152,6 +152,8 @@ class Reading:
                 why = self.card.about_rule(file)
                 if why:
                     yield Finding(file.line, WARNING, f"RULE {file.rule[0]}:{file.rule[1]} allows nothing: {why}")
+        for files, rule, why in access.pointless(self.card):
+            yield Finding(files[0].line, WARNING, f"RULE {rule[0]}:{rule[1]}, {why}{access.others(files)}")
 
 
 def read(text, mode="play"):

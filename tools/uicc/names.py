@@ -1,12 +1,14 @@
 """The names of commands, files, status words and the toolkit's objects: the tables of data/, which other programs read too."""
+import difflib
 import functools
 import json
 import os
 import re
 
 DATA = os.path.join(os.path.dirname(os.path.abspath(__file__)), "data")
-# which DFs the standard files lie in, by the identifiers that a card of this simulator gives them
-APPLICATIONS = {"7F10": "TELECOM", "7F20": "GSM", "7F21": "GSM", "7FF0": "USIM", "7FFF": "USIM", "5F3A": "PHONEBOOK", "5F50": "GRAPHICS"}
+# what the folders at these identifiers hold, as data/files.json names it: on this card the files of a USIM lie in 7F20 with those of GSM
+APPLICATIONS = {"7F10": ("TELECOM",), "7F20": ("USIM", "GSM"), "7F21": ("GSM",), "7FF0": ("USIM",), "7FF2": ("ISIM",), "7FFF": ("USIM",)}
+FOLDERS = {"MF": (), "TELECOM": ("7F10",), "USIM": ("7F20",), "GSM": ("7F20",), "ISIM": ("7FF2",)}
 
 
 @functools.cache
@@ -47,26 +49,43 @@ def cause(result, value):
     return table("toolkit")["result_causes"].get(f"{result:02X}", {}).get(f"{value:02X}")
 
 
+@functools.cache
 def files_of(identifier):
     return [entry for entry in table("files")["files"] if entry["id"] == identifier]
 
 
+def places(folder, usim=True):
+    """What a folder may hold the standard files of, the likeliest first: those of a DF go by its name."""
+    if not folder:
+        return ("MF",)
+    if folder[-1] in APPLICATIONS:
+        found = APPLICATIONS[folder[-1]]
+        return found if usim or len(found) == 1 else found[1:]
+    entry = file(folder, usim)
+    return (entry["name"].partition(".")[2],) if entry and entry["name"].startswith("DF.") else ()
+
+
+def usual_folder(entry):
+    """The path of the folder in which a standard file lies."""
+    place = entry["in"][0]
+    if place in FOLDERS:
+        return FOLDERS[place]
+    above = next(one for one in table("files")["files"] if one["name"] == "DF." + place)
+    return (*usual_folder(above), above["id"])
+
+
+@functools.cache
 def file(path, usim=True):
     """The standard file at a path from the MF; None where there is none. In 7F20 it is that of a USIM where `usim` is so, else
-    that of GSM."""
+    that of GSM. In a folder that no standard has it there it is the one file that goes by its identifier."""
     if not path:
         return files_of("3F00")[0]
     found = files_of(path[-1])
-    if len(path) == 1:
-        return next((entry for entry in found if "MF" in entry["in"]), None)
-    places = [APPLICATIONS.get(path[-2], "")]
-    if path[-2] == "7F20" and usim:
-        places.insert(0, "USIM")
-    for place in places:
+    for place in places(path[:-1], usim):
         for entry in found:
             if place in entry["in"]:
                 return entry
-    return found[0] if found else None
+    return found[0] if len(found) == 1 and len(path) > 1 and found[0]["in"][0] in FOLDERS else None
 
 
 def name_of(path, usim=True):
@@ -87,8 +106,22 @@ def normal(word):
     return word.replace("_", ".").upper()
 
 
+@functools.cache
 def by_name(word):
     """The standard files of a name, with or without its EF. or DF."""
     wanted = normal(word)
     return [entry for entry in table("files")["files"]
             if wanted in (normal(entry["name"]), normal(entry["name"]).partition(".")[2])]
+
+
+@functools.cache
+def known():
+    """The names of all standard files, as tables of a profile are called."""
+    return sorted({entry["name"].replace(".", "_") for entry in table("files")["files"]})
+
+
+def near(word):
+    """Of which standard name a word is a slip, in the form of a profile's table; None where it is of none."""
+    by_normal = {normal(name): name for name in known()}
+    found = difflib.get_close_matches(normal(word), by_normal, 1)
+    return by_normal[found[0]] if found else None

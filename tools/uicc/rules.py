@@ -10,6 +10,8 @@ INCREASE = 0x32
 INSTRUCTIONS = {0xB0: "read binary", 0xB2: "read record", 0xA2: "search record", 0xD6: "update binary", 0xDC: "update record",
                 INCREASE: "increase", 0x04: "deactivate", 0x44: "activate"}
 KEYS = {"pin1": 0x01, "pin2": 0x81, "adm": 0x0A}
+# what is written for a condition that has another name here
+SLIPS = {"adm1": "adm", "alw": "always", "nev": "never", "chv1": "pin1", "chv2": "pin2", "1": "pin1", "2": "pin2"}
 KEY_NAMES = {key: name for name, key in KEYS.items()}
 ALWAYS, NEVER, BY_KEY, ONE_OF, ALL_OF = 0x90, 0x97, 0xA4, 0xA0, 0xAF
 DEEPEST = 4
@@ -37,15 +39,21 @@ def objects(content):
         at = start + length
 
 
-def read(record):
-    """The pairs of a record: what may be done, as (names of operations), and the condition in words."""
+def pairs(record):
+    """The pairs of a record: the tag and the byte that say what may be done, and the condition as a tree: ALWAYS or NEVER alone, BY_KEY
+    with a key, or ONE_OF or ALL_OF with conditions."""
     content = record.rstrip(b"\xFF")
     found = list(objects(content))
     if not found:
         raise NoRule("it is empty")
     if len(found) % 2:
         raise NoRule("an operation has no condition")
-    return [(operations(*found[n]), condition(*found[n + 1], DEEPEST)) for n in range(0, len(found), 2)]
+    return [(*found[n], condition(*found[n + 1], DEEPEST)) for n in range(0, len(found), 2)]
+
+
+def read(record):
+    """The pairs of a record: what may be done, as (names of operations), and the condition in words."""
+    return [(operations(tag, value), in_words(tree)) for tag, value, tree in pairs(record)]
 
 
 def operations(tag, value):
@@ -59,21 +67,29 @@ def operations(tag, value):
 
 
 def condition(tag, value, levels):
-    if tag == ALWAYS and not value:
-        return "always"
-    if tag == NEVER and not value:
-        return "never"
+    if tag in (ALWAYS, NEVER) and not value:
+        return (tag,)
     if tag == BY_KEY and len(value) == 6 and value[:2] == b"\x83\x01" and value[3:] == b"\x95\x01\x08":
-        return KEY_NAMES.get(value[2], f"key {value[2]:02X}, which no card has")
+        return (tag, value[2])
     if tag in (ONE_OF, ALL_OF):
         if not levels:
             raise NoRule(f"conditions stand more than {DEEPEST} deep")
         inner = [condition(*each, levels - 1) for each in objects(value)]
         if not inner:
             raise NoRule(f"{tag:02X} holds no condition")
-        word = " or " if tag == ONE_OF else " and "
-        return word.join(f"({text})" if " " in text and len(inner) > 1 else text for text in inner)
+        return (tag, *inner)
     raise NoRule(f"{tag:02X} with {value.hex().upper() or 'nothing'} is no condition")
+
+
+def in_words(tree):
+    """A condition in words."""
+    tag, *inner = tree
+    if tag in (ALWAYS, NEVER):
+        return "always" if tag == ALWAYS else "never"
+    if tag == BY_KEY:
+        return KEY_NAMES.get(inner[0], f"key {inner[0]:02X}, which no card has")
+    texts = map(in_words, inner)
+    return (" or " if tag == ONE_OF else " and ").join(f"({text})" if " " in text and len(inner) > 1 else text for text in texts)
 
 
 def shown(record):
@@ -84,6 +100,8 @@ def shown(record):
 # from words
 
 def spelled(tag, value):
+    if len(value) > 0xFF:
+        raise NoRule(f"the object {tag:02X} would have {len(value)} bytes, and has at most 255")
     head = bytes((tag, len(value))) if len(value) < 0x80 else bytes((tag, 0x81, len(value)))
     return head + value
 
@@ -98,7 +116,8 @@ def condition_of(words):
         return bytes((ALWAYS if words == "always" else NEVER, 0))
     if words in KEYS:
         return bytes((BY_KEY, 6, 0x83, 1, KEYS[words], 0x95, 1, 8))
-    raise NoRule(f"`{words}` is no condition: always, never, {', '.join(KEYS)}, joined by `or` or `and`")
+    meant = f", but `{SLIPS[words.lower()]}` is" if words.lower() in SLIPS else ""
+    raise NoRule(f"`{words}` is no condition{meant}: always, never, {', '.join(KEYS)}, joined by `or` or `and`")
 
 
 def written(words):

@@ -1,0 +1,100 @@
+"""How contents of files are coded: digits, PLMNs and names as bytes (3GPP TS 31.102; ETSI TS 102 221, annex A)."""
+
+
+class BadContent(ValueError):
+    """Bytes that can't be right, or words that no bytes say."""
+
+
+def is_blank(content):
+    return not content.strip(b"\xFF")
+
+
+# digits: two a byte, the first in the lower half
+
+def digits_of(content):
+    """The digits up to the first half byte that is F."""
+    found = ""
+    for byte in content:
+        for half in (byte & 15, byte >> 4):
+            if half == 15:
+                return found
+            if half > 9:
+                raise BadContent(f"{half:X} is no decimal digit")
+            found += str(half)
+    return found
+
+
+def is_digits(text):
+    return text.isascii() and text.isdecimal()
+
+
+def packed(digits, size):
+    """Digits two a byte, filled up with F."""
+    if digits and not is_digits(digits):
+        raise BadContent(f"`{digits}` are no decimal digits")
+    if len(digits) > 2 * size:
+        raise BadContent(f"{len(digits)} digits are more than {size} bytes hold")
+    digits = digits.ljust(2 * size, "F")
+    return bytes(int(digits[n + 1] + digits[n], 16) for n in range(0, 2 * size, 2))
+
+
+# PLMNs
+
+def decode_plmn(content):
+    if is_blank(content):
+        return None
+    first, middle, last = content
+    halves = [first & 15, first >> 4, middle & 15, last & 15, last >> 4, middle >> 4]
+    if any(half > 9 for half in halves[:5]) or halves[5] > 9 and halves[5] != 15:
+        raise BadContent(f"{content.hex().upper()} is no PLMN: its digits are decimal")
+    return "".join(map(str, halves[:3])) + "-" + "".join(str(half) for half in halves[3:] if half != 15)
+
+
+def encode_plmn(text):
+    country, _, network = text.partition("-")
+    if not (is_digits(country) and is_digits(network) and len(country) == 3 and len(network) in (2, 3)):
+        raise BadContent(f"a PLMN is a country of three digits and a network of two or three, as 001-01, and not {text}")
+    third = network[2] if len(network) == 3 else "F"
+    return bytes(int(text, 16) for text in (country[1] + country[0], third + country[2], network[1] + network[0]))
+
+
+# names and numbers
+
+def text_of(content):
+    """A name of 7-bit letters, one a byte, up to the first FF; UCS2 behind 80."""
+    if content[:1] == b"\x80":
+        return content[1:].rstrip(b"\xFF").decode("utf-16-be", "replace")
+    content = content.split(b"\xFF")[0]
+    return "".join(chr(byte) if 0x20 <= byte < 0x7F else f"\\{byte:02X}" for byte in content)
+
+
+def coded_text(text, most):
+    if not text.isascii() or not text.isprintable():
+        content = b"\x80" + text.encode("utf-16-be")
+    else:
+        content = text.encode()
+    if len(content) > most:
+        raise BadContent(f"`{text}` has {len(content)} bytes, and there is room for {most}")
+    return content
+
+
+def dialled_digits(content, kind):
+    return "+" * (kind & 0x70 == 0x10) + "".join(DIALLED[half] for byte in content for half in (byte & 15, byte >> 4)).rstrip("F")
+
+
+DIALLED = "0123456789*#pw?F"
+
+
+def exact_bytes(digits, size, what):
+    """So many bytes, told by hexadecimal digits."""
+    try:
+        content = bytes.fromhex(digits)
+    except ValueError:
+        content = b""
+    if len(content) != size:
+        raise BadContent(f"{what} has {2 * size} hexadecimal digits, and `{digits}` is none")
+    return content
+
+
+# of what is told of a location
+UPDATES = {0: "updated", 1: "not updated", 2: "PLMN not allowed", 3: "location area not allowed", 7: "reserved"}
