@@ -60,6 +60,17 @@ def stable(image):
     return recovered(image[:JOURNAL_SIZE])
 
 
+def settled(image):
+    """The stable bytes without what the journal notes: images with the same ones hold the same card."""
+    content = stable(image)
+    return content[:GATE] + b"\xFF" * (ENTRIES_END - GATE) + content[ENTRIES_END:]
+
+
+def is_unfinished(image):
+    """Whether a commit was begun, and is to be finished when the card is opened next."""
+    return len(image) > GATE and image[GATE] == OPEN_GATE
+
+
 def is_paged(image):
     return len(image) >= PAGES_SIZE and image[5] == PAGES_MARK
 
