@@ -26,6 +26,28 @@ def plain():
     return painter
 
 
+# the status of a tool whose output nobody reads on
+NOT_READ_ON = 2
+
+
+def ended(main):
+    """Runs a tool, and answers its status. Where nobody reads on what it writes, or it is interrupted, it ends with no more words."""
+    try:
+        try:
+            status = main()
+        except SystemExit as end:
+            # its words were wrong, or asked for its page of help
+            status = end.code
+        sys.stdout.flush()
+        return status
+    except BrokenPipeError:
+        # nothing more is to be written at the end either
+        os.dup2(os.open(os.devnull, os.O_WRONLY), sys.stdout.fileno())
+        return NOT_READ_ON
+    except KeyboardInterrupt:
+        return 130
+
+
 class Progress:
     """A line on standard error that says how much of a work is done; none where that is no terminal."""
 
