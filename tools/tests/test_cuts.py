@@ -293,8 +293,8 @@ class Together(unittest.TestCase):
 
 
 class Pictures(unittest.TestCase):
-    WAYS = [("cut, all its bytes FF", "! cut", "before"), ("cut half way, then 5A", "! cut", "after"),
-            ("fails, all its bytes FF", "< 6581", "NEITHER")]
+    WAYS = [cutting.Left("cut, all its bytes FF", "! cut", "before", ""), cutting.Left("cut half way, then 5A", "! cut", "after", ""),
+            cutting.Left("fails, all its bytes FF", "< 6581", "NEITHER", "")]
     # the answer to a command as it is told and as it is drawn, its writes, the stripes of each colour, and whether it is drawn as refused
     TABLE = [
         ("< 9000", "9000", [WAYS, WAYS], {"before": 2, "after": 2, "NEITHER": 2}, False),

@@ -25,6 +25,18 @@ class NoCard(Exception):
     """The bytes hold no card."""
 
 
+def expect_store(content, store, path):
+    """NoCard, where an image isn't one of the store (the journal, where none is named): the program would lengthen a file that is too
+    short for it."""
+    if len(content) < JOURNAL_SIZE:
+        raise NoCard(f"it has {len(content):,} bytes, and an image has {JOURNAL_SIZE:,}, or {PAGES_SIZE:,} with --store pages: it holds no "
+                     f"card; `uicc_run play --image {path} < SCRIPT` makes one in it")
+    if store != "pages" and is_paged(content):
+        raise NoCard("it is an image of the other store: --store pages opens it")
+    if store == "pages" and not is_paged(content):
+        raise NoCard("it is an image of the other store: it is opened without --store pages")
+
+
 def pieces(content):
     """The pieces of a commit whose gate is open; none where they aren't well formed."""
     if content[GATE] != OPEN_GATE:
@@ -58,6 +70,17 @@ def stable(image):
     if len(image) >= PAGES_SIZE and is_paged(image):
         return through_map(recovered_inner(image))
     return recovered(image[:JOURNAL_SIZE])
+
+
+def settled(image):
+    """The stable bytes without what the journal notes: images with the same ones hold the same card."""
+    content = stable(image)
+    return content[:GATE] + b"\xFF" * (ENTRIES_END - GATE) + content[ENTRIES_END:]
+
+
+def is_unfinished(image):
+    """Whether a commit was begun, and is to be finished when the card is opened next."""
+    return len(image) > GATE and image[GATE] == OPEN_GATE
 
 
 def is_paged(image):

@@ -88,6 +88,18 @@ def file(path, usim=True):
     return found[0] if len(found) == 1 and len(path) > 1 and found[0]["in"][0] in FOLDERS else None
 
 
+def by_short(df, number, usim=True):
+    """The standard file of a DF that has this short identifier; None where there is none."""
+    found = (entry for entry in table("files")["files"] if entry.get("short") == number)
+    return next((entry for entry in found if file((*df, entry["id"]), usim) is entry and is_in(entry, df)), None)
+
+
+def is_in(entry, df):
+    """Whether a standard file lies in a DF."""
+    places = {"MF"} if not df else {APPLICATIONS.get(df[-1], ""), "USIM" if df[-1] == "7F20" else ""}
+    return bool(places & set(entry["in"]))
+
+
 def name_of(path, usim=True):
     """The standard name of the file at a path, or else its identifier."""
     entry = file(path, usim)
