@@ -92,6 +92,7 @@ class Dialogues(unittest.TestCase):
         ("AT+CMEE=2;+CIMI", ["+CME ERROR: SIM PIN required"]), ("AT+CMEE=0;+CIMI", ["ERROR"]), ("AT+CMEE=3", ["ERROR"]),
         ("AT+CMEE=1;+CMEE?", ["+CMEE: 1", "OK"]), ('AT+CPIN="1234";+CIMI', ["001010123456789", "OK"]),
         ("AT+CREG?", ["+CREG: 0,0", "OK"]), ("AT+CFUN?", ["+CFUN: 4", "OK"]), ("AT+CFUN=1", ["OK"]), ("AT+CREG?", ["+CREG: 0,1", "OK"]),
+        ("AT+CREG=2;+CREG?", ['+CREG: 2,1,"0001","00000001"', "OK"]), ("AT+CREG=3", ["+CME ERROR: 50"]),
         ("AT+COPS?", ['+COPS: 0,0,"Example"', "OK"]), ("AT+COPS=3,2;+COPS?", ['+COPS: 0,2,"00101"', "OK"]), ("AT+CLCC", ["OK"]),
         ("ATD123;", ["NO CARRIER"]), ("AT+CFUN=7", ["+CME ERROR: 50"]), ("ATV0", ["0\r"]), ("AT+FOO", ["4\r"]), ("ATV1Q1", []), ("AT+FOO", []),
     ]
@@ -139,6 +140,17 @@ class Dialogues(unittest.TestCase):
 
     def test_files(self):
         self.dialogue(USIM, self.FILES)
+
+    BOOK = [
+        ("AT+CPBS=?", ['+CPBS: ("SM")', "OK"]), ("AT+CPBR=1", ["+CME ERROR: 11"]), ('AT+CPIN="1234"', ["OK"]),
+        ("AT+CPBR=?", ["+CPBR: (1-50),20,14", "OK"]),
+        ("AT+CPBR=2,50", ['+CPBR: 2,"611",129,"Operator"', '+CPBR: 3,"+999901005550",145,"Anna"', "OK"]), ("AT+CPBR=4", ["OK"]),
+        ("AT+CPBR=0", ["+CME ERROR: 21"]), ("AT+CPBR=2,51", ["+CME ERROR: 21"]), ('AT+CPBS="ME"', ["+CME ERROR: 4"]),
+        ('AT+CSCS="UCS2";+CPBR=3', ['+CPBR: 3,"+999901005550",145,"0041006E006E0061"', "OK"]), ('AT+CSCS="X"', ["+CME ERROR: 4"]),
+    ]
+
+    def test_phone_book(self):
+        self.dialogue(USIM, self.BOOK)
 
     CHANNELS = [
         ('AT+CSIM=14,"00A40004022FE2"', ['+CSIM: 54,"62178202412183022FE28A01058B032F06058002000A8801109000"', "OK"]),

@@ -15,12 +15,13 @@ OFF, FULL, RADIO_OFF = 0, 1, 4
 
 NOT_ALLOWED, NOT_SUPPORTED = 3, 4
 NO_SIM, PIN_WANTED, PUK_WANTED, SIM_FAILURE, SIM_BUSY, WRONG_PASSWORD = 10, 11, 12, 13, 14, 16
-MEMORY_FULL, NOT_FOUND, MEMORY_FAILURE, BAD_LETTERS, BAD_PARAMETERS, UNKNOWN = 20, 22, 23, 25, 50, 100
+MEMORY_FULL, INVALID_INDEX, NOT_FOUND, MEMORY_FAILURE, BAD_LETTERS, BAD_PARAMETERS, UNKNOWN = 20, 21, 22, 23, 25, 50, 100
 ERRORS = {
     NOT_ALLOWED: "operation not allowed", NOT_SUPPORTED: "operation not supported", NO_SIM: "SIM not inserted",
     PIN_WANTED: "SIM PIN required", PUK_WANTED: "SIM PUK required", SIM_FAILURE: "SIM failure", SIM_BUSY: "SIM busy",
-    WRONG_PASSWORD: "incorrect password", MEMORY_FULL: "memory full", NOT_FOUND: "not found", MEMORY_FAILURE: "memory failure",
-    BAD_LETTERS: "invalid characters in text string", BAD_PARAMETERS: "incorrect parameters", UNKNOWN: "unknown",
+    WRONG_PASSWORD: "incorrect password", MEMORY_FULL: "memory full", INVALID_INDEX: "invalid index", NOT_FOUND: "not found",
+    MEMORY_FAILURE: "memory failure", BAD_LETTERS: "invalid characters in text string", BAD_PARAMETERS: "incorrect parameters",
+    UNKNOWN: "unknown",
 }
 
 

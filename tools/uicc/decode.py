@@ -492,12 +492,22 @@ def pin_status_text(value):
     return ", ".join(f"{names.key(key)} {'on' if value[2] >> 7 - n & 1 else 'off'}" for n, key in enumerate(keys)) or "none"
 
 
+def control_parameter(data, tag):
+    """The value of an object of control parameters; no bytes where there is none."""
+    try:
+        return dict(rules.objects(tlv.template(data)[1])).get(tag, b"")
+    except ValueError:
+        return b""
+
+
+def descriptor_in(data):
+    """The bytes of the file descriptor: five where the file has records, the fourth their length and the fifth their number."""
+    return control_parameter(data, 0x82)
+
+
 def pins_in(data):
     """Which PINs are on, by their keys, as control parameters say."""
-    try:
-        value = dict(rules.objects(tlv.template(data)[1])).get(0xC6, b"")
-    except ValueError:
-        return {}
+    value = control_parameter(data, 0xC6)
     at = value.find(b"\x83")
     keys = [value[n + 2] for n in range(at, len(value) - 2, 3)] if at > 2 else []
     return {key: bool(value[2] >> 7 - n & 1) for n, key in enumerate(keys)}

@@ -74,7 +74,7 @@ class Modem:
 
     def _forget_client(self):
         self.has_echo, self.has_words, self.is_quiet, self.error_form = True, True, False, 1
-        self.is_reporting, self.operator_format = True, 0
+        self.is_reporting, self.operator_format, self.registration_forms, self.letters = True, 0, {}, "IRA"
         self._line, self._is_too_long, self._notices = bytearray(), False, []
 
     # the client

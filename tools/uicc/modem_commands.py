@@ -25,6 +25,10 @@ NETWORK_NAME = "Example"
 AUTOMATIC, ONLY_FORMAT = 0, 3
 LONG_NAME, SHORT_NAME, NUMERIC = 0, 1, 2
 AT_HOME, UNKNOWN_SIGNAL = 1, 99
+AREA, CELL = "0001", "00000001"
+
+LETTERS = ("IRA", "GSM", "UCS2")
+PHONE_BOOK, TELECOM, ADN = "SM", "7F10", "6F3A"
 
 COMMANDS = {}
 
@@ -117,20 +121,22 @@ def error_forms(_modem, _given):
 
 
 @command("+CSCS", SET)
-def set_letters(_modem, given):
-    if given.text(0).upper() not in ("GSM", "IRA"):
+def set_letters(modem, given):
+    """In which letters the phone book has its names."""
+    if given.text(0).upper() not in LETTERS:
         raise at.Failed(at.NOT_SUPPORTED)
+    modem.letters = given.text(0).upper()
     return ()
 
 
 @command("+CSCS", READ)
-def letters(_modem, _given):
-    return ('+CSCS: "IRA"',)
+def letters(modem, _):
+    return (f"+CSCS: {quoted(modem.letters)}",)
 
 
 @command("+CSCS", TEST)
 def all_letters(_modem, _given):
-    return ('+CSCS: ("GSM","IRA")',)
+    return (f"+CSCS: ({','.join(map(quoted, LETTERS))})",)
 
 
 # who the modem is
@@ -480,8 +486,71 @@ def iccid(modem, _):
 def decoded(decode_content, content):
     try:
         return decode_content(content)
-    except contents.BadContent:
+    except (contents.BadContent, IndexError):
         raise at.Failed(at.SIM_FAILURE) from None
+
+
+# the phone book
+
+@command("+CPBS", TEST)
+def books(_modem, _given):
+    return (f"+CPBS: ({quoted(PHONE_BOOK)})",)
+
+
+@command("+CPBS", READ)
+def book(_modem, _given):
+    return (f"+CPBS: {quoted(PHONE_BOOK)}",)
+
+
+@command("+CPBS", SET)
+def set_book(_modem, given):
+    given.at_most(1)
+    if given.text(0).upper() != PHONE_BOOK:
+        raise at.Failed(at.NOT_SUPPORTED)
+    return ()
+
+
+@command("+CPBR", TEST)
+def book_size(modem, _):
+    count, length = book_shape(modem)
+    return (f"+CPBR: (1-{count}),{LONGEST_NUMBER},{length - contents.DIALLING}",)
+
+
+LONGEST_NUMBER = 20
+
+
+def book_shape(modem):
+    """How many records EF_ADN has, and of how many bytes."""
+    fcp = modem.done(selection((TELECOM, ADN))).data
+    shape = decode.descriptor_in(fcp)
+    if len(shape) != 5 or shape[4] == 0 or shape[3] < contents.DIALLING:
+        raise at.Failed(at.SIM_FAILURE)
+    return shape[4], shape[3]
+
+
+@command("+CPBR", SET)
+def entries(modem, given):
+    """The entries that are used, of one place or from one up to another."""
+    given.at_most(2)
+    count, length = book_shape(modem)
+    first = given.number(0)
+    last = given.number(1, first)
+    if not 1 <= first <= last <= count:
+        raise at.Failed(at.INVALID_INDEX)
+    found = ((place, modem.done(bytes((0, decode.READ_RECORD, place, 4, length))).data) for place in range(first, last + 1))
+    return [entry(modem, place, record) for place, record in found if not contents.is_blank(record)]
+
+
+def entry(modem, place, record):
+    name, number, kind = decoded(contents.dialling_parts, record)
+    return f"+CPBR: {place},{quoted(number)},{kind},{quoted(lettered(name, modem.letters))}"
+
+
+def lettered(text, letters):
+    """A text in the letters that a client wants; in those of seven bits without what they can't write."""
+    if letters == "UCS2":
+        return decode.hexed(text.encode("utf-16-be"))
+    return "".join(letter if " " <= letter < "\x7F" and letter != '"' else "?" for letter in text)
 
 
 # a network that never calls
@@ -490,24 +559,33 @@ def decoded(decode_content, content):
 @command("+CGREG", READ)
 @command("+CEREG", READ)
 def registration(modem, given):
-    is_registered = modem.functionality == FULL and modem.has_power and modem.pin_state() == "READY"
-    return (f"{given.name}: 0,{AT_HOME if is_registered else 0}",)
+    form = modem.registration_forms.get(given.name, 0)
+    return (f"{given.name}: {form},{registration_state(modem, form)}",)
+
+
+def registration_state(modem, form):
+    """Whether the modem is registered, and in form 2 where."""
+    if modem.functionality != FULL or not modem.has_power or modem.pin_state() != "READY":
+        return "0"
+    return f"{AT_HOME},{quoted(AREA)},{quoted(CELL)}" if form == 2 else str(AT_HOME)
 
 
 @command("+CREG", TEST)
 @command("+CGREG", TEST)
 @command("+CEREG", TEST)
 def registrations(_modem, given):
-    return (f"{given.name}: (0)",)
+    return (f"{given.name}: (0-2)",)
 
 
 @command("+CREG", SET)
 @command("+CGREG", SET)
 @command("+CEREG", SET)
-def set_registration(_modem, given):
-    """What is told of a change: there is none."""
+def set_registration(modem, given):
+    """In which form it is told; of changes nothing is told, as there are none."""
+    given.at_most(1)
     if given.number(0, 0) > 2:
         raise at.Failed(at.BAD_PARAMETERS)
+    modem.registration_forms[given.name] = given.number(0, 0)
     return ()
 
 
