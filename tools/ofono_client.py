@@ -7,7 +7,7 @@ It puts an empty folder in the place of oFono's /var/lib/ofono, and starts a bus
 standard input is a request, a list in JSON, whose answer is printed as a line:
 
     ["get", INTERFACE]                   its properties
-    ["set", INTERFACE, NAME, VALUE]      a property, true or false
+    ["set", INTERFACE, NAME, VALUE]      a property: true, false or a list of texts
     ["call", INTERFACE, METHOD, VALUE..] what a method of the modem answers
     ["pick", NUMBER]                     entry NUMBER of the main menu, from 0, for a session of its own
     ["agent", true | false]              whether there is an agent for what the card begins by itself
@@ -33,7 +33,7 @@ STORAGE = "/var/lib/ofono"
 SERVICE, MODEM, TOOLKIT = "org.ofono", "/phonesim", "org.ofono.SimToolkit"
 AGENT, STANDING, OF_SESSION = "org.ofono.SimToolkitAgent", "/standing", "/session"
 ERRORS = "org.ofono.Error."
-SECONDS = 20
+SECONDS = 60
 BUS = """<!DOCTYPE busconfig PUBLIC "-//freedesktop//DTD D-BUS Bus Configuration 1.0//EN"
  "http://www.freedesktop.org/standards/dbus/1.0/busconfig.dtd">
 <busconfig>
@@ -47,6 +47,8 @@ BUS = """<!DOCTYPE busconfig PUBLIC "-//freedesktop//DTD D-BUS Bus Configuration
 """
 SETTINGS = "[phonesim]\nAddress=127.0.0.1\nPort={port}\n"
 PLUGINS = "phonesim,atmodem"
+# what a terminal says to a card that asks for its language
+LANGUAGE = "en_GB.UTF-8"
 YES, SEEN, NOTHING = {"value": True}, {"value": None}, {}
 # what agents are asked: the type of the answer, and what is answered where no answer was given
 QUESTIONS = {
@@ -107,7 +109,8 @@ class Client:
         return self.interface(interface).GetProperties(timeout=SECONDS)
 
     def set(self, interface, name, value):
-        return self.interface(interface).SetProperty(name, dbus.Boolean(value), signature="sv", timeout=SECONDS)
+        value = dbus.Array(value, signature="s") if isinstance(value, list) else dbus.Boolean(value)
+        return self.interface(interface).SetProperty(name, value, signature="sv", timeout=SECONDS)
 
     def call(self, interface, method, *values):
         return getattr(self.interface(interface), method)(*values, timeout=SECONDS)
@@ -166,7 +169,8 @@ def started(folder, port):
         subprocess.Popen(["dbus-daemon", "--config-file", settings, "--nofork", "--nopidfile"], **quiet)
         address = "unix:path=" + path
         bus = until(lambda: connected(address), "the bus")
-        environment = {**os.environ, "DBUS_SYSTEM_BUS_ADDRESS": address, "OFONO_PHONESIM_CONFIG": configuration, "OFONO_AT_DEBUG": "1"}
+        environment = {**os.environ, "DBUS_SYSTEM_BUS_ADDRESS": address, "OFONO_PHONESIM_CONFIG": configuration, "OFONO_AT_DEBUG": "1",
+                       "LANG": LANGUAGE}
         subprocess.Popen(["ofonod", "--nodetach", "--debug", "--plugin", PLUGINS], env=environment, **quiet)
     until(lambda: bus.name_has_owner(SERVICE), "oFono")
     return bus

@@ -457,7 +457,7 @@ def places(identifier):
     if identifier == "3F00":
         return [()]
     folders = [folder for entry in names.files_of(identifier) for folder in entry["in"]]
-    found = [(*FOLDERS[folder], identifier) for folder in FOLDERS if folder in folders]
+    found = list(dict.fromkeys((*FOLDERS[folder], identifier) for folder in FOLDERS if folder in folders))
     return found or [(USIM_FOLDER, identifier), ("7F10", identifier), (identifier,)]
 
 

@@ -12,6 +12,7 @@
 The card is the SIM of a modem (modem.py) that oFono finds at a port of this machine; in the card's place may stand any object with its
 `transmit` and `reset`. oFono runs on a D-Bus of its own, in namespaces of its own (`unshare`), where it keeps nothing: the system's bus and
 what an oFono of the system keeps are not touched. All that was started ends with it. `why_not` says what of Debian's packages is missing."""
+import functools
 import json
 import os
 import shutil
@@ -31,7 +32,7 @@ CLIENT = os.path.join(process.TOP, "tools", "ofono_client.py")
 UNSHARE = ("unshare", "--map-root-user", "--mount", "--pid", "--fork", "--kill-child", "--mount-proc")
 STORAGE = "/var/lib/ofono"
 SERVICE = "org.ofono."
-SECONDS = 20
+SECONDS = 60
 WAIT = 0.02
 
 
@@ -39,6 +40,7 @@ class OfonoError(Exception):
     """oFono can't be had, or refused what it was asked for."""
 
 
+@functools.cache
 def python_with_dbus():
     """A Python that has D-Bus and its main loop: the system's, as a rule."""
     for python in dict.fromkeys(("/usr/bin/python3", sys.executable)):
@@ -180,7 +182,7 @@ class Ofono:
     def power_on(self):
         """Switches the modem on, and waits until oFono knows what the SIM waits for."""
         self.ask("set", SERVICE + "Modem", "Powered", True)
-        return self.until(lambda: "PinRequired" in self.sim and self.sim["PinRequired"])
+        return self.until(lambda: self.sim.get("Retries") and self.sim["PinRequired"])
 
     def power_off(self):
         self.ask("set", SERVICE + "Modem", "Powered", False)
