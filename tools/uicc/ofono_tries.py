@@ -2,7 +2,6 @@
 
 A try passes where oFono does what the standard asks for, fails where it does something else, and isn't supported where oFono says so
 itself, by the general results 30 and 31 (beyond the terminal's capabilities, type not understood)."""
-import contextlib
 import dataclasses
 import os
 
@@ -23,6 +22,7 @@ DETAILS, DEVICES, RESULT, DURATION, TEXT, ITEM, TIMER_IDENTIFIER = 0x01, 0x02, 0
 FROM_TERMINAL = b"\x82\x81"
 # as long as a try waits for what oFono does at once
 SECONDS = 20
+SECONDS_OF_UPDATE = 3
 MOST_WRITES = 12
 
 
@@ -463,11 +463,15 @@ def due(session):
 # losses of power
 
 def cuts(report):
-    """The own number is changed, and the power goes in each memory write of that in turn: it is the old one or the new one then."""
-    report.attempt("an update that loses power leaves the old number or the new one", cut_in_turn)
+    """The own number is changed, and the power goes in each memory write of that in turn."""
+    replies = []
+    report.attempt("an update that loses power leaves the old number or the new one", lambda: cut_in_turn(replies))
+    report.attempt("who asked for that update is told that it failed", lambda: expect(
+        all("NoReply" not in reply for reply in replies), True, "that there is a reply"))
 
 
-def cut_in_turn():
+def cut_in_turn(replies):
+    """What is found after each cut; what oFono said to who asked goes to `replies`."""
     found = set()
     with Card(TELEPHONE) as card, Session(card) as session:
         phone = session.phone
@@ -478,10 +482,10 @@ def cut_in_turn():
         for write in range(1, MOST_WRITES):
             before = own_number(session)
             cut.write = write
-            with contextlib.suppress(ofono.OfonoError):
-                phone.ask("set", "org.ofono.SimManager", "SubscriberNumbers", [ANOTHER_NUMBER if before == OWN_NUMBER else OWN_NUMBER])
+            reply = asked_for(phone, ANOTHER_NUMBER if before == OWN_NUMBER else OWN_NUMBER)
             if phone.modem.has_power:
                 break
+            replies.append(reply)
             session.until(lambda: phone.sim.get("Present") is False, "oFono sees that the SIM is gone")
             phone.power_off()
             phone.power_on()
@@ -489,6 +493,15 @@ def cut_in_turn():
             after = own_number(session)
             found.add("the old one" if after == before else "the new one" if after in (OWN_NUMBER, ANOTHER_NUMBER) else after)
     expect(found, {"the old one", "the new one"}, "what was found after the cuts")
+
+
+def asked_for(phone, number):
+    """What oFono says to who asks for another own number."""
+    try:
+        phone.ask("within", SECONDS_OF_UPDATE, "set", "org.ofono.SimManager", "SubscriberNumbers", [number])
+    except ofono.OfonoError as fault:
+        return str(fault)
+    return "done"
 
 
 def own_number(session):
