@@ -58,6 +58,7 @@ QUESTIONS = {
     "ConfirmCallSetup": ("b", YES), "PlayTone": ("", SEEN), "LoopTone": ("", NOTHING), "DisplayActionInformation": ("", NOTHING),
     "ConfirmLaunchBrowser": ("b", YES), "DisplayAction": ("", NOTHING), "ConfirmOpenChannel": ("b", YES),
 }
+KINDS = {"s": str, "y": int, "b": bool}
 # what they are told, which wants no answer
 NOTES = ("Cancel", "Release")
 
@@ -101,7 +102,10 @@ class Client:
             return None
         reply = dbus.lowlevel.MethodReturnMessage(message)
         if kind:
-            reply.append(answer["value"], signature=kind)
+            try:
+                reply.append(KINDS[kind](answer["value"]), signature=kind)
+            except (TypeError, ValueError, OverflowError):
+                return dbus.lowlevel.ErrorMessage(message, ERRORS + "EndSession", "the answer is of another kind than the question")
         return reply
 
     def interface(self, name):
@@ -140,8 +144,7 @@ class Client:
         try:
             found = todo[request[0]](*request[1:])
         except (dbus.DBusException, TypeError, ValueError, KeyError) as fault:
-            name = fault.get_dbus_name() if isinstance(fault, dbus.DBusException) else type(fault).__name__
-            return {"error": f"{name}: {fault}"}
+            return {"error": str(fault)}
         return {"answer": None if found is None else plain(found)}
 
 
