@@ -379,12 +379,18 @@ class Terminal:
         try:
             if chosen:
                 raise Unread(chosen)
-            self.held = read(raw)
+            self.held = self.understood(raw)
         except Unread as fault:
             return self._respond(fault.reply, details)
-        if not is_known(self.held, self.profile):
-            return self._respond(BEYOND)
-        return CARRIED_OUT[self.held.kind](self, self.held)
+        return self.carry_out(self.held) if is_known(self.held, self.profile) else self._respond(BEYOND)
+
+    def understood(self, raw):
+        """The command that was fetched. Unread, where the handset can't do it."""
+        return read(raw)
+
+    def carry_out(self, command):
+        """Does what a command asks for; the answer to what is sent then, None where the user is to do something first."""
+        return CARRIED_OUT[command.kind](self, command)
 
     def _respond(self, reply, details=None):
         details, self.held = details or self.held.details, None
@@ -498,8 +504,11 @@ CALLS = {b"\x00\x00": "call", b"\x01\x00": "barred"}
 
 # what becomes of a command
 CARRIED_OUT = {
-    REFRESH: Terminal._refresh, MENU: Terminal._menu, EVENT_LIST: Terminal._event_list, LOCAL: Terminal._local_information,
-    TIMERS: Terminal._timer,
+    REFRESH: lambda terminal, command: terminal._refresh(command),
+    MENU: lambda terminal, command: terminal._menu(command),
+    EVENT_LIST: lambda terminal, command: terminal._event_list(command),
+    LOCAL: lambda terminal, command: terminal._local_information(command),
+    TIMERS: lambda terminal, command: terminal._timer(command),
     MORE_TIME: lambda terminal, _: terminal._respond(DONE),
     POLL_INTERVAL: lambda terminal, command: terminal._respond(
         Reply(DONE.result, tlv.written(DURATION, bytes((IN_SECONDS, command.value))))),
