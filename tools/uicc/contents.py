@@ -157,18 +157,28 @@ def coded_text(text, most):
     return content
 
 
+# what follows the name in a record of numbers
+DIALLING = 14
+
+
+def dialling_parts(record):
+    """The name, the number and its kind in a record that isn't blank."""
+    if len(record) < DIALLING:
+        raise BadContent(f"a record of numbers has at least {DIALLING} bytes, and not {len(record)}")
+    name, rest = record[:-DIALLING], record[-DIALLING:]
+    length, kind = rest[0], rest[1]
+    if length == 0xFF:
+        return text_of(name), "", kind
+    if not 1 <= length <= 11:
+        raise BadContent(f"the length of its number is 1 to 11, and not {length:02X}")
+    return text_of(name), dialled_digits(rest[2:1 + length], kind), kind
+
+
 def decode_dialling(record):
     if is_blank(record):
         return None
-    if len(record) < 14:
-        raise BadContent(f"a record of numbers has at least 14 bytes, and not {len(record)}")
-    name, rest = record[:-14], record[-14:]
-    length, kind = rest[0], rest[1]
-    if length == 0xFF:
-        return f"{text_of(name)}: no number"
-    if not 1 <= length <= 11:
-        raise BadContent(f"the length of its number is 1 to 11, and not {length:02X}")
-    return f"{text_of(name)}: {dialled_digits(rest[2:1 + length], kind)}"
+    name, number, _ = dialling_parts(record)
+    return f"{name}: {number or 'no number'}"
 
 
 def dialled_digits(content, kind):

@@ -17,6 +17,8 @@ OWN_CLASS = 0xF0
 PINS = (0x20, 0x24, 0x26, 0x28, 0x2C)
 PROACTIVE = 0xD0
 SELECTIONS = {0: "by identifier", 3: "the parent", 4: "by name", 8: "by path from the MF", 9: "by path"}
+# the seconds of a unit of time: minutes, seconds, tenths
+UNITS = (60, 1, 0.1)
 RECORD_MODES = {2: "the next record", 3: "the record before"}
 
 
@@ -376,6 +378,24 @@ def title_proactive(data):
     return details_name(details[1]) if details and len(details) == 3 else "no proactive command"
 
 
+def kind_of(data):
+    """The type of a proactive command; None where the bytes are none."""
+    try:
+        details = tlv.first(tlv.template(data)[1], 0x01)
+    except tlv.BadTlv:
+        return None
+    return details[1] if details and len(details) == 3 else None
+
+
+def seconds_in(data):
+    """The duration in the data of a response, in seconds; None where it has none."""
+    try:
+        value = tlv.first(data, 0x04)
+    except tlv.BadTlv:
+        return None
+    return value[1] * UNITS[value[0]] if value and len(value) == 2 and value[0] < len(UNITS) else None
+
+
 def result_of(data):
     """The result in a terminal's response; None where there is none."""
     try:
@@ -470,6 +490,27 @@ def pin_status_text(value):
     at = value.index(0x83)
     keys = [value[n + 2] for n in range(at, len(value) - 2, 3)]
     return ", ".join(f"{names.key(key)} {'on' if value[2] >> 7 - n & 1 else 'off'}" for n, key in enumerate(keys)) or "none"
+
+
+def control_parameter(data, tag):
+    """The value of an object of control parameters; no bytes where there is none."""
+    try:
+        return dict(rules.objects(tlv.template(data)[1])).get(tag, b"")
+    except ValueError:
+        return b""
+
+
+def descriptor_in(data):
+    """The bytes of the file descriptor: five where the file has records, the fourth their length and the fifth their number."""
+    return control_parameter(data, 0x82)
+
+
+def pins_in(data):
+    """Which PINs are on, by their keys, as control parameters say."""
+    value = control_parameter(data, 0xC6)
+    at = value.find(b"\x83")
+    keys = [value[n + 2] for n in range(at, len(value) - 2, 3)] if at > 2 else []
+    return {key: bool(value[2] >> 7 - n & 1) for n, key in enumerate(keys)}
 
 
 def identifier_text(value):
