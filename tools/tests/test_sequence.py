@@ -578,7 +578,7 @@ class Tool(unittest.TestCase):
                     ((os.path.join(folder, "none"),), "No such file"), ((folder + "/own.py",), "own.py:1: no line begins with `class`"),
                     ((os.path.join(folder, "bytes.sequence"),), "is text in UTF-8"),
                     ((os.path.join(folder, "no.d"),), "No such file"), ((good, "--only", "never"), "no sequence has `never` in its name"),
-                    ((good, "--on", "telephone"), "no terminal is called telephone: python, or FILE.py:CLASS"),
+                    ((good, "--on", "telephone"), "no terminal is called telephone: python, phone, or FILE.py:CLASS"),
                     ((good, "--on", own + ":No"), "has no class No that is an UnderTest"),
                     ((good, "--on", own + ":None"), "has no class None"), ((good, "--on", folder + "/x.py:Y"), "is no file of Python"),
                     ((good, "--on", folder + "/broken.py:Y"), "can't be loaded: ModuleNotFoundError"),

@@ -10,7 +10,7 @@ import dataclasses
 import threading
 import time
 
-from . import decode, process
+from . import decode, process, trace
 from .card import Answer, PowerLost, as_bytes
 
 DONE = "9000"
@@ -55,6 +55,8 @@ class Player:
         self._waiting, self._fetched = collections.deque(), None
         # whether the first of them was announced; what the card announced; whether the card's was fetched
         self._announced, self._of_card, self._card_is_asked = False, None, False
+        # whether the command that was fetched last counts as the player's own, where it doesn't stand between
+        self._overheard = False
 
     # for who plays
 
@@ -68,6 +70,35 @@ class Player:
         with self._changed:
             self.trace.append("* " + text)
             self._changed.notify_all()
+
+    def overhear(self, lines, is_own):
+        """Takes the lines of a trace of a card and a terminal that the player doesn't stand between. `is_own` says of a proactive command
+        whether it counts as one of the player's."""
+        with self._changed:
+            for part in trace.parts(lines):
+                if isinstance(part, trace.Mark):
+                    self.trace.append(part.text)
+                    if part.text == process.RESET:
+                        self._overheard = False
+                        self._hear(RESET)
+                else:
+                    self._overhear(part, is_own)
+            self._changed.notify_all()
+
+    def _overhear(self, part, is_own):
+        answer = None if part.answer is None else Answer(part.answer[:-2], part.status)
+        self.trace += ["> " + decode.hexed(part.command), part.mark or "< " + decode.hexed(part.answer)]
+        self.exchanges.append(Exchange(CARD, part.command, answer))
+        apdu = decode.Apdu(part.command)
+        if apdu.ins == decode.FETCH and answer:
+            self._overheard = is_own(answer.data)
+            if self._overheard:
+                self._hear(FETCHED, answer.data)
+        elif apdu.ins == decode.RESPONSE:
+            if self._overheard:
+                self._hear(RESPONDED, apdu.data)
+        elif apdu.ins in OF_CARD:
+            self._hear(OF_CARD[apdu.ins], apdu.data)
 
     def wait_for(self, find, seconds):
         """What `find` finds, as soon as it does; None where it doesn't in so many seconds."""

@@ -1,8 +1,10 @@
 """Sequences, played to a terminal under test, and what is to be said of it."""
 import dataclasses
+import itertools
 import time
 
 from . import decode, tlv
+from .handset import DETAILS, details_of
 from .player import ASKED, FETCHED, PROFILED, RESET, RESPONDED, STRAY, TOLD, Player
 from .sequence import Act, Give, Poll, Quiet, Respond, Restart, Shown, Tell
 from .undertest import Unable, Unsupported
@@ -12,6 +14,8 @@ PASSED, FAILED, INCONCLUSIVE, UNSUPPORTED = "passed", "failed", "inconclusive", 
 VERDICTS = (PASSED, FAILED, INCONCLUSIVE, UNSUPPORTED)
 # how long nothing may come where nothing must
 QUIET_SECONDS = 1
+# how often a terminal is asked what it shows
+LOOK_SECONDS = 0.2
 RESULT, NO_RESPONSE = 0x03, 0x12
 
 
@@ -89,11 +93,14 @@ class Run:
         self.seconds = terminal.seconds if seconds is None else seconds
         self.taken, self.noted = set(), 0
         self.step = None
+        # the details of the command that was fetched last
+        self.details = None
         # the user of this terminal is asked for something that has not come yet
         self.is_user_asked = False
         self.unseen = []
 
     def carry_out(self):
+        self.terminal.accept(self.sequence)
         self.terminal.begin(self.player)
         self._begin()
         for place, step in enumerate(self.sequence.steps):
@@ -134,20 +141,20 @@ class Run:
         if lacking:
             raise Unsupported("its terminal profile doesn't have " + ", ".join(lacking))
         self.taken |= {n for n, heard in enumerate(self.player.heard) if heard.kind in (RESET, PROFILED, ASKED)}
-        self.noted = len(self.player.trace)
 
     def _give(self, step, after):
         if not step.follows:
-            self.player.give(step.raw)
             # those that are announced by the answers to the responses before them have to be there by then
-            for other in after:
-                if isinstance(other, Give):
-                    if not other.follows:
-                        break
-                    self.player.give(other.raw)
+            session = list(itertools.takewhile(lambda other: not isinstance(other, Give) or other.follows, after))
+            commands = [step, *(other for other in session if isinstance(other, Give))]
+            self.terminal.prepare([one.raw for one in commands], [other.said for other in session if isinstance(other, Act)])
+            for one in commands:
+                self.player.give(one.raw)
             self.terminal.poll()
-        if self._wait(FETCHED) is None:
+        heard = self._wait(FETCHED)
+        if heard is None:
             raise Differs("the command isn't fetched")
+        self.details = details_of(heard.data)
 
     def _respond(self, step):
         heard = self._wait(RESPONDED, step.seconds)
@@ -159,11 +166,16 @@ class Run:
                 raise Undecided(f"the terminal's user did nothing {self._told_seconds(step)}")
             raise Differs(f"no TERMINAL RESPONSE comes {self._told_seconds(step)}")
         try:
-            check("the TERMINAL RESPONSE", step.objects, heard.data, step.has_more)
+            check("the TERMINAL RESPONSE", self._objects(step), heard.data, step.has_more)
         except Differs:
             if asked and self.terminal.has_person and (decode.result_of(heard.data) or b"")[:1] == bytes((NO_RESPONSE,)):
                 raise Undecided("the terminal's user did nothing, so it says") from None
             raise
+
+    def _objects(self, step):
+        """What a response must have: the number of the command is that which it was fetched with."""
+        return [dataclasses.replace(one, pattern=decode.hexed(self.details)) if one.tag == DETAILS and one.is_exact
+                and one.pattern[2:] == decode.hexed(self.details)[2:] else one for one in step.objects]
 
     def _tell(self, step):
         heard = self._wait(TOLD, step.seconds)
@@ -198,13 +210,22 @@ class Run:
         if not self.terminal.is_seen:
             self.unseen.append(step.note)
             return
-        place = self.player.wait_for(lambda: self._place_of(step.note), self.seconds)
+        place = self._look_for(step.note)
         if place:
             self.noted = place
             return
         shown = [line[2:] for line in self.player.trace[self.noted:] if line.startswith("* ")]
         raise Differs(("something else is shown" if shown else "nothing is shown") + self._answered(),
                       [Row("shown", step.note, "; ".join(shown) or None, False)])
+
+    def _look_for(self, note):
+        """The place after a note in the trace; None where it doesn't come in time."""
+        end = time.monotonic() + self.seconds
+        while True:
+            self.terminal.look()
+            place = self.player.wait_for(lambda: self._place_of(note), min(self.seconds, LOOK_SECONDS))
+            if place or time.monotonic() >= end:
+                return place
 
     def _place_of(self, note):
         """The place after a note in the trace; None where it isn't there since the last one that was asked for."""
