@@ -1,5 +1,6 @@
-"""The simulated card for other programs: `from uicc import Card`."""
+"""The simulated card, and a handset for it, for other programs: `from uicc import Card, Terminal`."""
 from .card import Answer, Card, CardError, NoSuchFile, PowerLost, Proactive, StatusError
+from .handset import Reply, Terminal
 from .process import Ended, NotBuilt
 
-__all__ = ["Answer", "Card", "CardError", "Ended", "NoSuchFile", "NotBuilt", "PowerLost", "Proactive", "StatusError"]
+__all__ = ["Answer", "Card", "CardError", "Ended", "NoSuchFile", "NotBuilt", "PowerLost", "Proactive", "Reply", "StatusError", "Terminal"]

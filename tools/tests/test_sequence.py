@@ -1,0 +1,600 @@
+"""tools/sequence: how files are read, how a terminal is judged, and that one that is wrong fails just the sequences that it must."""
+import os
+import subprocess
+import sys
+import tempfile
+import unittest
+import xml.etree.ElementTree
+
+import able_terminal
+from common import TOOLS
+from uicc import Answer, Card, PowerLost, decode, handset, process, sequence, tlv, undertest, verdict
+from uicc.player import BOTH, CARD, PLAYER, Player
+from uicc.sequence import Act, BadSequence, Give, Quiet, Respond, Restart, Shown, Tell
+
+EXAMPLES = os.path.join(process.TOP, "examples")
+IN_THE_BOX = os.path.join(EXAMPLES, "sequences")
+USIM = os.path.join(EXAMPLES, "usim.script")
+
+
+def tool(*words, text=None):
+    words = [sys.executable, "-B", os.path.join(TOOLS, "sequence"), *words]
+    return subprocess.run(words, input=text, capture_output=True, text=True, timeout=120, check=False)
+
+
+def in_the_box():
+    for name in sorted(os.listdir(IN_THE_BOX)):
+        with open(os.path.join(IN_THE_BOX, name), encoding="utf-8") as text:
+            yield from sequence.read(text.read(), name)
+
+
+def read(*lines):
+    return sequence.read("".join(line + "\n" for line in ("sequence one", *lines)), "a.sequence")
+
+
+class Files(unittest.TestCase):
+    # a line of a command, and its bytes
+    COMMANDS = [
+        ("DISPLAY TEXT qualifier 80 text \"Toolkit Test 1\"", "D01A8103012180820281028D0F04546F6F6C6B697420546573742031"),
+        ("DISPLAY TEXT qualifier 80 text ucs2 \"ЗД\"", "D0108103012180820281028D050804170414"),
+        # 3GPP TS 23.038: eight letters are seven bytes
+        ("DISPLAY TEXT qualifier 80 text gsm7 \"Toolkit \"", "D0138103012180820281028D0800D4F79BBD4ED341"),
+        ("DISPLAY TEXT qualifier 80 text \"A\" icon 01 2", "D0118103012180820281028D0204419E020102"),
+        ("SET UP MENU title \"T\" item 1 \"A\" item 2 \"BC\"", "D0158103012500820281828501548F0201418F03024243"),
+        ("SET UP MENU title \"T\" item none", "D00E8103012500820281828501548F00"),
+        ("GET INPUT qualifier 01 text \"?\" length 1 20 default \"x\"", "D0158103012301820281828D02043F9102011497020478"),
+        ("TIMER MANAGEMENT qualifier 00 timer 2 time 12:34:56", "D011810301270082028182A40102A503214365"),
+        ("PLAY TONE tone 10 duration 5 tenths", "D010810301200082028103" "8E011084020205"),
+        ("SET UP EVENT LIST events location,user-activity,0A", "D00E8103010500820281829903" "03040A"),
+        ("SET UP EVENT LIST events none", "D00B8103010500820281829900"),
+        ("SET UP CALL address +012340123456 title \"Go\"", "D0168103011000820281838607911032042143658502476F"),
+        ("OPEN CHANNEL qualifier 01 bearer 03 size 1000 transport 021F90 other-address 21C0000201",
+         "D01C810301400182028182B50103B90203E8BC03021F90BE0521C0000201"),
+        ("SEND DATA qualifier 01 to channel3 data 0102", "D00D810301430182028123B6020102"),
+        ("MORE TIME number 254", "D0098103FE020082028182"),
+        ("FE qualifier 07 from network to keypad", "D009810301FE0782028301"),
+        ("DISPLAY TEXT text \"A\" without devices", "D0098103012100" "8D020441"),
+        ("DISPLAY TEXT text \"A\" without details object 7E FF", "D00B820281028D0204417E01FF"),
+        ("bytes D00981030102008202", "D00981030102008202"),
+    ]
+
+    def test_commands_by_their_fields(self):
+        for text, raw in self.COMMANDS:
+            with self.subTest(text=text):
+                self.assertEqual(decode.hexed(read("command " + text)[0].steps[0].raw), raw)
+
+    def test_commands_are_numbered(self):
+        found = read("command MORE TIME", "response result 00", "command MORE TIME", "response result 00")[0].commands()
+        self.assertEqual([one.details[0] for one in found], [1, 2])
+
+    def test_what_is_needed(self):
+        for text, needed in (("DISPLAY TEXT text A", "DISPLAY TEXT"), ("TIMER MANAGEMENT qualifier 02 timer 1", "TIMER MANAGEMENT get"),
+                             ("PROVIDE LOCAL INFORMATION qualifier 04", "PROVIDE LOCAL INFORMATION: language")):
+            self.assertEqual(read("command " + text)[0].needs, [needed])
+        self.assertEqual(read("needs UCS2 display", "command MORE TIME")[0].needs, ["UCS2 display", "MORE TIME"])
+        self.assertEqual(read("command FE")[0].needs, [])
+
+    # what a line is, and why it is bad
+    BAD = [
+        ("commend MORE TIME", "no line begins with `commend`: sequence, section, needs, command"),
+        ("command", "command, nor a type of two digits is missing"),
+        ("command SHOW TEXT", "`SHOW` is no command"),
+        ("command DISPLAY TEXT txt \"A\"", "`txt` is no object: details, result"),
+        ("command DISPLAY TEXT text \"A", "quotes come in pairs"),
+        ("command DISPLAY TEXT text", "the text is missing"),
+        ("command DISPLAY TEXT text \"Ж\"", "`Ж` is no letter of eight bits: write `ucs2`"),
+        ("command DISPLAY TEXT text gsm7 \"Ж\"", "`Ж` is no letter of the 7-bit alphabet"),
+        ("command DISPLAY TEXT text any", "a command is given as it is: text has no"),
+        ("command DISPLAY TEXT optional text \"A\"", "a command is given as it is"),
+        ("command DISPLAY TEXT qualifier 8", "a qualifier is two hexadecimal digits, not 8"),
+        ("command DISPLAY TEXT to screen", "`screen` is no device: keypad, display"),
+        ("command DISPLAY TEXT without text", "`text` is no part that a command may be without: details, devices"),
+        ("command SET UP MENU item 0 \"A\"", "the number of an item is 1 to 255, not 0"),
+        ("command PLAY TONE duration 1 hours", "a duration is in minutes, seconds or tenths, not in hours"),
+        ("command TIMER MANAGEMENT time 1:00", "a time is HH:MM:SS, not 1:00"),
+        ("command SET UP EVENT LIST events rain", "`rain` is no event: mt-call"),
+        ("command SET UP CALL address 12a", "a number that is dialled is"),
+        ("command PROVIDE LOCAL INFORMATION language EN", "a language is two letters, not EN"),
+        ("command DISPLAY TEXT object 00 41", "00 is no tag of one byte"),
+        ("command DISPLAY TEXT object 8D 4", "a value is hexadecimal digits, two for each byte"),
+        ("command DISPLAY TEXT text \"" + "x" * 250 + "\"", "a command has 1 to 256 bytes, and this one 267"),
+        ("command bytes", "the bytes of a command is missing"),
+        ("command bytes D0 00", "`00` is too much"),
+        ("command bytes D", "the bytes of a command is hexadecimal digits"),
+        ("then MORE TIME", "no command stands before this one"),
+        ("response result 00", "no command stands before this response"),
+        ("needs PAY", "a terminal profile has no `PAY`: CLOSE CHANNEL"),
+        ("section", "the section of 3GPP TS 31.124 is missing"),
+        ("shown", "what is shown is missing"),
+        ("user dance", "a user does no `dance`"),
+        ("net echo 1 1", "this is for `bip`"),
+        ("time", "N is missing"),
+        ("envelope", "envelope is missing: menu selection, call control, event, timer expiration"),
+        ("envelope letter", "`letter` is no envelope"),
+        ("no response", "after `no` stands `envelope`"),
+        ("within 1000", "the seconds is 0 to 999, not 1000"),
+        ("sequence one", "a sequence of this name stands above"),
+        ("sequence", "the name of the sequence is missing"),
+    ]
+
+    def test_bad_lines(self):
+        for line, why in self.BAD:
+            with self.subTest(line=line), self.assertRaises(BadSequence) as refused:
+                read(line)
+            self.assertEqual(refused.exception.line, 2)
+            self.assertIn(why, str(refused.exception))
+        for text, why in (("", "has no line `sequence NAME`"), ("command MORE TIME\n", "no line `sequence NAME` stands before"),
+                          ("sequence one\nsection 1\n", "the sequence has no step"), ("# nothing\n", "has no line `sequence NAME`")):
+            with self.assertRaisesRegex(BadSequence, why):
+                sequence.read(text, "a.sequence")
+        with self.assertRaisesRegex(BadSequence, "a response has a result"):
+            read("command MORE TIME", "response duration 1 seconds")
+
+    def test_those_in_the_box(self):
+        """There are many, each has a section, and each kind of command that they should be about is in one."""
+        found = list(in_the_box())
+        self.assertGreaterEqual(len(found), 60)
+        self.assertTrue(all(one.section.startswith("27.22.") for one in found))
+        names = {step.name for one in found for step in one.commands()}
+        for name in ("DISPLAY TEXT", "GET INKEY", "GET INPUT", "SELECT ITEM", "SET UP MENU", "PLAY TONE", "REFRESH", "SET UP IDLE MODE TEXT",
+                     "PROVIDE LOCAL INFORMATION", "TIMER MANAGEMENT", "SET UP EVENT LIST", "POLL INTERVAL", "MORE TIME", "SET UP CALL",
+                     "SEND SHORT MESSAGE", "OPEN CHANNEL", "CLOSE CHANNEL", "SEND DATA", "RECEIVE DATA", "GET CHANNEL STATUS"):
+            self.assertIn(name, names)
+        codings = {value[:1] for one in found for step in one.commands() for tag, _, value in handset.objects_of(step.raw) or () if tag == 0x0D}
+        self.assertLessEqual({b"\x00", b"\x04", b"\x08"}, codings)
+
+
+class Players(unittest.TestCase):
+    """What a player answers by itself, and what it hands on. The card has an applet that shows Hi when it is told the profile."""
+    OWN = bytes.fromhex("D009810301020082028182")
+    SELECT, PROFILE, STATUS = "00A4000C023F00", "80100000082900BF6171000013", "80F2000C"
+
+    def setUp(self):
+        self.folder = tempfile.TemporaryDirectory()
+        self.addCleanup(self.folder.cleanup)
+        path = os.path.join(self.folder.name, "greets.script")
+        with open(path, "w", encoding="ascii") as out:
+            out.write("ef 2FE2 t 2 - -\nfill 2FE2 0 ABCD\nrow 0 1 014000\nstart\n")
+        self.card = Card(path)
+        self.addCleanup(self.card.close)
+        self.player = Player(self.card)
+
+    def said(self):
+        """Whose each answer was, and what it was."""
+        return [(one.whose, str(one.answer)) for one in self.player.exchanges]
+
+    def test_nothing_of_its_own(self):
+        """A player that gives nothing changes nothing: the card's own command too is fetched and answered as it is."""
+        for command in (self.SELECT, self.PROFILE, "80120000" + "10", "801400000C810301218082028281830100", self.STATUS, "00A4000C022FE2",
+                        "00B0000002", "00B0000003", "80120000" + "10", "801400000C810301218082028281830100", "FFFF", "80C2000003D60199"):
+            self.player.transmit(command)
+        self.assertEqual(self.player.trace, self.card.trace)
+        self.assertEqual({whose for whose, _ in self.said()}, {CARD})
+        self.assertIn((CARD, "D00E8103012180820281028D03044869 9000"), self.said())
+
+    def test_a_command_of_its_own(self):
+        self.player.transmit(self.SELECT)
+        self.player.give(self.OWN)
+        self.player.transmit("00A4000C026FFF")
+        self.player.transmit(self.SELECT)
+        self.player.transmit("8012000002")
+        self.player.transmit("801200000B")
+        self.player.transmit("801400000C810301020082028281830100")
+        self.player.transmit("801400000C810301020082028281830100")
+        self.assertEqual(self.said(), [
+            (CARD, "9000"), (CARD, "6A82"), (BOTH, "910B"), (PLAYER, "6C0B"), (PLAYER, decode.hexed(self.OWN) + " 9000"), (PLAYER, "9000"),
+            # the second response is none of its own: the card refuses it
+            (CARD, "6985")])
+        self.assertEqual([one.kind for one in self.player.heard], ["fetch", "response", "stray response"])
+
+    def test_data_are_handed_on_with_its_status(self):
+        self.player.transmit("00A4000C022FE2")
+        self.player.give(self.OWN)
+        self.assertEqual(str(self.player.transmit("00B0000002")), "ABCD 910B")
+
+    def test_one_command_at_a_time(self):
+        """While the card's command is out the player's waits, and the other way about."""
+        self.player.give(self.OWN)
+        self.player.transmit("00A4000C026FFF")
+        self.player.transmit(self.PROFILE)
+        self.assertEqual(self.said()[-1], (CARD, "9110"))
+        self.player.transmit("8012000010")
+        self.player.transmit(self.STATUS)
+        self.assertEqual(self.said()[-1], (CARD, "9000"))
+        self.player.transmit("801400000C810301218082028281830100")
+        self.assertEqual(self.said()[-1], (BOTH, "910B"))
+        # and now the player's own is out, and the card has another one
+        self.player.transmit("801200000B")
+        self.player.transmit(self.PROFILE)
+        self.assertEqual(self.said()[-1], (BOTH, "9000"))
+        self.player.transmit("801400000C810301020082028281830100")
+        self.assertEqual(self.said()[-1], (PLAYER, "9110"))
+        self.player.transmit("8012000010")
+        self.assertEqual(self.said()[-1], (CARD, "D00E8103022180820281028D03044869 9000"))
+
+    def test_a_reset_takes_its_commands_away(self):
+        self.player.transmit(self.SELECT)
+        self.player.give(self.OWN)
+        self.player.transmit(self.STATUS)
+        self.player.reset()
+        self.player.transmit(self.SELECT)
+        self.assertEqual(self.said()[-1], (CARD, "9000"))
+        self.assertIn("! reset", self.player.trace)
+
+    def test_power_that_is_lost(self):
+        """It is the card's, and the trace shows it as the card's does."""
+        self.player.transmit("00A4000C022FE2")
+        self.card.cut(1)
+        with self.assertRaises(PowerLost):
+            self.player.transmit("00D60000021234")
+        self.assertEqual(self.player.trace, self.card.trace)
+        self.assertEqual((self.player.exchanges[-1].whose, self.player.exchanges[-1].answer), (CARD, None))
+        self.player.reset()
+        self.assertEqual(self.player.trace[-2:], ["! cut", "! reset"])
+
+
+# terminals that are wrong
+
+class Link:
+    """Stands between a terminal and the player. `change` says what is sent in the place of a command: none, one or several."""
+
+    def __init__(self, player, change):
+        self.player, self.change, self.trace = player, change, player.trace
+
+    def transmit(self, command):
+        answers = [self.player.transmit(one) for one in self.change(bytes(command))]
+        return answers[0] if answers else Answer(b"", "9000")
+
+    def reset(self):
+        self.player.reset()
+
+
+def on_response(kind, change):
+    """Changes the objects of the responses to a kind of command; to any, where it is None."""
+    def changed(command):
+        if command[1] != decode.RESPONSE:
+            return [command]
+        found = list(tlv.objects(command[5:]))
+        if kind is not None and found[0][2][1] != kind:
+            return [command]
+        data = b"".join(tlv.written(tag, value, flag) for tag, flag, value in change(found))
+        return [command[:4] + bytes((len(data),)) + data]
+    return changed
+
+
+def on_envelope(change):
+    """Changes the tag and the objects of envelopes."""
+    def changed(command):
+        if command[1] != decode.ENVELOPE:
+            return [command]
+        tag, content = tlv.template(command[5:])
+        tag, found = change(tag, list(tlv.objects(content)))
+        data = tlv.written(tag, b"".join(tlv.written(one, value, flag) for one, flag, value in found))
+        return [command[:4] + bytes((len(data),)) + data]
+    return changed
+
+
+def with_value(tag, change, more=lambda found: True):
+    """The same objects, but for the value of those with a tag."""
+    return lambda found: [(one, flag, change(value) if one == tag and more(found) else value) for one, flag, value in found]
+
+
+def without(tag):
+    return lambda found: [one for one in found if one[0] != tag]
+
+
+def in_envelope(template, change):
+    return on_envelope(lambda tag, found: (tag, change(found) if tag == template else found))
+
+
+def responses(one, *kinds):
+    """The responses of a sequence, each with its command; to these kinds alone, where some are given."""
+    given = None
+    for step in one.steps:
+        given = step if isinstance(step, Give) else given
+        if isinstance(step, Respond) and (not kinds or given.details[1] in kinds):
+            yield given, step
+
+
+def wanted(step, tag):
+    return next((one.pattern for one in step.objects if one.tag == tag and not one.optional), None)
+
+
+def has_response(*kinds):
+    return lambda one: any(responses(one, *kinds))
+
+
+def has_result(code):
+    return lambda one: any(wanted(step, 0x03) == code for _, step in responses(one))
+
+
+def has_envelope(tag, *patterns):
+    """Whether an envelope must come, which has one of these values in its first object after the devices."""
+    return lambda one: any(isinstance(step, Tell) and step.tag == tag and (not patterns or step.objects[1].pattern in patterns)
+                           for step in one.steps)
+
+
+def has_text(one):
+    """Whether a response must hold a text of some letters."""
+    return any(len(wanted(step, 0x0D) or "") > 2 and "|" not in wanted(step, 0x0D) for _, step in responses(one, 0x22, 0x23))
+
+
+def has_quiet_after(*acts):
+    """Whether nothing must be told after something that happens."""
+    def has(one):
+        return any(isinstance(step, Quiet) and isinstance(before, Act) and before.said.act in acts for before, step in zip(one.steps, one.steps[1:]))
+    return has
+
+
+class TellsAll(able_terminal.AbleTerminal):
+    """Tells the user's activity, whether it is in the list or not."""
+
+    def _tell_once(self, code, device):
+        self.events.add(code)
+        return super()._tell_once(code, device)
+
+
+class TellsAgain(able_terminal.AbleTerminal):
+    """Tells what is to be told once again and again."""
+
+    def _tell_once(self, code, device):
+        is_listed = code in self.events
+        answer = super()._tell_once(code, device)
+        if is_listed:
+            self.events.add(code)
+        return answer
+
+
+class KeepsItsMenu(able_terminal.AbleTerminal):
+    """The first menu stays."""
+
+    def _menu(self, command):
+        before = self.menu
+        answer = super()._menu(command)
+        self.menu = before or self.menu
+        return answer
+
+
+class ShowsNothing(able_terminal.AbleTerminal):
+    """Answers DISPLAY TEXT, and shows nothing."""
+
+    def _note(self, text):
+        if not text.startswith("text"):
+            super()._note(text)
+
+
+class NeverResets(able_terminal.AbleTerminal):
+    """Says of a REFRESH that asks for a reset that it was done."""
+
+    def _refresh(self, command):
+        return self._respond(handset.DONE)
+
+
+class TakesAnyLength(able_terminal.AbleTerminal):
+    """Takes a text of any length."""
+
+    def _type(self, text):
+        if self._holds(handset.INPUT):
+            return self._respond(handset.Reply(b"\x00", tlv.written(0x0D, b"\x04" + text)))
+        return super()._type(text)
+
+
+class ForgetsTimers(able_terminal.AbleTerminal):
+    """Stops a timer, and says that it didn't run."""
+
+    def _timer(self, command):
+        if command.qualifier == handset.DEACTIVATE:
+            self.timers.clear()
+        return super()._timer(command)
+
+
+class ReadsAnyTag(able_terminal.AbleTerminal):
+    """Passes over what has to be understood."""
+
+    def understood(self, raw):
+        return super().understood(raw.replace(b"\xFE\x01", b"\x7E\x01"))
+
+
+def shows_too_much(one):
+    return any(isinstance(step, Give) and step.name == "DISPLAY TEXT" for step in one.steps) and any(
+        isinstance(step, Shown) and step.note.startswith("text") for step in one.steps)
+
+
+def is_long(one):
+    return any(len(step.raw) > 0x60 for step in one.commands())
+
+
+def has_menu_twice(one):
+    """Whether a menu takes the place of another one, and then is picked from, or is there no more."""
+    return sum(step.name == "SET UP MENU" for step in one.commands()) > 1
+
+
+def able(change):
+    return lambda player: able_terminal.AbleTerminal(Link(player, change))
+
+
+def not_for(ins):
+    return lambda command: [] if command[1] == ins else [command]
+
+
+def no_long_fetch(command):
+    return [] if command[1] == decode.FETCH and (command[4] or 256) > 0x60 else [command]
+
+
+def twice(kind):
+    return lambda command: [command] * (2 if command[1] == decode.RESPONSE and command[8] == kind else 1)
+
+
+def swapped(value):
+    return value[::-1]
+
+
+# what is wrong with a terminal, how it is made so, and which sequences it must fail
+FAULTS = [
+    ("a wrong number in the details", able(on_response(0x21, with_value(0x01, lambda value: bytes((value[0] + 1,)) + value[1:]))),
+     has_response(0x21)),
+    ("details without their flag", able(on_response(0x25, lambda found: [(found[0][0], False, found[0][2]), *found[1:]])), has_response(0x25)),
+    ("the details of another command", able(on_response(0x22, with_value(0x01, lambda value: bytes((value[0], 0x23, value[2]))))),
+     has_response(0x22)),
+    ("details without the qualifier", able(on_response(None, with_value(0x01, lambda value: value[:2] + b"\x00"))),
+     lambda one: any(given.details[2] for given, _ in responses(one))),
+    ("devices that are swapped", able(on_response(0x24, with_value(0x02, swapped))), has_response(0x24)),
+    ("no devices", able(on_response(0x03, without(0x02))), has_response(0x03)),
+    ("no result", able(on_response(0x20, without(0x03))), has_response(0x20)),
+    ("gone back told as done", able(on_response(None, with_value(0x03, lambda value: b"\x00" if value == b"\x11" else value))), has_result("11")),
+    ("no response told as ended", able(on_response(None, with_value(0x03, lambda value: b"\x10" if value == b"\x12" else value))),
+     has_result("12")),
+    ("an item identifier of another item", able(on_response(0x24, with_value(0x10, lambda value: bytes((value[0] ^ 0x80,)),
+                                                                           lambda found: found[2][2] == b"\x00"))),
+     lambda one: any(wanted(step, 0x10) not in (None, "??") for _, step in responses(one, 0x24))),
+    ("another entry of the menu", able(in_envelope(0xD3, with_value(0x10, lambda value: bytes((value[0] + 1,))))), has_envelope(0xD3)),
+    ("a menu selection as an event", able(on_envelope(lambda tag, found: (0xD6 if tag == 0xD3 else tag, found))), has_envelope(0xD3)),
+    ("no FETCH", able(not_for(decode.FETCH)), lambda one: True),
+    ("no FETCH of a long command", able(no_long_fetch), is_long),
+    ("no TERMINAL RESPONSE", able(lambda command: [] if command[1] == decode.RESPONSE and command[8] == 0x27 else [command]), has_response(0x27)),
+    ("a TERMINAL RESPONSE twice", able(twice(0x02)), has_response(0x02)),
+    ("an event that isn't in its list", TellsAll, has_quiet_after("press", "idle")),
+    ("an event that is told again", TellsAgain, lambda one: "is told once" in one.name),
+    ("an event from another device", able(in_envelope(0xD6, with_value(0x02, lambda value: b"\x82\x81"))), has_envelope(0xD6, "05")),
+    ("a location without its status", able(in_envelope(0xD6, without(0x1B))), has_envelope(0xD6, "03")),
+    ("a timer told as another", able(in_envelope(0xD7, with_value(0x24, lambda value: bytes((value[0] + 1,))))), has_envelope(0xD7)),
+    ("a text in another coding", able(on_response(None, with_value(0x0D, lambda value: b"\x04" + value[1:] if value[0] != 4 else b"\x00" + value[1:]))),
+     has_text),
+    ("a text without its last letter", able(on_response(None, with_value(0x0D, lambda value: value[:-1] if len(value) > 1 else value))), has_text),
+    ("a text of any length", TakesAnyLength, lambda one: "too short" in one.name or any(
+        wanted(step, 0x0D)[:2] != "04" and "|" not in wanted(step, 0x0D) for _, step in responses(one, 0x23) if wanted(step, 0x0D))),
+    ("no interval", able(on_response(0x03, without(0x04))), lambda one: any(wanted(step, 0x04) for _, step in responses(one, 0x03))),
+    ("an object too much", able(on_response(0x26, lambda found: [*found, (0x1B, True, b"\x00")])),
+     lambda one: any(not step.has_more for _, step in responses(one, 0x26))),
+    ("a result that is there twice", able(on_response(0x28, lambda found: [*found, found[2]])), has_response(0x28)),
+    ("the first menu stays", KeepsItsMenu, has_menu_twice),
+    ("a text that isn't shown", ShowsNothing, shows_too_much),
+    ("no reset for a REFRESH", NeverResets, lambda one: any(isinstance(step, Restart) for step in one.steps)),
+    ("a stopped timer told as not running", ForgetsTimers, lambda one: any(
+        given.details[2] == 1 and wanted(step, 0x03) == "00" for given, step in responses(one, 0x27))),
+    ("what has to be understood is passed over", ReadsAnyTag, lambda one: "has to be understood" in one.name),
+]
+
+
+class Obliging:
+    """Stands in for a card without applets: it takes all that a terminal tells it."""
+
+    def transmit(self, command):
+        return Answer(b"", "6985" if command[1] in (decode.FETCH, decode.RESPONSE) else "9000")
+
+    def reset(self):
+        pass
+
+
+def failed(make, found, card):
+    """The sequences that a terminal fails, by name; and why."""
+    why = {}
+    for one in found:
+        outcome = verdict.judged(one, undertest.InPython(make), card)
+        if outcome.verdict != verdict.PASSED:
+            why[one.name] = (outcome.verdict, outcome.why)
+        card.reset()
+    return why
+
+
+class Faults(unittest.TestCase):
+    def test_a_terminal_that_is_able_passes_all(self):
+        with Card(USIM) as card:
+            self.assertEqual(failed(able_terminal.AbleTerminal, list(in_the_box()), card), {})
+
+    def test_a_terminal_that_is_wrong_fails_what_it_must(self):
+        found = list(in_the_box())
+        self.assertGreaterEqual(len(FAULTS), 20)
+        for name, make, must_fail in FAULTS:
+            with self.subTest(fault=name):
+                why = failed(make, found, Obliging())
+                self.assertEqual(sorted(why), sorted(one.name for one in found if must_fail(one)))
+                self.assertTrue(why)
+                self.assertEqual({kind for kind, _ in why.values()}, {verdict.FAILED})
+
+
+class Tool(unittest.TestCase):
+    """The command, over the proved card."""
+
+    def put(self, folder, *lines):
+        path = os.path.join(folder, "a.sequence")
+        with open(path, "w", encoding="utf-8") as out:
+            out.write("".join(line + "\n" for line in lines))
+        return path
+
+    PASSES = ("sequence it passes", "section 27.22.4.1", "command DISPLAY TEXT qualifier 80 text \"A\"", "user ok", "response result 00")
+    FAILS = ("sequence it fails", "command DISPLAY TEXT qualifier 80 text \"A\"", "user back", "response result 00|01 text any")
+    NOT_FOR_IT = ("sequence it can't", "command POLLING OFF", "response result 00")
+    NOT_DONE = ("sequence it isn't done", "command GET INKEY qualifier 01 text \"A\"", "user help", "response result 13")
+
+    def test_what_is_told(self):
+        with tempfile.TemporaryDirectory() as folder:
+            path = self.put(folder, *self.PASSES, *self.FAILS, *self.NOT_FOR_IT, *self.NOT_DONE)
+            done = tool(path, "--table", "--junit", os.path.join(folder, "report.xml"), "--trace", os.path.join(folder, "traces"))
+            self.assertEqual((done.returncode, done.stderr), (1, ""))
+            for part in (
+                    f"FAILED  {path}:6: it fails\n    line 9, `response result 00|01 text any`: the TERMINAL RESPONSE isn't as it must be\n",
+                    "* result: 00 or 01                                      result: 11 gone back by the user\n",
+                    "* text: *                                               (nothing)\n",
+                    "NOT SUPPORTED  ", "its terminal profile doesn't have POLLING OFF", "INCONCLUSIVE  ", "its user can't `help`",
+                    "DISPLAY TEXT  80 normal priority, cleared by the user  00 done                        27.22.4.1  1          1\n",
+                    "4 sequences on the handset in Python: 1 passed, 1 failed, 1 inconclusive, 1 not supported"):
+                self.assertIn(part, done.stdout)
+            suite = xml.etree.ElementTree.parse(os.path.join(folder, "report.xml")).getroot()
+            self.assertEqual([suite.get(name) for name in ("tests", "failures", "skipped")], ["4", "1", "2"])
+            self.assertEqual([[child.tag for child in case] for case in suite], [[], ["failure"], ["skipped"], ["skipped"]])
+            self.assertIn("gone back by the user", suite[1][0].text)
+            with open(os.path.join(folder, "traces", "001-it-passes.trace"), encoding="utf-8") as trace:
+                lines = trace.read().splitlines()
+            self.assertEqual(lines[4:7], ["* card, with a status by the player", "> 80F2000C", "< 910F"])
+            self.assertIn("* player", lines)
+            self.assertEqual(subprocess.run([sys.executable, "-B", os.path.join(TOOLS, "explain"), "-"], input="\n".join(lines) + "\n", text=True,
+                                            capture_output=True, check=False).returncode, 0)
+
+    def test_the_protocol(self):
+        with tempfile.TemporaryDirectory() as folder:
+            done = tool(self.put(folder, *self.PASSES, *self.FAILS, *self.NOT_FOR_IT), "--tap")
+        lines = [line for line in done.stdout.splitlines() if not line.startswith("#")]
+        self.assertEqual(lines, ["TAP version 13", "1..3", "ok 1 - it passes", "not ok 2 - it fails",
+                                 "ok 3 - it can't # SKIP not supported: its terminal profile doesn't have POLLING OFF"])
+
+    def test_statuses(self):
+        with tempfile.TemporaryDirectory() as folder:
+            for lines, status in ((self.PASSES, 0), (self.FAILS, 1), (self.NOT_FOR_IT, 0), (self.NOT_DONE, 3)):
+                self.assertEqual(tool(self.put(folder, *lines)).returncode, status, lines)
+            path = self.put(folder, *self.PASSES, *self.FAILS)
+            self.assertEqual(tool(path, "--only", "passes").returncode, 0)
+
+    def test_refusals(self):
+        with tempfile.TemporaryDirectory() as folder:
+            good, own = self.put(folder, *self.PASSES), os.path.join(folder, "own.py")
+            with open(own, "w", encoding="ascii") as out:
+                out.write("class No:\n    pass\n")
+            with open(os.path.join(folder, "broken.py"), "w", encoding="ascii") as out:
+                out.write("import nothing_of_that_name\n")
+            with open(os.path.join(folder, "bytes.sequence"), "wb") as out:
+                out.write(b"sequence \xFF\n")
+            for words, why in (
+                    ((os.path.join(folder, "none"),), "No such file"), ((folder + "/own.py",), "own.py:1: no line begins with `class`"),
+                    ((os.path.join(folder, "bytes.sequence"),), "is text in UTF-8"),
+                    ((os.path.join(folder, "no.d"),), "No such file"), ((good, "--only", "never"), "no sequence has `never` in its name"),
+                    ((good, "--on", "telephone"), "no terminal is called telephone: python, phone, or FILE.py:CLASS"),
+                    ((good, "--on", own + ":No"), "has no class No that is an UnderTest"),
+                    ((good, "--on", own + ":None"), "has no class None"), ((good, "--on", folder + "/x.py:Y"), "is no file of Python"),
+                    ((good, "--on", folder + "/broken.py:Y"), "can't be loaded: ModuleNotFoundError"),
+                    ((good, "--card", os.path.join(folder, "none")), "No such file"), ((good, "--card", good), "line 1: no line begins with"),
+                    ((good, "--seconds", "x"), "invalid"), ((good, "--seconds", "-1"), "invalid")):
+                with self.subTest(words=words):
+                    done = tool(*words)
+                    self.assertEqual(done.returncode, 2)
+                    self.assertIn(why, done.stderr)
+                    self.assertNotIn("Traceback", done.stderr)
+
+    def test_those_in_the_box(self):
+        """What the handset passes, and what it doesn't."""
+        done = tool(IN_THE_BOX)
+        self.assertRegex(done.stdout, "135 sequences on the handset in Python: 88 passed, 13 failed, 0 inconclusive, 34 not supported")
+
+
+if __name__ == "__main__":
+    unittest.main()

@@ -1,0 +1,333 @@
+"""Sequences: what a card sends and what a terminal must do, step by step (docs/SEQUENCES.md has the form).
+
+A file has sequences, each a line `sequence NAME` and the lines of its steps. `read` reads a file, and tells the first bad line."""
+import dataclasses
+
+from . import decode, grammar, names, tlv
+from .handset import details_of
+from .wording import Object, Words, Wrong, device, label_of, read_object
+
+CARD, TERMINAL = 0x81, 0x82
+DETAILS, DEVICE_IDENTITIES, RESULT = 0x01, 0x02, 0x03
+MOST_NUMBER = 254
+LONGEST_COMMAND = 256
+LONGEST_WAIT = 999
+COMMANDS = {name: int(code, 16) for code, name in names.table("toolkit")["commands"].items()}
+# envelopes by their words: the template, and the device that they are from
+ENVELOPES = {"menu selection": (0xD3, 0x01), "call control": (0xD4, TERMINAL), "event": (0xD6, TERMINAL),
+             "timer expiration": (0xD7, TERMINAL)}
+# the device that a command is for, where that isn't the terminal
+DESTINATIONS = {
+    "PLAY TONE": 0x03, "DISPLAY TEXT": 0x02, "SET UP CALL": 0x83, "SEND SS": 0x83, "SEND USSD": 0x83, "SEND SHORT MESSAGE": 0x83,
+    "SEND DTMF": 0x83, "CLOSE CHANNEL": 0x21, "RECEIVE DATA": 0x21, "SEND DATA": 0x21}
+# what a terminal's profile says of a command whose bit has another name
+OF_TIMERS = {0x00: "TIMER MANAGEMENT start and stop", 0x01: "TIMER MANAGEMENT start and stop", 0x02: "TIMER MANAGEMENT get"}
+LOCAL_INFORMATION = {0x02: "network measurement results", 0x03: "date and time", 0x04: "language", 0x05: "timing advance", 0x06: "access technology"}
+# a command that the card has ready when the one before it is answered
+THEN = "then"
+# what a user does at a terminal that may be another one than the handset
+MORE_ACTS = ("help", "refuse")
+
+
+@dataclasses.dataclass(frozen=True)
+class Step:
+    """A step, and the line that it is in."""
+    line: int
+    text: str
+
+
+@dataclasses.dataclass(frozen=True)
+class Give(Step):
+    """The card gives a proactive command; `follows`: it is announced by the answer to the response before."""
+    raw: bytes
+    follows: bool = False
+
+    @property
+    def details(self):
+        return details_of(self.raw)
+
+    @property
+    def name(self):
+        return decode.details_name(self.details[1])
+
+
+@dataclasses.dataclass(frozen=True)
+class Shown(Step):
+    """The terminal shows something, or asks for it."""
+    note: str
+
+
+@dataclasses.dataclass(frozen=True)
+class Act(Step):
+    """Something happens at the terminal."""
+    said: object
+
+
+@dataclasses.dataclass(frozen=True)
+class Respond(Step):
+    """The terminal must answer the command that was given last; `has_more`: other objects may stand in its response too."""
+    objects: tuple
+    has_more: bool
+    seconds: float | None
+
+
+@dataclasses.dataclass(frozen=True)
+class Tell(Step):
+    """The terminal must send an envelope."""
+    tag: int
+    objects: tuple
+    has_more: bool
+    seconds: float | None
+
+
+@dataclasses.dataclass(frozen=True)
+class Quiet(Step):
+    """The terminal must send no envelope."""
+
+
+@dataclasses.dataclass(frozen=True)
+class Restart(Step):
+    """The terminal must reset the card, and tell its profile again."""
+    seconds: float | None
+
+
+@dataclasses.dataclass(frozen=True)
+class Poll(Step):
+    """The terminal must send STATUS."""
+    seconds: float | None
+
+
+@dataclasses.dataclass
+class Sequence:
+    """A sequence. `section` is that of 3GPP TS 31.124 which is meant, `needs` what the terminal's profile must have."""
+    name: str
+    path: str
+    line: int
+    section: str = ""
+    needs: list = dataclasses.field(default_factory=list)
+    steps: list = dataclasses.field(default_factory=list)
+
+    def commands(self):
+        return [step for step in self.steps if isinstance(step, Give)]
+
+
+class BadSequence(Exception):
+    """A line of a file is bad."""
+
+    def __init__(self, path, line, text, why):
+        super().__init__(f"{path}:{line}: {why}\n    {text}")
+        self.path, self.line, self.why = path, line, why
+
+
+def known_profile():
+    return set(names.table("toolkit")["profile"].values())
+
+
+def needs_of(name, qualifier):
+    """What a terminal's profile must have for a command; None where the profile tells nothing of it."""
+    if name == "TIMER MANAGEMENT":
+        return OF_TIMERS.get(qualifier)
+    if name == "PROVIDE LOCAL INFORMATION" and qualifier in LOCAL_INFORMATION:
+        return f"{name}: {LOCAL_INFORMATION[qualifier]}"
+    return name if name in known_profile() else None
+
+
+class Reader:
+    """Reads a file line by line."""
+
+    def __init__(self, path):
+        self.path, self.sequences, self.seconds = path, [], None
+
+    def sequence(self):
+        if not self.sequences:
+            raise Wrong("no line `sequence NAME` stands before this one")
+        return self.sequences[-1]
+
+    def take(self, number, text):
+        word, _, rest = text.partition(" ")
+        if word not in LINES:
+            raise Wrong(f"no line begins with `{word}`: {', '.join(LINES)}")
+        LINES[word](self, number, text, rest.strip())
+
+    def add(self, step):
+        self.sequence().steps.append(step)
+
+    def waits(self):
+        """The seconds of a line `within`, which are those of the next line alone."""
+        seconds, self.seconds = self.seconds, None
+        return seconds
+
+    # lines
+
+    def begin(self, number, _, rest):
+        if not rest:
+            raise Wrong("the name of the sequence is missing: sequence NAME")
+        if any(other.name == rest for other in self.sequences):
+            raise Wrong("a sequence of this name stands above")
+        self.sequences.append(Sequence(rest, self.path, number))
+
+    def section(self, _, __, rest):
+        if not rest:
+            raise Wrong("the section of 3GPP TS 31.124 is missing: section NUMBER")
+        self.sequence().section = rest
+
+    def needs(self, _, __, rest):
+        for name in (part.strip() for part in rest.split(",")):
+            if name not in known_profile():
+                raise Wrong(f"a terminal profile has no `{name}`: {', '.join(sorted(known_profile()))}")
+            self.sequence().needs.append(name)
+
+    def command(self, number, text, rest):
+        words = Words(rest)
+        raw = words.hexadecimal("the bytes of a command") if words.take_if("bytes") else self.spelled(words)
+        if words:
+            raise Wrong(f"`{words.take('')}` is too much")
+        if not 1 <= len(raw) <= LONGEST_COMMAND:
+            raise Wrong(f"a command has 1 to {LONGEST_COMMAND} bytes, and this one {len(raw)}")
+        step = Give(number, text, raw, text.startswith(THEN))
+        if step.follows and not self.sequence().commands():
+            raise Wrong("no command stands before this one")
+        needed = needs_of(step.name, step.details[2])
+        if needed and needed not in self.sequence().needs:
+            self.sequence().needs.append(needed)
+        self.add(step)
+
+    def spelled(self, words):
+        """A proactive command by its fields."""
+        name = None
+        kind = int(words.take(""), 16) if words and is_code(words.left[0]) else None
+        if kind is None:
+            kind = words.take_name(COMMANDS, "command, nor a type of two digits")
+        name = decode.details_name(kind)
+        number, qualifier, source, destination = len(self.sequence().commands()) + 1, 0, CARD, DESTINATIONS.get(name, TERMINAL)
+        without, found = set(), []
+        while words:
+            if words.take_if("number"):
+                number = words.number("the number of a command", 0, 255)
+            elif words.take_if("qualifier"):
+                qualifier = words.byte("a qualifier")
+            elif words.take_if("to"):
+                destination = device(words)
+            elif words.take_if("from"):
+                source = device(words)
+            elif words.take_if("without"):
+                without.add(words.take_name({"details": DETAILS, "devices": DEVICE_IDENTITIES}, "part that a command may be without"))
+            else:
+                found.append(exact(read_object(words)))
+        heads = [(DETAILS, bytes((number, kind, qualifier))), (DEVICE_IDENTITIES, bytes((source, destination)))]
+        content = b"".join(tlv.written(tag, value) for tag, value in heads if tag not in without)
+        return tlv.written(decode.PROACTIVE, content + b"".join(one.spelled() for one in found))
+
+    def shown(self, number, text, rest):
+        if not rest:
+            raise Wrong("what is shown is missing: shown text T, ask T, choose N, menu N, tone HH or idle T")
+        self.add(Shown(number, text, rest))
+
+    def act(self, number, text, _):
+        self.add(Act(number, text, act_in(text)))
+
+    def respond(self, number, text, rest):
+        objects, has_more = expected(Words(rest))
+        if not any(isinstance(step, Give) for step in self.sequence().steps):
+            raise Wrong("no command stands before this response")
+        if not any(one.tag == RESULT for one in objects):
+            raise Wrong("a response has a result: response result 00, say")
+        given = self.sequence().commands()[-1]
+        flag = flag_of(given.raw)
+        heads = [Object(DETAILS, decode.hexed(given.details), flag), Object(DEVICE_IDENTITIES, f"{TERMINAL:02X}{CARD:02X}")]
+        heads = [head for head in heads if all(head.tag != one.tag for one in objects)]
+        self.add(Respond(number, text, (*heads, *objects), has_more, self.waits()))
+
+    def tell(self, number, text, rest):
+        words = Words(rest)
+        tag, source = words.take_name(ENVELOPES, "envelope")
+        if words.take_if("from"):
+            source = device(words)
+        objects, has_more = expected(words)
+        self.add(Tell(number, text, tag, (Object(DEVICE_IDENTITIES, f"{source:02X}{CARD:02X}"), *objects), has_more, self.waits()))
+
+    def no(self, number, text, rest):
+        if rest != "envelope":
+            raise Wrong("after `no` stands `envelope`")
+        self.add(Quiet(number, text))
+
+    def within(self, _, __, rest):
+        words = Words(rest)
+        self.sequence()
+        self.seconds = words.number("the seconds", 0, LONGEST_WAIT)
+
+    def restart(self, number, text, _):
+        self.add(Restart(number, text, self.waits()))
+
+    def status(self, number, text, _):
+        self.add(Poll(number, text, self.waits()))
+
+
+LINES = {
+    "sequence": Reader.begin, "section": Reader.section, "needs": Reader.needs, "command": Reader.command, THEN: Reader.command,
+    "shown": Reader.shown,
+    "user": Reader.act, "net": Reader.act, "time": Reader.act, "response": Reader.respond, "envelope": Reader.tell, "no": Reader.no,
+    "within": Reader.within, "restart": Reader.restart, "status": Reader.status}
+
+
+def is_code(word):
+    return len(word) == 2 and all(digit in "0123456789ABCDEFabcdef" for digit in word)
+
+
+def exact(one):
+    if not one.is_exact or one.optional:
+        raise Wrong(f"a command is given as it is: {label_of(one.tag)} has no `?`, `*`, `|` or `optional` in it")
+    return one
+
+
+def expected(words):
+    """The objects that must come, and whether others may."""
+    objects, has_more = [], False
+    while words:
+        if words.take_if("more"):
+            has_more = True
+        else:
+            objects.append(read_object(words))
+    return tuple(objects), has_more
+
+
+def flag_of(raw):
+    """The flag of a command's details, which a response has to repeat; it is set where there are none."""
+    try:
+        return next(flag for tag, flag, _ in tlv.objects(tlv.template(raw)[1]) if tag == DETAILS)
+    except (StopIteration, tlv.BadTlv):
+        return True
+
+
+def act_in(text):
+    """What happens at a terminal, as a line of a handset's script says it."""
+    for act in MORE_ACTS:
+        if text == f"user {act}":
+            return grammar.Handset("user", act)
+    try:
+        # no space stands at the end of a line here, so nothing is typed by `user type`
+        said = grammar.read_line("user type " if text == "user type" else text)
+    except grammar.Wrong as fault:
+        raise Wrong(str(fault)) from None
+    if not isinstance(said, grammar.Handset):
+        raise Wrong("this is for `bip`, and not for a terminal over a card")
+    return said
+
+
+def read(text, path):
+    """The sequences in the text of a file. BadSequence, at its first bad line."""
+    reader = Reader(path)
+    for number, line in enumerate(text.splitlines(), 1):
+        line = line.strip()
+        if not line or line.startswith("#"):
+            continue
+        try:
+            reader.take(number, line)
+        except Wrong as fault:
+            raise BadSequence(path, number, line, fault) from None
+    for sequence in reader.sequences:
+        if not sequence.steps:
+            raise BadSequence(path, sequence.line, f"sequence {sequence.name}", "the sequence has no step")
+    if not reader.sequences:
+        raise BadSequence(path, 1, text.splitlines()[0] if text.splitlines() else "", "the file has no line `sequence NAME`")
+    return reader.sequences

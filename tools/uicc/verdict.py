@@ -1,0 +1,287 @@
+"""Sequences, played to a terminal under test, and what is to be said of it."""
+import dataclasses
+import itertools
+import time
+
+from . import decode, tlv
+from .handset import DETAILS, details_of
+from .player import ASKED, FETCHED, PROFILED, RESET, RESPONDED, STRAY, TOLD, Player
+from .sequence import Act, Give, Poll, Quiet, Respond, Restart, Shown, Tell
+from .undertest import Unable, Unsupported
+from .wording import label_of
+
+PASSED, FAILED, INCONCLUSIVE, UNSUPPORTED = "passed", "failed", "inconclusive", "not supported"
+VERDICTS = (PASSED, FAILED, INCONCLUSIVE, UNSUPPORTED)
+# how long nothing may come where nothing must
+QUIET_SECONDS = 1
+# how often a terminal is asked what it shows
+LOOK_SECONDS = 0.2
+RESULT, NO_RESPONSE = 0x03, 0x12
+
+
+@dataclasses.dataclass(frozen=True)
+class Row:
+    """An object: what it must be and what it is, each in words; None where it isn't there."""
+    label: str
+    wanted: str | None
+    found: str | None
+    is_right: bool
+
+
+class Differs(Exception):
+    """The terminal does something else than it must."""
+
+    def __init__(self, why, rows=()):
+        super().__init__(why)
+        self.rows = list(rows)
+
+
+class Undecided(Exception):
+    """Nothing can be said of the terminal."""
+
+
+@dataclasses.dataclass
+class Outcome:
+    """A sequence and its verdict: why, at which step, and the objects of a response that isn't as it must be. `unseen` is what a
+    terminal must have shown that doesn't tell what it shows."""
+    sequence: object
+    verdict: str = PASSED
+    why: str = ""
+    step: object = None
+    rows: list = dataclasses.field(default_factory=list)
+    unseen: list = dataclasses.field(default_factory=list)
+    seconds: float = 0.0
+    player: object = None
+
+
+def told_by(tag, flag, value, shows_flag):
+    text = decode.object_text(tag, value, False)
+    return text + (", with the flag" if flag else ", without the flag") * shows_flag
+
+
+def compared(wanted, found, has_more):
+    """Objects that must come beside those that came: a row for each."""
+    rows, left = [], list(found)
+    for one in wanted:
+        place = next((n for n, (tag, _, _) in enumerate(left) if tag == one.tag), None)
+        if place is None:
+            rows.append(Row(one.label, one.told(), None, one.optional))
+            continue
+        tag, flag, value = left.pop(place)
+        rows.append(Row(one.label, one.told(), told_by(tag, flag, value, one.flag is not None), one.fits(flag, value)))
+    return rows + [Row(label_of(tag), None, told_by(tag, flag, value, False), has_more) for tag, flag, value in left]
+
+
+def objects_in(content, what):
+    try:
+        return list(tlv.objects(content))
+    except tlv.BadTlv as fault:
+        raise Differs(f"{what} is no list of objects: {fault}: {decode.hexed(content) or 'nothing'}") from None
+
+
+def check(what, wanted, content, has_more):
+    rows = compared(wanted, objects_in(content, what), has_more)
+    if not all(row.is_right for row in rows):
+        raise Differs(f"{what} isn't as it must be", rows)
+
+
+class Run:
+    """A sequence on its way: what was heard of the terminal and isn't accounted for yet, and where its notes are read on."""
+
+    def __init__(self, sequence, terminal, player, seconds):
+        self.sequence, self.terminal, self.player = sequence, terminal, player
+        self.seconds = terminal.seconds if seconds is None else seconds
+        self.taken, self.noted = set(), 0
+        self.step = None
+        # the details of the command that was fetched last
+        self.details = None
+        # the user of this terminal is asked for something that has not come yet
+        self.is_user_asked = False
+        self.unseen = []
+
+    def carry_out(self):
+        self.terminal.accept(self.sequence)
+        self.terminal.begin(self.player)
+        self._begin()
+        for place, step in enumerate(self.sequence.steps):
+            self.step = step
+            if isinstance(step, Give):
+                self._give(step, self.sequence.steps[place + 1:])
+            else:
+                STEPS[type(step)](self, step)
+        self.step = None
+        self._end()
+
+    # what was heard
+
+    def _find(self, *kinds):
+        """The place of the first thing of these kinds that isn't accounted for."""
+        return next((n for n, heard in enumerate(self.player.heard) if n not in self.taken and heard.kind in kinds), None)
+
+    def _wait(self, kind, seconds=None):
+        """The next thing of a kind; None where none comes in time."""
+        limit = self.seconds if seconds is None or not self.terminal.seconds else seconds
+        place = self.player.wait_for(lambda: None if self._find(kind) is None else (self._find(kind),), limit)
+        if place is None:
+            return None
+        self.taken.add(place[0])
+        return self.player.heard[place[0]]
+
+    def _told_seconds(self, step):
+        seconds = self.seconds if step.seconds is None else step.seconds
+        return f"within {seconds:g} seconds" if self.terminal.seconds else "at once"
+
+    # steps
+
+    def _begin(self):
+        told = self._wait(PROFILED)
+        if told is None:
+            raise Differs("no TERMINAL PROFILE comes")
+        lacking = [name for name in self.sequence.needs if name not in decode.profile(told.data)]
+        if lacking:
+            raise Unsupported("its terminal profile doesn't have " + ", ".join(lacking))
+        self.taken |= {n for n, heard in enumerate(self.player.heard) if heard.kind in (RESET, PROFILED, ASKED)}
+
+    def _give(self, step, after):
+        if not step.follows:
+            # those that are announced by the answers to the responses before them have to be there by then
+            session = list(itertools.takewhile(lambda other: not isinstance(other, Give) or other.follows, after))
+            commands = [step, *(other for other in session if isinstance(other, Give))]
+            self.terminal.prepare([one.raw for one in commands], [other.said for other in session if isinstance(other, Act)])
+            for one in commands:
+                self.player.give(one.raw)
+            self.terminal.poll()
+        heard = self._wait(FETCHED)
+        if heard is None:
+            raise Differs("the command isn't fetched")
+        self.details = details_of(heard.data)
+
+    def _respond(self, step):
+        heard = self._wait(RESPONDED, step.seconds)
+        asked, self.is_user_asked = self.is_user_asked, False
+        if heard is None:
+            if self._find(STRAY) is not None:
+                raise Differs("a TERMINAL RESPONSE comes for a command that wasn't fetched")
+            if asked and self.terminal.has_person:
+                raise Undecided(f"the terminal's user did nothing {self._told_seconds(step)}")
+            raise Differs(f"no TERMINAL RESPONSE comes {self._told_seconds(step)}")
+        try:
+            check("the TERMINAL RESPONSE", self._objects(step), heard.data, step.has_more)
+        except Differs:
+            if asked and self.terminal.has_person and (decode.result_of(heard.data) or b"")[:1] == bytes((NO_RESPONSE,)):
+                raise Undecided("the terminal's user did nothing, so it says") from None
+            raise
+
+    def _objects(self, step):
+        """What a response must have: the number of the command is that which it was fetched with."""
+        return [dataclasses.replace(one, pattern=decode.hexed(self.details)) if one.tag == DETAILS and one.is_exact
+                and one.pattern[2:] == decode.hexed(self.details)[2:] else one for one in step.objects]
+
+    def _tell(self, step):
+        heard = self._wait(TOLD, step.seconds)
+        asked, self.is_user_asked = self.is_user_asked, False
+        if heard is None:
+            if asked and self.terminal.has_person:
+                raise Undecided(f"the terminal's user did nothing {self._told_seconds(step)}")
+            raise Differs(f"no ENVELOPE comes {self._told_seconds(step)}")
+        try:
+            tag, content = tlv.template(heard.data)
+        except tlv.BadTlv as fault:
+            raise Differs(f"the ENVELOPE is no template: {fault}: {decode.hexed(heard.data) or 'nothing'}") from None
+        if tag != step.tag:
+            raise Differs("the ENVELOPE is another one", [Row("template", template_name(step.tag), template_name(tag), False)])
+        check("the ENVELOPE", step.objects, content, step.has_more)
+
+    def _quiet(self, _):
+        heard = self._wait(TOLD, min(self.seconds, QUIET_SECONDS))
+        if heard is not None:
+            raise Differs("an ENVELOPE comes where none must", envelope_rows(heard.data))
+
+    def _restart(self, step):
+        for kind, what in ((RESET, "the card isn't reset"), (PROFILED, "no TERMINAL PROFILE comes after the reset")):
+            if self._wait(kind, step.seconds) is None:
+                raise Differs(f"{what} {self._told_seconds(step)}")
+
+    def _poll(self, step):
+        if self._wait(ASKED, step.seconds) is None:
+            raise Differs(f"no STATUS comes {self._told_seconds(step)}")
+
+    def _shown(self, step):
+        if not self.terminal.is_seen:
+            self.unseen.append(step.note)
+            return
+        place = self._look_for(step.note)
+        if place:
+            self.noted = place
+            return
+        shown = [line[2:] for line in self.player.trace[self.noted:] if line.startswith("* ")]
+        raise Differs(("something else is shown" if shown else "nothing is shown") + self._answered(),
+                      [Row("shown", step.note, "; ".join(shown) or None, False)])
+
+    def _look_for(self, note):
+        """The place after a note in the trace; None where it doesn't come in time."""
+        end = time.monotonic() + self.seconds
+        while True:
+            self.terminal.look()
+            place = self.player.wait_for(lambda: self._place_of(note), min(self.seconds, LOOK_SECONDS))
+            if place or time.monotonic() >= end:
+                return place
+
+    def _place_of(self, note):
+        """The place after a note in the trace; None where it isn't there since the last one that was asked for."""
+        return next((n for n, line in enumerate(self.player.trace, 1) if n > self.noted and line.rstrip() == "* " + note), None)
+
+    def _answered(self):
+        """What the terminal answered already, where it did."""
+        place = self._find(RESPONDED)
+        return "" if place is None else f", and the answer is {decode.title_response(self.player.heard[place].data)}"
+
+    def _act(self, step):
+        # what was sent before is not what this leads to
+        self.taken |= {n for n, heard in enumerate(self.player.heard) if heard.kind == ASKED}
+        self.is_user_asked = True
+        try:
+            self.terminal.happen(step.said)
+        except Unable as why:
+            raise Undecided(str(why)) from None
+
+    def _end(self):
+        """Nothing came that no step asks for."""
+        for kind, what in ((STRAY, "a TERMINAL RESPONSE comes for a command that wasn't fetched"),
+                           (RESPONDED, "a TERMINAL RESPONSE comes that no step asks for"),
+                           (RESET, "the card is reset, and no step asks for it"), (TOLD, "an ENVELOPE comes that no step asks for")):
+            place = self._find(kind)
+            if place is not None:
+                raise Differs(what, envelope_rows(self.player.heard[place].data) if kind == TOLD else ())
+
+
+STEPS = {Respond: Run._respond, Tell: Run._tell, Quiet: Run._quiet, Restart: Run._restart, Poll: Run._poll, Shown: Run._shown, Act: Run._act}
+
+
+def template_name(tag):
+    lines = decode.template(bytes((tag, 0)), "")
+    return lines[0].label
+
+
+def envelope_rows(data):
+    return [Row(line.label, None, line.text, False) for line in decode.template(data, "no template") if line.text]
+
+
+def judged(sequence, terminal, card, seconds=None):
+    """Plays a sequence to a terminal over a card, and judges it. `seconds` is how long the terminal may take for anything, where that
+    isn't what it says itself."""
+    outcome = Outcome(sequence, player=Player(card))
+    run = Run(sequence, terminal, outcome.player, seconds)
+    began = time.monotonic()
+    try:
+        run.carry_out()
+    except Differs as fault:
+        outcome.verdict, outcome.why, outcome.rows = FAILED, str(fault), fault.rows
+    except Undecided as fault:
+        outcome.verdict, outcome.why = INCONCLUSIVE, str(fault)
+    except Unsupported as fault:
+        outcome.verdict, outcome.why = UNSUPPORTED, str(fault)
+    finally:
+        terminal.end()
+    outcome.step, outcome.unseen, outcome.seconds = run.step, run.unseen, time.monotonic() - began
+    return outcome

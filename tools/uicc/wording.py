@@ -1,0 +1,286 @@
+"""Objects of the toolkit in words: what a proactive command holds, and what a TERMINAL RESPONSE or an envelope must hold.
+
+An object is its word and what it needs: `text "Toolkit Test 1"`, `item 2 "Two"`, `duration 10 seconds`, `result 00|01`. What must come may be
+a pattern: hexadecimal digits, in which `?` is any digit and `*` at the end any bytes, and several of them with `|` between them."""
+import dataclasses
+import re
+import shlex
+
+from . import decode, names, tlv
+
+DEVICES = {"keypad": 0x01, "display": 0x02, "earpiece": 0x03, "card": 0x81, "terminal": 0x82, "network": 0x83,
+           **{f"channel{number}": 0x20 + number for number in range(1, 8)}}
+# the basic letters of 3GPP TS 23.038, 6.2.1, in the order of their codes; that of 1B leads to other letters, which have none here
+LETTERS = ("@£$¥èéùìòÇ\nØø\rÅåΔ_ΦΓΛΩΠΨΣΘΞ\x1bÆæßÉ !\"#¤%&'()*+,-./0123456789:;<=>?¡ABCDEFGHIJKLMNOPQRSTUVWXYZÄÖÑÜ§¿abcdefghijklmnopqrstuvwxyz"
+           "äöñüà")
+UNITS = {"minutes": 0, "seconds": 1, "tenths": 2}
+SEVEN_BIT, EIGHT_BIT, UCS2 = 0x00, 0x04, 0x08
+# the value of a text, where there may be none: with a coding, or without
+EMPTY_TEXTS = "|00|04|08"
+
+
+class Wrong(Exception):
+    """Why a line is bad."""
+
+
+class Words:
+    """The words of a line that are still to be read; a text in quotes is one."""
+
+    def __init__(self, line):
+        try:
+            self.left = shlex.split(line, comments=True)
+        except ValueError as fault:
+            raise Wrong(f"{str(fault).lower()}: quotes come in pairs") from None
+
+    def __bool__(self):
+        return bool(self.left)
+
+    def take(self, what):
+        if not self.left:
+            raise Wrong(f"{what} is missing")
+        return self.left.pop(0)
+
+    def take_if(self, *words):
+        return self.left.pop(0) if self.left and self.left[0] in words else None
+
+    def take_name(self, known, what):
+        """The longest name of these that the next words make, and what it stands for."""
+        for count in range(len(self.left), 0, -1):
+            name = " ".join(self.left[:count])
+            if name in known:
+                del self.left[:count]
+                return known[name]
+        raise Wrong(f"{what} is missing: {', '.join(known)}" if not self.left else f"`{self.left[0]}` is no {what}: {', '.join(known)}")
+
+    def number(self, what, least, most):
+        word = self.take(what)
+        if not re.fullmatch("[0-9]+", word) or not least <= int(word) <= most:
+            raise Wrong(f"{what} is {least} to {most}, not {word}")
+        return int(word)
+
+    def byte(self, what):
+        word = self.take(what)
+        if not re.fullmatch("[0-9A-Fa-f]{2}", word):
+            raise Wrong(f"{what} is two hexadecimal digits, not {word}")
+        return int(word, 16)
+
+    def hexadecimal(self, what):
+        word = self.take(what)
+        if not re.fullmatch("([0-9A-Fa-f]{2})*", word):
+            raise Wrong(f"{what} is hexadecimal digits, two for each byte, not {word}")
+        return bytes.fromhex(word)
+
+    def pattern(self, what):
+        word = self.take(what).upper()
+        if not all(re.fullmatch(r"([0-9A-F?]{2})*\*?", part) for part in word.split("|")):
+            raise Wrong(f"{what} is hexadecimal digits, two for each byte, where `?` is any digit, `*` at the end any bytes, and `|` stands "
+                        f"between alternatives, not {word}")
+        return word
+
+
+@dataclasses.dataclass(frozen=True)
+class Object:
+    """An object that is spelled, or that must come: its tag, its value as a pattern, and whether it has the flag (None: either way). An
+    optional one need not come."""
+    tag: int
+    pattern: str
+    flag: bool | None = None
+    optional: bool = False
+
+    @property
+    def is_exact(self):
+        return not re.search("[?*|]", self.pattern)
+
+    def spelled(self):
+        """Its bytes, where it is exact."""
+        return tlv.written(self.tag, bytes.fromhex(self.pattern), self.flag is not False)
+
+    def fits(self, flag, value):
+        return self.flag in (None, flag) and any(matches(part, value) for part in self.pattern.split("|"))
+
+    @property
+    def label(self):
+        return label_of(self.tag)
+
+    def told(self):
+        """What it must be, in words."""
+        if self.is_exact:
+            text = decode.object_text(self.tag, bytes.fromhex(self.pattern), False)
+        else:
+            text = " or ".join(part or "nothing" for part in self.pattern.split("|"))
+        return text + {None: "", True: ", with the flag", False: ", without the flag"}[self.flag]
+
+
+def label_of(tag):
+    return names.of_toolkit("tags", tag, f"object {tag:02X}")
+
+
+def matches(pattern, value):
+    """Whether bytes are as a pattern says."""
+    digits = decode.hexed(value)
+    if pattern.endswith("*"):
+        pattern, digits = pattern[:-1], digits[:len(pattern) - 1]
+    return len(pattern) == len(digits) and all(want in ("?", digit) for want, digit in zip(pattern, digits))
+
+
+# values
+
+def packed(text):
+    """A text in 7-bit letters, eight in seven bytes (3GPP TS 23.038, 6.1.2.1)."""
+    codes = [LETTERS.find(letter) for letter in text]
+    if -1 in codes:
+        raise Wrong(f"`{text[codes.index(-1)]}` is no letter of the 7-bit alphabet")
+    bits = sum(code << 7 * place for place, code in enumerate(codes))
+    return bits.to_bytes((7 * len(codes) + 7) // 8, "little")
+
+
+def eight_bit(text):
+    try:
+        return text.encode("latin-1")
+    except UnicodeEncodeError as fault:
+        raise Wrong(f"`{text[fault.start]}` is no letter of eight bits: write `ucs2` before the text") from None
+
+
+CODINGS = {"gsm7": lambda text: bytes((SEVEN_BIT,)) + packed(text), "ucs2": lambda text: bytes((UCS2,)) + text.encode("utf-16-be"),
+           None: lambda text: bytes((EIGHT_BIT,)) + eight_bit(text)}
+
+
+def text_value(words):
+    if words.take_if("empty"):
+        return EMPTY_TEXTS
+    if words.take_if("none"):
+        return ""
+    if words.take_if("any"):
+        return "*"
+    if words.take_if("bytes"):
+        return words.pattern("the bytes of a text")
+    return CODINGS[words.take_if("gsm7", "ucs2")](words.take("the text")).hex().upper()
+
+
+def alpha_bytes(words):
+    """A title or an item's text: in eight bits, or 80 and UCS2 (3GPP TS 31.102, annex A)."""
+    if words.take_if("ucs2"):
+        return b"\x80" + words.take("the text").encode("utf-16-be")
+    return eight_bit(words.take("the text"))
+
+
+def item_value(words):
+    if words.take_if("none"):
+        return ""
+    return f"{words.number('the number of an item', 1, 255):02X}" + alpha_bytes(words).hex().upper()
+
+
+def duration_value(words):
+    if words.take_if("any"):
+        return "????"
+    count = words.number("a duration", 0, 255)
+    unit = words.take("minutes, seconds or tenths")
+    if unit not in UNITS:
+        raise Wrong(f"a duration is in minutes, seconds or tenths, not in {unit}")
+    return f"{UNITS[unit]:02X}{count:02X}"
+
+
+def events_value(words):
+    """Events by their names or their codes, with commas between them; or none."""
+    word, known = words.take("the events"), names.table("toolkit")["event_words"]
+    if word == "none":
+        return ""
+    codes = [known.get(part, part) for part in word.split(",")]
+    wrong = next((code for code in codes if not re.fullmatch("[0-9A-Fa-f]{2}", code)), None)
+    if wrong is not None:
+        raise Wrong(f"`{wrong}` is no event: {', '.join(known)}, or a code of two digits")
+    return "".join(codes).upper()
+
+
+def address_value(words):
+    """A number as it is dialled, with + before an international one."""
+    word = words.take("a number that is dialled")
+    if not re.fullmatch(r"\+?[0-9*#]{1,40}", word):
+        raise Wrong(f"a number that is dialled is + and digits, * and #, and not {word}")
+    digits = word.lstrip("+").replace("*", "A").replace("#", "B")
+    digits += "F" * (len(digits) % 2)
+    return ("91" if word[0] == "+" else "81") + "".join(digits[n + 1] + digits[n] for n in range(0, len(digits), 2))
+
+
+def time_value(words):
+    word = words.take("a time")
+    if not re.fullmatch("[0-9]{2}:[0-9]{2}:[0-9]{2}", word):
+        raise Wrong(f"a time is HH:MM:SS, not {word}")
+    return "".join(part[::-1] for part in word.split(":"))
+
+
+def length_value(words):
+    return f"{words.number('the least length', 0, 255):02X}{words.number('the most', 0, 255):02X}"
+
+
+def size_value(words):
+    return f"{words.number('a size', 0, 65535):04X}"
+
+
+def icon_value(words):
+    return f"{words.byte('the qualifier of an icon'):02X}{words.number('the number of an icon', 1, 255):02X}"
+
+
+def number_value(what):
+    return lambda words: "??" if words.take_if("any") else f"{words.number(what, 0, 255):02X}"
+
+
+def bytes_value(what):
+    return lambda words: words.pattern(what)
+
+
+def language_value(words):
+    word = words.take("a language")
+    if word == "any":
+        return "????"
+    if not re.fullmatch("[a-z]{2}", word):
+        raise Wrong(f"a language is two letters, not {word}")
+    return word.encode("ascii").hex().upper()
+
+
+# the word of an object, its tag, and how its value is read
+OBJECTS = {
+    "details": (0x01, bytes_value("details")),
+    "result": (0x03, bytes_value("a result")), "duration": (0x04, duration_value),
+    "title": (0x05, lambda words: alpha_bytes(words).hex().upper()), "address": (0x06, address_value),
+    "capability": (0x07, bytes_value("a capability")), "subaddress": (0x08, bytes_value("a subaddress")), "ss": (0x09, bytes_value("an SS string")),
+    "ussd": (0x0A, bytes_value("a USSD string")), "tpdu": (0x0B, bytes_value("a TPDU")), "text": (0x0D, text_value),
+    "tone": (0x0E, bytes_value("a tone")), "item": (0x0F, item_value), "identifier": (0x10, number_value("the number of an item")),
+    "length": (0x11, length_value), "files": (0x12, bytes_value("a file list")), "location": (0x13, bytes_value("a location")),
+    "imei": (0x14, bytes_value("an IMEI")), "help": (0x15, lambda words: ""), "measurements": (0x16, bytes_value("measurements")),
+    "default": (0x17, text_value), "events": (0x19, events_value), "location-status": (0x1B, bytes_value("a location status")),
+    "icon": (0x1E, icon_value), "icons": (0x1F, bytes_value("icons")), "timer": (0x24, number_value("the number of a timer")),
+    "time": (0x25, time_value), "time-left": (0x25, bytes_value("a time")), "date": (0x26, bytes_value("a date")),
+    "dtmf": (0x2C, bytes_value("digits")), "language": (0x2D, language_value), "timing-advance": (0x2E, bytes_value("a timing advance")),
+    "url": (0x31, lambda words: eight_bit(words.take("a URL")).hex().upper()), "bearer": (0x35, bytes_value("a bearer")),
+    "data": (0x36, bytes_value("channel data")), "count": (0x37, number_value("a count of bytes")),
+    "channel-status": (0x38, bytes_value("a channel status")), "size": (0x39, size_value), "transport": (0x3C, bytes_value("a transport level")),
+    "other-address": (0x3E, bytes_value("an address")), "access-technology": (0x3F, bytes_value("an access technology")),
+    "imeisv": (0x62, bytes_value("an IMEISV")),
+}
+
+
+def raw_object(words):
+    """An object by its tag, whose highest bit is the flag, and its value."""
+    tag = words.byte("a tag")
+    if tag in (0x00, 0x7F, 0x80, 0xFF):
+        raise Wrong(f"{tag:02X} is no tag of one byte")
+    return Object(tag & 0x7F, words.pattern("a value"), bool(tag & 0x80))
+
+
+def read_object(words):
+    optional = bool(words.take_if("optional"))
+    word = words.take("an object")
+    if word == "object":
+        return dataclasses.replace(raw_object(words), optional=optional)
+    if word not in OBJECTS:
+        raise Wrong(f"`{word}` is no object: {', '.join(OBJECTS)}, or object TAG VALUE")
+    tag, value = OBJECTS[word]
+    return Object(tag, value(words), None, optional)
+
+
+def device(words):
+    word = words.take("a device")
+    if word not in DEVICES:
+        raise Wrong(f"`{word}` is no device: {', '.join(DEVICES)}")
+    return DEVICES[word]
