@@ -214,6 +214,34 @@ def keyboard(browser):
     return "the handset by keyboard"
 
 
+# the toolkit
+
+APPLETS = "row 2 1 014000\nrow 5 2 0140044E6F7465\nrow 1 3 00044D656E75\nstart\n"
+
+
+def toolkit(browser):
+    """What each applet is doing is shown as it is after the chosen step; a card without applets shows nothing of it."""
+    play(browser, "phone", APPLETS)
+    browser.evaluate("uicc.trace.choose(uicc.played.steps.findIndex((step) => step.text.startsWith('> 8014')))")
+    expect("what the toolkit is doing", browser.evaluate("[...document.querySelectorAll('#toolkit li')].map((item) => item.textContent)"), [
+        "terminal profile: received",
+        "outstanding command: TIMER MANAGEMENT, number 2, of the applet on shelf 2: waits to be fetched",
+        "applet on shelf 1 (has a menu, priority 3): idle",
+        "applet on shelf 2 (keeps a clock, priority 1): asked: waits for the response to TIMER MANAGEMENT",
+        "applet on shelf 5 (keeps a note, priority 2): waiting: has GET INPUT to send, as number 1 of 1",
+        "timer 1: held by the applet on shelf 2",
+        "event 40 profile download: wakes shelf 2 (priority 1), shelf 5 (priority 2)",
+    ])
+    # a commit that was cut: what the applet keeps is read from the memory
+    play(browser, "phone", APPLETS + "cut 3\nuser type Milk\nreset\n")
+    expect("whether the note that was kept is shown", "asked: waits for the response to DISPLAY TEXT" in text_of(browser, "#toolkit")
+           or "waiting: has DISPLAY TEXT to send" in text_of(browser, "#toolkit"), True)
+    expect("whether anything is in doubt", "not sure" in text_of(browser, "#toolkit"), False)
+    play(browser, "play", READS)
+    expect("whether a card without applets has a toolkit", browser.evaluate("document.getElementById('toolkit-part').hidden"), True)
+    return "what the toolkit is doing"
+
+
 # what is read at first sight
 
 def first_sight(browser):
@@ -397,5 +425,5 @@ def trap(browser):
 
 
 ALL = (
-    typing, refuses, takes_back, narrow, keyboard, first_sight, colours, causes, terms, bad_line, many_writes, words_of_a_script, link, trap,
+    typing, refuses, takes_back, narrow, keyboard, toolkit, first_sight, colours, causes, terms, bad_line, many_writes, words_of_a_script, link, trap,
 )

@@ -268,7 +268,7 @@ class Toolkit:
             applet.wake()
 
     def lose(self):
-        """The power was lost in a command, or the memory failed in it."""
+        """The power was lost in a command, or it met a memory problem."""
         self.reset()
         self.doubt = NOT_SETTLED
 
