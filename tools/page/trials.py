@@ -396,6 +396,11 @@ def words_of_a_script(browser):
     browser.wait("document.querySelector('#help .current')?.dataset.word === 'ef'")
     go_to(browser, 10)
     browser.wait("document.querySelector('#help .current')?.dataset.word === 'apdu'")
+    expect("whether what the line says is in sight", browser.evaluate("""(() => {
+        const list = document.getElementById("help-words").getBoundingClientRect();
+        const { bottom } = document.querySelector("#help .current + dd").getBoundingClientRect();
+        return bottom <= list.bottom;
+    })()"""), True)
     browser.click("#help summary")
     return f"help for {len(found)} words"
 
