@@ -1,4 +1,8 @@
 """uicc.toolkit: what is worked out of a card's toolkit is what the card does."""
+import os
+import subprocess
+import sys
+import tempfile
 import unittest
 
 import common  # noqa: F401 (the path)
@@ -85,6 +89,21 @@ class Words(unittest.TestCase):
         """What can't be known is said."""
         self.assertEqual(told(ROWS, [*BEGUN, "> 8012000013", "! cut"])[-1], f"not sure: {toolkit.NOT_SETTLED}")
         self.assertEqual(told("row 0 1 014000\nstart\n", BEGUN)[-1], f"not sure: {toolkit.OTHER_APPLETS}")
+
+
+class AtThePrompt(unittest.TestCase):
+    def test_shell(self):
+        """tools/shell says it after each command."""
+        with tempfile.NamedTemporaryFile("w", suffix=".script", encoding="utf-8") as script:
+            script.write(ROWS)
+            script.flush()
+            shell = [sys.executable, os.path.join(common.TOOLS, "shell"), script.name]
+            done = subprocess.run(shell, input="toolkit\nprofile\nfetch\nrespond\ntoolkit\nreset\ntoolkit\n", stdout=subprocess.PIPE, text=True, check=False)
+        self.assertEqual(done.returncode, 0)
+        said = [line.strip() for line in done.stdout.splitlines()]
+        before, now = told(ROWS, []), told(ROWS, BEGUN)
+        self.assertEqual((said[:len(before)], said[-len(before):]), (before, before))
+        self.assertEqual(said[-len(before) - len(now):-len(before)], now)
 
 
 if __name__ == "__main__":

@@ -1,5 +1,13 @@
 """What the toolkit of a card is doing, worked out from its registered applets and from the commands of a trace: which applet is idle,
-asked or waiting, for what; which events come late; which timers are held; which applets an event wakes, and in which order."""
+asked or waiting, for what; which events come late; which timers are held; which applets an event wakes, and in which order.
+
+    from uicc import Card, toolkit
+
+    with Card("examples/day.script") as card:
+        rows = dict(card.holds.rows)
+        card.profile()
+        for line in toolkit.followed(rows, card.trace).lines():
+            print(f"{line.label}: {line.text}")"""
 import dataclasses
 
 from . import decode, layout, names, process, tlv, trace
