@@ -145,7 +145,11 @@ class Page {
         this.play();
     }
 
+    // Tells what can be taken back and done again. What was refused before is told no longer.
     tellHistory() {
+        for (const kind of ["script", "trace", "image"]) {
+            byId(`${kind}-told`).textContent = "";
+        }
         const { earlier, later } = this.history;
         for (const [id, words, list] of [["undo", "Take back", earlier], ["redo", "Do again", later]]) {
             const reason = list.at(-1)?.reason;
