@@ -138,7 +138,8 @@ def takes_back(browser):
     expect("what `Undo` takes back", browser.evaluate("document.getElementById('undo').title"), "Take back: card.img")
     browser.evaluate("document.getElementById('script').focus()")
     browser.type("reset\n")
-    browser.wait(has_lines(2))
+    # the browser may be slow, so that a part of the line is played before
+    browser.wait(f"{has_lines(2)} && uicc.played.result.status === 0")
     written = stands(browser)
     choose_file(browser, "script", "latin.script", b"# \xE9\nstart\n")
     expect("the letters of another encoding", browser.evaluate("uicc.script.text"), "# \u00e9\nstart\n")
