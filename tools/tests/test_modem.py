@@ -15,7 +15,7 @@ from common import TOOLS
 from uicc import Card, NotBuilt, PowerLost, at, process, sim
 from uicc.card import Answer
 from uicc.modem import LONGEST_LINE, Modem
-from uicc.modem_line import PtyLine, TcpLine
+from uicc.modem_line import PtyLine, TcpLine, UnixLine
 
 EXAMPLES = os.path.join(process.TOP, "examples")
 USIM, MENU, DAY = (os.path.join(EXAMPLES, name + ".script") for name in ("usim", "menu", "day"))
@@ -359,6 +359,16 @@ class Lines(unittest.TestCase):
             second.sendall(b"AT+CIMI\r")
             self.assertIn(b"AT+CIMI", self.heard(second, b"OK\r\n"))
 
+    def test_a_unix_socket(self):
+        path = os.path.join(self.enterContext(tempfile.TemporaryDirectory()), "modem")
+        with UnixLine(path) as line, self.served(line), socket.socket(socket.AF_UNIX) as link:
+            self.assertEqual(os.stat(path).st_mode & 0o077, 0)
+            link.settimeout(SECONDS)
+            link.connect(path)
+            link.sendall(b"AT+CCID\r")
+            self.heard(link, b"+CCID: 8999901000000123450\r\n\r\nOK\r\n")
+        self.assertFalse(os.path.exists(path))
+
     def test_a_client_that_takes_nothing_is_dropped(self):
         line = self.enterContext(TcpLine("127.0.0.1", 0))
         with self.served(line):
@@ -416,7 +426,8 @@ class Tool(unittest.TestCase):
         ((), "a SCRIPT or an --image is wanted"), ((USIM, "--listen", "here"), "ADDRESS:PORT is wanted"),
         ((USIM, "--listen", "127.0.0.1:99999"), "ADDRESS:PORT is wanted"), ((USIM, "--profile", "0g"), "hexadecimal digits are wanted"),
         ((USIM, "--profile", ""), "1 to 255 bytes, and not 0"), ((USIM, "--cut", "0"), "--cut"), ((USIM, "--poll", "-1"), "SECONDS are a number"),
-        ((USIM, "--listen", "127.0.0.1:0", "--pty"), "not allowed with"), (("nowhere.script",), "nowhere.script"),
+        ((USIM, "--listen", "127.0.0.1:0", "--pty"), "not allowed with"), ((USIM, "--unix", "/nowhere/modem"), "modem: "),
+        (("nowhere.script",), "nowhere.script"),
         ((USIM, "--listen", "192.0.2.1:12345"), "modem: "), ((USIM, "--listen", "no.such.host.invalid:1"), "modem: "),
         ((os.path.join(EXAMPLES, "day.trace"),), "line 1"), (("--image", "nowhere.img"), "nowhere.img"),
     ]
