@@ -41,17 +41,17 @@ def sbin_which(name):
     return shutil.which(name) or shutil.which(name, path="/usr/sbin:/sbin")
 
 
-def why_not(programs, folder):
-    """What of some programs (with the names of their packages), of D-Bus and of namespaces that hide a folder is missing, in words;
-    nothing where all is here."""
+def why_not(programs, folder=None):
+    """What of some programs (with the names of their packages), of D-Bus and of namespaces, in which a folder can be hidden, is missing, in
+    words; nothing where all is here."""
     programs = {**programs, "dbus-daemon": "dbus", "unshare": "util-linux"}
     missing = [f"{name} (apt-get install {package})" for name, package in programs.items() if not sbin_which(name)]
     if not python_with_dbus():
         missing.append("D-Bus for Python (apt-get install python3-dbus python3-gi)")
     if missing:
         return "missing: " + ", ".join(missing)
-    tried = subprocess.run([*UNSHARE, "mount", "-t", "tmpfs", "daemon", folder], stdin=subprocess.DEVNULL, capture_output=True, text=True,
-                           check=False)
+    words = ["mount", "-t", "tmpfs", "daemon", folder] if folder else ["true"]
+    tried = subprocess.run([*UNSHARE, *words], stdin=subprocess.DEVNULL, capture_output=True, text=True, check=False)
     return f"no namespaces can be made here: {tried.stderr.strip()}" if tried.returncode else ""
 
 
