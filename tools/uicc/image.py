@@ -37,6 +37,15 @@ def expect_store(content, store, path):
         raise NoCard("it is an image of the other store: it is opened without --store pages")
 
 
+def expect_card(content, store, path):
+    """The card of an image of this store; NoCard, which names the file, where it holds none."""
+    try:
+        expect_store(content, store, path)
+        return card_in(content)
+    except NoCard as fault:
+        raise NoCard(f"{path}: {fault}") from None
+
+
 def pieces(content):
     """The pieces of a commit whose gate is open; none where they aren't well formed."""
     if content[GATE] != OPEN_GATE:

@@ -1,7 +1,7 @@
 """What is wrong with the lines of a script. The first bad line is the one that the program names, for the same cause."""
 import dataclasses
 
-from . import layout
+from . import layout, process
 from .grammar import OF_CARD, OF_TERMINAL, Apdu, Handset, Start, Tpdu, Wrong, read_line
 
 MOST_BYTES = 16_777_216
@@ -9,6 +9,10 @@ MOST_BYTES = 16_777_216
 MODES = ("play", "phone", "open", "bip")
 BAD, NO_ROOM, WARNING = "bad", "no room", "warning"
 STATUSES = {BAD: 2, NO_ROOM: 8}
+
+
+class BadScript(Exception):
+    """A line of a script is bad."""
 
 
 @dataclasses.dataclass(frozen=True)
@@ -164,3 +168,18 @@ def read(text, mode="play"):
     return Script(reading.card, reading.steps, reading.findings, reading.lines)
 
 
+
+
+def described(path):
+    """The script in a file, for who wants the card alone that it describes: BadScript, where one of the lines up to `start` is bad."""
+    with open(path, encoding=process.ENCODING, newline="\n") as text:
+        script = read(text.read())
+    bad = script.first()
+    if bad and bad.line <= len(process.card_section(script.lines)[0]):
+        raise BadScript(f"{path}, line {bad.line}: {bad.reason}")
+    return script
+
+
+def card_section(path):
+    """The lines of a script in a file before its `start`."""
+    return process.card_section(described(path).lines)[0]
