@@ -175,7 +175,7 @@ class Reader(unittest.TestCase):
         self.assertEqual(told.wait(20), 2)
         said = told.stderr.read().splitlines()
         self.assertEqual(said[0], "uicc_run: no space is left")
-        for part in ("reader: ", "status 6", "the memory failed", "eeprom failed", "no space is left"):
+        for part in ("reader: ", "status 6", "memory problem", "eeprom failed", "no space is left"):
             self.assertIn(part, said[-1])
 
     def test_help_says_who_may_put_a_card_in_and_how_slots_are_numbered(self):

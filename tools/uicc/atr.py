@@ -3,7 +3,7 @@ import functools
 import operator
 
 DIRECT, INVERSE = 0x3B, 0x3F
-# TS and at most 32 characters behind it
+# TS and at most 32 characters after it
 LONGEST = 33
 # T=15 stands for bytes that are of no protocol
 GLOBAL = 15
@@ -24,12 +24,12 @@ class Unfit(ValueError):
 
 
 def check(content):
-    """TCK: all bytes behind TS, and it, come to nothing by exclusive or."""
+    """TCK: all bytes after TS, and it, come to nothing by exclusive or."""
     return functools.reduce(operator.xor, content[1:], 0)
 
 
 def made(interface):
-    """An answer to reset with these interface bytes behind TA1, and the historical bytes of this card."""
+    """An answer to reset with these interface bytes after TA1, and the historical bytes of this card."""
     content = bytes((DIRECT, 0x90 | len(HISTORICAL), SPEED)) + interface + HISTORICAL
     return content + bytes((check(content),))
 

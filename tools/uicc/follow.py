@@ -25,6 +25,8 @@ class Follower:
 
     def __init__(self, card=None):
         self.card = card
+        if card:
+            card.was_wide = card.is_wide
         self.usim = card is None or is_usim_card(card)
         self.reset()
 

@@ -118,7 +118,7 @@ def card_in(image):
         pin = pin_at(content[PINS + PIN_WIDTH * slot:PINS + PIN_WIDTH * (slot + 1)])
         if pin:
             card.pins[pin.key] = pin
-    wide = content[4] == WIDE
+    wide = card.was_wide = content[4] == WIDE
     for shelf in range(SHELVES if wide else LOWER_SHELVES):
         row = row_at(content, shelf, wide)
         if row:

@@ -24,7 +24,7 @@ class Finding:
 
 @dataclasses.dataclass
 class Script:
-    """What was made of a script: the card that the lines before `start` describe, the lines behind it with their numbers, what
+    """What was made of a script: the card that the lines before `start` describe, the lines after it with their numbers, what
     is wrong, and the lines as they stand."""
     card: layout.Card
     steps: list
@@ -51,7 +51,7 @@ def of_another(said, mode):
     if mode == "bip":
         if isinstance(said, (Start, *OF_TERMINAL)):
             return None
-        return "`bip` is over no card and no handset: behind `start` stand `cmd HEX`, `net echo C N` and `net drop C` alone"
+        return "`bip` is over no card and no handset: after `start` stand `cmd HEX`, `net echo C N` and `net drop C` alone"
     if isinstance(said, OF_TERMINAL):
         return "this line is for `bip`, a terminal over no card"
     if mode == "open" and isinstance(said, OF_CARD):
@@ -60,7 +60,7 @@ def of_another(said, mode):
 
 
 def may_follow(said, mode):
-    """Why a line may not stand behind `start`; None where it may."""
+    """Why a line may not stand after `start`; None where it may."""
     if isinstance(said, Start):
         return "`start` stands once"
     if mode != "bip" and isinstance(said, OF_CARD):
@@ -91,7 +91,7 @@ class Reading:
         self.lines.append(line)
         number = len(self.lines)
         if size > self.room:
-            self.findings.append(Finding(number, BAD, f"a script has at most {MOST_BYTES:,} bytes: this line is behind them"))
+            self.findings.append(Finding(number, BAD, f"a script has at most {MOST_BYTES:,} bytes: this line ends after them"))
             return False
         self.room -= size
         try:

@@ -28,7 +28,7 @@ STATUSES = {
     3: "the script could not be read on",
     4: "the trace could not be written on",
     5: "there was no memory to begin with",
-    6: "the memory failed or lost power before the card was open, or its file can't be had",
+    6: "memory problem, or the power was lost, before the card was open or in a reset; or the file of the image can't be had",
     7: "the memory holds no card that can be opened",
     8: "there is no room on the card for what a line describes",
 }
