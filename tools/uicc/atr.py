@@ -57,7 +57,7 @@ def protocols(content):
     has_check = any(named)
     size = at + (content[1] & 0x0F) + has_check
     if len(content) != size:
-        raise Unfit(f"by its first bytes the answer to reset has {size} bytes, and not {len(content)}")
+        raise Unfit(f"the first bytes of the answer to reset say that it has {size} bytes, and not {len(content)}")
     if has_check and check(content):
         raise Unfit(f"the last byte of the answer to reset is {check(content[:-1]):02X} for these bytes, and not {content[-1]:02X}")
     return [protocol for protocol in dict.fromkeys(named) if protocol != GLOBAL] or [0]

@@ -31,7 +31,7 @@ class Follower:
         self.reset()
 
     def reset(self):
-        # of each channel that is open: the path of the current DF, that of the current EF or None
+        # the current DF of each open channel, and its current EF or None, by their paths
         self.current = {0: ((), None)}
         # the keys that were verified
         self.verified = set()
