@@ -12,7 +12,7 @@ import threading
 import unittest
 
 from common import TOOLS
-from uicc import Card, NotBuilt, PowerLost, at, process, sim
+from uicc import Card, NotBuilt, at, process, sim, trace
 from uicc.card import Answer
 from uicc.modem import LONGEST_LINE, Modem
 from uicc.modem_line import PtyLine, TcpLine, UnixLine
@@ -403,8 +403,8 @@ class Tool(unittest.TestCase):
     def test_a_session_with_its_trace(self):
         """What went to the card stands in the trace, which other tools read; the signal TERM ends it with 0."""
         folder = self.enterContext(tempfile.TemporaryDirectory())
-        trace = os.path.join(folder, "modem.trace")
-        told = self.start(DAY, "--listen", "127.0.0.1:0", "--trace", trace)
+        path = os.path.join(folder, "modem.trace")
+        told = self.start(DAY, "--listen", "127.0.0.1:0", "--trace", path)
         port = int(re.search(r"at 127\.0\.0\.1, port (\d+)", told.stderr.readline()).group(1))
         with socket.create_connection(("127.0.0.1", port)) as link:
             link.settimeout(SECONDS)
@@ -414,11 +414,15 @@ class Tool(unittest.TestCase):
                 said += link.recv(4096)
         told.send_signal(signal.SIGTERM)
         self.assertEqual(told.wait(SECONDS), 0)
-        explained = subprocess.run([sys.executable, "-B", os.path.join(TOOLS, "explain"), trace], capture_output=True, text=True, check=False)
+        with open(path, encoding="ascii") as text:
+            lines = text.read().splitlines()
+        self.assertTrue(all(trace.time_of(line) for line in lines[::2]))
+        self.assertEqual((lines[1], lines[3][:4]), ("> 80100000082900BF6171000013", "< 91"))
+        explained = subprocess.run([sys.executable, "-B", os.path.join(TOOLS, "explain"), path], capture_output=True, text=True, check=False)
         self.assertEqual(explained.returncode, 0, explained.stderr)
         for part in ("TERMINAL PROFILE", "FETCH", "SET UP MENU"):
             self.assertIn(part, explained.stdout)
-        captured = subprocess.run([sys.executable, "-B", os.path.join(TOOLS, "capture"), trace], capture_output=True, text=True, check=False)
+        captured = subprocess.run([sys.executable, "-B", os.path.join(TOOLS, "capture"), path], capture_output=True, text=True, check=False)
         self.assertEqual(captured.returncode, 0, captured.stderr)
 
     # words, and what is said of them
