@@ -139,11 +139,10 @@ class Card:
             return self.holds
 
     def _described(self, script):
-        with open(script, encoding=process.ENCODING, newline="\n") as text:
-            read = lint.read(text.read())
-        bad = read.first()
-        if bad and bad.line <= len(process.card_section(read.lines)[0]):
-            raise CardError(f"{script}, line {bad.line}: {bad.reason}")
+        try:
+            read = lint.described(script)
+        except lint.BadScript as fault:
+            raise CardError(str(fault)) from None
         self.holds = read.card
         return process.card_section(read.lines)[0]
 
@@ -423,10 +422,11 @@ class Card:
 
 
 def _card_in(path, store):
+    if not os.path.exists(path):
+        raise CardError(f"{path} isn't there: with a script beside it, it is made")
     with open(path, "rb") as content:
         held = content.read()
     try:
-        image.expect_store(held, store, path)
-        return image.card_in(held)
+        return image.expect_card(held, store, path)
     except image.NoCard as fault:
-        raise CardError(f"{path}: {fault}") from None
+        raise CardError(str(fault)) from None
