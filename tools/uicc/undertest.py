@@ -15,6 +15,10 @@ class Unsupported(Exception):
     """A sequence can't be played to this terminal."""
 
 
+class Lost(Exception):
+    """The terminal can't be had, or is there no more."""
+
+
 class UnderTest:
     """A terminal. `name` stands in reports. `seconds` is how long it may take for anything; at one that is done when its methods come
     back it is 0. `has_person`: its user is a person, who may do nothing. `is_seen`: it tells by `player.note` what it shows."""
@@ -45,7 +49,10 @@ class UnderTest:
         """Tells the player what was shown since it looked last; for terminals that don't tell it by themselves."""
 
     def end(self):
-        """Is switched off."""
+        """A sequence is over."""
+
+    def close(self):
+        """All sequences are over."""
 
 
 class InPython(UnderTest):
@@ -68,6 +75,22 @@ class InPython(UnderTest):
             self.terminal.happen(said)
         except (KeyError, Wrong, grammar.Wrong):
             raise Unable(f"its user can't `{said.act}`") from None
+
+
+# what a person at a terminal is told to do
+INSTRUCTIONS = {
+    "ok": "say yes, or that it was seen", "back": "go back", "end": "end the session", "none": "do nothing", "press": "press a key",
+    "idle": "go to the idle screen", "help": "ask for help", "refuse": "refuse it"}
+
+
+def instruction(said):
+    """What a person at a terminal is told to do."""
+    if said.word != "user":
+        return f"please have this happen at the terminal: {line_of(said)}"
+    if said.act in INSTRUCTIONS:
+        return f"please {INSTRUCTIONS[said.act]}"
+    words = {"type": f"type `{said.value}`", "pick": f"pick the item {said.value}", "dial": f"call {said.value}"}
+    return f"please {words[said.act]}"
 
 
 def line_of(said):

@@ -283,5 +283,6 @@ def judged(sequence, terminal, card, seconds=None):
         outcome.verdict, outcome.why = UNSUPPORTED, str(fault)
     finally:
         terminal.end()
+        outcome.player.leave()
     outcome.step, outcome.unseen, outcome.seconds = run.step, run.unseen, time.monotonic() - began
     return outcome
