@@ -214,6 +214,8 @@ class Reader:
                 without.add(words.take_name({"details": DETAILS, "devices": DEVICE_IDENTITIES}, "part that a command may be without"))
             else:
                 found.append(exact(read_object(words)))
+        if sum(len(one.pattern) // 2 for one in found) > LONGEST_COMMAND:
+            raise Wrong(f"a command has 1 to {LONGEST_COMMAND} bytes, and the objects of this one are longer")
         heads = [(DETAILS, bytes((number, kind, qualifier))), (DEVICE_IDENTITIES, bytes((source, destination)))]
         content = b"".join(tlv.written(tag, value) for tag, value in heads if tag not in without)
         return tlv.written(decode.PROACTIVE, content + b"".join(one.spelled() for one in found))

@@ -4,7 +4,6 @@ A terminal of one's own is a class with the methods of UnderTest; it is given a 
 from . import grammar, process, sending
 from .handset import Terminal
 from .sequence import MORE_ACTS
-from .wording import Wrong
 
 
 class Unable(Exception):
@@ -73,7 +72,7 @@ class InPython(UnderTest):
     def happen(self, said):
         try:
             self.terminal.happen(said)
-        except (KeyError, Wrong, grammar.Wrong):
+        except grammar.Wrong:
             raise Unable(f"its user can't `{said.act}`") from None
 
 
