@@ -347,7 +347,7 @@ def has_envelope(tag, *patterns):
 
 def has_text(one):
     """Whether a response must hold a text of some letters."""
-    return any(len(wanted(step, 0x0D) or "") > 2 and "|" not in wanted(step, 0x0D) for _, step in responses(one, 0x22, 0x23))
+    return any(len(wanted(step, 0x0D) or "|") > 2 and wanted(step, 0x0D)[0] != "|" for _, step in responses(one, 0x22, 0x23))
 
 
 def has_quiet_after(*acts):
