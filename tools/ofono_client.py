@@ -13,6 +13,7 @@ standard input is a request, a list in JSON, whose answer is printed as a line:
     ["agent", true | false]              whether there is an agent for what the card begins by itself
     ["answers", ANSWER..]                what the agents answer next: {"value": ..}, {"error": "GoBack"}, or {} for nothing at all
     ["asked"]                            what the agents were asked since it was asked last: [METHOD, VALUE..] each
+    ["within", SECONDS, REQUEST..]       another request, for whose answer of oFono's so long is waited, and not 20 seconds
 
 An answer is {"answer": ..} or {"error": ..}. Where no answer was given, the agents say by themselves that a text was seen, a tone played
 and a question confirmed, and to other questions they say nothing. It ends when standard input does."""
@@ -33,7 +34,7 @@ STORAGE = "/var/lib/ofono"
 SERVICE, MODEM, TOOLKIT = "org.ofono", "/phonesim", "org.ofono.SimToolkit"
 AGENT, STANDING, OF_SESSION = "org.ofono.SimToolkitAgent", "/standing", "/session"
 ERRORS = "org.ofono.Error."
-SECONDS = 60
+SECONDS, SECONDS_TO_START = 20, 60
 BUS = """<!DOCTYPE busconfig PUBLIC "-//freedesktop//DTD D-BUS Bus Configuration 1.0//EN"
  "http://www.freedesktop.org/standards/dbus/1.0/busconfig.dtd">
 <busconfig>
@@ -57,6 +58,7 @@ QUESTIONS = {
     "ConfirmCallSetup": ("b", YES), "PlayTone": ("", SEEN), "LoopTone": ("", NOTHING), "DisplayActionInformation": ("", NOTHING),
     "ConfirmLaunchBrowser": ("b", YES), "DisplayAction": ("", NOTHING), "ConfirmOpenChannel": ("b", YES),
 }
+KINDS = {"s": str, "y": int, "b": bool}
 # what they are told, which wants no answer
 NOTES = ("Cancel", "Release")
 
@@ -78,6 +80,7 @@ class Client:
     def __init__(self, bus):
         self.bus = bus
         self.answers, self.asked = collections.deque(), []
+        self.seconds = SECONDS
         bus.add_message_filter(self.on_message)
 
     def on_message(self, bus, message):
@@ -99,28 +102,31 @@ class Client:
             return None
         reply = dbus.lowlevel.MethodReturnMessage(message)
         if kind:
-            reply.append(answer["value"], signature=kind)
+            try:
+                reply.append(KINDS[kind](answer["value"]), signature=kind)
+            except (TypeError, ValueError, OverflowError):
+                return dbus.lowlevel.ErrorMessage(message, ERRORS + "EndSession", "the answer is of another kind than the question")
         return reply
 
     def interface(self, name):
         return dbus.Interface(self.bus.get_object(SERVICE, MODEM, introspect=False), name)
 
     def get(self, interface):
-        return self.interface(interface).GetProperties(timeout=SECONDS)
+        return self.interface(interface).GetProperties(timeout=self.seconds)
 
     def set(self, interface, name, value):
         value = dbus.Array(value, signature="s") if isinstance(value, list) else dbus.Boolean(value)
-        return self.interface(interface).SetProperty(name, value, signature="sv", timeout=SECONDS)
+        return self.interface(interface).SetProperty(name, value, signature="sv", timeout=self.seconds)
 
     def call(self, interface, method, *values):
-        return getattr(self.interface(interface), method)(*values, timeout=SECONDS)
+        return getattr(self.interface(interface), method)(*values, timeout=self.seconds)
 
     def pick(self, number):
-        return self.interface(TOOLKIT).SelectItem(dbus.Byte(number), dbus.ObjectPath(OF_SESSION), signature="yo", timeout=SECONDS)
+        return self.interface(TOOLKIT).SelectItem(dbus.Byte(number), dbus.ObjectPath(OF_SESSION), signature="yo", timeout=self.seconds)
 
     def agent(self, is_wanted):
         toolkit = self.interface(TOOLKIT)
-        (toolkit.RegisterAgent if is_wanted else toolkit.UnregisterAgent)(dbus.ObjectPath(STANDING), timeout=SECONDS)
+        (toolkit.RegisterAgent if is_wanted else toolkit.UnregisterAgent)(dbus.ObjectPath(STANDING), timeout=self.seconds)
 
     def answer_next(self, *answers):
         self.answers = collections.deque(answers)
@@ -130,25 +136,27 @@ class Client:
         return asked
 
     def carry_out(self, request):
+        self.seconds = SECONDS
+        if request[0] == "within":
+            self.seconds, request = request[1], request[2:]
         todo = {"get": self.get, "set": self.set, "call": self.call, "pick": self.pick, "agent": self.agent, "answers": self.answer_next,
                 "asked": self.asked_since}
         try:
             found = todo[request[0]](*request[1:])
         except (dbus.DBusException, TypeError, ValueError, KeyError) as fault:
-            name = fault.get_dbus_name() if isinstance(fault, dbus.DBusException) else type(fault).__name__
-            return {"error": f"{name}: {fault}"}
+            return {"error": str(fault)}
         return {"answer": None if found is None else plain(found)}
 
 
 def until(look, what):
     """Waits for something, and answers it."""
-    end = time.monotonic() + SECONDS
+    end = time.monotonic() + SECONDS_TO_START
     while time.monotonic() < end:
         found = look()
         if found:
             return found
         time.sleep(0.02)
-    raise TimeoutError(f"{what} didn't come in {SECONDS} seconds")
+    raise TimeoutError(f"{what} didn't come in {SECONDS_TO_START} seconds")
 
 
 def connected(address):

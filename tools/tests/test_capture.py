@@ -3,6 +3,7 @@ import struct
 import unittest
 
 from common import load
+from uicc import trace
 
 
 class Captures(unittest.TestCase):
@@ -22,7 +23,7 @@ class Captures(unittest.TestCase):
         (["* menu 1", "line 4"], [("mark", "handset: menu 1", None), ("mark", "the run ended: line 4", None)]),
         (["> 00B0000001"], [("alone", "00B0000001", ["the trace ends here"])]),
     ]
-    NO_TRACES = [["hello"], ["> 00B", "< 9000"], ["> 00B0000001", "< XX"], ["< 9000"]]
+    NO_TRACES = [["hello"], ["> 00B", "< 9000"], ["> 00B0000001", "< XX"], ["< 9000"], ["@ noon"]]
 
     def test_packets(self):
         capture = load("capture")
@@ -30,6 +31,18 @@ class Captures(unittest.TestCase):
             found = [(packet.kind, packet.content.decode() if packet.kind == "mark" else packet.content.hex().upper(),
                       None if packet.kind == "mark" else packet.comments) for packet in capture.packets(lines)]
             self.assertEqual(found, packets)
+
+    def test_times(self):
+        """A packet has the time that is told before it, also in its block; the parts of a trace are the same without."""
+        capture = load("capture")
+        lines = ["! reset", "@ 2026-01-31T12:00:00.000001+00:00", "> 00B0000001", "@ 2026-01-31T12:00:00.250000+00:00", "< AA9000"]
+        noon = 1_769_860_800_000_000
+        found = list(capture.packets(lines))
+        self.assertEqual([packet.micros for packet in found], [None, noon + 250_000])
+        self.assertEqual(struct.unpack_from("<II", capture.framed(1, found[1]), 12), ((noon + 250_000) >> 32, (noon + 250_000) & 0xFFFFFFFF))
+        without = [line for line in lines if not line.startswith("@")]
+        self.assertEqual(list(trace.parts(lines)), list(trace.parts(without)))
+        self.assertGreater(capture.time_in(1, trace.time_now()), noon)
 
     def test_no_trace(self):
         capture = load("capture")

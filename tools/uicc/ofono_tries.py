@@ -2,7 +2,6 @@
 
 A try passes where oFono does what the standard asks for, fails where it does something else, and isn't supported where oFono says so
 itself, by the general results 30 and 31 (beyond the terminal's capabilities, type not understood)."""
-import contextlib
 import dataclasses
 import os
 
@@ -23,7 +22,28 @@ DETAILS, DEVICES, RESULT, DURATION, TEXT, ITEM, TIMER_IDENTIFIER = 0x01, 0x02, 0
 FROM_TERMINAL = b"\x82\x81"
 # as long as a try waits for what oFono does at once
 SECONDS = 20
+SECONDS_OF_UPDATE = SECONDS_WITHOUT = 3
 MOST_WRITES = 12
+
+
+# what is known of a version: the tries that don't pass
+KNOWN = {"1.31": {
+    "after PIN 1 the SIM is read on, with no word of the modem's": FAILED,
+    "who asked for that update is told that it failed": FAILED,
+    "REFRESH that initialises the application": FAILED,
+    "REFRESH that resets the card": UNSUPPORTED,
+    "SET UP EVENT LIST": UNSUPPORTED,
+    "PROVIDE LOCAL INFORMATION, location": UNSUPPORTED,
+}}
+
+
+def surprises(verdicts, version):
+    """What differs from what is known of a version, in words; nothing where none is known."""
+    if version not in KNOWN:
+        return []
+    known = {verdict.name: KNOWN[version].get(verdict.name, PASSED) for verdict in verdicts}
+    return [f"{verdict.name} {verdict.outcome}, and is known as {known[verdict.name]}" for verdict in verdicts
+            if verdict.outcome != known[verdict.name]]
 
 
 @dataclasses.dataclass(frozen=True)
@@ -82,6 +102,22 @@ class Proactive:
         return tlv.first(self.response, tag)
 
 
+def exchanges_in(lines):
+    return [part for part in trace.parts(lines) if isinstance(part, trace.Exchange)]
+
+
+def proactive_in(exchanges):
+    """The proactive commands that were fetched, with what answered them."""
+    found = []
+    for exchange in exchanges:
+        ins = decode.Apdu(exchange.command).ins
+        if ins == decode.FETCH and exchange.answer and len(exchange.answer) > 2:
+            found.append(Proactive(exchange.answer[:-2]))
+        elif ins == decode.RESPONSE and found and found[-1].response is None:
+            found[-1].response = decode.Apdu(exchange.command).data
+    return found
+
+
 class Session:
     """A telephone with a card, and what went over between them."""
 
@@ -107,7 +143,7 @@ class Session:
     def until(self, look, what, seconds=SECONDS):
         found = self.phone.until(look, seconds)
         if not found:
-            raise Wrong(f"{what}: not within {seconds} seconds")
+            raise Wrong(f"it isn't so within {seconds} seconds that {what}")
         return found
 
     def asked(self):
@@ -127,18 +163,11 @@ class Session:
     def exchanges(self):
         with self.phone.modem.lock:
             lines = list(self.lines)
-        return [part for part in trace.parts(lines) if isinstance(part, trace.Exchange)]
+        return exchanges_in(lines)
 
     def proactive(self):
         """The proactive commands so far, with their answers."""
-        found = []
-        for exchange in self.exchanges():
-            ins = decode.Apdu(exchange.command).ins
-            if ins == decode.FETCH and exchange.answer and len(exchange.answer) > 2:
-                found.append(Proactive(exchange.answer[:-2]))
-            elif ins == decode.RESPONSE and found and found[-1].response is None:
-                found[-1].response = decode.Apdu(exchange.command).data
-        return found
+        return proactive_in(self.exchanges())
 
     def answered(self, kind, after=0, qualifier=None):
         """The command of a kind that came after some others, when oFono answered it as the standard has it: its details, its devices,
@@ -150,18 +179,26 @@ class Session:
                          and qualifier in (None, one.details[2])), None)
         one = self.phone.until(look, SECONDS)
         if one is None:
-            sent = any(one.kind == kind for one in self.proactive()[after:])
-            raise Wrong(f"{name} isn't answered within {SECONDS} seconds" if sent else f"{name} wasn't fetched")
-        if one.value(DETAILS) != one.details:
-            raise Wrong(f"the details of the response are {decode.hexed(one.value(DETAILS) or b'')}, and not {decode.hexed(one.details)}")
-        if one.value(DEVICES) != FROM_TERMINAL:
-            raise Wrong("the devices of the response aren't the terminal and the card")
-        result = one.value(RESULT)
-        if not result:
-            raise Wrong("the response has no result")
-        if result[0] in (BEYOND, UNKNOWN_TYPE):
-            raise Unsupported(f"{name} is answered {decode.object_text(RESULT, result, False)}")
-        return one
+            is_sent = any(one.kind == kind for one in self.proactive()[after:])
+            raise Wrong(f"it isn't answered within {SECONDS} seconds" if is_sent else f"{name} wasn't fetched")
+        return judged(one)
+
+
+def judged(one):
+    """A command whose response has what each response has. Unsupported, where its result says that the terminal can't."""
+    try:
+        details, devices, result = (one.value(tag) for tag in (DETAILS, DEVICES, RESULT))
+    except tlv.BadTlv as fault:
+        raise Wrong(f"the response is no list of objects: {fault}") from None
+    if details != one.details:
+        raise Wrong(f"the details of the response are {decode.hexed(details or b'')}, and not {decode.hexed(one.details)}")
+    if devices != FROM_TERMINAL:
+        raise Wrong("the devices of the response aren't the terminal and the card")
+    if not result:
+        raise Wrong("the response has no result")
+    if result[0] in (BEYOND, UNKNOWN_TYPE):
+        raise Unsupported(f"the answer is {decode.object_text(RESULT, result, False)}")
+    return one
 
 
 def expect(found, wanted, what):
@@ -390,6 +427,17 @@ def refresh(name, entry):
     return section
 
 
+def pin_alone(report, session):
+    """After PIN 1 a telephone goes on by itself. oFono's driver for phonesim waits to be told that the SIM is initialised, and knows no
+    word for it: what our modem says in its place is that the SIM was taken out and put in."""
+    phone = session.phone
+    phone.power_on()
+    phone.modem.is_phonesim = False
+    phone.ask("call", "org.ofono.SimManager", "EnterPin", "pin", PIN)
+    report.attempt("after PIN 1 the SIM is read on, with no word of the modem's", lambda: session.until(
+        lambda: phone.sim.get("SubscriberIdentity"), "the IMSI is read", SECONDS_WITHOUT))
+
+
 def without_agent(report, session):
     """What the card begins by itself, where nobody is there to be asked: it is beyond the terminal then."""
     session.phone.power_on()
@@ -463,11 +511,19 @@ def due(session):
 # losses of power
 
 def cuts(report):
-    """The own number is changed, and the power goes in each memory write of that in turn: it is the old one or the new one then."""
-    report.attempt("an update that loses power leaves the old number or the new one", cut_in_turn)
+    """The own number is changed, and the power goes in each memory write of that in turn."""
+    replies = []
+    report.attempt("an update that loses power leaves the old number or the new one", lambda: cut_in_turn(replies))
+    report.attempt("who asked for that update is told that it failed", lambda: told(replies))
 
 
-def cut_in_turn():
+def told(replies):
+    if not replies or any("NoReply" in reply for reply in replies):
+        raise Wrong(f"no reply comes within {SECONDS_OF_UPDATE} seconds")
+
+
+def cut_in_turn(replies):
+    """What is found after each cut; what oFono said to who asked goes to `replies`."""
     found = set()
     with Card(TELEPHONE) as card, Session(card) as session:
         phone = session.phone
@@ -478,10 +534,10 @@ def cut_in_turn():
         for write in range(1, MOST_WRITES):
             before = own_number(session)
             cut.write = write
-            with contextlib.suppress(ofono.OfonoError):
-                phone.ask("set", "org.ofono.SimManager", "SubscriberNumbers", [ANOTHER_NUMBER if before == OWN_NUMBER else OWN_NUMBER])
+            reply = asked_for(phone, ANOTHER_NUMBER if before == OWN_NUMBER else OWN_NUMBER)
             if phone.modem.has_power:
                 break
+            replies.append(reply)
             session.until(lambda: phone.sim.get("Present") is False, "oFono sees that the SIM is gone")
             phone.power_off()
             phone.power_on()
@@ -489,6 +545,15 @@ def cut_in_turn():
             after = own_number(session)
             found.add("the old one" if after == before else "the new one" if after in (OWN_NUMBER, ANOTHER_NUMBER) else after)
     expect(found, {"the old one", "the new one"}, "what was found after the cuts")
+
+
+def asked_for(phone, number):
+    """What oFono says to who asks for another own number."""
+    try:
+        phone.ask("within", SECONDS_OF_UPDATE, "set", "org.ofono.SimManager", "SubscriberNumbers", [number])
+    except ofono.OfonoError as fault:
+        return str(fault)
+    return "done"
 
 
 def own_number(session):
@@ -540,7 +605,7 @@ def well_formed(lines):
 def all_tries(tell=lambda verdict: None, keep=None):
     """A report of all tries; `keep` is a folder for the traces."""
     report, traces = Report(tell), {}
-    for name, section in (("identity", pins), ("toolkit", toolkit), ("without-agent", without_agent),
+    for name, section in (("identity", pins), ("toolkit", toolkit), ("pin-alone", pin_alone), ("without-agent", without_agent),
                           ("refresh", refresh("REFRESH that initialises the application", "Again")),
                           ("reset", refresh("REFRESH that resets the card", "Reset"))):
         with Card(TELEPHONE) as card, Session(card) as session:

@@ -1,10 +1,13 @@
 """A trace by its parts, and which line of the script each belongs to."""
 import dataclasses
+import datetime
 
 from . import process
 from .grammar import Apdu, Plan, Reset, Tpdu
 
 EVENT = "* event "
+# when the next line came, where a trace tells it: @ 2026-01-31T12:00:00.123456+00:00
+TIME = "@ "
 
 
 @dataclasses.dataclass
@@ -41,10 +44,17 @@ def shown_bytes(number, line):
         raise NoTrace(f"line {number} is no line of a trace: {line}") from None
 
 
+def time_now():
+    """The line that tells when the next one came."""
+    return TIME + datetime.datetime.now(datetime.timezone.utc).isoformat(timespec="microseconds")
+
+
 def parts(lines):
-    """The parts of a trace, in order, each as soon as its lines were read."""
+    """The parts of a trace, in order, each as soon as its lines were read. Lines that tell a time are no part."""
     command = None
     for number, line in enumerate(lines, 1):
+        if line.startswith(TIME):
+            continue
         if command is not None and not line.startswith("< ") and line not in (process.CUT, process.OFF):
             yield Exchange(command, None)
             command = None
