@@ -119,6 +119,7 @@ class AtCommands(unittest.TestCase):
         self.assertIn("did nothing within 2 seconds", told_of["DISPLAY TEXT, the user has read it"][1])
         self.assertIn("  please type `q`", told)
         self.assertIn("  please say yes, or that it was seen", told)
+        self.assertIn("  it must show now: text Toolkit Test 1", told)
 
     def test_a_port_that_is_taken(self):
         with socket.create_server(("127.0.0.1", 0)) as other, self.assertRaisesRegex(undertest.Lost, "no modem can be at port"):

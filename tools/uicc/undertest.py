@@ -44,6 +44,9 @@ class UnderTest:
         """Has something happen at it, which is `user`, `net` or `time` and what a line of a script says. Unable, where it can't."""
         raise NotImplementedError
 
+    def must_show(self, note):
+        """Is told what it must show now; for terminals whose user is a person who looks."""
+
     def look(self):
         """Tells the player what was shown since it looked last; for terminals that don't tell it by themselves."""
 

@@ -209,6 +209,9 @@ class AtClient(UnderTest):
         else:
             self.tell("  " + instruction(said))
 
+    def must_show(self, note):
+        self.tell(f"  it must show now: {note}")
+
     def close(self):
         self.line.stop()
         if self.server:

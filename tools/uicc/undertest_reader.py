@@ -97,6 +97,9 @@ class OfReader(UnderTest):
         elif (said.word, said.act) != ("net", "poll"):
             self.tell("  " + instruction(said))
 
+    def must_show(self, note):
+        self.tell(f"  it must show now: {note}")
+
     def end(self):
         self._take_out()
 

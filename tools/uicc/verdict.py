@@ -202,7 +202,7 @@ class Run:
     def _restart(self, step):
         for kind, what in ((RESET, "the card isn't reset"), (PROFILED, "no TERMINAL PROFILE comes after the reset")):
             if self._wait(kind, step.seconds) is None:
-                raise Differs(f"{what} {self._told_seconds(step)}")
+                raise Differs(f"{what} {self._told_seconds(step)}{self._answered()}")
 
     def _poll(self, step):
         if self._wait(ASKED, step.seconds) is None:
@@ -211,6 +211,7 @@ class Run:
     def _shown(self, step):
         if not self.terminal.is_seen:
             self.unseen.append(step.note)
+            self.terminal.must_show(step.note)
             return
         place = self._look_for(step.note)
         if place:
