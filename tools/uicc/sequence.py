@@ -9,7 +9,6 @@ from .wording import Object, Words, Wrong, device, label_of, read_object
 
 CARD, TERMINAL = 0x81, 0x82
 DETAILS, DEVICE_IDENTITIES, RESULT = 0x01, 0x02, 0x03
-MOST_NUMBER = 254
 LONGEST_COMMAND = 256
 LONGEST_WAIT = 999
 COMMANDS = {name: int(code, 16) for code, name in names.table("toolkit")["commands"].items()}

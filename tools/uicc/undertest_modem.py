@@ -8,8 +8,9 @@ from .modem import Modem
 from .undertest import Lost, Unable, UnderTest, instruction
 
 PIN = "1234"
-# what the modem tells the card for oFono: all that it has something for
-OFONO_PROFILE = bytes.fromhex("29 60 FF 7F 71 00 00 1F 4A 00 00 1F")
+# what the modem tells the card for oFono 1.31: without what it says of itself that it doesn't understand, which are SET UP EVENT LIST, POLLING
+# OFF, channels, and local information other than date, time and language
+OFONO_PROFILE = bytes.fromhex("29 60 BF 3F 00 00 00 1F 4A")
 HERE = "127.0.0.1"
 ITEM = 0x0F
 CALL, BROWSER, OPEN_CHANNEL = 0x10, 0x15, 0x40

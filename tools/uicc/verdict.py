@@ -18,7 +18,7 @@ VERDICTS = (PASSED, FAILED, INCONCLUSIVE, UNSUPPORTED)
 QUIET_SECONDS = 1
 # how often a terminal is asked what it shows
 LOOK_SECONDS = 0.2
-RESULT, NO_RESPONSE = 0x03, 0x12
+NO_RESPONSE = 0x12
 
 
 @dataclasses.dataclass(frozen=True)
