@@ -7,7 +7,7 @@ import tempfile
 import unittest
 
 from common import STAND_IN, TOOLS
-from uicc import carrying, cases, comparing, stored
+from uicc import carrying, cases, line_objects, stored
 
 
 def run_of(text):
@@ -215,7 +215,7 @@ class Objects(unittest.TestCase):
     def test_objects(self):
         for command, wanted, shown, expected in self.TABLE:
             with self.subTest(wanted=wanted, shown=shown):
-                found = comparing.differences(wanted, shown, command, False)
+                found = line_objects.differences(wanted, shown, command, False)
                 if expected is None:
                     self.assertTrue(found)
                 else:
