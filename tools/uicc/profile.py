@@ -201,8 +201,7 @@ def identifier_of(part, folder, whole):
         meant = names.near(part)
         raise BadProfile(f"[{dump.printable(whole)}] {dump.printable(part)}: no standard file is called so"
                          + (f", but {meant} is" if meant else "") + "; an identifier of four digits names any other", whole)
-    places = names.places(folder) if folder is not None else []
-    return next((entry["id"] for place in places for entry in found if place in entry["in"]), found[0]["id"])
+    return (names.in_folder(found, folder) if folder is not None else found[0])["id"]
 
 
 def path_of(name):
@@ -371,13 +370,17 @@ class Builder:
         self.default = profile.get("default", {})
         self.lines, self.origins, self.origin = [], [], ()
         self.rules, self.paths, self.faults = [], [], []
+        self.arrs = {}
 
     def script(self):
         """The lines of the script. BadProfile, with all that is wrong."""
         with self._told("default"):
-            self._rule(self.default)
-        self.rules.clear()
+            rules.written(self.default)
         files = [(name, value) for name, value in self.profile.items() if is_file_table(name, value)]
+        for name, given in files:
+            if is_arr_in_folder(path_of(name)):
+                with self._told(name, fields.RECORDS):
+                    self.arrs[path_of(name)] = [structured.hexadecimal(record).rstrip(b"\xFF") for record in given.get(fields.RECORDS, [])]
         name, given = next((file for file in files if path_of(file[0]) == ARR), ("EF_ARR", {}))
         self._kept_rules(name, given)
         described = [self._described(*file) for file in files if path_of(file[0]) != ARR]
@@ -419,11 +422,15 @@ class Builder:
 
     # rules
 
-    def _rule(self, words):
-        """The number of the record that says this; each rule has one."""
+    def _rule(self, words, path=()):
+        """The EF_ARR and the number of the record in it that say this of a file: a record that the profile has as it is in the nearest
+        EF_ARR, or one that is written for it in that of the MF, where each rule has one."""
         content = rules.written({operation: who for operation, who in words.items() if operation in OPERATIONS})
         if not content:
             return None
+        near = nearest_arr(self.arrs, path)
+        if content in self.arrs.get(near, ()):
+            return near[-1], self.arrs[near].index(content) + 1
         if len(content) > 0xFF:
             raise BadContent(f"its rule has {len(content)} bytes, and a record at most 255")
         if content not in self.rules:
@@ -439,7 +446,7 @@ class Builder:
             if operation in given:
                 with self._told(name, operation):
                     rules.written({operation: given[operation]})
-        return self._rule({**self.default, **given}) if len(self.faults) == before else None
+        return self._rule({**self.default, **given}, path_of(name)) if len(self.faults) == before else None
 
     def _kept_rules(self, name, given):
         """The records of EF_ARR that the profile has as they are: they keep their numbers."""
@@ -562,6 +569,20 @@ class Builder:
         for event, actions in applet.get("on", {}).items():
             self.say(f"on {event}: {', '.join(actions)}")
         self._emit(f"row {shelf} {applet.get('priority', 1)} {content.hex().upper()}", "")
+
+
+def is_arr_in_folder(path):
+    """Whether a file is the EF_ARR of a folder, beside that of the MF."""
+    return len(path) > 1 and names.name_of(path) == "EF.ARR"
+
+
+def nearest_arr(arrs, path):
+    """The path of the EF_ARR that the files of a folder find first, of some; None where none stands above a file."""
+    for depth in range(len(path) - 1, 0, -1):
+        found = next((arr for arr in arrs if arr[:-1] == path[:depth]), None)
+        if found:
+            return found
+    return None
 
 
 def ef_line(shape, rule):
