@@ -1,9 +1,12 @@
 """How two cards differ: their files by names, with what they hold and who may do what with them, their PINs and their applets."""
 import dataclasses
+import os
 
 from . import access, decode, names, profile, rules, tree
 
 ONE, OTHER = "- ", "+ "
+# how much of what is alike stands before a difference in a long text
+BEFORE = 20
 
 
 @dataclasses.dataclass(frozen=True)
@@ -61,24 +64,28 @@ def of_file(one, other, path, usim, exactly):
 
 
 def of_content(one, other, usim):
+    entry = names.file(one.path, usim) or {}
+    kind = entry.get("content") if entry.get("structure") == one.structure == other.structure else None
     if one.structure == "t" and other.structure == "t":
         if one.content != other.content:
-            yield from pair(*(" ".join(tree.meanings(file, usim)) or "blank" for file in told(one, other, usim)), "holds")
+            yield from pair(*texts(kind, bytes(one.content), bytes(other.content)), "holds")
         return
     for number in range(1, max(one.count, other.count) + 1):
         records = [file.record(number) if number <= file.count else None for file in (one, other)]
         if records[0] != records[1]:
-            entry = names.file(one.path, usim) or {}
-            texts = [None if record is None else tree.meaning(entry.get("content"), record) or "blank" for record in records]
-            if texts[0] == texts[1]:
-                texts = [decode.hexed(record) for record in records]
-            yield from pair(*texts, f"record {number}")
+            yield from pair(*texts(kind, *records), f"record {number}")
 
 
-def told(one, other, usim):
-    """Two files, without what their names tell of their contents where that is the same of both."""
-    same = tree.meanings(one, usim) == tree.meanings(other, usim)
-    return [dataclasses.replace(file, path=("????",)) for file in (one, other)] if same else [one, other]
+def texts(kind, *held):
+    """What two contents say, or their bytes where they say the same: from where they differ, where they are long."""
+    said = [content if content is None else tree.whole_meaning(kind, content) or "blank" for content in held]
+    if said[0] == said[1]:
+        said = [decode.hexed(content) for content in held]
+    if None in said:
+        return said
+    begin = len(os.path.commonprefix(said))
+    begin = max(0, begin - BEFORE) if max(map(len, said)) > tree.LONGEST else 0
+    return [".." * bool(begin) + tree.shortened(text[begin:]) for text in said]
 
 
 def of_pin(one, other, name):

@@ -86,18 +86,29 @@ def made_of(path):
     return made_in(content, path)
 
 
-def made_in(content, name, over=None):
-    """What a profile's bytes become, which are called so. `over` is a profile whose keys take the place of those there."""
+def made_in(content, name):
+    """What a profile's bytes become, which are called so."""
+    given, text = read(content, name)
     try:
-        given, text = located.read(content)
-    except located.Unreadable as fault:
-        where = f", line {fault.line}" if fault.line else ""
-        raise BadProfile(f"{name}{where}: {fault}") from None
-    try:
-        lines, warnings = made(merged(over_template(given), over or {}))
+        lines, warnings = made(over_template(given))
     except BadProfile as bad:
         raise BadProfile(with_lines(bad.faults, name, text)) from None
     return Made(lines, [fault.reason for fault in with_lines(warnings, name, text)])
+
+
+def tables_in(content, name):
+    """The tables of a profile's bytes, over its template. BadProfile, where no script can be made of them."""
+    made_in(content, name)
+    return over_template(read(content, name)[0])
+
+
+def read(content, name):
+    """The tables of a profile's bytes as they stand, and its text."""
+    try:
+        return located.read(content)
+    except located.Unreadable as fault:
+        where = f", line {fault.line}" if fault.line else ""
+        raise BadProfile(f"{name}{where}: {fault}") from None
 
 
 def with_lines(faults, name, text):
