@@ -347,7 +347,7 @@ def bytes_described(path, given, entry, kind, short):
             raise BadContent(f"`{word}` is of files with records, and {kind.key} of one without")
     size = given.get("size", entry.get("length") if entry.get("structure") == "t" else None)
     content = kind.encoded(given[kind.key], size) if kind else b""
-    size = size or len(content)
+    size = size or max(len(content), entry.get("least", 0) if entry.get("structure") == "t" else 0)
     if not size:
         raise BadContent("its size is not said: `size = 17`")
     if len(content) > size:
@@ -360,7 +360,8 @@ def records_described(path, given, entry, kind, short):
         raise BadContent("`size` is of files without records: these have `length` and `count`")
     length = given.get("length", entry.get("length") if entry.get("structure") in ("l", "c") else None) or (kind.usual if kind else None)
     content = kind.encoded(given[kind.key], length) if kind else []
-    length = length or max(map(len, content), default=0)
+    least = entry.get("least", 0) if entry.get("structure") in ("l", "c") else 0
+    length = length or max([least, *map(len, content)])
     count = given.get("count", max(1, len(content)))
     if len(content) > count:
         raise BadContent(f"it has {len(content)} records, and room for {count}")
