@@ -132,6 +132,7 @@ class Mistakes(unittest.TestCase):
                                             "joined by `or` or `and`"]),
         ('[EF_SPN]\nspn = "A"\nshort = 7', ["line 2: [EF_SPN]: the short identifier 7 is taken by 7F20/6F07"]),
         ('[EF_SPN]\nspn = "A"\nsize = 100000', ["line 4: [EF_SPN] size is 100000, and has to be a number from 1 to 32767: size = 17"]),
+        ('["7F10/6F99"]\nsize = 5\ncyclic = true', ['line 2: ["7F10/6F99"]: `cyclic` is of files with records, and `size` of those without']),
         ('[EF_SPN]\niccid = "1"', ["line 3: [EF_SPN] iccid is nothing that EF.SPN holds: `spn = \"Nordlicht\"` is"]),
         ('[[applet]]\nkind = "menu"\n[[applet]]\nkind = "menu"\nmenue = "x"', ["line 6: [[applet]] menue isn't known: `menu` is"]),
         ('[[applet]]\nkind = "table"\non = { locaton = ["show A"] }', ["line 2: [[applet]]: the applet on shelf 6: `locaton` is no event, but "
