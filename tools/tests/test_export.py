@@ -8,7 +8,7 @@ import unittest
 
 import fuzz_profile
 from common import TOOLS
-from uicc import access, batch, comparing, contents, lint, process, profile, profile_text, rights, stored
+from uicc import access, batch, comparing, contents, image, lint, process, profile, profile_text, rights, stored
 
 EXAMPLES = os.path.join(process.TOP, "examples")
 
@@ -71,6 +71,44 @@ class Export(unittest.TestCase):
         card.files[("2F05",)].active = False
         self.assertEqual(list(profile_text.lost(card, profile_text.of_card(card))),
                          ["2F05 EF.PL is deactivated, which no profile says", "PIN 1 has 2 tries and 10 of its UNBLOCK value left, which no profile says"])
+
+
+class Images(unittest.TestCase):
+    """Images of a card, whole and damaged."""
+
+    def setUp(self):
+        self.place = tempfile.TemporaryDirectory()
+        self.addCleanup(self.place.cleanup)
+        self.path = os.path.join(self.place.name, "card.img")
+        self.text = profile.made_in(b'like = "usim"\n[[applet]]\nkind = "table"\nmenu = "Tools"\nevents = ["location"]\nkeeps = "030141"\n', "card.toml").text
+        process.played(["play", "--image", self.path], self.text)
+
+    def test_an_image_is_the_script_again(self):
+        card = image.sound_card_in(stored.read(self.path))
+        self.assertEqual(shown(card_of(self.text), card, exactly=True), [])
+        self.assertIn('keeps = "030141"', profile_text.of_card(card))
+
+    # a byte that is changed, and why no card is in the image then
+    DAMAGED = [
+        (image.PINS, 0x05, "a PIN has the key 05"),
+        (image.NODES + image.NODE_WIDTH + 14, 0xFF, "the file 2F06 has 255 bytes in its records, and 259 are there"),
+        (image.NODES + 3 * image.NODE_WIDTH + 4, 0x7F, "has no place"),
+        (0, 0x00, "the bytes begin with no card"),
+        (image.ROWS + 6 * image.ROW_STRIDE + 7, 0x30, "the applet on shelf 6 has a text of"),
+    ]
+
+    def test_damaged_images(self):
+        """They are refused with the reason, and no command of the tool has a traceback."""
+        whole = stored.read(self.path)
+        for place, byte, why in self.DAMAGED:
+            with open(self.path, "wb") as out:
+                out.write(whole[:place] + bytes((byte,)) + whole[place + 1:])
+            with self.subTest(why=why), self.assertRaises(image.NoCard) as caught:
+                image.sound_card_in(stored.read(self.path))
+            self.assertIn(why, str(caught.exception))
+        done = subprocess.run([sys.executable, "-B", os.path.join(TOOLS, "profile"), "export", self.path], capture_output=True, text=True, timeout=60, check=False)
+        self.assertEqual(done.returncode, 2)
+        self.assertTrue(done.stderr.startswith("profile: the image holds no card"), done.stderr)
 
 
 class Differing(unittest.TestCase):

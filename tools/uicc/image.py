@@ -123,7 +123,7 @@ def unsound(card):
         if path and (above is None or not above.is_df or path[-1] in RESERVED or len(path) > DEEPEST):
             return f"the file {'/'.join(path)} has no place"
         if not file.is_df and not sound_shape(file):
-            return f"the file {'/'.join(path)} has {file.count} records of {file.length} bytes, and {len(file.content)} are there"
+            return f"the file {'/'.join(path)} has {file.size} bytes in its records, and {len(file.content)} are there"
     return None
 
 
