@@ -29,7 +29,7 @@ class Card:
         self.line, self.values, self.made = line, values, made
         card = lint.read(made.text).card
         kind = "usim" if follow.is_usim_card(card) else "sim"
-        self.findings = [text for text in checking.findings(card, kind)]
+        self.findings = list(checking.findings(card, kind))
 
     @property
     def name(self):
@@ -68,7 +68,8 @@ def check_columns(columns, name):
     for column in columns:
         if column not in COLUMNS:
             meant = forms.near(column, list(COLUMNS))
-            raise BadList(f"{name}, line 1: no column is called `{column}`" + (f", but `{meant}` is" if meant else f": {', '.join(COLUMNS)} are"))
+            raise BadList(f"{name}, line 1: no column is called `{column}`"
+                          + (f", but `{meant}` is" if meant else f": {', '.join(COLUMNS)} are"))
         if columns.count(column) > 1:
             raise BadList(f"{name}, line 1: the column `{column}` stands there twice")
     if "iccid" not in columns:
@@ -134,9 +135,11 @@ def write(made, folder, with_images, step):
     """A script for each card in a folder, and an image where they are wanted; then the report. Nothing that is there is written over."""
     os.makedirs(folder, exist_ok=True)
     endings = (".script", ".img") if with_images else (".script",)
-    there = [name for name in [REPORT, *(card.name + ending for card in made for ending in endings)] if os.path.exists(os.path.join(folder, name))]
+    wanted = [REPORT, *(card.name + ending for card in made for ending in endings)]
+    there = [name for name in wanted if os.path.exists(os.path.join(folder, name))]
     if there:
-        raise BadList(f"{os.path.join(folder, there[0])} is there already: nothing is written" + (f" (and {len(there) - 1} more are)" if there[1:] else ""))
+        raise BadList(f"{os.path.join(folder, there[0])} is there already: nothing is written"
+                      + (f" (and {len(there) - 1} more are)" if there[1:] else ""))
     for card in made:
         with open(os.path.join(folder, card.name + ".script"), "x", encoding=process.ENCODING, errors="replace", newline="\n") as out:
             out.write(card.made.text)
@@ -148,7 +151,8 @@ def write(made, folder, with_images, step):
         writer.writerow(["script", "line", "iccid", "imsi", "files", "to mend"])
         for card in made:
             files = sum(line.startswith("ef ") for line in card.made.lines)
-            writer.writerow([card.name + ".script", card.line, card.values["iccid"], card.values.get("imsi", ""), files, "; ".join(card.findings)])
+            writer.writerow([card.name + ".script", card.line, card.values["iccid"], card.values.get("imsi", ""), files,
+                             "; ".join(card.findings)])
 
 
 def make_image(card, path):

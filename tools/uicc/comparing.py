@@ -3,6 +3,7 @@ import dataclasses
 import os
 
 from . import access, decode, names, profile, rules, tree
+from .follow import is_usim_card
 
 ONE, OTHER = "- ", "+ "
 # how much of what is alike stands before a difference in a long text
@@ -20,7 +21,7 @@ class Difference:
 
 def differences(one, other, exactly=False):
     """Where two cards differ. Rules are the same where they say the same; `exactly`: where they are the same records."""
-    usim = profile.is_usim(one.files)
+    usim = is_usim_card(one)
     for path in dict.fromkeys([*one.files, *other.files]):
         if path:
             lines = tuple(of_file(one, other, path, usim, exactly))

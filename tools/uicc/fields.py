@@ -181,7 +181,8 @@ KINDS = {
     "routing": Kind("routing", TEXT, '"0123"', lambda value, _: structured.encode_routing(value), structured.routing_of),
     "suci": Kind("suci", TABLE({"schemes": forms.ListOf(TABLE({"scheme": BYTE, "key": BYTE}, ("scheme",)), "tables"),
                                 "keys": forms.ListOf(TABLE({"id": BYTE, "key": TEXT}, ("id", "key")), "tables")}, ("schemes",)),
-                 '{ schemes = [{ scheme = 1, key = 1 }], keys = [{ id = 27, key = "5A8D38864820197C3394B92613B20B91633CBD897119273BF8E4A6F4EEC0A650" }] }',
+                 '{ schemes = [{ scheme = 1, key = 1 }], keys = [{ id = 27, '
+                 'key = "5A8D38864820197C3394B92613B20B91633CBD897119273BF8E4A6F4EEC0A650" }] }',
                  lambda value, _: structured.encode_concealing(value), structured.concealing_of),
     "supi-nai": Kind("identifiers", TABLE(dict.fromkeys(structured.IDENTIFIERS, TEXT)), '{ network_specific = "user@example.org" }',
                      lambda value, _: structured.encode_identifiers(value), structured.identifiers_of),

@@ -2,14 +2,15 @@
 import csv
 import io
 
-from . import access, names, profile, rules
+from . import access, names, rules
+from .follow import is_usim_card
 
 HEAD = ("file", *access.OPERATIONS)
 
 
 def rows(card):
     """Each EF by its name, with a cell for each operation: the condition in words, empty where the operation isn't of such a file."""
-    usim = profile.is_usim(card.files)
+    usim = is_usim_card(card)
     for file in card.files.values():
         if not file.is_df:
             yield names.shown(file.path, usim), [cell(card, file, operation) for operation in access.OPERATIONS]
@@ -34,7 +35,7 @@ def about(card, tree):
 
 def outcomes(card, wanted):
     """For each operation the names of the files with which everybody may do it, or nobody."""
-    usim = profile.is_usim(card.files)
+    usim = is_usim_card(card)
     for operation in access.OPERATIONS:
         found = [names.shown(file.path, usim) for file in card.files.values() if not file.is_df and operation in access.operations_on(file)
                  and access.effective(card, access.condition(card, file, operation)) == wanted]
