@@ -207,7 +207,7 @@ class Cuts(unittest.TestCase):
     def test_an_update_has_four_writes(self):
         """As the example of torn updates says: the journal, its gate, the file, and the gate."""
         update = self.outcomes(os.path.join(EXAMPLES, "update.script"), ["play"])[-1]
-        states = [[state for _, _, state in ways] for ways in update.writes]
+        states = [[left.state for left in ways] for ways in update.writes]
         self.assertEqual(len(states), 4)
         self.assertEqual((states[0], states[3]), (["before"] * 3, ["after"] * 3))
 

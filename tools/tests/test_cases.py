@@ -7,7 +7,7 @@ import tempfile
 import unittest
 
 from common import STAND_IN, TOOLS
-from uicc import carrying, cases, stored
+from uicc import carrying, cases, comparing, stored
 
 
 def run_of(text):
@@ -163,6 +163,65 @@ class Judging(unittest.TestCase):
             self.assertEqual(carrying.parsed_words(words), options, words)
 
 
+class Patterns(unittest.TestCase):
+    # what must be shown, a line of the trace, and whether it is one
+    TABLE = [
+        ("< *", "< 9000", True), ("< *", "> 00", False), ("< 9000", "< 9000", True),
+        ("> 8014..81030121..", "> 801400000C810301218082028281830100", True), ("> 8014..81030121..", "> 80140000810301", False),
+        ("> 8014..81030122..", "> 801400000C810301218082028281830100", False), ("< ..9000", "< 9000", True), ("< ..9000", "< AABB9000", True),
+        ("< ..9000", "< 6982", False), ("< ..", "< 91AA", True), ("< ..aa", "< 91AA", True), ("< ..1A", "< 91A0", False),
+        ("< 9..", "< 9000", None), ("< 90*", "< 9000", None), ("> *", "> 00", None), ("< **", "< 9000", None), ("< ...", "< 9000", None),
+        ("* text ..", "* text ..", True), ("* text ..", "* text Hi", False), ("* text *", "* text *", True),
+    ]
+
+    def test_lines(self):
+        for wanted, line, fits in self.TABLE:
+            with self.subTest(wanted=wanted, line=line):
+                if fits is None:
+                    self.assertRaises(cases.Mistake, cases.understood, wanted)
+                else:
+                    self.assertEqual(cases.is_shown(line, [cases.understood(wanted)]), fits)
+
+    def test_none_is_in_the_stored_cases(self):
+        """Which the library's own runner reads too, and takes as they stand."""
+        for name in stored.names_in(stored.CASES, ".cases"):
+            for line in stored.read(os.path.join(stored.CASES, name)).decode("latin-1").splitlines():
+                self.assertFalse(any(cases.is_pattern(wanted) for wanted in line[1:].split(" | ") if line[:2] in ("#<", "#>")), f"{name}: {line}")
+
+
+class Objects(unittest.TestCase):
+    """What differs between two lines, object by object."""
+
+    FETCH = "> 8012000012"
+    # the command before, what is expected, what is shown, and what differs
+    TABLE = [
+        (None, "> 801400000C810301218082028281830111", "> 801400000C810302218082028281830100",
+         [("command details", "DISPLAY TEXT, number 1, normal priority, cleared by the user",
+           "DISPLAY TEXT, number 2, normal priority, cleared by the user"),
+          ("result", "11 gone back by the user", "00 done")]),
+        (FETCH, "< D00E81030121008202818283034869219000", "< D00B8103012100820281829000", None),
+        (FETCH, "< D00F810301210082028182" + "8D04044869219000", "< D0098103012100820281829100",
+         [("status", "9000 done", "9100 done; the card has a command of 256 bytes to be fetched"), ("text", "`Hi!`", None)]),
+        ("> 00B0000004", "< AABBCCDD9000", "< 6982", [("status", "9000 done", "6982 the access rule isn't satisfied"), ("data", "AABBCCDD", "none")]),
+        ("> 00B000000A", "< 00112233445566778899" + "9000", "< 0011223344FF66778899" + "9000",
+         [("data", "byte 6: 5566778899", "byte 6: FF66778899")]),
+        (None, "> 00A4000C023F00", "> 00A4000C027F10",
+         [("command", "SELECT by identifier 3F00, no data returned", "SELECT by identifier 7F10, no data returned")]),
+        (None, "> 00A4000C023F00", "! reset", []),
+        (None, "* text a", "* text b", []),
+        (None, "> 00A4zz", "> 00A4", []),
+    ]
+
+    def test_objects(self):
+        for command, wanted, shown, expected in self.TABLE:
+            with self.subTest(wanted=wanted, shown=shown):
+                found = comparing.differences(wanted, shown, command, False)
+                if expected is None:
+                    self.assertTrue(found)
+                else:
+                    self.assertEqual(found, expected)
+
+
 FILE = """#case a reset
 #run play
 start
@@ -244,16 +303,62 @@ class Expect(unittest.TestCase):
             self.assertIn(part, done.stdout)
         self.assertEqual(self.expect(path, "--bip", "--write").returncode, 0)
         with open(path, encoding="ascii") as text:
-            self.assertEqual(text.read(), "start\n# a comment\ncmd D009810301440082028182\n#> D009810301440082028182\n"
-                                          "#< 810301440082028281830100B8020000\nnet drop 1\n#* event D60B99010A82028281B8020105\n")
-        self.assertEqual(self.expect(path, "--bip").returncode, 0)
+            self.assertEqual(text.read(), "#case script\n#run bip\nstart\n# a comment\ncmd D009810301440082028182\n#> D009810301440082028182\n"
+                                          "#< 810301440082028281830100B8020000\nnet drop 1\n#* event D60B99010A82028281B8020105\n#status 0\n")
+        self.assertEqual(self.expect(path).returncode, 0)
         case = self.put("a.cases", "#case one\n#run bip\nstart\ncmd D0\n#> D0\n#< 810301440082028281830132\n#status 0\n"
                                    "#shows 0 FF\n#run bip\nstart\n#status 0\n")
         done = self.expect(case)
         self.assertEqual(done.returncode, 1)
-        for part in ("the command: no proactive command", "expected: result 32 data not understood", "channel status no channel is open"):
+        for part in ("the command: no proactive command", "result: expected 32 data not understood, shown 00 done",
+                     "channel status: expected nothing, shown no channel is open"):
             self.assertIn(part, done.stdout)
         self.assertEqual(self.expect(path, "--bip", "--store", "pages").returncode, 2)
+
+    def test_a_faulty_script_is_not_written(self):
+        """Its line and the reason are told, and the file stays as it is; unless it says itself that it ends so."""
+        # a stand-in says `line 1` and ends with 2 at a line `bad`
+        table = [("start\nreset\nbad\n", "line 3 of its script: no line begins with `bad`"),
+                 ("#case one\n#run play\nstart\nbad\n#status 0\n", "line 2 of its script"), ("reset\nbad\n", "line 1 of its script: no `start`")]
+        for text, why in table:
+            with self.subTest(text=text):
+                path = self.put("script", text)
+                done = self.expect(path, "--write")
+                self.assertEqual((done.returncode, done.stdout), (1, ""))
+                self.assertIn(why, done.stderr)
+                with open(path, encoding="ascii") as left:
+                    self.assertEqual(left.read(), text)
+        path = self.put("script", "start\nbad\n#status 2\n")
+        self.assertEqual(self.expect(path, "--write").returncode, 0)
+        with open(path, encoding="ascii") as left:
+            self.assertEqual(left.read(), "start\nbad\n#= line 1\n#status 2\n")
+
+    def test_the_words_of_a_script_are_kept(self):
+        """The file is run by them ever after, with no more words; nothing is written where a line of it is faulty."""
+        for words in (["--phone"], ["--phone", "--store", "pages"], ["--open"]):
+            with self.subTest(words=words):
+                path = self.put("day.script", "start\nreset\n")
+                self.assertEqual(self.expect(path, *words, "--write").returncode, 0)
+                with open(path, encoding="ascii") as left:
+                    said = " ".join(words).removeprefix("--")
+                    self.assertEqual(left.read(), f"#case day\n#run {said}\nstart\nreset\n#! reset\n#status 0\n")
+                self.assertEqual(self.expect(path).returncode, 0)
+        path = self.put("bad.script", "start\nbad\n")
+        self.assertEqual(self.expect(path, "--phone", "--write").returncode, 1)
+        with open(path, encoding="ascii") as left:
+            self.assertEqual(left.read(), "start\nbad\n")
+
+    def test_what_is_left_open_stays_so(self):
+        """Where another line of the script is written anew."""
+        path = self.put("script", "start\napdu 00A4000C023F00\n#< ..00\nreset\n")
+        self.assertEqual(self.expect(path, "--write").returncode, 0)
+        with open(path, encoding="ascii") as left:
+            self.assertEqual(left.read(), "start\napdu 00A4000C023F00\n#< ..00\nreset\n#! reset\n")
+
+    def test_a_star_that_is_not_understood(self):
+        done = self.expect(self.put("script", "start\napdu 00A4000C023F00\n#< 90*\n"))
+        self.assertEqual(done.returncode, 1)
+        self.assertIn("a mistake in the case: line 3 of the file: `*` stands for any answer alone", done.stdout)
 
     def test_what_fits_is_left(self):
         text = "start\napdu 00A4000C023F00\n#< 6A82 | < 9000\n"

@@ -178,7 +178,7 @@ class Cuts(unittest.TestCase):
     SELECTED, COUNTER = "00A4000C026F3A", "00A4000C026F39"
     # a card, what is sent to it, the reads of records in the end, what they tell before and after, and whether that is the same
     RECORDS = [
-        # next: the first one without a pointer, then the one behind it
+        # next: the first one without a pointer, then the one after it
         (LINEAR, [SELECTED, "00DC000201AA"], ["00B2010400"], "01 9000", "AA 9000", False),
         (LINEAR, [SELECTED, "00B2000200", "00B2000200", "00DC000201AA"], ["00B2030400"], "03 9000", "AA 9000", False),
         # previous: the last one without a pointer, and the one in front of it
@@ -293,8 +293,8 @@ class Together(unittest.TestCase):
 
 
 class Pictures(unittest.TestCase):
-    WAYS = [("cut, all its bytes FF", "! cut", "before"), ("cut half way, then 5A", "! cut", "after"),
-            ("fails, all its bytes FF", "< 6581", "NEITHER")]
+    WAYS = [cutting.Left("cut, all its bytes FF", "! cut", "before", ""), cutting.Left("cut half way, then 5A", "! cut", "after", ""),
+            cutting.Left("fails, all its bytes FF", "< 6581", "NEITHER", "")]
     # the answer to a command as it is told and as it is drawn, its writes, the stripes of each colour, and whether it is drawn as refused
     TABLE = [
         ("< 9000", "9000", [WAYS, WAYS], {"before": 2, "after": 2, "NEITHER": 2}, False),

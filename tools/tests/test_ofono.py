@@ -1,11 +1,11 @@
-"""oFono as the terminal: what its tries make of an exchange, and where Debian's packages are here, a session with it."""
+"""oFono as the terminal, and ModemManager: what tries make of an exchange, and where Debian's packages are here, sessions with them."""
 import os
 import subprocess
 import sys
 import unittest
 
 from common import TOOLS
-from uicc import Card, NotBuilt, ofono, ofono_tries, process, sim
+from uicc import Card, NotBuilt, modemmanager, ofono, ofono_tries, process, sim
 
 
 def is_built():
@@ -119,6 +119,23 @@ class Telephone(unittest.TestCase):
                      "the form of the line is: unblock VALUE NEW", "No closing quotation: answer ANSWER..",
                      "no word `hello` is known: sim, pin, unblock, online, menu, pick, answer, events, power, cut"):
             self.assertIn(part, said)
+
+
+NO_MANAGER = modemmanager.why_not()
+
+
+@unittest.skipIf(NO_MANAGER, f"ModemManager isn't here: {NO_MANAGER}")
+@unittest.skipUnless(is_built(), "the program isn't built")
+class Manager(unittest.TestCase):
+    def test_the_sim_and_its_pin(self):
+        with Card(ofono_tries.TELEPHONE) as card, modemmanager.ModemManager(card) as phone:
+            self.assertTrue(phone.until_known())
+            self.assertEqual((phone.sim["iccid"], phone.sim["operator-name"]), (ofono_tries.ICCID, "Example Mobile"))
+            modemmanager.wrong_pin(phone)
+            with self.assertRaises(ofono_tries.Wrong):
+                modemmanager.refused(phone, "-m", "any")
+            modemmanager.unlocked(phone, "--pin=" + ofono_tries.PIN)
+            self.assertEqual(phone.sim["imsi"], ofono_tries.IMSI)
 
 
 class Tool(unittest.TestCase):

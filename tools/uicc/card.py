@@ -11,7 +11,7 @@ A command that isn't answered 9000, 91XX or a warning raises StatusError, which 
 import dataclasses
 import os
 
-from . import decode, image, layout, lint, names, process, tlv
+from . import decode, image, kept, layout, lint, names, process, refusals, tlv
 from .follow import Follower
 
 PROFILE = bytes.fromhex("2900BF6171000013")
@@ -27,9 +27,9 @@ class CardError(Exception):
 class StatusError(CardError):
     """A command was refused."""
 
-    def __init__(self, command, data, status):
-        super().__init__(f"{decode.title(decode.Apdu(command))} is answered {status}: {names.status(status)}")
-        self.command, self.data, self.status = command, data, status
+    def __init__(self, command, data, status, why=None):
+        super().__init__(f"{decode.title(decode.Apdu(command))} is answered {status}: {names.status(status)}{f': {why}' if why else ''}")
+        self.command, self.data, self.status, self.why = command, data, status, why
 
 
 class PowerLost(CardError):
@@ -91,8 +91,10 @@ def pin_bytes(value):
 
 
 class Card:
-    """`script` says what the card holds (the lines before `start`; those behind it are passed over); `image` is the file that its
-    memory is in, which is made where a script is given and the file isn't there, and opened otherwise."""
+    """`script` says what the card holds (the lines before `start`; those after it are passed over); `image` is the file that its
+    memory is in, which is made where a script is given and the file isn't there, and opened otherwise. Without one it is a file of its
+    own, which is gone with the card. `holds` are the files as they were described, and as commands make and delete them since then;
+    `now` has all that the card holds at the moment."""
 
     def __init__(self, script=None, image=None, store=None):
         if script is None and image is None:
@@ -105,26 +107,42 @@ class Card:
             section = self._described(script)
         elif image:
             self._opened = True
-            with open(image, "rb") as content:
-                self.holds = _card_in(content.read())
-        if image:
-            self._words += ["--image", os.path.abspath(image)]
+            self.holds = _card_in(image, store)
+        self._folder = None if image else kept.folder()
+        self._image = os.path.abspath(image) if image else os.path.join(self._folder.name, "image")
+        self._words += ["--image", self._image]
         self.trace, self.pending = [], None
         self._fetched = None
-        self._follower = Follower(self.holds)
-        self._simulator = process.Simulator(["open" if self._opened else "play", *self._words], section)
+        self.follower = Follower(self.holds)
+        try:
+            self._simulator = process.Simulator(["open" if self._opened else "play", *self._words], section)
+        except BaseException:
+            self._remove()
+            raise
         try:
             self._simulator.reset()
         except BaseException:
-            self._simulator.close()
+            self.close()
             raise
 
+    def _remove(self):
+        if self._folder:
+            self._folder.cleanup()
+
+    @property
+    def now(self):
+        """What the card holds at the moment, as its memory has it: its files with their contents, its PINs and applets."""
+        try:
+            with open(self._image, "rb") as content:
+                return image.card_in(content.read())
+        except (OSError, image.NoCard):
+            return self.holds
+
     def _described(self, script):
-        with open(script, encoding=process.ENCODING, newline="\n") as text:
-            read = lint.read(text.read())
-        bad = read.first()
-        if bad and bad.line <= len(process.card_section(read.lines)[0]):
-            raise CardError(f"{script}, line {bad.line}: {bad.reason}")
+        try:
+            read = lint.described(script)
+        except lint.BadScript as fault:
+            raise CardError(str(fault)) from None
         self.holds = read.card
         return process.card_section(read.lines)[0]
 
@@ -136,7 +154,9 @@ class Card:
 
     def close(self):
         """Ends the simulator, and answers its status."""
-        return self._simulator.close()
+        status = self._simulator.close()
+        self._remove()
+        return status
 
     # commands
 
@@ -166,9 +186,9 @@ class Card:
 
     def _note(self, command, answer):
         apdu = decode.Apdu(command)
-        self._follower.take(apdu, answer.status)
+        self.follower.take(apdu, answer.status)
         if apdu.ok and apdu.ins == decode.CHANNEL and apdu.p1 == 0 and answer.status == "9000":
-            self._follower.opened_as(answer.data[0] if answer.data else apdu.p2, apdu.channel)
+            self.follower.opened_as(answer.data[0] if answer.data else apdu.p2, apdu.channel)
         if answer.status.startswith("91"):
             self.pending = int(answer.status[2:], 16) or MOST
         elif answer.status == "9000":
@@ -178,8 +198,15 @@ class Card:
         """Sends a command; StatusError where it is refused."""
         answer = self.transmit(command)
         if answer.status != "9000" and not answer.status.startswith("91") and answer.status not in WARNINGS:
-            raise StatusError(as_bytes(command), answer.data, answer.status)
+            raise self._refusal(as_bytes(command), answer)
         return answer
+
+    def _refusal(self, command, answer):
+        return StatusError(command, answer.data, answer.status, self.why(command, answer.status))
+
+    def why(self, command, status):
+        """Why a command was refused with 6982, 6985 or 6A84, before any other one is sent; None where that isn't known."""
+        return refusals.reason(self.follower, decode.Apdu(command), status, self.now) if status in refusals.STATUSES else None
 
     def _command(self, ins, p1, p2, data=b"", le=None, toolkit=False, channel=0):
         content = bytes((0x80 * toolkit | channel, ins, p1, p2))
@@ -210,7 +237,7 @@ class Card:
 
     def _is_called(self, path, part):
         wanted = names.normal(part)
-        name = names.normal(names.name_of(path, self._follower.usim))
+        name = names.normal(names.name_of(path, self.follower.usim))
         return wanted in (path[-1], name, name.partition(".")[2])
 
     def _named(self, part):
@@ -231,7 +258,7 @@ class Card:
     @property
     def current(self):
         """The path of the current EF, or else of the current DF."""
-        df, ef = self._follower.of(decode.Apdu(bytes(4)))
+        df, ef = self.follower.of(decode.Apdu(bytes(4)))
         return df if ef is None else ef
 
     def read_binary(self, length=None, offset=0):
@@ -241,11 +268,12 @@ class Card:
         found = b""
         while True:
             place = offset + len(found)
-            part = self.transmit(bytes((0, decode.READ_BINARY, place >> 8, place & 0xFF, 0)))
+            command = bytes((0, decode.READ_BINARY, place >> 8, place & 0xFF, 0))
+            part = self.transmit(command)
             if part.status == "6B00" and found:
                 return found
             if part.status not in ("9000", *WARNINGS) and not part.status.startswith("91"):
-                raise StatusError(bytes((0, decode.READ_BINARY, place >> 8, place & 0xFF, 0)), part.data, part.status)
+                raise self._refusal(command, part)
             found += part.data
             if len(part.data) < MOST:
                 return found
@@ -308,11 +336,12 @@ class Card:
 
     def tries(self, key):
         """How many tries of a PIN are left."""
-        answer = self.transmit(bytes((0, 0x20, 0, key)))
+        command = bytes((0, 0x20, 0, key))
+        answer = self.transmit(command)
         if answer.status == "6983":
             return 0
         if not answer.status.startswith("63C"):
-            raise StatusError(bytes((0, 0x20, 0, key)), answer.data, answer.status)
+            raise self._refusal(command, answer)
         return int(answer.status[3], 16)
 
     def change_pin(self, key, value, new):
@@ -384,7 +413,7 @@ class Card:
 
     def reset(self):
         """Resets the card, which gives it power again. PowerLost, where it loses it in that."""
-        self._follower.reset()
+        self.follower.reset()
         self.pending = self._fetched = None
         self._has_power = self._simulator.reset()
         self.trace.append(process.RESET if self._has_power else process.CUT)
@@ -392,8 +421,12 @@ class Card:
             raise PowerLost("the power was lost in the reset")
 
 
-def _card_in(content):
+def _card_in(path, store):
+    if not os.path.exists(path):
+        raise CardError(f"{path} isn't there: with a script beside it, it is made")
+    with open(path, "rb") as content:
+        held = content.read()
     try:
-        return image.card_in(content)
+        return image.expect_card(held, store, path)
     except image.NoCard as fault:
         raise CardError(str(fault)) from None

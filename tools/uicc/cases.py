@@ -151,7 +151,7 @@ class RunDraft:
             raise Mistake("no word of a script with expectations")
 
     def _expect(self, when, text, place):
-        lines, command = text.split(" | "), self.command
+        lines, command = [understood(line) for line in text.split(" | ")], self.command
         self.command = None
         if command and all(line.startswith(("< ", "! ")) for line in lines):
             self.run.expectations.append(Expectation(ALWAYS, [command], place))
@@ -171,7 +171,7 @@ class CaseDraft:
         self.is_set_up = False
 
     def read(self, place, line):
-        """Behind a mistake all other lines are passed over."""
+        """After a mistake all other lines are passed over."""
         if self.case.mistake:
             return
         try:
@@ -190,7 +190,7 @@ class CaseDraft:
             self.draft.read(place, line)
 
     def _set(self, place, word, rest):
-        """Takes a line that stands before, between or behind the runs."""
+        """Takes a line that stands before, between or after the runs."""
         if word == "#run":
             self.draft = RunDraft(Run(self.setup, rest.split(), place))
             self.setup = Setup()
@@ -322,8 +322,42 @@ def permitted(expectation, turn):
     return lines[:1] if turn.call == 1 else lines
 
 
+ANY_ANSWER = "< *"
+OPEN = ".."
+OF_BYTES = ("< ", "> ")
+
+
+def is_pattern(wanted):
+    """Whether a line of bytes leaves some of them open."""
+    return wanted.startswith(OF_BYTES) and OPEN in wanted
+
+
+def understood(wanted):
+    """A line that must be shown, as it is compared. Mistake, where it leaves something open in no form."""
+    if wanted == ANY_ANSWER or not wanted.startswith(OF_BYTES):
+        return wanted
+    if "*" in wanted:
+        raise Mistake("`*` stands for any answer alone, as in `#< *`; some bytes of a line are left open by `..`, as in `#< ..9000`")
+    if is_pattern(wanted):
+        parts = wanted[2:].split(OPEN)
+        if any(not re.fullmatch("(?:[0-9A-Fa-f]{2})*", part) for part in parts):
+            raise Mistake("`..` stands for whole bytes, any number of them, between hexadecimal digits of whole bytes")
+        return wanted[:2] + OPEN.join(parts).upper()
+    return wanted
+
+
+def is_one(line, wanted):
+    """Whether a line of a trace is the one that must be shown."""
+    if wanted == ANY_ANSWER:
+        return line.startswith("< ")
+    if not is_pattern(wanted):
+        return line == wanted
+    parts = wanted[2:].split(OPEN)
+    return bool(re.fullmatch(wanted[:2] + "(?:[0-9A-F]{2})*".join(parts), line))
+
+
 def is_shown(line, alternatives):
-    return line in alternatives or "< *" in alternatives and line.startswith("< ")
+    return any(is_one(line, wanted) for wanted in alternatives)
 
 
 def wanted_lines(run, turn):

@@ -1,19 +1,25 @@
 """What a power cut leaves: a script is played once for each memory write of a command, with that write cut, torn or failing.
 
 What is left is told by what commands read back, or by the image of the memory, entry by entry."""
+import collections
 import concurrent.futures
-import os
-import tempfile
+import dataclasses
 
-from . import decode, follow, image, lint, names, t0
+from . import decode, follow, kept, lint, names, t0
 from . import process as simulator
 from .grammar import Apdu, Handset, Plan, Reset, Tpdu
 
-WAYS = (
+# the ways in which a write goes wrong: the power is lost in it, or it fails and the card goes on
+CUTS = (
     ("cut, all its bytes FF", "cut {call}"),
     ("cut half way, then 5A", "cut {call} {half} 5A"),
+)
+FAILURES = (
     ("fails, all its bytes FF", "fail {call} FF"),
 )
+WAYS = CUTS + FAILURES
+# what came of a write that went wrong: in which way, what the trace shows for the command, what is left, and what `between` is there
+Left = collections.namedtuple("Left", "way shown state half")
 # more writes than any command makes
 MOST_CALLS = 1000
 # the status where the memory fails in a reset
@@ -29,10 +35,10 @@ PINS = (VERIFY, CHANGE, DISABLE, ENABLE, UNBLOCK)
 LIVES = (0x04, 0x44)
 # what is sent again as it is, so that the same file is the current one and may be read
 REPEATED = (SELECT, VERIFY, 0x70)
-# by a path from the current DF
+# P1 of SELECT: a path from the current DF
 CHILD, WITH_PARAMETERS, WITHOUT_PARAMETERS = 0x09, 0x04, 0x0C
 SELECT_MF = bytes.fromhex("00A40004023F00")
-# of a command that was carried out: fewer bytes were there than Le, a deactivated file was selected
+# statuses of commands that were carried out: fewer bytes were there than Le, a deactivated file was selected
 WARNINGS = ("6282", "6283")
 # modes of a record command, in the lower three bits of its P2; the others are a short identifier
 PREVIOUS, BY_NUMBER = 3, 4
@@ -48,6 +54,19 @@ STATES = {
     "NEITHER": "NEITHER",
 }
 TRIES_LEFT = "63C"
+
+
+@dataclasses.dataclass(frozen=True)
+class Shard:
+    """One of so many parts of a work, each as large as the others."""
+    number: int
+    count: int
+
+    def of(self, whole):
+        return whole[self.number - 1::self.count]
+
+
+ALL = Shard(1, 1)
 
 
 class Unplayable(Exception):
@@ -285,6 +304,11 @@ class Trial:
         return (bytes_of(self.command)[1] in PINS and before.startswith(TRIES_LEFT)
                 and tries == f"{TRIES_LEFT}{int(before[-1], 16) - 1:X}")
 
+    def half_done(self):
+        """What is half done where the state is between."""
+        which = "the UNBLOCK value" if bytes_of(self.command)[1] == UNBLOCK else "the PIN"
+        return f"one try of {which} is taken"
+
     def told(self, answers):
         """What tells one state from the other: the answers that aren't the same before and after, or each answer once."""
         if self.old == self.new or not len(answers) == len(self.old) == len(self.new):
@@ -293,22 +317,7 @@ class Trial:
         return ", ".join(spaced(answers[n]) for n in differing)
 
 
-# by the image of the memory
-
-class Played:
-    """What a run over an image of its own leaves."""
-
-    def __init__(self, words, lines):
-        with tempfile.TemporaryDirectory(prefix="uicc-cuts-") as folder:
-            path = os.path.join(folder, "image")
-            text = "".join(line + "\n" for line in lines)
-            self.trace, self.status, self.said = simulator.played([*words, "--image", path], text)
-            if words[0] == "phone":
-                # a handset would go on at a reset: the card is opened alone, which finishes what was begun
-                simulator.played(["open", *words[1:], "--image", path], "start\n")
-            with open(path, "rb") as content:
-                self.entries = image.state(content.read())
-
+# what the image of the memory tells
 
 def command_of(said):
     """The bytes of the command that a line has the card carry out; None where it is another line."""
@@ -318,18 +327,20 @@ def command_of(said):
 
 
 class Step:
-    """A line of a script that is cut: its number, its text, what it says, and all lines before it without its own plans."""
+    """A line of a script that is cut: its number, its text, what it says, and where it is played: the place from which a run
+    continues, and the lines from there on up to it, without its own plans."""
 
-    def __init__(self, words, script, place):
-        self.words, self.phone = words, words[0] == "phone"
-        self.number, self.said = script.steps[place]
+    def __init__(self, words, script, at, place=None):
+        self.phone = words[0] == "phone"
+        self.at, self.place = at, place or kept.beginning(words, script)
+        self.number, self.said = script.steps[at]
         self.line = script.lines[self.number - 1]
-        before = [line for line in script.lines[:self.number - 1] if line and not line.startswith("#")]
-        self.before = unplanned(before)
+        self.before = unplanned(kept.lines_of(script, self.place.at, at))
 
-    def lines(self, *sent):
-        behind = [] if self.phone or sent and sent[-1] == "reset" or not sent else ["reset"]
-        return [*self.before, *sent, *behind]
+    def play(self, *sent):
+        """Plays the lines before the step, and then these."""
+        after = [] if self.phone or sent and sent[-1] == "reset" or not sent else ["reset"]
+        return self.place.play([*self.before, *sent, *after])
 
     def title(self):
         command = command_of(self.said)
@@ -350,7 +361,7 @@ class Outcome:
 
     def try_all(self):
         step = self.step
-        self.old, self.new = Played(step.words, step.lines()), Played(step.words, step.lines(step.line))
+        self.old, self.new = step.play(), step.play(step.line)
         self.runs = 2
         if self.new.status not in (0, EEPROM_FAILED):
             raise simulator.Ended(self.new.trace[-1] if self.new.trace else "", self.new.status, self.new.said)
@@ -359,15 +370,31 @@ class Outcome:
         for call in range(1, MOST_CALLS):
             ways = []
             for name, plan in WAYS:
-                played = Played(step.words, step.lines(plan.format(call=call, half=step.half()), step.line))
+                played = step.play(plan.format(call=call, half=step.half()), step.line)
                 self.runs += 1
                 shown = shown_of(played.trace[known:], step)
                 if name == WAYS[0][0] and simulator.CUT not in played.trace[known:]:
                     return self
-                ways.append((name, shown, self.state(played.entries)))
-                self.counts[ways[-1][2]] += 1
+                state = self.state(played.entries)
+                ways.append(Left(name, shown, state, self.half_done(played.entries) if state == "between" else ""))
+                self.counts[state] += 1
             self.writes.append(ways)
         return self
+
+    def lefts(self, ways):
+        """What came of each write that went wrong in one of these ways."""
+        named = [name for name, _ in ways]
+        return [left for write in self.writes for left in write if left.way in named]
+
+    def half_done(self, entries):
+        """Which part of a step was done and which wasn't, in words."""
+        old, new = self.old.entries, self.new.entries
+        keys = dict.fromkeys([*old, *new])
+        changing = [key for key in keys if old.get(key) != new.get(key) or entries.get(key) != old.get(key)]
+        tried = [try_taken(key, old[key], entries[key]) for key in changing if key[0] == "pin" and is_try_taken(old.get(key), entries.get(key))]
+        done = [entry_name(key) for key in changing if key[0] != "pin" and entries.get(key) == new.get(key)]
+        parts = [entry_name(key) for key in changing if entries.get(key) not in (old.get(key), new.get(key)) and key[0] == "row"]
+        return "; ".join(tried + [f"{name} is done" for name in done] + [f"{name} is done in part" for name in parts])
 
     def state(self, entries):
         old, new = self.old.entries, self.new.entries
@@ -393,6 +420,11 @@ def is_try_taken(old, found):
     if not old or not found or found[:3] != old[:3]:
         return False
     return (found[3], found[4]) in ((old[3] - 1, old[4]), (old[3], old[4] - 1))
+
+
+def try_taken(key, old, found):
+    """Which try a PIN has lost."""
+    return f"one try of the UNBLOCK value of {entry_name(key)} is taken" if found[4] < old[4] else f"one try of {entry_name(key)} is taken"
 
 
 def makes_commits(step):
@@ -435,9 +467,10 @@ def read_script(path, phone):
     return script
 
 
-def all_outcomes(words, script, jobs, progress):
-    """What came of each step of a script, tried in parallel."""
-    steps = [Step(words, script, place) for place in cuttable(script)]
+def all_outcomes(words, script, jobs, progress, shard=ALL):
+    """What came of each step of a script, or of those of a shard, tried in parallel."""
+    places = kept.places(words, script)
+    steps = [Step(words, script, at, kept.nearest(places, at)) for at in shard.of(cuttable(script))]
 
     def tried(step):
         outcome = Outcome(step).try_all()

@@ -1,8 +1,11 @@
 """Follows the commands of a trace: which file is the current one on each logical channel, so that what is read can be decoded."""
-from . import contents, decode, names
+from . import contents, decode, layout, names
 from .decode import CREATE_FILE, DELETE_FILE, INCREASE, READ_BINARY, READ_RECORD, RESIZE_FILE, SEARCH_RECORD, SELECT, UPDATE_BINARY, UPDATE_RECORD
 
 BY_IDENTIFIER, PARENT, FROM_MF, FROM_DF = 0x00, 0x03, 0x08, 0x09
+BY_NUMBER = 4
+DISABLE, ENABLE, UNBLOCK, DEACTIVATE, ACTIVATE = 0x26, 0x28, 0x2C, 0x04, 0x44
+MEMORY_PROBLEM = "6581"
 ON_CHILDREN = (CREATE_FILE, DELETE_FILE, RESIZE_FILE)
 # the answers after which a command with a short identifier has made its EF the current one; by 61XX the data of a TPDU wait
 TAKEN = ("9000", "91", "6282", "61")
@@ -22,12 +25,16 @@ class Follower:
 
     def __init__(self, card=None):
         self.card = card
+        if card:
+            card.was_wide = card.is_wide
         self.usim = card is None or is_usim_card(card)
         self.reset()
 
     def reset(self):
-        # of each channel that is open: the path of the current DF, that of the current EF or None
+        # the current DF of each open channel, and its current EF or None, by their paths
         self.current = {0: ((), None)}
+        # the keys that were verified
+        self.verified = set()
 
     def of(self, apdu):
         return self.current.get(apdu.channel, ((), None))
@@ -70,7 +77,8 @@ class Follower:
         """The path of the EF with a short identifier."""
         if self.card:
             return next((file.path for file in self.card.children(df) if file.short == number), None)
-        return None
+        entry = names.by_short(df, number, self.usim)
+        return (*df, entry["id"]) if entry else None
 
     def target(self, apdu):
         """The path of the EF that a command works on."""
@@ -87,17 +95,61 @@ class Follower:
 
     def take(self, apdu, status):
         """Takes note of a command that was answered so."""
-        if not apdu.ok or apdu.on_applets:
+        if status == MEMORY_PROBLEM:
+            # the card opens its memory anew, and nothing is selected or verified then
+            self.reset()
+        elif not apdu.ok:
             return
-        if apdu.ins == SELECT and is_selected(status):
+        elif apdu.on_applets:
+            self._change_row(apdu, status)
+        elif apdu.ins in decode.PINS:
+            self._present(apdu, status)
+        elif apdu.ins == SELECT and is_selected(status):
             self._selected(apdu)
         elif apdu.ins == decode.CHANNEL and is_taken(status):
             self._channel(apdu)
         elif apdu.ins in ON_CHILDREN and is_taken(status):
             self._change_child(apdu, self.child(apdu))
-        elif short_identifier(apdu) and is_taken(status):
+        elif is_taken(status):
+            self._work_on_file(apdu)
+
+    def _work_on_file(self, apdu):
+        if short_identifier(apdu):
             df, _ = self.of(apdu)
             self.current[apdu.channel] = (df, self.short(df, short_identifier(apdu)))
+        file = self.card.files.get(self.target(apdu)) if self.card else None
+        if not file or file.is_df:
+            return
+        if apdu.ins == UPDATE_BINARY:
+            at = apdu.p2 if short_identifier(apdu) else apdu.p1 << 8 | apdu.p2
+            file.content[at:at + len(apdu.data)] = apdu.data
+        elif apdu.ins == UPDATE_RECORD and apdu.p2 & 7 == BY_NUMBER and apdu.p1:
+            file.content[(apdu.p1 - 1) * file.length:apdu.p1 * file.length] = apdu.data
+        elif apdu.ins in (DEACTIVATE, ACTIVATE):
+            file.active = apdu.ins == ACTIVATE
+
+    def _present(self, apdu, status):
+        """A value of a key was presented: a wrong one takes the mark of a verified key away, and a right one gives it, but for
+        DISABLE PIN."""
+        if not apdu.data:
+            return
+        if status.startswith("63C"):
+            self.verified.discard(apdu.p2)
+        elif is_taken(status):
+            if apdu.ins != DISABLE:
+                self.verified.add(apdu.p2)
+            pin = self.card.pins.get(apdu.p2) if self.card else None
+            if pin and apdu.ins in (DISABLE, ENABLE, UNBLOCK):
+                pin.enabled = apdu.ins != DISABLE
+
+    def _change_row(self, apdu, status):
+        if not self.card or not is_taken(status):
+            return
+        if apdu.ins == decode.DELETE:
+            self.card.rows.pop(apdu.p2, None)
+        elif apdu.ins == decode.INSTALL:
+            given = layout.installation(apdu.data)
+            self.card.rows[apdu.p2] = layout.Registered(apdu.p2, apdu.p1, given.events, given.text, given.kept)
 
     def _selected(self, apdu):
         path = self.select(apdu)

@@ -25,6 +25,27 @@ class NoCard(Exception):
     """The bytes hold no card."""
 
 
+def expect_store(content, store, path):
+    """NoCard, where an image isn't one of the store (the journal, where none is named): the program would lengthen a file that is too
+    short for it."""
+    if len(content) < JOURNAL_SIZE:
+        raise NoCard(f"it has {len(content):,} bytes, and an image has {JOURNAL_SIZE:,}, or {PAGES_SIZE:,} with --store pages: it holds no "
+                     f"card; `uicc_run play --image {path} < SCRIPT` makes one in it")
+    if store != "pages" and is_paged(content):
+        raise NoCard("it is an image of the other store: --store pages opens it")
+    if store == "pages" and not is_paged(content):
+        raise NoCard("it is an image of the other store: it is opened without --store pages")
+
+
+def expect_card(content, store, path):
+    """The card of an image of this store; NoCard, which names the file, where it holds none."""
+    try:
+        expect_store(content, store, path)
+        return card_in(content)
+    except NoCard as fault:
+        raise NoCard(f"{path}: {fault}") from None
+
+
 def pieces(content):
     """The pieces of a commit whose gate is open; none where they aren't well formed."""
     if content[GATE] != OPEN_GATE:
@@ -60,6 +81,17 @@ def stable(image):
     return recovered(image[:JOURNAL_SIZE])
 
 
+def settled(image):
+    """The stable bytes without what the journal notes: images with the same ones hold the same card."""
+    content = stable(image)
+    return content[:GATE] + b"\xFF" * (ENTRIES_END - GATE) + content[ENTRIES_END:]
+
+
+def is_unfinished(image):
+    """Whether a commit was begun, and is to be finished when the card is opened next."""
+    return len(image) > GATE and image[GATE] == OPEN_GATE
+
+
 def is_paged(image):
     return len(image) >= PAGES_SIZE and image[5] == PAGES_MARK
 
@@ -86,7 +118,7 @@ def card_in(image):
         pin = pin_at(content[PINS + PIN_WIDTH * slot:PINS + PIN_WIDTH * (slot + 1)])
         if pin:
             card.pins[pin.key] = pin
-    wide = content[4] == WIDE
+    wide = card.was_wide = content[4] == WIDE
     for shelf in range(SHELVES if wide else LOWER_SHELVES):
         row = row_at(content, shelf, wide)
         if row:

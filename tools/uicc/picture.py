@@ -10,9 +10,10 @@ def cell(x, y, ways):
     """A write: a stripe for each way, from the top down."""
     height = (ROW - GAP) / len(ways)
     parts = []
-    for place, (name, shown, state) in enumerate(ways):
+    for place, left in enumerate(ways):
+        meaning = MEANINGS[left.state] + (f" ({left.half})" if left.half else "")
         parts.append(f'<rect x="{x}" y="{y + place * height:.2f}" width="{CELL - GAP}" height="{height - 0.6:.2f}" '
-                     f'fill="{COLOURS[state]}"><title>{escape(name)}: {escape(shown)}, {MEANINGS[state]}</title></rect>')
+                     f'fill="{COLOURS[left.state]}"><title>{escape(left.way)}: {escape(left.shown)}, {escape(meaning)}</title></rect>')
     return "".join(parts)
 
 

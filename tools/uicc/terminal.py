@@ -1,6 +1,7 @@
 """Colours and a bar of progress on a terminal; in a pipe neither."""
 import os
 import sys
+import threading
 import time
 
 COLOURS = {"bold": "1", "dim": "2", "red": "31", "green": "32", "yellow": "33", "blue": "34", "magenta": "35", "cyan": "36"}
@@ -25,6 +26,28 @@ def plain():
     return painter
 
 
+# the status of a tool whose output nobody reads on
+NOT_READ_ON = 2
+
+
+def ended(main):
+    """Runs a tool, and answers its status. Where nobody reads on what it writes, or it is interrupted, it ends with no more words."""
+    try:
+        try:
+            status = main()
+        except SystemExit as end:
+            # its words were wrong, or asked for its page of help
+            status = end.code
+        sys.stdout.flush()
+        return status
+    except BrokenPipeError:
+        # nothing more is to be written at the end either
+        os.dup2(os.open(os.devnull, os.O_WRONLY), sys.stdout.fileno())
+        return NOT_READ_ON
+    except KeyboardInterrupt:
+        return 130
+
+
 class Progress:
     """A line on standard error that says how much of a work is done; none where that is no terminal."""
 
@@ -32,16 +55,31 @@ class Progress:
 
     def __init__(self, total, what):
         self.total, self.what, self.done = total, what, 0
-        self.on, self.last = sys.stderr.isatty(), 0.0
+        self.on, self.last, self.began = sys.stderr.isatty(), 0.0, time.monotonic()
+        self.lock = threading.Lock()
+        self._show()
 
     def step(self, count=1):
-        self.done += count
-        now = time.monotonic()
-        if self.on and (now - self.last > 0.1 or self.done >= self.total):
-            self.last = now
-            filled = self.WIDTH * self.done // max(1, self.total)
-            bar = "#" * filled + "." * (self.WIDTH - filled)
-            print(f"\r[{bar}] {self.done} of {self.total} {self.what}", end="", file=sys.stderr, flush=True)
+        """Counts what is done; several threads may."""
+        with self.lock:
+            self.done += count
+            if time.monotonic() - self.last > 0.1 or self.done >= self.total:
+                self._show()
+
+    def _show(self):
+        if not self.on:
+            return
+        self.last = time.monotonic()
+        filled = self.WIDTH * self.done // max(1, self.total)
+        bar = "#" * filled + "." * (self.WIDTH - filled)
+        print(f"\r[{bar}] {self.done} of {self.total} {self.what}{self._left()}\x1b[K", end="", file=sys.stderr, flush=True)
+
+    def _left(self):
+        """How long the rest takes, if it goes on as it went."""
+        seconds = time.monotonic() - self.began
+        if not 0 < self.done < self.total or seconds < 2:
+            return ""
+        return f", some {round(seconds / self.done * (self.total - self.done))} s left"
 
     def end(self):
         if self.on:

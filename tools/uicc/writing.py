@@ -55,6 +55,33 @@ def expecting(command, shown):
     return ["#" + line if line.startswith(("< ", "> ", "! ", "* ")) else "#= " + line for line in lines]
 
 
+def kept_or_new(old, new):
+    """The lines that stand below a line of the script, where they leave open what is shown; or else those that say it."""
+    fits = len(old) == len(new) and all(cases.is_shown(one[1:], wanted[1:].split(" | ")) for one, wanted in zip(new, old))
+    return old if fits else new
+
+
+def refuse_faulty(run, left):
+    """A script that the program doesn't play to its end is no example of itself, but where its status says that it is meant so."""
+    if left.status not in (1, 2, 8) or run.status == left.status:
+        return
+    if left.status == 1:
+        raise Unwritable("its words are in no form of the command line")
+    first = lint.read(run.script, next((mode for mode in lint.MODES if run.words[:1] == [mode]), "play")).first()
+    raise Unwritable(f"line {first.line} of its script: {first.reason}" if first else f"its run ended with {left.trace[-1:]}")
+
+
+def with_words(text, name, words):
+    """The text of a script alone as a case that says by which words it is run, so that the file is run so ever after; any other text, and
+    one for `play`, as it is."""
+    if words == ["play"] or not cases.read(text, name, words)[0].plain:
+        return text
+    body = text if text.endswith("\n") or not text else text + "\n"
+    has_status = any(line.startswith("#status ") for line in body.splitlines())
+    title = os.path.splitext(os.path.basename(name))[0]
+    return f"#case {title}\n#run {' '.join(words)}\n{body}" + ("" if has_status else "#status 0\n")
+
+
 def written(text, case, run, left, before):
     """The text of a file with what a run showed in place of what it was expected to show. Script lines keep their places."""
     if case.plans:
@@ -68,17 +95,18 @@ def written(text, case, run, left, before):
     made, below = [], {}
     for place, line in zip(places, left.trace):
         below.setdefault(place, []).append(line)
-    pending = []
+    pending, old = [], []
     for number, line in enumerate(body, 1):
         if line.split(" ")[0] in cases.EXPECTING:
+            old.append(line)
             continue
-        made += pending
-        pending = []
+        made += kept_or_new(old, pending)
+        pending, old = [], []
         made.append(line)
         if number in below:
             word, _, rest = line.partition(" ")
             pending = expecting(rest if word == "apdu" else None, below[number])
-    made += pending
+    made += kept_or_new(old, pending)
     if tail and tail[0].startswith("#status"):
         tail[0] = f"#status {left.status}"
     elif left.status != 0:
@@ -112,5 +140,6 @@ def one_written(text, case):
             before = device.content if device.is_under(run.words) else None
             left = device.play(run.words, run.script)
             if cases.difference(run, left.trace, left.status, left.image, None):
+                refuse_faulty(run, left)
                 return written(text, case, run, left, before)
     return None

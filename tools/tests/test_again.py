@@ -1,0 +1,95 @@
+"""tools/cuts --again: a script that is stopped in its writes, and run again from its beginning."""
+import os
+import subprocess
+import sys
+import tempfile
+import unittest
+
+import common
+from uicc import process
+
+HEAD = """pin 0A 3838383838383838 on 3030303030303030
+ef 2FE2 t 4 2 -
+ef 2F05 c 2 3 5 -
+start
+"""
+ADM = "apdu 0020000A083838383838383838\n"
+SAME, OTHERWISE = "as it would", "otherwise"
+# a script, how many runs end as it would have and how many otherwise, and parts of what is told
+TABLE = {
+    "what is written again is the same": (ADM + "apdu 00D6820004AABBCCDD\n", 36, 0, ["ends as it would have, after 0 otherwise"]),
+    "a folder that is there already isn't selected by making it again": (
+        ADM + "apdu 00E000000A62088202782183027F10\napdu 00E0000011620F8202412183026F5080020004880128\n", 36, 15,
+        ["7F10/6F50", "run again, line 6 shows `< 6A89` and not `< 9000`"]),
+    "a cyclic file gets one more record": ("apdu 00DC002B020102\n", 5, 10, ["otherwise: 2F05", "after 1 of 1 lines: 5"]),
+    "a reset": ("reset\n", 0, 0, ["0 writes"]),
+}
+
+
+def is_built():
+    try:
+        return bool(process.program())
+    except process.NotBuilt:
+        return False
+
+
+def cuts(*words):
+    return subprocess.run([sys.executable, "-B", os.path.join(common.TOOLS, "cuts"), *words], capture_output=True, text=True, check=False)
+
+
+@unittest.skipUnless(is_built(), "the program isn't built")
+class Again(unittest.TestCase):
+    def setUp(self):
+        folder = tempfile.TemporaryDirectory()
+        self.addCleanup(folder.cleanup)
+        self.path = os.path.join(folder.name, "card.script")
+
+    def again(self, text, *words):
+        with open(self.path, "w", encoding="ascii") as out:
+            out.write(HEAD + text)
+        return cuts(self.path, "--again", *words)
+
+    def test_how_it_ends(self):
+        for name, (text, same, otherwise, parts) in TABLE.items():
+            for store in ("journal", "pages"):
+                with self.subTest(script=name, store=store):
+                    done = self.again(text, "--store", store)
+                    self.assertEqual(done.returncode, 1 if otherwise else 0, done.stderr + done.stdout)
+                    if store == "journal":
+                        last = done.stdout.splitlines()[-1]
+                        self.assertIn(f"{same + otherwise} runs: after {same} the card ends as it would have, after {otherwise} otherwise", last)
+                    for part in parts:
+                        self.assertIn(part, done.stdout)
+
+    def test_shards(self):
+        """Together they have each command once."""
+        text = ADM + "apdu 00D6820004AABBCCDD\napdu 00B0820004\nreset\napdu 00D682000411223344\n"
+
+        def lines(*words):
+            return {line.split()[0] for line in self.again(text, *words).stdout.splitlines() if line[:5].strip().isdigit()}
+        first, second = lines("--shard", "1/2"), lines("--shard", "2/2")
+        self.assertEqual((len(first), len(second), first & second, first | second), (3, 2, set(), lines()))
+
+    # words, and why they are refused
+    REFUSED = [
+        (["--again", "--phone"], "--again is for scripts of `play`"),
+        (["--again", "--all"], "not allowed with argument"),
+        (["--shard", "1/2"], "--shard parts the commands"),
+        (["--all", "--shard", "0/2"], "0/2 is no part"),
+        (["--all", "--shard", "3/2"], "3/2 is no part"),
+        (["--all", "--shard", "two"], "two is no part"),
+        (["--again", "--picture", "x.svg"], "--picture draws what --all tries"),
+        (["--all", "--jobs", "0"], "0 is no number from 1 on"),
+    ]
+
+    def test_words_that_are_refused(self):
+        for words, why in self.REFUSED:
+            with self.subTest(words=words):
+                done = cuts(self.path, *words)
+                self.assertEqual(done.returncode, 2)
+                self.assertIn(why, done.stderr)
+                self.assertNotIn("Traceback", done.stderr)
+
+
+if __name__ == "__main__":
+    unittest.main()
