@@ -185,7 +185,7 @@ class Importing(unittest.TestCase):
             card.verify(1, "1234")
             held = card.holds
             done = importing.Import("".join(read_out(card, file) for file in held.files.values() if file.path and not file.is_df))
-        self.assertEqual(done.faults, ["MF/2F06: access rules are words in a profile, from which EF_ARR is written"])
+        self.assertEqual(done.faults, [])
         lines = profile.build(profile.merged({}, tomllib.loads(done.profile())))
         self.assertEqual(facts(lint.read("".join(line + "\n" for line in lines)).card), facts(held))
 
