@@ -4,3 +4,4 @@ from .handset import Reply, Terminal
 from .process import Ended, NotBuilt
 
 __all__ = ["Answer", "Card", "CardError", "Ended", "NoSuchFile", "NotBuilt", "PowerLost", "Proactive", "Reply", "StatusError", "Terminal"]
+__version__ = "0.2.0"
