@@ -1,5 +1,5 @@
 """Runs oFono, the telephony daemon of Linux telephones, with a modem at a port, and has it do what lines of standard input ask. For
-tools/uicc/ofono.py, which starts it in namespaces of its own. Wants Debian's ofono, dbus, python3-dbus and python3-gi.
+tools/uicc/daemon.py, which starts it in namespaces of its own. Wants Debian's ofono, dbus, python3-dbus and python3-gi.
 
     ofono_client.py FOLDER PORT
 
@@ -165,21 +165,28 @@ def connected(address):
     return None
 
 
+def bus_in(folder, log):
+    """The address of a bus of its own, at a socket in a folder, and a connection to it."""
+    path, settings = os.path.join(folder, "bus"), os.path.join(folder, "bus.conf")
+    with open(settings, "w", encoding="ascii") as out:
+        out.write(BUS.format(path=path))
+    subprocess.Popen(["dbus-daemon", "--config-file", settings, "--nofork", "--nopidfile"], stdin=subprocess.DEVNULL, stdout=log, stderr=log)
+    address = "unix:path=" + path
+    return address, until(lambda: connected(address), "the bus")
+
+
 def started(folder, port):
     """A bus of its own with oFono on it."""
     subprocess.run(["mount", "-t", "tmpfs", "ofono", STORAGE], check=True)
-    path, settings, configuration = (os.path.join(folder, name) for name in ("bus", "bus.conf", "phonesim.conf"))
-    for name, text in ((settings, BUS.format(path=path)), (configuration, SETTINGS.format(port=port))):
-        with open(name, "w", encoding="ascii") as out:
-            out.write(text)
-    with open(os.path.join(folder, "ofono.log"), "w", encoding="utf-8") as log:
-        quiet = {"stdin": subprocess.DEVNULL, "stdout": log, "stderr": log}
-        subprocess.Popen(["dbus-daemon", "--config-file", settings, "--nofork", "--nopidfile"], **quiet)
-        address = "unix:path=" + path
-        bus = until(lambda: connected(address), "the bus")
+    configuration = os.path.join(folder, "phonesim.conf")
+    with open(configuration, "w", encoding="ascii") as out:
+        out.write(SETTINGS.format(port=port))
+    with open(os.path.join(folder, "daemon.log"), "w", encoding="utf-8") as log:
+        address, bus = bus_in(folder, log)
         environment = {**os.environ, "DBUS_SYSTEM_BUS_ADDRESS": address, "OFONO_PHONESIM_CONFIG": configuration, "OFONO_AT_DEBUG": "1",
                        "LANG": LANGUAGE}
-        subprocess.Popen(["ofonod", "--nodetach", "--debug", "--plugin", PLUGINS], env=environment, **quiet)
+        subprocess.Popen(["ofonod", "--nodetach", "--debug", "--plugin", PLUGINS], env=environment, stdin=subprocess.DEVNULL, stdout=log,
+                         stderr=log)
     until(lambda: bus.name_has_owner(SERVICE), "oFono")
     return bus
 

@@ -9,7 +9,7 @@ import subprocess
 import tempfile
 import time
 
-# a machine that is busy with proofs lets a browser wait long
+# on a busy machine a browser answers late
 PATIENCE = 600
 # of keys that are no letter: the number that Chromium knows each by, and the letter that WebDriver has for it
 KEYS = {

@@ -138,7 +138,8 @@ def takes_back(browser):
     expect("what `Undo` takes back", browser.evaluate("document.getElementById('undo').title"), "Take back: card.img")
     browser.evaluate("document.getElementById('script').focus()")
     browser.type("reset\n")
-    browser.wait(has_lines(2))
+    # the browser may be slow, so that a part of the line is played before
+    browser.wait(f"{has_lines(2)} && uicc.played.result.status === 0")
     written = stands(browser)
     choose_file(browser, "script", "latin.script", b"# \xE9\nstart\n")
     expect("the letters of another encoding", browser.evaluate("uicc.script.text"), "# \u00e9\nstart\n")
@@ -212,6 +213,34 @@ def keyboard(browser):
     expect("the focus after a poll", browser.evaluate(FOCUSED), "net poll")
     expect("the script", browser.evaluate("uicc.script.text"), MENU + "user pick 2\nuser pick 1\nuser ok\nnet poll\n")
     return "the handset by keyboard"
+
+
+# the toolkit
+
+APPLETS = "row 2 1 014000\nrow 5 2 0140044E6F7465\nrow 1 3 00044D656E75\nstart\n"
+
+
+def toolkit(browser):
+    """What each applet is doing is shown as it is after the chosen step; a card without applets shows nothing of it."""
+    play(browser, "phone", APPLETS)
+    browser.evaluate("uicc.trace.choose(uicc.played.steps.findIndex((step) => step.text.startsWith('> 8014')))")
+    expect("what the toolkit is doing", browser.evaluate("[...document.querySelectorAll('#toolkit li')].map((item) => item.textContent)"), [
+        "terminal profile: received",
+        "outstanding command: TIMER MANAGEMENT, number 2, of the applet on shelf 2: waits to be fetched",
+        "applet on shelf 1 (has a menu, priority 3): idle",
+        "applet on shelf 2 (keeps a clock, priority 1): asked: waits for the response to TIMER MANAGEMENT",
+        "applet on shelf 5 (keeps a note, priority 2): waiting: has GET INPUT to send, as number 1 of 1",
+        "timer 1: held by the applet on shelf 2",
+        "event 40 profile download: wakes shelf 2 (priority 1), shelf 5 (priority 2)",
+    ])
+    # a commit that was cut: what the applet keeps is read from the memory
+    play(browser, "phone", APPLETS + "cut 3\nuser type Milk\nreset\n")
+    expect("whether the note that was kept is shown", "asked: waits for the response to DISPLAY TEXT" in text_of(browser, "#toolkit")
+           or "waiting: has DISPLAY TEXT to send" in text_of(browser, "#toolkit"), True)
+    expect("whether anything is in doubt", "not sure" in text_of(browser, "#toolkit"), False)
+    play(browser, "play", READS)
+    expect("whether a card without applets has a toolkit", browser.evaluate("document.getElementById('toolkit-part').hidden"), True)
+    return "what the toolkit is doing"
 
 
 # what is read at first sight
@@ -368,6 +397,11 @@ def words_of_a_script(browser):
     browser.wait("document.querySelector('#help .current')?.dataset.word === 'ef'")
     go_to(browser, 10)
     browser.wait("document.querySelector('#help .current')?.dataset.word === 'apdu'")
+    expect("whether what the line says is in sight", browser.evaluate("""(() => {
+        const list = document.getElementById("help-words").getBoundingClientRect();
+        const { bottom } = document.querySelector("#help .current + dd").getBoundingClientRect();
+        return bottom <= list.bottom;
+    })()"""), True)
     browser.click("#help summary")
     return f"help for {len(found)} words"
 
@@ -397,5 +431,5 @@ def trap(browser):
 
 
 ALL = (
-    typing, refuses, takes_back, narrow, keyboard, first_sight, colours, causes, terms, bad_line, many_writes, words_of_a_script, link, trap,
+    typing, refuses, takes_back, narrow, keyboard, toolkit, first_sight, colours, causes, terms, bad_line, many_writes, words_of_a_script, link, trap,
 )

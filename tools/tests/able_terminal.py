@@ -28,8 +28,7 @@ GENERAL_BEEP, IMEI, MOST_ROOM = 0x10, "0A10325476981032", 0xFF
 REFUSED, NO_CHANNEL, LESS = Reply(b"\x22"), Reply(b"\x3A\x03"), b"\x02"
 LOCAL = {0x01: (0x14, IMEI), 0x02: (0x16, "00" * 16), 0x03: (0x26, "62113001200040"), 0x04: (0x2D, b"en".hex()), 0x05: (0x2E, "0000"),
          0x06: (0x3F, "03")}
-DIGITS, ANY, UCS2, YES_OR_NO, PACKED = 0x00, 0x01, 0x03, 0x04, 0x08
-CLEARED_BY_USER, HAS_HELP = 0x80, 0x80
+UCS2, YES_OR_NO, PACKED, CLEARED_BY_USER = 0x03, 0x04, 0x08, 0x80
 
 
 @dataclasses.dataclass(frozen=True)
@@ -52,7 +51,7 @@ def letters(value):
 
 
 class AbleTerminal(Terminal):
-    """The handset, with all that it lacks. A fault that is planted is a function of the class Faults, by its name."""
+    """The handset, with all that it lacks."""
 
     def __init__(self, card):
         super().__init__(card, PROFILE)

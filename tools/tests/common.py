@@ -31,7 +31,7 @@ for line in sys.stdin:
         print("< 810301440082028281830100B8020000", flush=True)
     elif word == "net":
         print("* event D60B99010A82028281B8020105", flush=True)
-    elif word == "worn":
+    elif line.strip() == "df DEAD" or word == "worn":
         print("uicc_run: no space is left", file=sys.stderr, flush=True)
         print("eeprom failed", flush=True)
         sys.exit(6)

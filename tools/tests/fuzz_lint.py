@@ -228,7 +228,7 @@ def disagreement(seed):
     trace, status, _ = process.played(words, text)
     shown = (status, trace[-1] if trace else "") if status in (2, 8) else (0, "")
     if status == 6:
-        # a planned fault in a reset ends the run before the lines behind it are read
+        # a planned fault in a reset ends the run before the lines after it are read
         return None
     if shown != told(script):
         return f"seed {seed} ({mode}): the program ended with {status} {trace[-1:]}, and lint says {script.first()}"

@@ -22,8 +22,42 @@ class Captures(unittest.TestCase):
         (["> 00040000", "! off"], [("alone", "0004000000", ["no answer came"]), ("mark", "the card has no power", None)]),
         (["* menu 1", "line 4"], [("mark", "handset: menu 1", None), ("mark", "the run ended: line 4", None)]),
         (["> 00B0000001"], [("alone", "00B0000001", ["the trace ends here"])]),
+        # of a terminal over no card: FETCH, TERMINAL RESPONSE and ENVELOPE
+        (["> D009810301440082028182", "< 810301440082028281830100B8020000"],
+         [("exchange", "801200000BD0098103014400820281829000", []), ("exchange", "8014000010810301440082028281830100B80200009000", [])]),
+        (["* event D60B99010A82028281B8020105"], [("exchange", "80C200000DD60B99010A82028281B80201059000", [])]),
+        # lines that tell times
+        (["@ 1764497000.000001", "> 00B0000001", "@ 1764497000.000002", "< AA9000", "@ 1764497000.000003", "! reset"],
+         [("exchange", "00B0000001AA9000", []), ("mark", "reset", None)]),
     ]
-    NO_TRACES = [["hello"], ["> 00B", "< 9000"], ["> 00B0000001", "< XX"], ["< 9000"], ["@ noon"]]
+    # lines of a trace, and the times of its packets, in microseconds
+    TIMES = [
+        (["> 00B0000001", "< 9000", "! reset"], [0, 1000]),
+        (["@ 1764497000.000001", "> 00B0000001", "@ 1764497002.5", "< 9000"], None),
+        (["@ 1764497000.000001", "> 00B0000001", "@ 1764497002.500000", "< 9000", "@ 1764497003.000000", "! reset", "> 00B0000001", "! cut"],
+         [1764497000000001, 1764497003000000, 1764497003001000, 1764497003002000]),
+        (["@ 1764497000.000001", "> D009810301440082028182", "@ 1764497000.000009", "< 810301440082028281830100B8020000"],
+         [1764497000000001, 1764497000000009]),
+    ]
+
+    def test_times(self):
+        capture = load("capture")
+        for lines, times in self.TIMES:
+            with self.subTest(lines=lines):
+                if times is None:
+                    self.assertRaises(capture.NoTrace, list, capture.capture(lines))
+                    continue
+                blocks = [block for block in capture.capture(lines) if struct.unpack_from("<I", block) == (6,)]
+                found = [high << 32 | low for high, low in (struct.unpack_from("<II", block, 12) for block in blocks)]
+                self.assertEqual(found, times)
+
+    def test_a_time_is_told_as_it_is_read(self):
+        for micros in (0, 1, 999_999, 1_000_000, 1764497000123456):
+            self.assertEqual(trace.time_of(trace.timed(micros)), micros)
+        for line in ("@ 1", "@ 1.5", "@ .000001", "@ -1.000000", "@ 1.00000a", "> 1.000000"):
+            self.assertIsNone(trace.time_of(line), line)
+
+    NO_TRACES = [["hello"], ["> 00B", "< 9000"], ["> 00B0000001", "< XX"], ["< 9000"]]
 
     def test_packets(self):
         capture = load("capture")
@@ -31,18 +65,6 @@ class Captures(unittest.TestCase):
             found = [(packet.kind, packet.content.decode() if packet.kind == "mark" else packet.content.hex().upper(),
                       None if packet.kind == "mark" else packet.comments) for packet in capture.packets(lines)]
             self.assertEqual(found, packets)
-
-    def test_times(self):
-        """A packet has the time that is told before it, also in its block; the parts of a trace are the same without."""
-        capture = load("capture")
-        lines = ["! reset", "@ 2026-01-31T12:00:00.000001+00:00", "> 00B0000001", "@ 2026-01-31T12:00:00.250000+00:00", "< AA9000"]
-        noon = 1_769_860_800_000_000
-        found = list(capture.packets(lines))
-        self.assertEqual([packet.micros for packet in found], [None, noon + 250_000])
-        self.assertEqual(struct.unpack_from("<II", capture.framed(1, found[1]), 12), ((noon + 250_000) >> 32, (noon + 250_000) & 0xFFFFFFFF))
-        without = [line for line in lines if not line.startswith("@")]
-        self.assertEqual(list(trace.parts(lines)), list(trace.parts(without)))
-        self.assertGreater(capture.time_in(1, trace.time_now()), noon)
 
     def test_no_trace(self):
         capture = load("capture")

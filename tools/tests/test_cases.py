@@ -7,7 +7,7 @@ import tempfile
 import unittest
 
 from common import STAND_IN, TOOLS
-from uicc import carrying, cases, comparing, stored
+from uicc import carrying, cases, line_objects, stored
 
 
 def run_of(text):
@@ -206,7 +206,7 @@ class Objects(unittest.TestCase):
         ("> 00B000000A", "< 00112233445566778899" + "9000", "< 0011223344FF66778899" + "9000",
          [("data", "byte 6: 5566778899", "byte 6: FF66778899")]),
         (None, "> 00A4000C023F00", "> 00A4000C027F10",
-         [("command", "SELECT by identifier 3F00, without an answer", "SELECT by identifier 7F10, without an answer")]),
+         [("command", "SELECT by identifier 3F00, no data returned", "SELECT by identifier 7F10, no data returned")]),
         (None, "> 00A4000C023F00", "! reset", []),
         (None, "* text a", "* text b", []),
         (None, "> 00A4zz", "> 00A4", []),
@@ -215,7 +215,7 @@ class Objects(unittest.TestCase):
     def test_objects(self):
         for command, wanted, shown, expected in self.TABLE:
             with self.subTest(wanted=wanted, shown=shown):
-                found = comparing.differences(wanted, shown, command, False)
+                found = line_objects.differences(wanted, shown, command, False)
                 if expected is None:
                     self.assertTrue(found)
                 else:

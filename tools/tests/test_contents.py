@@ -140,7 +140,7 @@ class Objects(unittest.TestCase):
 class Commands(unittest.TestCase):
     TITLES = [
         ("00A40004023F00", "SELECT by identifier 3F00"),
-        ("00A4080C047F206F07", "SELECT by path from the MF 7F20/6F07, without an answer"),
+        ("00A4080C047F206F07", "SELECT by path from the MF 7F20/6F07, no data returned"),
         ("00B0820004", "READ BINARY of the short identifier 2, from byte 0, 4 bytes"),
         ("00B0010200", "READ BINARY from byte 258, all up to 256"),
         ("00D6000002AABB", "UPDATE BINARY from byte 0: 2 bytes"),
@@ -186,7 +186,7 @@ class Commands(unittest.TestCase):
           "location information: 001-01, area 0001, cell 0002"]),
         ("801400000F810303240082028281830100900101",
          ["command details: SELECT ITEM, number 3", "device identities: terminal to card", "result: 00 done", "item identifier: 1"]),
-        ("F0E601060C010300030704030141030210", ["events: 03 location status", "keeps: 030704030141030210"]),
+        ("F0E601060C010300030704030141030210", ["events: 03 location status", "kept data: 030704030141030210"]),
         ("002000010831323334FFFFFFFF", ["value: 1234"]),
         ("00E0000015621382024121" "83026F508B032F0601" "80020004" "8800", ["control parameters", "file descriptor: transparent EF", "identifier: 6F50 EF.CBMIR",
                                                                         "access rule: record 1 of 2F06", "size: 4 bytes", "short identifier: none"]),
@@ -230,7 +230,7 @@ class Commands(unittest.TestCase):
         self.assertEqual(lines, ["control parameters", "file descriptor: linear fixed EF, 50 records of 28 bytes", "identifier: 6F3A EF.ADN",
                                  "life cycle: activated", "access rule: record 3 of 2F06", "size: 1400 bytes", "short identifier: 1"])
         lines = self.shown(decode.fcp(bytes.fromhex("62198202782183023F008A0105C60C9001A083010183018183010A")))
-        self.assertIn("PINs: PIN 1 on, PIN 2 off, ADM1 on", lines)
+        self.assertIn("PINs: PIN 1 enabled, PIN 2 disabled, ADM1 enabled", lines)
 
     def test_statuses(self):
         for word, part in self.STATUSES:

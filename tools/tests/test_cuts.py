@@ -178,7 +178,7 @@ class Cuts(unittest.TestCase):
     SELECTED, COUNTER = "00A4000C026F3A", "00A4000C026F39"
     # a card, what is sent to it, the reads of records in the end, what they tell before and after, and whether that is the same
     RECORDS = [
-        # next: the first one without a pointer, then the one behind it
+        # next: the first one without a pointer, then the one after it
         (LINEAR, [SELECTED, "00DC000201AA"], ["00B2010400"], "01 9000", "AA 9000", False),
         (LINEAR, [SELECTED, "00B2000200", "00B2000200", "00DC000201AA"], ["00B2030400"], "03 9000", "AA 9000", False),
         # previous: the last one without a pointer, and the one in front of it

@@ -86,11 +86,10 @@ pub fn run(x: u8) -> u8
     USED = [
         ("use Rattle.card_model.specs.Runs.{IsRun, armed as set}",
          [("IsRun", "card_model", "Runs", "IsRun", False), ("set", "card_model", "Runs", "armed", False)]),
-        ("pub use Rattle.card_layout.specs.Used.{HasNode}", [("HasNode", "card_layout", "Used", "HasNode", True)]),
-        ("use Rattle.file_model.specs.card_layout.Memory.{Memory as Held}", [("Held", "card_layout", "Memory", "Memory", False)]),
-        ("ghost use Rattle.file_model.specs.card_layout.declared.entries.Loaded.{Loaded};",
-         [("Loaded", "card_layout", "declared", "Loaded", False)]),
-        ("pub use Rattle.card_layout.specs as card_layout", []),
+        ("pub use Rattle.card_state.specs.Used.{HasNode}", [("HasNode", "card_state", "Used", "HasNode", True)]),
+        ("ghost use Rattle.card_state.specs.declared.entries.Loaded.{Loaded};",
+         [("Loaded", "card_state", "declared", "Loaded", False)]),
+        ("use Rattle.card_state.specs as state", []),
         ("    ghost use Rattle.uicc_types.specs.declared.plans.TheConstants.Plan.{NONE};",
          [("NONE", "uicc_types", "declared", "NONE", False)]),
         ("ghost use Rattle.uicc_types.specs.declared.runs.Step.TheVariants as step;", []),
@@ -122,21 +121,13 @@ pub fn run(x: u8) -> u8
     # a definition, and some of those that cite it: by its own module, by another name, and handed on by a module
     CITED = [
         (("card_model", "Runs", "IsRun"), ("crates/uicc_run/specs/Playing.antt", "EndsSo", "")),
-        (("card_sections", "Behind", "LinesReadTo"), ("crates/uicc_run/src/running.rt", "carry_on", "reads")),
+        (("script_reader", "Behind", "LinesReadTo"), ("crates/uicc_run/src/running.rt", "carry_on", "reads")),
         (("uicc_run", "Endings", "status_for"), ("crates/uicc_run/src/running.rt", "close", "status")),
-        (("card_layout", "Persistent", "Pin"), ("crates/card_model/specs/Answers.antt", "with_pins", "")),
+        (("card_state", "Persistent", "Pin"), ("crates/card_model/specs/Answers.antt", "with_pins", "")),
         (("uicc_run", "Playing", "Reaches"), ("crates/uicc_run/specs/Playing.antt", "BreaksSo", "")),
-        (("card_layout", "Used", "HasNode"), ("crates/card_memory/src/entries.rt", "node_of", "there")),
+        (("card_state", "Used", "HasNode"), ("crates/card_commits/src/entries.rt", "node_of", "there")),
         (("byte_streams", "Lines", "LineList"), ("crates/phone_runs/specs/Lines.antt", "AreServed", "")),
     ]
-
-    # a crate, and one that it passes on, or does not
-    PASSED_ON = [("file_model", "card_layout", True), ("file_model", "uicc_types", True), ("file_model", "file_model", False),
-                 ("card_layout", "file_model", False), ("uicc_types", "uicc_types", False), ("uicc_program", "uicc_run", False)]
-
-    def test_passed_on(self):
-        for crate, below, is_passed_on in self.PASSED_ON:
-            self.assertEqual(below in sources.passed_on(crate), is_passed_on, (crate, below))
 
     def test_citations(self):
         cited = sources.citations()
@@ -177,7 +168,7 @@ class Told(unittest.TestCase):
             self.assertIn(part, said.getvalue())
 
     def test_closed_pipe(self):
-        words = f"{sys.executable} -B {TOOLS}/definitions card_layout | head -n 1"
+        words = f"{sys.executable} -B {TOOLS}/definitions card_state | head -n 1"
         done = subprocess.run(["bash", "-c", words], stdout=subprocess.PIPE, stderr=subprocess.PIPE, text=True, check=False)
         self.assertEqual((done.stderr, done.stdout.count("\n")), ("", 1))
 

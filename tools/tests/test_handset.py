@@ -9,7 +9,7 @@ from uicc import Answer, Card, Reply, Terminal, handset, process
 from uicc.grammar import Wrong
 
 EXAMPLES = os.path.join(process.TOP, "examples")
-MENU, DAY, USIM = (os.path.join(EXAMPLES, name + ".script") for name in ("menu", "day", "usim"))
+MENU, DAY = (os.path.join(EXAMPLES, name + ".script") for name in ("menu", "day"))
 
 
 class Giver:

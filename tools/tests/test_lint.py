@@ -83,7 +83,7 @@ class Lines(unittest.TestCase):
         ("cut 1000000000", "K is 1 to 999999999"),
         ("cut 1 0", "XX is missing"),
         ("cut 1 65 00", "N is 0 to 64"),
-        ("user type", "stands behind a second space"),
+        ("user type", "stands after a second space"),
         ("user type " + "x" * 31, "TEXT has at most 30 characters"),
         ("user type \x7f", "printable characters"),
         ("user dial ", "DIGITS"),
@@ -155,7 +155,7 @@ class Scripts(unittest.TestCase):
         ("ef 2FE2 t 1 2 -\nef 2F05 t 1 2 -\nstart\n", "play", [(2, "bad", "the short identifier 2 is taken by 2FE2 (line 1)")]),
         ("ef 2FE2 t 1 - -\nef 2FE26F07 t 1 - -\nstart\n", "play", [(2, "bad", "2FE2 is an EF, and no DF (line 1)")]),
         ("df 7F10\ndf 7F10\nstart\n", "play", [(2, "bad", "7F10 is there already (line 1)")]),
-        ("ef 2FE2 t 2 - -\nfill 2FE2 1 0000\nstart\n", "play", [(2, "bad", "would end behind byte 3")]),
+        ("ef 2FE2 t 2 - -\nfill 2FE2 1 0000\nstart\n", "play", [(2, "bad", "would end after byte 3")]),
         ("ef 2FE2 t 2 - -\nfill 2FE2 0 0000\nrec 2FE2 1 00\nstart\n", "play", [(3, "bad", "is transparent")]),
         ("ef 6F3A l 2 3 - -\nrec 6F3A 3 0000\nrec 6F3A 4 00\nrec 6F3A 0 00\nrec 6F3A 1 000000\nstart\n", "play",
          [(3, "bad", "NUMBER is 1 to 3"), (4, "bad", "not 0"), (5, "bad", "has 2 bytes")]),
@@ -193,7 +193,7 @@ class Scripts(unittest.TestCase):
         ("start\nstart\n", "bip", [(2, "bad", "`start` stands once")]),
         ("ef 2FE2 t 1 - -\nrow 1 1 00\nstart\n", "bip", [(1, "bad", "over no card"), (2, "bad", "over no card")]),
         ("start\ndf 7F10\napdu 00\ntpdu 00\nreset\ncut 1\nfail 1 00\nreadfail 1\nuser ok\nnet poll\nnet place 00\ntime 1\n", "bip",
-         [(number, "bad", "behind `start` stand `cmd HEX`, `net echo C N` and `net drop C` alone") for number in range(2, 13)]),
+         [(number, "bad", "after `start` stand `cmd HEX`, `net echo C N` and `net drop C` alone") for number in range(2, 13)]),
         ("start\ncmd D0\nnet echo 8 1\nnet drop 1 1\n", "bip", [(3, "bad", "C is 1 to 7"), (4, "bad", "is too much")]),
         ("start\ncmd D0\nnet echo 1 1\nnet drop 1\n", "play", [(number, "bad", "for `bip`") for number in (2, 3, 4)]),
         ("start\ncmd D0\nnet echo 1 1\nnet drop 1\n", "phone", [(number, "bad", "for `bip`") for number in (2, 3, 4)]),
@@ -225,7 +225,7 @@ class Scripts(unittest.TestCase):
                 self.assertEqual([] if first is None else [f"line {first.line}"], shown)
 
     def test_the_most_bytes(self):
-        """The line that holds the byte behind the last one is bad, its end counted with it."""
+        """The line that holds the byte after the last one is bad, its end counted with it."""
         comment = "#" + "x" * 511 + "\n"
         count = lint.MOST_BYTES // len(comment) - 1
         text = "start\n" + comment * count

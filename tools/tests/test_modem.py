@@ -12,10 +12,10 @@ import threading
 import unittest
 
 from common import TOOLS
-from uicc import Card, NotBuilt, PowerLost, at, process, sim
+from uicc import Card, NotBuilt, at, process, sim, trace
 from uicc.card import Answer
 from uicc.modem import LONGEST_LINE, Modem
-from uicc.modem_line import PtyLine, TcpLine
+from uicc.modem_line import PtyLine, TcpLine, UnixLine
 
 EXAMPLES = os.path.join(process.TOP, "examples")
 USIM, MENU, DAY = (os.path.join(EXAMPLES, name + ".script") for name in ("usim", "menu", "day"))
@@ -359,6 +359,16 @@ class Lines(unittest.TestCase):
             second.sendall(b"AT+CIMI\r")
             self.assertIn(b"AT+CIMI", self.heard(second, b"OK\r\n"))
 
+    def test_a_unix_socket(self):
+        path = os.path.join(self.enterContext(tempfile.TemporaryDirectory()), "modem")
+        with UnixLine(path) as line, self.served(line), socket.socket(socket.AF_UNIX) as link:
+            self.assertEqual(os.stat(path).st_mode & 0o077, 0)
+            link.settimeout(SECONDS)
+            link.connect(path)
+            link.sendall(b"AT+CCID\r")
+            self.heard(link, b"+CCID: 8999901000000123450\r\n\r\nOK\r\n")
+        self.assertFalse(os.path.exists(path))
+
     def test_a_client_that_takes_nothing_is_dropped(self):
         line = self.enterContext(TcpLine("127.0.0.1", 0))
         with self.served(line):
@@ -393,8 +403,8 @@ class Tool(unittest.TestCase):
     def test_a_session_with_its_trace(self):
         """What went to the card stands in the trace, which other tools read; the signal TERM ends it with 0."""
         folder = self.enterContext(tempfile.TemporaryDirectory())
-        trace = os.path.join(folder, "modem.trace")
-        told = self.start(DAY, "--listen", "127.0.0.1:0", "--trace", trace)
+        path = os.path.join(folder, "modem.trace")
+        told = self.start(DAY, "--listen", "127.0.0.1:0", "--trace", path)
         port = int(re.search(r"at 127\.0\.0\.1, port (\d+)", told.stderr.readline()).group(1))
         with socket.create_connection(("127.0.0.1", port)) as link:
             link.settimeout(SECONDS)
@@ -404,19 +414,24 @@ class Tool(unittest.TestCase):
                 said += link.recv(4096)
         told.send_signal(signal.SIGTERM)
         self.assertEqual(told.wait(SECONDS), 0)
-        explained = subprocess.run([sys.executable, "-B", os.path.join(TOOLS, "explain"), trace], capture_output=True, text=True, check=False)
+        with open(path, encoding="ascii") as text:
+            lines = text.read().splitlines()
+        self.assertTrue(all(trace.time_of(line) for line in lines[::2]))
+        self.assertEqual((lines[1], lines[3][:4]), ("> 80100000082900BF6171000013", "< 91"))
+        explained = subprocess.run([sys.executable, "-B", os.path.join(TOOLS, "explain"), path], capture_output=True, text=True, check=False)
         self.assertEqual(explained.returncode, 0, explained.stderr)
         for part in ("TERMINAL PROFILE", "FETCH", "SET UP MENU"):
             self.assertIn(part, explained.stdout)
-        captured = subprocess.run([sys.executable, "-B", os.path.join(TOOLS, "capture"), trace], capture_output=True, text=True, check=False)
+        captured = subprocess.run([sys.executable, "-B", os.path.join(TOOLS, "capture"), path], capture_output=True, text=True, check=False)
         self.assertEqual(captured.returncode, 0, captured.stderr)
 
     # words, and what is said of them
     REFUSED = [
         ((), "a SCRIPT or an --image is wanted"), ((USIM, "--listen", "here"), "ADDRESS:PORT is wanted"),
         ((USIM, "--listen", "127.0.0.1:99999"), "ADDRESS:PORT is wanted"), ((USIM, "--profile", "0g"), "hexadecimal digits are wanted"),
-        ((USIM, "--profile", ""), "1 to 255 bytes, and not 0"), ((USIM, "--cut", "0"), "--cut"), ((USIM, "--poll", "-1"), "SECONDS are a number"),
-        ((USIM, "--listen", "127.0.0.1:0", "--pty"), "not allowed with"), (("nowhere.script",), "nowhere.script"),
+        ((USIM, "--profile", ""), "1 to 255 bytes, and not 0"), ((USIM, "--cut", "0"), "numbers from 1 on, and not 0"), ((USIM, "--cut", "x:1"), "numbers from 1 on"), ((USIM, "--poll", "-1"), "SECONDS are a number"),
+        ((USIM, "--listen", "127.0.0.1:0", "--pty"), "not allowed with"), ((USIM, "--unix", "/nowhere/modem"), "modem: "),
+        (("nowhere.script",), "nowhere.script"),
         ((USIM, "--listen", "192.0.2.1:12345"), "modem: "), ((USIM, "--listen", "no.such.host.invalid:1"), "modem: "),
         ((os.path.join(EXAMPLES, "day.trace"),), "line 1"), (("--image", "nowhere.img"), "nowhere.img"),
     ]

@@ -46,6 +46,12 @@ class Bundles(unittest.TestCase):
         self.assertEqual(places, sorted(places))
         self.assertEqual(text.count("const of_below ="), 1)
 
+    def test_missing(self):
+        """A name that isn't exported is refused."""
+        made = {"top": 'import { a, b } from "./below.js";\n', "below": "export const a = 1;\nconst b = 2;\n"}
+        with self.assertRaisesRegex(ValueError, "top.js imports b of below.js, which exports no such name"):
+            bundle.bundle("top", made)
+
     def test_words(self):
         """What comes later is said to be after, and terms are those of the standard."""
         texts = {name: bundle.read(name.removesuffix(".js")) for name in os.listdir(bundle.SCRIPTS)}
@@ -54,7 +60,7 @@ class Bundles(unittest.TestCase):
         for name, text in texts.items():
             for words in ("behind", "without an answer", "memory failed"):
                 with self.subTest(name=name, words=words):
-                    self.assertNotIn(words, text.lower())
+                    self.assertFalse(words in text.lower(), f"`{words}` stands in {name}")
 
     def test_page(self):
         """The page's own modules are of the forms that are understood."""

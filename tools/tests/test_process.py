@@ -1,13 +1,17 @@
 """Scripts and runs, by tables."""
+import concurrent.futures
 import contextlib
 import io
 import os
 import stat
+import subprocess
+import sys
 import tempfile
+import time
 import unittest
 import unittest.mock
 
-from common import STAND_IN
+from common import STAND_IN, TOOLS
 from uicc import process, terminal
 
 
@@ -100,10 +104,60 @@ class Terminal(io.StringIO):
 
 class Progress(unittest.TestCase):
     def test_a_bar_on_a_terminal_alone(self):
-        for stream, drawn in ((Terminal(), "\r[" + "#" * 15 + "." * 15 + "] 1 of 2 commands"), (io.StringIO(), "")):
+        done = "\r[" + "." * 30 + "] 0 of 2 commands\x1b[K\r[" + "#" * 15 + "." * 15 + "] 1 of 2 commands\x1b[K"
+        for stream, drawn in ((Terminal(), done), (io.StringIO(), "")):
             with contextlib.redirect_stderr(stream):
-                terminal.Progress(2, "commands").step()
+                progress = terminal.Progress(2, "commands")
+                progress.last = 0.0
+                progress.step()
             self.assertEqual(stream.getvalue(), drawn)
+
+    def test_many_threads_count_together(self):
+        """Nothing is lost, and the last bar is the whole."""
+        stream = Terminal()
+        with contextlib.redirect_stderr(stream), concurrent.futures.ThreadPoolExecutor(8) as pool:
+            progress = terminal.Progress(4000, "commands")
+            list(pool.map(lambda _: progress.step(), range(4000)))
+        self.assertEqual(progress.done, 4000)
+        bars = [int(bar.split("] ")[1].split(" of ")[0]) for bar in stream.getvalue().split("\r[")[1:]]
+        self.assertEqual((bars, bars[-1]), (sorted(bars), 4000))
+
+    def test_how_long_the_rest_takes(self):
+        progress = terminal.Progress(40, "commands")
+        progress.done, progress.began = 10, time.monotonic() - 10
+        self.assertEqual(progress._left(), ", some 30 s left")
+        progress.done = 40
+        self.assertEqual(progress._left(), "")
+
+
+class ClosedPipes(unittest.TestCase):
+    """A tool whose output nobody reads on ends with no more words."""
+
+    EXAMPLES = os.path.join(process.TOP, "examples")
+    # a tool, its words, and what it reads
+    TOOLS = [
+        ("explain", ["usim.trace"], ""), ("capture", ["usim.trace", "-"], ""), ("lint", ["bad.script"], ""), ("profile", ["tree", "usim.script"], ""),
+        ("definitions", ["--word", "card"], ""), ("shell", ["usim.script"], "tree\ntree\n"), ("cuts", ["update.script"], ""),
+        ("expect", ["update.script"], ""), ("cuts", ["--help"], ""), ("reader", ["--help"], ""), ("release", ["--help"], ""), ("check", ["--help"], ""),
+        ("documents", ["--help"], ""),
+    ]
+
+    def test_quietly(self):
+        with tempfile.TemporaryDirectory() as folder:
+            bad = os.path.join(folder, "bad.script")
+            with open(bad, "w", encoding="ascii") as out:
+                out.write("no such line\n" * 2000)
+            for name, words, text in self.TOOLS:
+                words = [bad if word == "bad.script" else os.path.join(self.EXAMPLES, word) if "." in word else word for word in words]
+                reading, writing = os.pipe()
+                os.close(reading)
+                with self.subTest(tool=name, words=words):
+                    done = subprocess.run([sys.executable, "-B", os.path.join(TOOLS, name), *words], input=text, stdout=writing,
+                                          stderr=subprocess.PIPE, text=True, timeout=120, check=False)
+                    # a page of help is passed over by Python's own parser where nobody reads it
+                    self.assertIn(done.returncode, (0, terminal.NOT_READ_ON) if "--help" in words else (terminal.NOT_READ_ON,))
+                    self.assertEqual(done.stderr, "")
+                os.close(writing)
 
 
 if __name__ == "__main__":

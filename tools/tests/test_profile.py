@@ -250,7 +250,7 @@ class Command(unittest.TestCase):
             self.assertEqual(self.profile("build", given, "-o", script).returncode, 0)
             self.assertEqual(self.profile("check", script).returncode, 0)
             shown = self.profile("tree", script).stdout
-            for part in ("6F07 EF.IMSI", "262019876543210", "PIN 1: 1234, on, 3 tries left"):
+            for part in ("6F07 EF.IMSI", "262019876543210", "PIN 1: 1234, enabled, 3 tries left"):
                 self.assertIn(part, shown)
             with open(given, "a", encoding="utf-8") as out:
                 out.write("size = 3\n")

@@ -8,10 +8,11 @@ import struct
 import subprocess
 import sys
 import tempfile
+import time
 import unittest
 
-from common import STAND_IN, TOOLS
-from uicc import atr
+from common import STAND_IN, TOOLS, load
+from uicc import atr, image, trace
 
 
 class AnswersToReset(unittest.TestCase):
@@ -169,12 +170,12 @@ class Reader(unittest.TestCase):
 
     def test_how_the_simulator_ends_is_told_in_words(self):
         with open(self.script, "w", encoding="ascii") as out:
-            out.write("worn\nstart\n")
+            out.write("df DEAD\nstart\n")
         told = self.start(self.script)
         self.assertEqual(told.wait(20), 2)
         said = told.stderr.read().splitlines()
         self.assertEqual(said[0], "uicc_run: no space is left")
-        for part in ("reader: ", "status 6", "the memory failed", "eeprom failed", "no space is left"):
+        for part in ("reader: ", "status 6", "memory problem", "eeprom failed", "no space is left"):
             self.assertIn(part, said[-1])
 
     def test_help_says_who_may_put_a_card_in_and_how_slots_are_numbered(self):
@@ -190,12 +191,79 @@ class Reader(unittest.TestCase):
             told.send_signal(signal.SIGTERM)
             self.assertEqual(told.wait(20), 0)
 
-    def test_no_card(self):
+    def test_a_faulty_script_is_told_by_its_line(self):
         with open(self.script, "w", encoding="ascii") as out:
-            out.write("bad\nstart\n")
+            out.write("# a card\nef 2FE2 t 40000 2 -\nstart\n")
         told = self.start(self.script)
         self.assertEqual(told.wait(20), 2)
-        self.assertIn("line 1", told.stderr.read())
+        self.assertIn("empty.script, line 2: SIZE is 1 to 32767, not 40000", told.stderr.read())
+
+    def test_what_is_after_start_is_passed_over(self):
+        with open(self.script, "w", encoding="ascii") as out:
+            out.write("start\nno such line\n")
+        told = self.start(self.script)
+        with self.accepted() as link:
+            self.ask(link, *self.DIALOGUE[0])
+            self.ask(link, *self.DIALOGUE[1])
+        self.assertEqual(told.wait(20), 0)
+
+    def test_a_slot_that_is_taken_is_named(self):
+        """A second card for a port that has one."""
+        first = self.start(self.script)
+        with self.accepted() as link:
+            self.ask(link, *self.DIALOGUE[0])
+            self.ask(link, *self.DIALOGUE[1])
+            second = self.start(self.script)
+            self.assertEqual(second.wait(20), 2)
+            said = second.stderr.read()
+            self.assertIn(f"a card is in the slot at port {self.server.getsockname()[1]} already", said)
+            self.assertNotIn("Traceback", said)
+        self.assertEqual(first.wait(20), 0)
+
+    # ports, and how their slots are named
+    SLOTS = [(35963, "the slot `Virtual PCD 00 00` (port 35963)"), (35964, "the slot `Virtual PCD 00 01` (port 35964)"),
+             (40000, "the slot at port 40000")]
+
+    def test_slots(self):
+        reader = load("reader")
+        for port, name in self.SLOTS:
+            self.assertEqual(reader.slot_of(port), name)
+        self.assertIn("`Virtual PCD 00 01` (port 35964) by --port 35964", str(reader.Taken(35963)))
+        self.assertIn("`Virtual PCD 00 00` (port 35963) by --port 35963", str(reader.Taken(35964)))
+
+    def test_the_trace_has_times(self):
+        """Of each line, by the clock; without them it is what the simulator showed."""
+        path, began = os.path.join(self.folder.name, "kept.trace"), time.time_ns() // 1000
+        told = self.start(self.script, "--trace", path)
+        with self.accepted() as link:
+            for question, answer in self.DIALOGUE:
+                self.ask(link, question, answer)
+        self.assertEqual(told.wait(20), 0)
+        lines = pathlib.Path(path).read_text(encoding="ascii").splitlines()
+        self.assertEqual(lines[1::2], ["! reset", "> 00A4000C023F00", "< 9000"])
+        times = [trace.time_of(line) for line in lines[::2]]
+        self.assertEqual(times, sorted(times))
+        self.assertTrue(began <= times[0] and times[-1] <= time.time_ns() // 1000)
+        self.assertEqual(len(list(trace.parts(lines))), 2)
+
+    # what an image has, the store that is named, and what is said of it; nothing of it is changed
+    IMAGES = [
+        (b"", None, "it has 0 bytes"), (b"UICC\x02\x00".ljust(image.JOURNAL_SIZE, b"\xFF"), "pages", "is opened without --store pages"),
+        (b"UICC\x02\x01".ljust(image.PAGES_SIZE, b"\xFF"), None, "--store pages opens it"),
+        (b"\xFF" * image.JOURNAL_SIZE, None, "begin with no card"), (None, None, "isn't there, and no SCRIPT says what it should hold"),
+    ]
+
+    def test_images_that_hold_no_card(self):
+        path = pathlib.Path(self.folder.name, "card.img")
+        for content, store, why in self.IMAGES:
+            with self.subTest(why=why):
+                path.unlink(missing_ok=True)
+                if content is not None:
+                    path.write_bytes(content)
+                told = self.start("--image", str(path), *(["--store", store] if store else []))
+                self.assertEqual(told.wait(20), 2)
+                self.assertIn(why, told.stderr.read())
+                self.assertEqual(path.read_bytes() if path.exists() else None, content)
 
 
 if __name__ == "__main__":

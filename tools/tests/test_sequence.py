@@ -1,8 +1,11 @@
 """tools/sequence: how files are read, how a terminal is judged, and that one that is wrong fails just the sequences that it must."""
 import os
+import random
 import subprocess
 import sys
 import tempfile
+import threading
+import time
 import unittest
 import xml.etree.ElementTree
 
@@ -26,6 +29,16 @@ def in_the_box():
     for name in sorted(os.listdir(IN_THE_BOX)):
         with open(os.path.join(IN_THE_BOX, name), encoding="utf-8") as text:
             yield from sequence.read(text.read(), name)
+
+
+def open_lines(path):
+    with open(path, encoding="utf-8") as text:
+        return text.read().splitlines()
+
+
+# what is put into lines
+ODD = ("\"", "'", "\\", " ", "#", "|", "*", "?", "0", "FF", "-1", "99999", "\x00", "Ж", "😀", "any", " optional ", " more ", " object ", " object 8D ",
+       " text ", " item ", " events ", " bytes ", " without ", "\t", "then ", "command ")
 
 
 def read(*lines):
@@ -98,6 +111,8 @@ class Files(unittest.TestCase):
         ("command DISPLAY TEXT object 00 41", "00 is no tag of one byte"),
         ("command DISPLAY TEXT object 8D 4", "a value is hexadecimal digits, two for each byte"),
         ("command DISPLAY TEXT text \"" + "x" * 250 + "\"", "a command has 1 to 256 bytes, and this one 267"),
+        ("command DISPLAY TEXT text " + "x" * 70000, "the objects of this one are longer"),
+        ("command MORE TIME number " + "9" * 5000, "the number of a command is 0 to 255, not 999"),
         ("command bytes", "the bytes of a command is missing"),
         ("command bytes D0 00", "`00` is too much"),
         ("command bytes D", "the bytes of a command is hexadecimal digits"),
@@ -129,6 +144,22 @@ class Files(unittest.TestCase):
                 sequence.read(text, "a.sequence")
         with self.assertRaisesRegex(BadSequence, "a response has a result"):
             read("command MORE TIME", "response duration 1 seconds")
+
+    def test_lines_at_random(self):
+        """Whatever stands in a file, it is read, or refused with a reason."""
+        rng, refused = random.Random(0), 0
+        lines = [line for name in sorted(os.listdir(IN_THE_BOX)) for line in open_lines(os.path.join(IN_THE_BOX, name))]
+        for _ in range(3000):
+            some = ["sequence one"] + [rng.choice(lines) for _ in range(4)]
+            at = rng.randrange(len(some))
+            place = rng.randint(0, len(some[at]))
+            some[at] = some[at][:place] + rng.choice(ODD) + some[at][place + rng.randint(0, 3):]
+            try:
+                sequence.read("\n".join(some), "a.sequence")
+            except BadSequence as fault:
+                refused += 1
+                self.assertTrue(fault.why)
+        self.assertGreater(refused, 1000)
 
     def test_those_in_the_box(self):
         """There are many, each has a section, and each kind of command that they should be about is in one."""
@@ -316,7 +347,7 @@ def has_envelope(tag, *patterns):
 
 def has_text(one):
     """Whether a response must hold a text of some letters."""
-    return any(len(wanted(step, 0x0D) or "") > 2 and "|" not in wanted(step, 0x0D) for _, step in responses(one, 0x22, 0x23))
+    return any(len(wanted(step, 0x0D) or "|") > 2 and wanted(step, 0x0D)[0] != "|" for _, step in responses(one, 0x22, 0x23))
 
 
 def has_quiet_after(*acts):
@@ -513,6 +544,84 @@ class Faults(unittest.TestCase):
                 self.assertEqual({kind for kind, _ in why.values()}, {verdict.FAILED})
 
 
+class BreaksDown(able_terminal.AbleTerminal):
+    """A terminal whose code is wrong."""
+
+    def _menu(self, command):
+        raise KeyError("menu")
+
+
+class Verdicts(unittest.TestCase):
+    def told(self, terminal, *lines):
+        outcome = verdict.judged(read(*lines)[0], terminal, Obliging())
+        return outcome.verdict, outcome.why, outcome.step and outcome.step.text
+
+    def test_a_terminal_that_breaks_down(self):
+        """It fails the sequence, and those after it are played."""
+        why = failed(BreaksDown, [one for one in in_the_box() if one.name in ("SET UP MENU, an entry is picked", "MORE TIME")], Obliging())
+        self.assertEqual(why, {"SET UP MENU, an entry is picked": (verdict.FAILED, "the terminal broke down: KeyError: 'menu'")})
+
+    def test_a_terminal_that_is_gone(self):
+        """Nothing can be said of the sequences then."""
+        class Gone(undertest.InPython):
+            def poll(self):
+                raise undertest.Lost("the telephone fell into the water")
+
+        with self.assertRaises(undertest.Lost):
+            self.told(Gone(), "command MORE TIME", "response result 00")
+
+    def test_reasons(self):
+        able = undertest.InPython(able_terminal.AbleTerminal)
+        for lines, kind, why, step in (
+                (("command MORE TIME", "response result 00", "response result 00"), verdict.FAILED, "no TERMINAL RESPONSE comes at once",
+                 "response result 00"),
+                (("command MORE TIME",), verdict.FAILED, "a TERMINAL RESPONSE comes that no step asks for", None),
+                (("command MORE TIME", "response result 00", "restart"), verdict.FAILED, "the card isn't reset at once", "restart"),
+                (("command REFRESH qualifier 04",), verdict.FAILED, "the card is reset, and no step asks for it", None),
+                (("command MORE TIME", "response result 00", "status"), verdict.PASSED, "", None),
+                (("command MORE TIME", "response result 00", "net poll", "status", "status"), verdict.FAILED, "no STATUS comes at once", "status"),
+                (("command MORE TIME", "response result 00", "envelope event events 04"), verdict.FAILED, "no ENVELOPE comes at once",
+                 "envelope event events 04"),
+                (("command SET UP EVENT LIST events user-activity", "response result 00", "user press"), verdict.FAILED,
+                 "an ENVELOPE comes that no step asks for", None),
+                (("command DISPLAY TEXT qualifier 80 text A", "shown text B"), verdict.FAILED, "something else is shown", "shown text B"),
+                (("command DISPLAY TEXT qualifier 80 text A", "user dance"), None, None, None)):
+            with self.subTest(lines=lines):
+                if kind is None:
+                    self.assertRaises(BadSequence, read, *lines)
+                else:
+                    self.assertEqual(self.told(able, *lines), (kind, why, step))
+
+    def test_a_profile_that_lacks_something(self):
+        self.assertEqual(self.told(undertest.InPython(), "needs UCS2 entry", "command POLLING OFF", "response result 00")[:2],
+                         (verdict.UNSUPPORTED, "its terminal profile doesn't have UCS2 entry, POLLING OFF"))
+
+    def test_no_profile(self):
+        class Mute(undertest.InPython):
+            def begin(self, player):
+                pass
+
+        self.assertEqual(self.told(Mute(), "command MORE TIME", "response result 00")[:2], (verdict.FAILED, "no TERMINAL PROFILE comes"))
+
+    def test_within(self):
+        """A response that comes later than it may."""
+        class Slow(undertest.InPython):
+            seconds = 5
+
+            def poll(self):
+                threading.Timer(0.5, super().poll).start()
+
+        for line, kind in (("within 0", verdict.FAILED), ("within 4", verdict.PASSED)):
+            class Link5(Link):
+                def transmit(self, command):
+                    if command[1] == decode.RESPONSE:
+                        time.sleep(0.5)
+                    return super().transmit(command)
+
+            slow = Slow(lambda player: able_terminal.AbleTerminal(Link5(player, lambda command: [command])))
+            self.assertEqual(self.told(slow, "command MORE TIME", line, "response result 00")[0], kind)
+
+
 class Tool(unittest.TestCase):
     """The command, over the proved card."""
 
@@ -578,7 +687,8 @@ class Tool(unittest.TestCase):
                     ((os.path.join(folder, "none"),), "No such file"), ((folder + "/own.py",), "own.py:1: no line begins with `class`"),
                     ((os.path.join(folder, "bytes.sequence"),), "is text in UTF-8"),
                     ((os.path.join(folder, "no.d"),), "No such file"), ((good, "--only", "never"), "no sequence has `never` in its name"),
-                    ((good, "--on", "telephone"), "no terminal is called telephone: python, phone, or FILE.py:CLASS"),
+                    ((good, "--on", "telephone"), "no terminal is called telephone: python, phone, ofono, modem, reader, or FILE.py:CLASS"),
+                    ((good, "--on", "modem:70000"), "a port is 0 to 65535, and not 70000"), ((good, "--on", "reader:x"), "a port is 0 to 65535, and not x"),
                     ((good, "--on", own + ":No"), "has no class No that is an UnderTest"),
                     ((good, "--on", own + ":None"), "has no class None"), ((good, "--on", folder + "/x.py:Y"), "is no file of Python"),
                     ((good, "--on", folder + "/broken.py:Y"), "can't be loaded: ModuleNotFoundError"),

@@ -1,4 +1,4 @@
-"""What wants a card behind it, over a stand-in with an image: the module, the prompt, cuts of all commands, and cases with a memory."""
+"""What wants a card, over a stand-in with an image: the module, the prompt, cuts of all commands, and cases with a memory."""
 import os
 import stat
 import subprocess
@@ -184,7 +184,7 @@ class SmallCards(unittest.TestCase):
             os.remove(program + ".words")
 
     # the last lines of a script, and what is told: where nothing reads back what the last command changes, the image tells it; what
-    # the script plans for it is left out, and what stands behind it passed over
+    # the script plans for it is left out, and what stands after it passed over
     LAST = [
         ("apdu 00A4000C022FE2\n", "by the image of the memory", "0 writes"),
         ("apdu 00A4000C022FE2\n# a comment\ncut 2\napdu 00D6000001AA\nreset\napdu 00A4000C022FE2\n", "by the image of the memory"),
@@ -281,7 +281,7 @@ apdu 00B0820002
         with open(path, "rb") as content:
             self.assertEqual(image.card_in(content.read()).files[("7F10", "6F3A")].record(2)[:3], b"Bob")
         shown = self.tool("profile", "tree", path).stdout
-        for part in ("6F3A EF.ADN", "1: Anna: +999901005550", "2: Bob: no number", "PIN 1: 1234, on, 3 tries left"):
+        for part in ("6F3A EF.ADN", "1: Anna: +999901005550", "2: Bob: no number", "PIN 1: 1234, enabled, 3 tries left"):
             self.assertIn(part, shown)
 
 

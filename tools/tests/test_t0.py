@@ -55,7 +55,7 @@ class Read(unittest.TestCase):
             "20 bytes wait for GET RESPONSE", "256 bytes wait for GET RESPONSE", "wrong Le: 20 is the right one"])
 
     def test_what_is_cut(self):
-        """What the link answers by itself is not cut, and a plan waits behind it."""
+        """What the link answers by itself is not cut, and leaves a plan waiting."""
         script = lint.read(SCRIPT)
         self.assertIsNone(script.first())
         self.assertEqual([script.steps[place][0] for place in cutting.cuttable(script)], [3, 8])

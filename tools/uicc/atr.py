@@ -3,7 +3,7 @@ import functools
 import operator
 
 DIRECT, INVERSE = 0x3B, 0x3F
-# TS and at most 32 characters behind it
+# TS and at most 32 characters after it
 LONGEST = 33
 # T=15 stands for bytes that are of no protocol
 GLOBAL = 15
@@ -24,12 +24,12 @@ class Unfit(ValueError):
 
 
 def check(content):
-    """TCK: all bytes behind TS, and it, come to nothing by exclusive or."""
+    """TCK: all bytes after TS, and it, come to nothing by exclusive or."""
     return functools.reduce(operator.xor, content[1:], 0)
 
 
 def made(interface):
-    """An answer to reset with these interface bytes behind TA1, and the historical bytes of this card."""
+    """An answer to reset with these interface bytes after TA1, and the historical bytes of this card."""
     content = bytes((DIRECT, 0x90 | len(HISTORICAL), SPEED)) + interface + HISTORICAL
     return content + bytes((check(content),))
 
@@ -57,7 +57,7 @@ def protocols(content):
     has_check = any(named)
     size = at + (content[1] & 0x0F) + has_check
     if len(content) != size:
-        raise Unfit(f"by its first bytes the answer to reset has {size} bytes, and not {len(content)}")
+        raise Unfit(f"the first bytes of the answer to reset say that it has {size} bytes, and not {len(content)}")
     if has_check and check(content):
         raise Unfit(f"the last byte of the answer to reset is {check(content[:-1]):02X} for these bytes, and not {content[-1]:02X}")
     return [protocol for protocol in dict.fromkeys(named) if protocol != GLOBAL] or [0]

@@ -113,7 +113,7 @@ class Card:
         self._words += ["--image", self._image]
         self.trace, self.pending = [], None
         self._fetched = None
-        self.follower = Follower(self.holds)
+        self._follower = Follower(self.holds)
         try:
             self._simulator = process.Simulator(["open" if self._opened else "play", *self._words], section)
         except BaseException:
@@ -139,11 +139,10 @@ class Card:
             return self.holds
 
     def _described(self, script):
-        with open(script, encoding=process.ENCODING, newline="\n") as text:
-            read = lint.read(text.read())
-        bad = read.first()
-        if bad and bad.line <= len(process.card_section(read.lines)[0]):
-            raise CardError(f"{script}, line {bad.line}: {bad.reason}")
+        try:
+            read = lint.described(script)
+        except lint.BadScript as fault:
+            raise CardError(str(fault)) from None
         self.holds = read.card
         return process.card_section(read.lines)[0]
 
@@ -187,9 +186,9 @@ class Card:
 
     def _note(self, command, answer):
         apdu = decode.Apdu(command)
-        self.follower.take(apdu, answer.status)
+        self._follower.take(apdu, answer.status)
         if apdu.ok and apdu.ins == decode.CHANNEL and apdu.p1 == 0 and answer.status == "9000":
-            self.follower.opened_as(answer.data[0] if answer.data else apdu.p2, apdu.channel)
+            self._follower.opened_as(answer.data[0] if answer.data else apdu.p2, apdu.channel)
         if answer.status.startswith("91"):
             self.pending = int(answer.status[2:], 16) or MOST
         elif answer.status == "9000":
@@ -207,7 +206,7 @@ class Card:
 
     def why(self, command, status):
         """Why a command was refused with 6982, 6985 or 6A84, before any other one is sent; None where that isn't known."""
-        return refusals.reason(self.follower, decode.Apdu(command), status, self.now) if status in refusals.STATUSES else None
+        return refusals.reason(self._follower, decode.Apdu(command), status, self.now) if status in refusals.STATUSES else None
 
     def _command(self, ins, p1, p2, data=b"", le=None, toolkit=False, channel=0):
         content = bytes((0x80 * toolkit | channel, ins, p1, p2))
@@ -238,7 +237,7 @@ class Card:
 
     def _is_called(self, path, part):
         wanted = names.normal(part)
-        name = names.normal(names.name_of(path, self.follower.usim))
+        name = names.normal(names.name_of(path, self._follower.usim))
         return wanted in (path[-1], name, name.partition(".")[2])
 
     def _named(self, part):
@@ -259,7 +258,7 @@ class Card:
     @property
     def current(self):
         """The path of the current EF, or else of the current DF."""
-        df, ef = self.follower.of(decode.Apdu(bytes(4)))
+        df, ef = self._follower.of(decode.Apdu(bytes(4)))
         return df if ef is None else ef
 
     def read_binary(self, length=None, offset=0):
@@ -414,7 +413,7 @@ class Card:
 
     def reset(self):
         """Resets the card, which gives it power again. PowerLost, where it loses it in that."""
-        self.follower.reset()
+        self._follower.reset()
         self.pending = self._fetched = None
         self._has_power = self._simulator.reset()
         self.trace.append(process.RESET if self._has_power else process.CUT)
@@ -423,10 +422,11 @@ class Card:
 
 
 def _card_in(path, store):
+    if not os.path.exists(path):
+        raise CardError(f"{path} isn't there: with a script beside it, it is made")
     with open(path, "rb") as content:
         held = content.read()
     try:
-        image.expect_store(held, store, path)
-        return image.card_in(held)
+        return image.expect_card(held, store, path)
     except image.NoCard as fault:
-        raise CardError(f"{path}: {fault}") from None
+        raise CardError(str(fault)) from None

@@ -171,7 +171,7 @@ class CaseDraft:
         self.is_set_up = False
 
     def read(self, place, line):
-        """Behind a mistake all other lines are passed over."""
+        """After a mistake all other lines are passed over."""
         if self.case.mistake:
             return
         try:
@@ -190,7 +190,7 @@ class CaseDraft:
             self.draft.read(place, line)
 
     def _set(self, place, word, rest):
-        """Takes a line that stands before, between or behind the runs."""
+        """Takes a line that stands before, between or after the runs."""
         if word == "#run":
             self.draft = RunDraft(Run(self.setup, rest.split(), place))
             self.setup = Setup()

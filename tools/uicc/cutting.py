@@ -35,10 +35,10 @@ PINS = (VERIFY, CHANGE, DISABLE, ENABLE, UNBLOCK)
 LIVES = (0x04, 0x44)
 # what is sent again as it is, so that the same file is the current one and may be read
 REPEATED = (SELECT, VERIFY, 0x70)
-# by a path from the current DF
+# P1 of SELECT: a path from the current DF
 CHILD, WITH_PARAMETERS, WITHOUT_PARAMETERS = 0x09, 0x04, 0x0C
 SELECT_MF = bytes.fromhex("00A40004023F00")
-# of a command that was carried out: fewer bytes were there than Le, a deactivated file was selected
+# statuses of commands that were carried out: fewer bytes were there than Le, a deactivated file was selected
 WARNINGS = ("6282", "6283")
 # modes of a record command, in the lower three bits of its P2; the others are a short identifier
 PREVIOUS, BY_NUMBER = 3, 4
@@ -317,7 +317,7 @@ class Trial:
         return ", ".join(spaced(answers[n]) for n in differing)
 
 
-# by the image of the memory
+# what the image of the memory tells
 
 def command_of(said):
     """The bytes of the command that a line has the card carry out; None where it is another line."""

@@ -93,7 +93,7 @@ def title(apdu):
 def title_select(apdu):
     how = SELECTIONS.get(apdu.p1, f"P1 {apdu.p1:02X}")
     what = path_text(apdu.data) if apdu.p1 in (0, 8, 9) else hexed(apdu.data)
-    back = {4: "", 0x0C: ", without an answer"}.get(apdu.p2, f", P2 {apdu.p2:02X}")
+    back = {4: "", 0x0C: ", no data returned"}.get(apdu.p2, f", P2 {apdu.p2:02X}")
     return f"{how}{' ' + what if what else ''}{back}"
 
 
@@ -214,7 +214,7 @@ def applet_lines(events, text, kept, depth=0, table=False):
     if text:
         lines.append(Line(depth, "menu entry", printable(text)))
     if kept:
-        lines.append(Line(depth, "keeps", hexed(kept)))
+        lines.append(Line(depth, "kept data", hexed(kept)))
     if table:
         lines += [Line(depth + 1, event(kept[n]), action(kept[n + 1], kept[n + 2])) for n in range(0, len(kept) - 2, 3)]
     return lines
@@ -489,7 +489,7 @@ def descriptor_text(value):
 def pin_status_text(value):
     at = value.index(0x83)
     keys = [value[n + 2] for n in range(at, len(value) - 2, 3)]
-    return ", ".join(f"{names.key(key)} {'on' if value[2] >> 7 - n & 1 else 'off'}" for n, key in enumerate(keys)) or "none"
+    return ", ".join(f"{names.key(key)} {'enabled' if value[2] >> 7 - n & 1 else 'disabled'}" for n, key in enumerate(keys)) or "none"
 
 
 def control_parameter(data, tag):

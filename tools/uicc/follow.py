@@ -25,11 +25,13 @@ class Follower:
 
     def __init__(self, card=None):
         self.card = card
+        if card:
+            card.was_wide = card.is_wide
         self.usim = card is None or is_usim_card(card)
         self.reset()
 
     def reset(self):
-        # of each channel that is open: the path of the current DF, that of the current EF or None
+        # the current DF of each open channel, and its current EF or None, by their paths
         self.current = {0: ((), None)}
         # the keys that were verified
         self.verified = set()

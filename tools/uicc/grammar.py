@@ -22,7 +22,7 @@ MOST_CHANNELS = 7
 MOST_ECHOED = 4096
 PAGE = 64
 
-# what stands in a line behind its first word, as the documents show it
+# what stands in a line after its first word, as the documents show it
 FORMS = {
     "df": "df PATH",
     "ef": "ef PATH t SIZE SHORT RULE, or ef PATH l (or c) LENGTH COUNT SHORT RULE",
@@ -207,7 +207,7 @@ class Words:
 
     def end(self):
         if self.rest is not None:
-            raise Wrong(f"nothing may stand behind the last word, not even a space: {self.form}" if not self.rest.strip()
+            raise Wrong(f"nothing may stand after the last word, not even a space: {self.form}" if not self.rest.strip()
                         else f"`{self.rest}` is too much: {self.form}")
 
 
@@ -358,7 +358,7 @@ def read_user(words):
 
 def read_typed(words):
     if words.rest is None:
-        raise Wrong("TEXT stands behind a second space, also where it is empty: user type TEXT")
+        raise Wrong("TEXT stands after a second space, also where it is empty: user type TEXT")
     text, words.rest = words.rest, None
     if len(text) > LONGEST_TEXT:
         raise Wrong(f"TEXT has at most {LONGEST_TEXT} characters, and not {len(text)}")
@@ -408,7 +408,7 @@ def read_line(line):
         if "\t" in line:
             raise Wrong("a tab stands in the line: words are parted by one space") from None
         if line.endswith("\r"):
-            raise Wrong("a carriage return stands at the end of the script, without a line feed behind it") from None
+            raise Wrong("a carriage return stands at the end of the script, without a line feed after it") from None
         raise
 
 

@@ -311,7 +311,7 @@ class Terminal:
             self.reset()
         elif isinstance(said, Plan):
             PLANS[said.word](self.card, said)
-        elif isinstance(said, Handset):
+        elif isinstance(said, Handset) and (said.word, said.act) in HAPPENINGS:
             HAPPENINGS[said.word, said.act](self, said.value)
         else:
             raise Wrong("this line is for no handset")

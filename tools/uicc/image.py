@@ -37,6 +37,15 @@ def expect_store(content, store, path):
         raise NoCard("it is an image of the other store: it is opened without --store pages")
 
 
+def expect_card(content, store, path):
+    """The card of an image of this store; NoCard, which names the file, where it holds none."""
+    try:
+        expect_store(content, store, path)
+        return card_in(content)
+    except NoCard as fault:
+        raise NoCard(f"{path}: {fault}") from None
+
+
 def pieces(content):
     """The pieces of a commit whose gate is open; none where they aren't well formed."""
     if content[GATE] != OPEN_GATE:
@@ -109,7 +118,7 @@ def card_in(image):
         pin = pin_at(content[PINS + PIN_WIDTH * slot:PINS + PIN_WIDTH * (slot + 1)])
         if pin:
             card.pins[pin.key] = pin
-    wide = content[4] == WIDE
+    wide = card.was_wide = content[4] == WIDE
     for shelf in range(SHELVES if wide else LOWER_SHELVES):
         row = row_at(content, shelf, wide)
         if row:

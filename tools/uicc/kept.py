@@ -23,7 +23,7 @@ BY_NUMBER = 4
 
 def folder():
     """A folder for images that are gone with the run: in memory, where the system has such a place."""
-    return tempfile.TemporaryDirectory(prefix="uicc-cuts-", dir=IN_MEMORY if os.access(IN_MEMORY, os.W_OK) else None)
+    return tempfile.TemporaryDirectory(prefix="uicc-image-", dir=IN_MEMORY if os.access(IN_MEMORY, os.W_OK) else None)
 
 
 class Played:

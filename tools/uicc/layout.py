@@ -85,7 +85,7 @@ class Installation:
 
 
 def counted(what, content):
-    """A length, so many bytes, and what stands behind them."""
+    """A length, so many bytes, and what stands after them."""
     if not content:
         raise Wrong(f"HEX ends before the length of {what}")
     count, rest = content[0], content[1:]
@@ -117,6 +117,13 @@ class Card:
     def __init__(self):
         self.files = {(): File(())}
         self.pins, self.rows = {}, {}
+        # whether it was made with room for 32 applets; None while lines describe it
+        self.was_wide = None
+
+    @property
+    def is_wide(self):
+        """Whether it has room for 32 applets, and for fewer bytes of files, which is settled when it is made."""
+        return self.total() <= WIDE_BYTES if self.was_wide is None else self.was_wide
 
     # what lines describe
 
@@ -198,7 +205,7 @@ class Card:
             raise Wrong(f"{shown_path(said.path)} has records (line {file.line}): rec PATH NUMBER HEX writes one")
         end = said.offset + len(said.content)
         if end > file.size:
-            raise Wrong(f"{shown_path(said.path)} has {file.size} bytes (line {file.line}), and HEX would end behind byte {end}")
+            raise Wrong(f"{shown_path(said.path)} has {file.size} bytes (line {file.line}), and HEX would end after byte {end}")
         file.content[said.offset:end] = said.content
 
     def _set_record(self, said):

@@ -1,7 +1,7 @@
 """What is wrong with the lines of a script. The first bad line is the one that the program names, for the same cause."""
 import dataclasses
 
-from . import access, layout
+from . import access, layout, process
 from .grammar import OF_CARD, OF_TERMINAL, Apdu, Handset, Start, Tpdu, Wrong, read_line
 
 MOST_BYTES = 16_777_216
@@ -9,6 +9,10 @@ MOST_BYTES = 16_777_216
 MODES = ("play", "phone", "open", "bip")
 BAD, NO_ROOM, WARNING = "bad", "no room", "warning"
 STATUSES = {BAD: 2, NO_ROOM: 8}
+
+
+class BadScript(Exception):
+    """A line of a script is bad."""
 
 
 @dataclasses.dataclass(frozen=True)
@@ -20,7 +24,7 @@ class Finding:
 
 @dataclasses.dataclass
 class Script:
-    """What was made of a script: the card that the lines before `start` describe, the lines behind it with their numbers, what
+    """What was made of a script: the card that the lines before `start` describe, the lines after it with their numbers, what
     is wrong, and the lines as they stand."""
     card: layout.Card
     steps: list
@@ -47,7 +51,7 @@ def of_another(said, mode):
     if mode == "bip":
         if isinstance(said, (Start, *OF_TERMINAL)):
             return None
-        return "`bip` is over no card and no handset: behind `start` stand `cmd HEX`, `net echo C N` and `net drop C` alone"
+        return "`bip` is over no card and no handset: after `start` stand `cmd HEX`, `net echo C N` and `net drop C` alone"
     if isinstance(said, OF_TERMINAL):
         return "this line is for `bip`, a terminal over no card"
     if mode == "open" and isinstance(said, OF_CARD):
@@ -56,7 +60,7 @@ def of_another(said, mode):
 
 
 def may_follow(said, mode):
-    """Why a line may not stand behind `start`; None where it may."""
+    """Why a line may not stand after `start`; None where it may."""
     if isinstance(said, Start):
         return "`start` stands once"
     if mode != "bip" and isinstance(said, OF_CARD):
@@ -87,7 +91,7 @@ class Reading:
         self.lines.append(line)
         number = len(self.lines)
         if size > self.room:
-            self.findings.append(Finding(number, BAD, f"a script has at most {MOST_BYTES:,} bytes: this line is behind them"))
+            self.findings.append(Finding(number, BAD, f"a script has at most {MOST_BYTES:,} bytes: this line ends after them"))
             return False
         self.room -= size
         try:
@@ -166,3 +170,18 @@ def read(text, mode="play"):
     return Script(reading.card, reading.steps, reading.findings, reading.lines)
 
 
+
+
+def described(path):
+    """The script in a file, for who wants the card alone that it describes: BadScript, where one of the lines up to `start` is bad."""
+    with open(path, encoding=process.ENCODING, newline="\n") as text:
+        script = read(text.read())
+    bad = script.first()
+    if bad and bad.line <= len(process.card_section(script.lines)[0]):
+        raise BadScript(f"{path}, line {bad.line}: {bad.reason}")
+    return script
+
+
+def card_section(path):
+    """The lines of a script in a file before its `start`."""
+    return process.card_section(described(path).lines)[0]

@@ -130,7 +130,7 @@ class Modem:
             for command in at.commands(line):
                 for text in modem_commands.carry_out(self, command):
                     self._tell(text)
-        except (at.NoCommand, LookupError):
+        except at.NoCommand:
             return ERROR
         except at.Failed as fault:
             return self._error(fault.number)

@@ -43,8 +43,11 @@ def command(name, *kinds):
 
 
 def carry_out(modem, given):
-    """The lines that a command is answered with before its final result. LookupError, where there is no such command."""
-    return COMMANDS[given.name, given.kind](modem, given)
+    """The lines that a command is answered with before its final result. NoCommand, where there is no such command."""
+    function = COMMANDS.get((given.name, given.kind))
+    if function is None:
+        raise at.NoCommand(given.name)
+    return function(modem, given)
 
 
 def quoted(text):
@@ -352,7 +355,9 @@ def open_channel(modem, given):
     if len(name) > LONGEST_NAME:
         raise at.Failed(at.BAD_PARAMETERS)
     answer = modem.done(bytes((0, decode.CHANNEL, 0, 0, 1)))
-    channel = answer.data[0]
+    channel = answer.data[0] if answer.data else BASIC_CHANNEL
+    if not BASIC_CHANNEL < channel <= MOST_CHANNELS:
+        raise at.Failed(at.SIM_FAILURE)
     selected = modem.exchange(selection_of(name, channel)) if name else answer
     if not is_done(selected.status):
         modem.exchange(bytes((0, decode.CHANNEL, 0x80, channel)))
@@ -711,7 +716,7 @@ def toolkit(ins, data):
 # the words of phonesim
 
 @command("+SIMSTATE", READ)
-def is_sim_there(modem, _):
+def is_sim_there(modem, given):
     if not modem.is_phonesim:
-        raise LookupError
+        raise at.NoCommand(given.name)
     return (f"+SIMSTATE: {int(modem.has_power)}",)

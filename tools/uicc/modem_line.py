@@ -1,4 +1,4 @@
-"""Lines by which a client comes to a modem: a TCP port, or a terminal of its own (a pty). One client at a time.
+"""Lines by which a client comes to a modem: a TCP port, a Unix socket, or a terminal of its own (a pty). One client at a time.
 
     with TcpLine("127.0.0.1", 12345) as line:
         line.serve(Modem(card, line.write))
@@ -68,23 +68,15 @@ class _Line:
         raise NotImplementedError
 
 
-class TcpLine(_Line):
-    """A TCP port. `log` takes a line when a client comes or goes."""
+class _SocketLine(_Line):
+    """A socket at which clients come. `log` takes a line when one comes or goes."""
 
-    def __init__(self, host, port, log=lambda line: None):
+    def __init__(self, server, log):
         super().__init__()
-        self.log, self._client = log, None
-        try:
-            family = socket.getaddrinfo(host, port, type=socket.SOCK_STREAM)[0][0]
-            self._server = socket.create_server((host, port), family=family)
-        except OSError:
-            super().close()
-            raise
+        self.log, self._client, self._server = log, None, server
 
-    @property
-    def address(self):
-        """The address and the port at which it listens."""
-        return self._server.getsockname()[:2]
+    def _who(self, _address):
+        return "another program"
 
     def close(self):
         if self._client:
@@ -111,14 +103,13 @@ class TcpLine(_Line):
     def _accept(self, modem):
         client, address = self._server.accept()
         if self._client:
-            self.log(f"  {address[0]} is turned away: the modem has a client")
+            self.log(f"  {self._who(address)} is turned away: the modem has a client")
             with contextlib.suppress(OSError):
                 client.sendall(BUSY)
             client.close()
             return
-        self.log(f"  a client from {address[0]}")
+        self.log(f"  a client came: {self._who(address)}")
         client.setblocking(False)
-        client.setsockopt(socket.IPPROTO_TCP, socket.TCP_NODELAY, 1)
         self._client, self._waiting = client, bytearray()
         modem.arrive()
 
@@ -148,6 +139,47 @@ class TcpLine(_Line):
             # a client that is gone is seen when it is read from
             sent = self._client.send(self._waiting)
             del self._waiting[:sent]
+
+
+class TcpLine(_SocketLine):
+    """A TCP port."""
+
+    def __init__(self, host, port, log=lambda line: None):
+        family = socket.getaddrinfo(host, port, type=socket.SOCK_STREAM)[0][0]
+        super().__init__(socket.create_server((host, port), family=family), log)
+        # a client's socket has what its server's has: what is said goes at once
+        self._server.setsockopt(socket.IPPROTO_TCP, socket.TCP_NODELAY, 1)
+
+    @property
+    def address(self):
+        """The address and the port at which it listens."""
+        return self._server.getsockname()[:2]
+
+    def _who(self, address):
+        return address[0]
+
+
+class UnixLine(_SocketLine):
+    """A Unix socket, which its owner alone can connect to. Its file is removed at the end."""
+
+    def __init__(self, path, log=lambda line: None):
+        server = socket.socket(socket.AF_UNIX)
+        before = os.umask(0o177)
+        try:
+            server.bind(path)
+        except OSError:
+            server.close()
+            raise
+        finally:
+            os.umask(before)
+        server.listen()
+        super().__init__(server, log)
+        self.path = path
+
+    def close(self):
+        super().close()
+        with contextlib.suppress(OSError):
+            os.remove(self.path)
 
 
 class PtyLine(_Line):

@@ -45,7 +45,7 @@ def qualifier(command, value):
 
 
 def cause(result, value):
-    """The name of the byte behind a result that gives its cause."""
+    """The name of the byte after a result that gives its cause."""
     return table("toolkit")["result_causes"].get(f"{result:02X}", {}).get(f"{value:02X}")
 
 
@@ -88,16 +88,15 @@ def file(path, usim=True):
     return found[0] if len(found) == 1 and len(path) > 1 and found[0]["in"][0] in FOLDERS else None
 
 
+# what the folders hold whose files are found by their standard short identifiers
+BY_SHORT = {(): ("MF",), ("7F10",): ("TELECOM",), ("7F20",): ("USIM", "GSM")}
+
+
 def by_short(df, number, usim=True):
     """The standard file of a DF that has this short identifier; None where there is none."""
-    found = (entry for entry in table("files")["files"] if entry.get("short") == number)
-    return next((entry for entry in found if file((*df, entry["id"]), usim) is entry and is_in(entry, df)), None)
-
-
-def is_in(entry, df):
-    """Whether a standard file lies in a DF."""
-    places = {"MF"} if not df else {APPLICATIONS.get(df[-1], ""), "USIM" if df[-1] == "7F20" else ""}
-    return bool(places & set(entry["in"]))
+    held = BY_SHORT.get(tuple(df), ())
+    found = (entry for entry in table("files")["files"] if entry.get("short") == number and set(held) & set(entry["in"]))
+    return next((entry for entry in found if file((*df, entry["id"]), usim) is entry), None)
 
 
 def name_of(path, usim=True):
@@ -107,7 +106,7 @@ def name_of(path, usim=True):
 
 
 def shown(path, usim=True):
-    """A path with its standard name behind it."""
+    """A path with its standard name after it."""
     text = "/".join(path) if path else "3F00"
     entry = file(path, usim)
     return f"{text} {entry['name']}" if entry else text

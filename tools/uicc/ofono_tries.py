@@ -102,6 +102,22 @@ class Proactive:
         return tlv.first(self.response, tag)
 
 
+def exchanges_in(lines):
+    return [part for part in trace.parts(lines) if isinstance(part, trace.Exchange)]
+
+
+def proactive_in(exchanges):
+    """The proactive commands that were fetched, with what answered them."""
+    found = []
+    for exchange in exchanges:
+        ins = decode.Apdu(exchange.command).ins
+        if ins == decode.FETCH and exchange.answer and len(exchange.answer) > 2:
+            found.append(Proactive(exchange.answer[:-2]))
+        elif ins == decode.RESPONSE and found and found[-1].response is None:
+            found[-1].response = decode.Apdu(exchange.command).data
+    return found
+
+
 class Session:
     """A telephone with a card, and what went over between them."""
 
@@ -127,7 +143,7 @@ class Session:
     def until(self, look, what, seconds=SECONDS):
         found = self.phone.until(look, seconds)
         if not found:
-            raise Wrong(f"{what}: not within {seconds} seconds")
+            raise Wrong(f"it isn't so within {seconds} seconds that {what}")
         return found
 
     def asked(self):
@@ -147,18 +163,11 @@ class Session:
     def exchanges(self):
         with self.phone.modem.lock:
             lines = list(self.lines)
-        return [part for part in trace.parts(lines) if isinstance(part, trace.Exchange)]
+        return exchanges_in(lines)
 
     def proactive(self):
         """The proactive commands so far, with their answers."""
-        found = []
-        for exchange in self.exchanges():
-            ins = decode.Apdu(exchange.command).ins
-            if ins == decode.FETCH and exchange.answer and len(exchange.answer) > 2:
-                found.append(Proactive(exchange.answer[:-2]))
-            elif ins == decode.RESPONSE and found and found[-1].response is None:
-                found[-1].response = decode.Apdu(exchange.command).data
-        return found
+        return proactive_in(self.exchanges())
 
     def answered(self, kind, after=0, qualifier=None):
         """The command of a kind that came after some others, when oFono answered it as the standard has it: its details, its devices,
@@ -170,18 +179,26 @@ class Session:
                          and qualifier in (None, one.details[2])), None)
         one = self.phone.until(look, SECONDS)
         if one is None:
-            sent = any(one.kind == kind for one in self.proactive()[after:])
-            raise Wrong(f"{name} isn't answered within {SECONDS} seconds" if sent else f"{name} wasn't fetched")
-        if one.value(DETAILS) != one.details:
-            raise Wrong(f"the details of the response are {decode.hexed(one.value(DETAILS) or b'')}, and not {decode.hexed(one.details)}")
-        if one.value(DEVICES) != FROM_TERMINAL:
-            raise Wrong("the devices of the response aren't the terminal and the card")
-        result = one.value(RESULT)
-        if not result:
-            raise Wrong("the response has no result")
-        if result[0] in (BEYOND, UNKNOWN_TYPE):
-            raise Unsupported(f"{name} is answered {decode.object_text(RESULT, result, False)}")
-        return one
+            is_sent = any(one.kind == kind for one in self.proactive()[after:])
+            raise Wrong(f"it isn't answered within {SECONDS} seconds" if is_sent else f"{name} wasn't fetched")
+        return judged(one)
+
+
+def judged(one):
+    """A command whose response has what each response has. Unsupported, where its result says that the terminal can't."""
+    try:
+        details, devices, result = (one.value(tag) for tag in (DETAILS, DEVICES, RESULT))
+    except tlv.BadTlv as fault:
+        raise Wrong(f"the response is no list of objects: {fault}") from None
+    if details != one.details:
+        raise Wrong(f"the details of the response are {decode.hexed(details or b'')}, and not {decode.hexed(one.details)}")
+    if devices != FROM_TERMINAL:
+        raise Wrong("the devices of the response aren't the terminal and the card")
+    if not result:
+        raise Wrong("the response has no result")
+    if result[0] in (BEYOND, UNKNOWN_TYPE):
+        raise Unsupported(f"the answer is {decode.object_text(RESULT, result, False)}")
+    return one
 
 
 def expect(found, wanted, what):
@@ -322,7 +339,8 @@ def toolkit(report, session):
             ("DISPLAY TEXT, while the screen is busy", "Menu", [0, ofono.BUSY], results(DISPLAY_TEXT, "2001")),
             ("GET INPUT, ended by the user", "Note", [ofono.END_SESSION], results(GET_INPUT, "10")),
             ("GET INPUT takes no text that is too long", "Note", ["A" * 21], results(GET_INPUT, None)),
-            ("GET INKEY asks for a key", "Key", ["5", None], get_inkey), ("GET INKEY, gone back", "Key", [ofono.GO_BACK], results(GET_INKEY, "11")),
+            ("GET INKEY asks for a key", "Key", ["5", None], get_inkey),
+            ("GET INKEY, gone back", "Key", [ofono.GO_BACK], results(GET_INKEY, "11")),
             ("PROVIDE LOCAL INFORMATION, date and time", "Local", [], local(3, 0x26)),
             ("PROVIDE LOCAL INFORMATION, language", "Local", [], local(4, 0x2D)),
             ("PROVIDE LOCAL INFORMATION, location", "Local", [], local(0, 0x13)), ("MORE TIME", "Local", [], results(MORE_TIME, "00")),

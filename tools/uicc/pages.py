@@ -131,5 +131,5 @@ def commands_in(lines):
 
 
 def without_comment(line):
-    """A line of a shell without the comment behind it."""
+    """A line of a shell without the comment after it."""
     return re.sub(r"(^|\s)#.*$", "", line).strip()

@@ -47,7 +47,7 @@ class Player:
     def __init__(self, card):
         self.card = card
         self.trace, self.exchanges, self.heard = [], [], []
-        self._changed = threading.Condition()
+        self._changed, self._is_over = threading.Condition(), False
         self._forget()
 
     def _forget(self):
@@ -107,18 +107,25 @@ class Player:
 
     def marked(self):
         """The trace, with a mark before each command that the card alone didn't answer."""
-        exchanges = iter(self.exchanges)
-        for line in self.trace:
+        with self._changed:
+            lines, exchanges = list(self.trace), iter(list(self.exchanges))
+        for line in lines:
             whose = next(exchanges).whose if line.startswith("> ") else CARD
             if whose != CARD:
                 yield f"* {whose}"
             yield line
+
+    def leave(self):
+        """The player has played: from now on the terminal finds no card."""
+        with self._changed:
+            self._is_over = True
 
     # for the terminal
 
     def transmit(self, command):
         command = as_bytes(command)
         with self._changed:
+            self._refuse()
             self.trace.append("> " + decode.hexed(command))
             try:
                 whose, answer = self._answer(command)
@@ -133,6 +140,7 @@ class Player:
 
     def reset(self):
         with self._changed:
+            self._refuse()
             self._forget()
             self._hear(RESET)
             self._changed.notify_all()
@@ -144,6 +152,10 @@ class Player:
             self.trace.append(process.RESET)
 
     # how it answers
+
+    def _refuse(self):
+        if self._is_over:
+            raise PowerLost("the card was taken out")
 
     def _hear(self, kind, data=b""):
         self.heard.append(Heard(kind, data, time.monotonic()))

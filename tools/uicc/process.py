@@ -5,6 +5,7 @@ import functools
 import os
 import subprocess
 import sys
+import tempfile
 import threading
 
 PACKAGE = os.path.dirname(os.path.abspath(__file__))
@@ -31,7 +32,7 @@ STATUSES = {
     3: "the script could not be read on",
     4: "the trace could not be written on",
     5: "there was no memory to begin with",
-    6: "the memory failed or lost power before the card was open, or its file can't be had",
+    6: "memory problem, or the power was lost, before the card was open or in a reset; or the file of the image can't be had",
     7: "the memory holds no card that can be opened",
     8: "there is no room on the card for what a line describes",
 }
@@ -198,11 +199,20 @@ def card_section(lines):
     return lines[:at], lines[at + 1:]
 
 
+def file_in_memory():
+    return open(os.memfd_create("uicc_run"), "w+b") if hasattr(os, "memfd_create") else tempfile.TemporaryFile()
+
+
 def played(words, text):
-    """The trace of a script's text, as lines, the exit status, and what was said on standard error."""
-    done = subprocess.run([program(), *words], input=text, stdout=subprocess.PIPE, stderr=subprocess.PIPE, encoding=ENCODING,
-                          check=False)
-    return done.stdout.splitlines(), done.returncode, done.stderr
+    """The trace of a script's text, as lines, the exit status, and what was said on standard error. They go through files and not
+    through pipes, so that nothing is woken but when the run has ended."""
+    with file_in_memory() as script, file_in_memory() as shown, file_in_memory() as said:
+        script.write(text.encode(ENCODING))
+        script.seek(0)
+        status = subprocess.run([program(), *words], stdin=script, stdout=shown, stderr=said, check=False).returncode
+        shown.seek(0)
+        said.seek(0)
+        return shown.read().decode(ENCODING).splitlines(), status, said.read().decode(ENCODING)
 
 
 def run(words, lines):

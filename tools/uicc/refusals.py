@@ -1,8 +1,10 @@
 """Why a card refuses a command: which condition of the access rule isn't met (6982), and which of their causes 6985 and 6A84 have."""
+import re
+
 from . import decode, follow, layout, names, rules
 
 STATUSES = ("6982", "6985", "6A84")
-MOST_FILES = layout.MOST_FILES - 1
+KEY_WORD = r"\b(?:" + "|".join(rules.KEYS) + r")\b"
 ADM = 0x0A
 DEACTIVATE, ACTIVATE, ENABLE = 0x04, 0x44, 0x28
 # what a rule has to allow for an instruction
@@ -32,7 +34,7 @@ def reason(follower, apdu, status, card=None):
 
 def of_security(follower, apdu, card):
     if apdu.on_applets or apdu.ins in WITH_ADM:
-        return f"{names.key(ADM)} isn't verified"
+        return not_met(ADM, card)
     operation, path = OPERATIONS.get(apdu.ins), follower.target(apdu)
     file = card.files.get(path) if card and path else None
     if operation is None or file is None or file.rule is None:
@@ -42,43 +44,32 @@ def of_security(follower, apdu, card):
     if broken:
         return f"{rule} allows nothing: {broken}"
     pairs = rules.read(card.rule_file(file).record(file.rule[1]))
-    conditions = [condition for named, condition in pairs if allows(named, operation, apdu.ins)]
-    if not conditions:
-        return f"{rule} lets nobody {operation}: it doesn't name that"
-    return "; ".join(f"{rule} {unmet(condition, operation, follower, card)}" for condition in conditions)
+    conditions = [condition for named, condition in pairs if operation in named or rules.INSTRUCTIONS.get(apdu.ins) in named]
+    asked = [condition for condition in conditions if keys_in(condition)]
+    missing = dict.fromkeys(key for condition in asked for key in keys_in(condition) if not is_met(key, follower, card))
+    if not missing:
+        return f"{rule} lets nobody {operation}"
+    return f"{rule} asks for {named_keys(' or '.join(asked))} to {operation}; {', '.join(not_met(key, card) for key in missing)}"
 
 
-def allows(named, operation, ins):
-    """Whether a pair of a rule speaks of an operation: by its bit, or by the instruction alone."""
-    return operation in named or rules.INSTRUCTIONS.get(ins) in named
+def keys_in(condition):
+    """The keys of a condition in words."""
+    return [rules.KEYS[word] for word in re.findall(KEY_WORD, condition)]
 
 
-def unmet(condition, operation, follower, card):
-    """Which part of a condition in words isn't met."""
-    if condition == "never":
-        return f"lets nobody {operation}"
-    keys = [word.strip("()") for word in condition.split() if word.strip("()") in rules.KEYS]
-    missing = [key_name(word) for word in keys if not is_met(rules.KEYS[word], follower, card)]
-    asked = condition
-    for word in keys:
-        asked = asked.replace(word, key_name(word))
-    if len(keys) == 1 and missing:
-        return f"asks for {missing[0]} to {operation}, which {why_not(rules.KEYS[keys[0]], card)}"
-    return f"asks for {asked} to {operation}: {', '.join(missing) or 'it'} {'are' if len(missing) > 1 else 'is'} not verified"
-
-
-def key_name(word):
-    return names.key(rules.KEYS[word])
+def named_keys(condition):
+    return re.sub(KEY_WORD, lambda found: names.key(rules.KEYS[found.group()]), condition)
 
 
 def is_met(key, follower, card):
-    """Whether the condition of a key holds: it was verified, or is disabled."""
+    """Whether the condition of a key holds: it is on the card, and was verified or is disabled."""
     pin = card.pins.get(key)
     return pin is not None and (key in follower.verified or not pin.enabled)
 
 
-def why_not(key, card):
-    return "isn't verified" if key in card.pins else "the card doesn't have"
+def not_met(key, card):
+    is_there = card is None or key in card.pins
+    return f"{names.key(key)} isn't {'verified' if is_there else 'on the card'}"
 
 
 # 6985
@@ -88,11 +79,13 @@ def of_conditions(follower, apdu, card):
         return of_applet(apdu, card)
     if apdu.ins == decode.DELETE_FILE:
         return of_deletion(follower, apdu, card)
+    if apdu.ins in OPERATIONS or apdu.ins == decode.RESIZE_FILE:
+        path = follower.child(apdu) if apdu.ins in follow.ON_CHILDREN else follower.target(apdu)
+        return f"{names.shown(path, follower.usim)} is deactivated" if path else "the file is deactivated"
     return CONDITIONS.get(apdu.ins)
 
 
 CONDITIONS = {
-    **dict.fromkeys(OPERATIONS, "the file is deactivated"), decode.RESIZE_FILE: "the file is deactivated",
     ENABLE: "the PIN is enabled already", decode.FETCH: "no command waits to be fetched",
     decode.RESPONSE: "no command that was fetched waits for a response", decode.CHANNEL: "that channel is closed already",
     decode.GET_RESPONSE: "no data wait",
@@ -126,11 +119,14 @@ def of_room(follower, apdu, card):
         return None
     if apdu.on_applets:
         return of_room_for_applet(apdu, card)
-    if apdu.ins == decode.CREATE_FILE:
-        made = decode.new_file(apdu.data)
-        return of_room_for_bytes(card, made.length * made.count, 0) if made else None
-    file = card.files.get(follower.child(apdu) or ("",))
-    return of_room_for_bytes(card, int.from_bytes(apdu.data[2:], "big"), file.size if file else 0, is_new=False)
+    if apdu.ins == decode.RESIZE_FILE:
+        return of_room_for_bytes(card, int.from_bytes(apdu.data[2:], "big"))
+    if len(card.files) >= layout.MOST_FILES:
+        return f"the card has {layout.MOST_FILES} files already"
+    made = decode.new_file(apdu.data)
+    if made is None:
+        return None
+    return of_room_for_bytes(card, made.length * made.count) if made.structure else "no number above that of its DF is free"
 
 
 def of_room_for_applet(apdu, card):
@@ -138,23 +134,16 @@ def of_room_for_applet(apdu, card):
         given = layout.installation(apdu.data)
     except layout.Wrong:
         return None
-    if layout.needs_wide(apdu.p2, given.kept) and card.total() > layout.WIDE_BYTES:
-        return (f"the files have more than {layout.WIDE_BYTES:,} bytes together, so that there are shelves 0 to {layout.LOWER_SHELVES - 1} "
-                f"alone, and an applet keeps at most {layout.NARROW_KEPT} bytes")
-    if given.text and sum(bool(row.text) for row in card.rows.values()) >= layout.MOST_MENU_ENTRIES:
-        return f"{layout.MOST_MENU_ENTRIES} applets have an entry in the menu already"
-    return None
+    if not card.is_wide and layout.needs_wide(apdu.p2, given.kept):
+        return (f"its files leave room for the shelves 0 to {layout.LOWER_SHELVES - 1} alone, and for {layout.NARROW_KEPT} bytes that an "
+                "applet keeps")
+    entries = sum(bool(row.text) for row in card.rows.values())
+    if given.text and entries >= layout.MOST_MENU_ENTRIES:
+        return f"{entries} applets have an entry in the menu already"
+    return "no sequence number is left"
 
 
-def of_room_for_bytes(card, size, held, is_new=True):
-    """Why there is no room for so many bytes in the place of those that a file holds."""
-    if is_new and len(card.files) > MOST_FILES:
-        return f"the card has {MOST_FILES} files beside the MF, and no more"
-    wide = any(layout.needs_wide(row.shelf, row.kept) for row in card.rows.values())
-    most = layout.WIDE_BYTES if wide else layout.ALL_BYTES
-    total = card.total() - held + size
-    if total > most:
-        return f"all files have at most {most:,} bytes together: with these {size:,} they would have {total:,}"
-    if not size:
-        return "there is no number for it above that of its DF"
-    return f"{most - card.total():,} bytes are free, and no gap between the files has room for these {size:,}, which lie together"
+def of_room_for_bytes(card, size):
+    free = (layout.WIDE_BYTES if card.is_wide else layout.ALL_BYTES) - card.total()
+    told = f"{size:,} bytes are wanted, and {free:,} are free"
+    return told if size > free else f"{told}, not so many of them in one piece"

@@ -9,7 +9,6 @@ from .wording import Object, Words, Wrong, device, label_of, read_object
 
 CARD, TERMINAL = 0x81, 0x82
 DETAILS, DEVICE_IDENTITIES, RESULT = 0x01, 0x02, 0x03
-MOST_NUMBER = 254
 LONGEST_COMMAND = 256
 LONGEST_WAIT = 999
 COMMANDS = {name: int(code, 16) for code, name in names.table("toolkit")["commands"].items()}
@@ -214,6 +213,8 @@ class Reader:
                 without.add(words.take_name({"details": DETAILS, "devices": DEVICE_IDENTITIES}, "part that a command may be without"))
             else:
                 found.append(exact(read_object(words)))
+        if sum(len(one.pattern) // 2 for one in found) > LONGEST_COMMAND:
+            raise Wrong(f"a command has 1 to {LONGEST_COMMAND} bytes, and the objects of this one are longer")
         heads = [(DETAILS, bytes((number, kind, qualifier))), (DEVICE_IDENTITIES, bytes((source, destination)))]
         content = b"".join(tlv.written(tag, value) for tag, value in heads if tag not in without)
         return tlv.written(decode.PROACTIVE, content + b"".join(one.spelled() for one in found))

@@ -26,7 +26,8 @@ CITED = ("record", "data", "definition", "struct", "enum", "trait", "const")
 
 @dataclasses.dataclass(frozen=True)
 class Declared:
-    """A name that a file declares. `home` is the crate and the module that a `use` names: `declared` for a file of src/."""
+    """A name that a file declares. `home` is the crate and the module that a `use` names: `declared` for a file of src/, whatever stands
+    behind it (`TheVariants`, `TheConstants`, `TheInside`)."""
     crate: str
     home: str
     name: str
@@ -155,8 +156,8 @@ def definitions():
 # what a file cites
 
 def used(lines):
-    """What the `use` lines of a file say: the name that stands in the file, the crate, the module and the name there. A crate that passes
-    on another one may stand before it: `Rattle.file_model.specs.card_layout.Memory` is the module `Memory` of `card_layout`."""
+    """What the `use` lines of a file say: the name that stands in the file, the crate, the module and the name there, and whether it is
+    handed on."""
     for line in lines:
         found = USE.match(line)
         if not found:
@@ -165,8 +166,6 @@ def used(lines):
         if len(parts) < 2 or parts[1] != "specs":
             continue
         crate, inside = parts[0], parts[2:]
-        if inside and inside[0] in crates():
-            crate, inside = inside[0], inside[1:]
         home = "declared" if inside[:1] == ["declared"] else ".".join(inside)
         for item in (found.group(3) or "").split(", "):
             if item:
@@ -179,15 +178,6 @@ def handed_on():
     return {(crate, module_of(path), alias): (origin, home, name)
             for crate in crates() for path in files_below(crate, "specs", ".antt")
             for alias, origin, home, name, public in used(lines_of(path)) if public}
-
-
-@functools.cache
-def passed_on(crate):
-    """The crates below it that a crate passes on to those above: `pub use Rattle.card_layout.specs as card_layout`."""
-    path = f"crates/{crate}/specs/Lib.antt"
-    lines = lines_of(path) if os.path.exists(os.path.join(process.TOP, path)) else ()
-    uses = [found for line in lines if (found := USE.match(line)) and found.group(1) == "pub "]
-    return {name for found in uses if (name := found.group(4) or found.group(2).split(".")[-1]) in crates()}
 
 
 def origin_of(key, handing):

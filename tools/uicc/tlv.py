@@ -6,7 +6,7 @@ class BadTlv(ValueError):
 
 
 def length_at(content, at):
-    """A length at a place, and the place behind it."""
+    """A length at a place, and the place after it."""
     if at >= len(content):
         raise BadTlv("a length is missing")
     first = content[at]

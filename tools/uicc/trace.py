@@ -1,12 +1,12 @@
 """A trace by its parts, and which line of the script each belongs to."""
 import dataclasses
-import datetime
+import re
 
 from . import process
 from .grammar import Apdu, Plan, Reset, Tpdu
 
 EVENT = "* event "
-# when the next line came, where a trace tells it: @ 2026-01-31T12:00:00.123456+00:00
+# before a line of a trace that says when it was shown, in seconds since 1970: `@ 1764497000.123456`
 TIME = "@ "
 
 
@@ -37,6 +37,17 @@ class NoTrace(Exception):
     pass
 
 
+def time_of(line):
+    """The microseconds that a line of a time says; None where it is none."""
+    found = re.fullmatch(TIME + r"([0-9]+)\.([0-9]{6})", line)
+    return int(found.group(1)) * 1_000_000 + int(found.group(2)) if found else None
+
+
+def timed(micros):
+    """The line that says such a time."""
+    return f"{TIME}{micros // 1_000_000}.{micros % 1_000_000:06}"
+
+
 def shown_bytes(number, line):
     try:
         return bytes.fromhex(line[2:])
@@ -44,16 +55,11 @@ def shown_bytes(number, line):
         raise NoTrace(f"line {number} is no line of a trace: {line}") from None
 
 
-def time_now():
-    """The line that tells when the next one came."""
-    return TIME + datetime.datetime.now(datetime.timezone.utc).isoformat(timespec="microseconds")
-
-
 def parts(lines):
-    """The parts of a trace, in order, each as soon as its lines were read. Lines that tell a time are no part."""
+    """The parts of a trace, in order, each as soon as its lines were read."""
     command = None
     for number, line in enumerate(lines, 1):
-        if line.startswith(TIME):
+        if time_of(line) is not None:
             continue
         if command is not None and not line.startswith("< ") and line not in (process.CUT, process.OFF):
             yield Exchange(command, None)

@@ -62,7 +62,7 @@ def lines(card, with_contents=True):
     yield "MF 3F00"
     yield from below(card, (), "", usim, with_contents)
     for pin in sorted(card.pins.values(), key=lambda pin: (0x01, 0x81, 0x0A).index(pin.key)):
-        state = "on" if pin.enabled else "off"
+        state = "enabled" if pin.enabled else "disabled"
         yield (f"{names.key(pin.key)}: {decode.pin_value(pin.value)}, {state}, {pin.tries} tries left, unblocked by "
                f"{decode.pin_value(pin.unblock)}, {pin.unblock_tries} tries left")
     for row in sorted(card.rows.values(), key=lambda row: row.shelf):

@@ -4,7 +4,6 @@ A terminal of one's own is a class with the methods of UnderTest; it is given a 
 from . import grammar, process, sending
 from .handset import Terminal
 from .sequence import MORE_ACTS
-from .wording import Wrong
 
 
 class Unable(Exception):
@@ -13,6 +12,10 @@ class Unable(Exception):
 
 class Unsupported(Exception):
     """A sequence can't be played to this terminal."""
+
+
+class Lost(Exception):
+    """The terminal can't be had, or is there no more."""
 
 
 class UnderTest:
@@ -41,11 +44,17 @@ class UnderTest:
         """Has something happen at it, which is `user`, `net` or `time` and what a line of a script says. Unable, where it can't."""
         raise NotImplementedError
 
+    def must_show(self, note):
+        """Is told what it must show now; for terminals whose user is a person who looks."""
+
     def look(self):
         """Tells the player what was shown since it looked last; for terminals that don't tell it by themselves."""
 
     def end(self):
-        """Is switched off."""
+        """A sequence is over."""
+
+    def close(self):
+        """All sequences are over."""
 
 
 class InPython(UnderTest):
@@ -66,8 +75,24 @@ class InPython(UnderTest):
     def happen(self, said):
         try:
             self.terminal.happen(said)
-        except (KeyError, Wrong, grammar.Wrong):
+        except grammar.Wrong:
             raise Unable(f"its user can't `{said.act}`") from None
+
+
+# what a person at a terminal is told to do
+INSTRUCTIONS = {
+    "ok": "say yes, or that it was seen", "back": "go back", "end": "end the session", "none": "do nothing", "press": "press a key",
+    "idle": "go to the idle screen", "help": "ask for help", "refuse": "refuse it"}
+
+
+def instruction(said):
+    """What a person at a terminal is told to do."""
+    if said.word != "user":
+        return f"please have this happen at the terminal: {line_of(said)}"
+    if said.act in INSTRUCTIONS:
+        return f"please {INSTRUCTIONS[said.act]}"
+    words = {"type": f"type `{said.value}`", "pick": f"pick the item {said.value}", "dial": f"call {said.value}"}
+    return f"please {words[said.act]}"
 
 
 def line_of(said):

@@ -4,10 +4,12 @@ import itertools
 import time
 
 from . import decode, tlv
+from .card import CardError
 from .handset import DETAILS, details_of
 from .player import ASKED, FETCHED, PROFILED, RESET, RESPONDED, STRAY, TOLD, Player
+from .process import Ended, NotBuilt
 from .sequence import Act, Give, Poll, Quiet, Respond, Restart, Shown, Tell
-from .undertest import Unable, Unsupported
+from .undertest import Lost, Unable, Unsupported
 from .wording import label_of
 
 PASSED, FAILED, INCONCLUSIVE, UNSUPPORTED = "passed", "failed", "inconclusive", "not supported"
@@ -16,7 +18,7 @@ VERDICTS = (PASSED, FAILED, INCONCLUSIVE, UNSUPPORTED)
 QUIET_SECONDS = 1
 # how often a terminal is asked what it shows
 LOOK_SECONDS = 0.2
-RESULT, NO_RESPONSE = 0x03, 0x12
+NO_RESPONSE = 0x12
 
 
 @dataclasses.dataclass(frozen=True)
@@ -200,7 +202,7 @@ class Run:
     def _restart(self, step):
         for kind, what in ((RESET, "the card isn't reset"), (PROFILED, "no TERMINAL PROFILE comes after the reset")):
             if self._wait(kind, step.seconds) is None:
-                raise Differs(f"{what} {self._told_seconds(step)}")
+                raise Differs(f"{what} {self._told_seconds(step)}{self._answered()}")
 
     def _poll(self, step):
         if self._wait(ASKED, step.seconds) is None:
@@ -209,6 +211,7 @@ class Run:
     def _shown(self, step):
         if not self.terminal.is_seen:
             self.unseen.append(step.note)
+            self.terminal.must_show(step.note)
             return
         place = self._look_for(step.note)
         if place:
@@ -267,6 +270,24 @@ def envelope_rows(data):
     return [Row(line.label, None, line.text, False) for line in decode.template(data, "no template") if line.text]
 
 
+def carried_out(run):
+    """The verdict of a run, why, and the objects that differ."""
+    try:
+        run.carry_out()
+    except Differs as fault:
+        return FAILED, str(fault), fault.rows
+    except Undecided as fault:
+        return INCONCLUSIVE, str(fault), []
+    except Unsupported as fault:
+        return UNSUPPORTED, str(fault), []
+    except (Lost, CardError, Ended, NotBuilt):
+        raise
+    except Exception as fault:
+        # the terminal's own, whose code is anybody's
+        return FAILED, f"the terminal broke down: {type(fault).__name__}: {fault}", []
+    return PASSED, "", []
+
+
 def judged(sequence, terminal, card, seconds=None):
     """Plays a sequence to a terminal over a card, and judges it. `seconds` is how long the terminal may take for anything, where that
     isn't what it says itself."""
@@ -274,14 +295,9 @@ def judged(sequence, terminal, card, seconds=None):
     run = Run(sequence, terminal, outcome.player, seconds)
     began = time.monotonic()
     try:
-        run.carry_out()
-    except Differs as fault:
-        outcome.verdict, outcome.why, outcome.rows = FAILED, str(fault), fault.rows
-    except Undecided as fault:
-        outcome.verdict, outcome.why = INCONCLUSIVE, str(fault)
-    except Unsupported as fault:
-        outcome.verdict, outcome.why = UNSUPPORTED, str(fault)
+        outcome.verdict, outcome.why, outcome.rows = carried_out(run)
     finally:
         terminal.end()
+        outcome.player.leave()
     outcome.step, outcome.unseen, outcome.seconds = run.step, run.unseen, time.monotonic() - began
     return outcome

@@ -54,7 +54,7 @@ class Words:
 
     def number(self, what, least, most):
         word = self.take(what)
-        if not re.fullmatch("[0-9]+", word) or not least <= int(word) <= most:
+        if not re.fullmatch("[0-9]{1,9}", word) or not least <= int(word) <= most:
             raise Wrong(f"{what} is {least} to {most}, not {word}")
         return int(word)
 

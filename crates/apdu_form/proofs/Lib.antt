@@ -1,2 +1,2 @@
-pub mod Fields
-pub mod ReadingLemmas
+pub mod CommandInLemmas
+pub mod DataFieldLemmas

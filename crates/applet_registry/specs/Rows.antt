@@ -1,11 +1,10 @@
 -- What the calls test of a row, and what they answer.
 use Rattle.std.specs.Prelude.{◌≡◌, ◌<◌, false, ℕ, ◌==◌, not, ◌&&◌, Bool, Result, Ok, Err}
-use Rattle.toolkit_model.specs.card_layout.declared.entries.Row.{Row}
-use Rattle.toolkit_model.specs.card_layout.declared.entries.Loaded.{Loaded}
-pub use Rattle.toolkit_model.specs.card_layout.Checks.{shows_item}
-use Rattle.toolkit_model.specs.card_layout.Persistent.{Registration}
-use Rattle.toolkit_model.specs.card_layout.Sections.{needs_wide, is_call_control}
-use Rattle.toolkit_model.specs.card_layout.States.{registration_of, rows_of}
+use Rattle.card_state.specs.declared.entries.Row.{Row}
+use Rattle.card_state.specs.declared.entries.Loaded.{Loaded}
+use Rattle.card_state.specs.Persistent.{Registration}
+use Rattle.card_state.specs.Sections.{needs_wide, is_call_control}
+use Rattle.card_state.specs.States.{registration_of, rows_of}
 use Rattle.toolkit_model.specs.declared.faults.RowFault.{RowFault}
 use Rattle.toolkit_model.specs.Registry.{is_taken, is_menu_full, last_sequence}
 

@@ -1,13 +1,14 @@
 //! The events that a row is registered for.
 ghost use Rattle.std.specs.Prelude.{◌≡◌, ◌↔◌, false, IsSome, IfOk};
-ghost use Rattle.toolkit_model.specs.card_layout.States.{rows_of};
+ghost use Rattle.card_state.specs.States.{rows_of};
 ghost use Rattle.toolkit_model.specs.Registry.{row_on, is_registered, registers, deregisters, with_code, without_code};
 
 use crate::rows::{is_answered, row_on};
-use card_layout::events::{has_event, is_event};
-use card_layout::{Loaded, event_bits_are_codes, states_are_of_entries};
-use toolkit_model::events::CALL_CONTROL;
-use toolkit_model::{RowFault, Shelf};
+use card_state::events::{has_event, is_event};
+use card_state::{Loaded, event_bits_are_codes, states_are_of_entries};
+use toolkit_model::RowFault;
+use uicc_types::Shelf;
+use uicc_types::events::CALL_CONTROL;
 
 fn is_registered(loaded: &Loaded, shelf: Shelf, code: u8) -> bool
     ensures { result ≡ is_registered (rows_of loaded.now) shelf.0 code }

@@ -1,16 +1,17 @@
 //! The row of an applet that is to be registered, and whether one may go.
 ghost use Rattle.std.specs.Prelude.{◌≡◌, ◌<◌, ℕ, List, true, IfOk, ◌&&◌, not};
-ghost use Rattle.toolkit_model.specs.card_layout.declared.events.TheConstants.{EVENTS_END};
-ghost use Rattle.toolkit_model.specs.card_layout.Installations.{registered};
-ghost use Rattle.toolkit_model.specs.card_layout.Sections.{needs_wide};
-ghost use Rattle.toolkit_model.specs.card_layout.States.{registration_of, rows_of, state_of};
+ghost use Rattle.card_state.specs.declared.events.TheConstants.{EVENTS_END};
+ghost use Rattle.card_state.specs.Installations.{registered};
+ghost use Rattle.card_state.specs.Sections.{needs_wide};
+ghost use Rattle.card_state.specs.States.{registration_of, rows_of, state_of};
 ghost use Rattle.toolkit_model.specs.Registry.{is_taken, is_menu_full, installed_row, deleted_row};
 ghost use Rattle.applet_registry.specs.Rows.{IsAdmitted, registration_for, allowed};
 
 use crate::rows::{answers_calls, has_text, is_answered, row_on, text_count};
-use card_layout::sizes::{KEPT_WIDTH, LOWER_ROW_COUNT, MENU_LIMIT};
-use card_layout::{Installed, Loaded, Row, read_installation};
-use toolkit_model::{RowFault, Shelf};
+use card_state::sizes::{KEPT_WIDTH, LOWER_ROW_COUNT, MENU_LIMIT};
+use card_state::{Installed, Loaded, Row, read_installation};
+use toolkit_model::RowFault;
+use uicc_types::Shelf;
 
 // Whether only a wide card can hold this row, and this one isn't wide.
 fn is_too_narrow(loaded: &Loaded, shelf: Shelf, row: &Row) -> bool
@@ -65,7 +66,7 @@ fn new_row(loaded: &Loaded, kind: u8, priority: u8, installed: Installed) -> Row
 ///
 /// The shelf, the priority and the kind stand in the row as they are given. Who calls bounds them: P2 of the command is a shelf
 /// below 32, its P1 a priority of at least 1, and the kind of the applet's box is 1 to 7.
-#[tactic(auto, using(crate::proofs::Admitting::parts_of))]
+#[tactic(auto, using(crate::proofs::ReadsInstallationLemmas::parts_of))]
 pub fn install(
     loaded: &Loaded,
     kind: Option<u8>,

@@ -1,14 +1,15 @@
 //! The menu of the registered applets.
 ghost use Rattle.std.specs.Prelude.{◌≡◌, ◌≢◌, ◌≤◌, ◌<◌, ◌↔◌, ◌∷◌, List, IsTrue, MatchOption, count_by};
-ghost use Rattle.toolkit_model.specs.card_layout.Sections.{has_text};
-ghost use Rattle.toolkit_model.specs.card_layout.States.{registration_of, rows_of};
+ghost use Rattle.card_state.specs.Sections.{has_text};
+ghost use Rattle.card_state.specs.States.{registration_of, rows_of};
+ghost use Rattle.toolkit_commands.specs.declared.items.Item.{Item as AnItem};
 ghost use Rattle.toolkit_model.specs.Registry.{item_of, menu_of};
-ghost use Rattle.toolkit_model.specs.toolkit_commands.declared.items.Item.{Item as AnItem};
 
 use crate::rows::shows_item;
-use card_layout::sizes::{MENU_LIMIT, ROW_COUNT};
-use card_layout::{Loaded, Row};
-use toolkit_model::{Full, Item, Items};
+use card_state::sizes::{MENU_LIMIT, ROW_COUNT};
+use card_state::{Loaded, Row};
+use toolkit_commands::{Item, Items};
+use uicc_types::Full;
 
 /// The menu: an item for each row with a text, by ascending shelves. Its identifier is the shelf plus 1.
 pub fn menu(loaded: &Loaded) -> Items

@@ -1,16 +1,16 @@
 //! What stands on the shelves of a table.
 ghost use Rattle.std.specs.Prelude.{◌≡◌, Some, None, MatchOption, count_by};
 ghost use Rattle.std.specs.List.{list_any, enumerate_from};
-ghost use Rattle.toolkit_model.specs.card_layout.Checks.{has_row_text};
-ghost use Rattle.toolkit_model.specs.card_layout.Sections.{has_text};
-ghost use Rattle.toolkit_model.specs.card_layout.States.{registration_of, rows_of};
+ghost use Rattle.card_state.specs.Checks.{has_row_text, shows_item};
+ghost use Rattle.card_state.specs.Sections.{has_text};
+ghost use Rattle.card_state.specs.States.{registration_of, rows_of};
 ghost use Rattle.toolkit_model.specs.Registry.{row_on, is_answered};
-ghost use Rattle.applet_registry.specs.Rows.{answers_calls, answers_beside, shows_item};
+ghost use Rattle.applet_registry.specs.Rows.{answers_calls, answers_beside};
 
-use card_layout::events::has_event;
-use card_layout::{Loaded, Row, states_are_of_entries};
-use toolkit_model::Shelf;
-use toolkit_model::events::CALL_CONTROL;
+use card_state::events::has_event;
+use card_state::{Loaded, Row, states_are_of_entries};
+use uicc_types::Shelf;
+use uicc_types::events::CALL_CONTROL;
 
 /// The row of this shelf, if an applet is registered there.
 pub fn row_on(loaded: &Loaded, shelf: Shelf) -> Option<&Row>

@@ -1,3 +1,3 @@
-pub mod Lawful
-pub mod WorkedTurns
-pub mod Proper
+pub mod IsLawfulLemmas
+pub mod IsProperActLemmas
+mod worked

@@ -2,7 +2,7 @@
 -- done.
 use Rattle.std.specs.Prelude.{ℕ, ◌+◌, ◌/◌, ◌%◌, Bool, true, false, ◌&&◌, not, List, [], ◌∷◌, length, map, take, drop, find, Option, Some, None, nat_eq, nat_le, ◌==◌, if◌then◌else◌}
 use Rattle.std.specs.List.{flat_map, take_while, starts_with, enumerate_from}
-use Rattle.toolkit_commands.specs.uicc_types.declared.events.TheConstants.{LOCATION_STATUS, USER_ACTIVITY, IDLE_SCREEN, PROFILE_DOWNLOAD, MENU_SELECTION, TIMER_EXPIRATION, CALL_CONTROL}
+use Rattle.uicc_types.specs.declared.events.TheConstants.{LOCATION_STATUS, USER_ACTIVITY, IDLE_SCREEN, PROFILE_DOWNLOAD, MENU_SELECTION, TIMER_EXPIRATION, CALL_CONTROL}
 use Rattle.toolkit_commands.specs.Envelopes.{value_in}
 use Rattle.toolkit_commands.specs.declared.commands.Proactive.TheVariants.{Refresh, MoreTime, PlayTone, DisplayText, GetInkey, GetInput, SelectItem, LocalInformation, TimerManagement, IdleText}
 use Rattle.applet_trait.specs.declared.stimuli.Stimulus.{Stimulus}

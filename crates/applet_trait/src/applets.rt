@@ -4,8 +4,8 @@ ghost use Rattle.applet_trait.specs.Minds.{AppletState, fresh};
 ghost use Rattle.applet_trait.specs.Turns.{act};
 ghost use Rattle.applet_trait.specs.Laws.{IsWritableAct, GivesTimer, IsProperAct};
 
-use crate::{Act, Stimulus};
-use toolkit_commands::Kept;
+use crate::stimuli::{Act, Stimulus};
+use uicc_types::Kept;
 
 /// An applet of one of the seven kinds. Its meaning is its mind, which is fresh after it woke and moves by the table of
 /// its kind.

@@ -1,7 +1,8 @@
 //! An applet in a box, as the card has them.
 
-use crate::{Act, Applet, Stimulus};
-use toolkit_commands::Kept;
+use crate::applets::Applet;
+use crate::stimuli::{Act, Stimulus};
+use uicc_types::Kept;
 
 impl Applet for Box<dyn Applet> {
     ghost mind = { λ boxed. (Applet-box boxed).mind boxed.value };

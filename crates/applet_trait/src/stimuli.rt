@@ -1,6 +1,7 @@
 //! What an applet is told, and what it does.
 
-use toolkit_commands::{Octets, Proactive};
+use toolkit_commands::Proactive;
+use uicc_types::Octets;
 
 /// What happened to an applet.
 #[derive(Debug, Drop)]

@@ -1,8 +1,8 @@
-pub mod Alike
-pub mod Lengths
-pub mod Places
-pub mod Sound
-pub mod Together
-pub mod Told
-pub mod Traffic
-pub mod Worked
+pub mod IsSoundLemmas
+pub mod KeptCarriedLemmas
+pub mod KeptLemmas
+pub mod SetLemmas
+pub mod TaggedLemmas
+pub mod TellsLemmas
+pub mod TrafficLemmas
+mod worked

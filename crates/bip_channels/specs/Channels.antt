@@ -1,17 +1,17 @@
 -- The channels of the bearer independent protocol at the terminal (ETSI TS 102 223, 6.4.27 to 6.4.31), told by all their
 -- bytes since they were opened. The far end gives back the bytes that it is sent, in order.
 use Rattle.std.specs.Prelude.{ℕ, ◌+◌, ◌-◌, ◌≤◌, Bool, true, false, ◌&&◌, List, [], ◌∷◌, ◌++◌, length, take, drop, replicate, Option, Some, None, is_none, position, slice_index_or, slice_set, nat_le, ◌==◌, Result, Ok, Err, if◌then◌else◌}
-use Rattle.toolkit_commands.specs.comprehension_tlv.Model.{Object}
+use Rattle.comprehension_tlv.specs.Model.{Object}
 use Rattle.toolkit_commands.specs.Reading.{details_found}
 use Rattle.toolkit_commands.specs.declared.commands.Details.{Details}
 use Rattle.toolkit_commands.specs.declared.faults.ProactiveFault.{ProactiveFault}
+use Rattle.toolkit_commands.specs.Responses.{result_object}
 use Rattle.bip_channels.specs.declared.channels.TheConstants.{MOST_SIZE, MOST_OUTGOING}
 use Rattle.bip_channels.specs.declared.codes.TheConstants.{NONE_AVAILABLE, LINK_IS_DOWN, NOT_VALID, SIZE_NOT_AVAILABLE}
 use Rattle.bip_channels.specs.declared.commands.BipCommand.{BipCommand}
 use Rattle.bip_channels.specs.declared.commands.BipCommand.TheVariants.{OpenChannel, CloseChannel, ReceiveBytes, SendBytes, ChannelStatus}
 use Rattle.bip_channels.specs.Reading.{bip_of}
 use Rattle.bip_channels.specs.Replies.{status_object, count_object, performed, protocol_error, unable, opened, taken_bytes, or_none, misread, response, bytes_available, link_lost}
-use Rattle.toolkit_commands.specs.Responses.{result_object}
 use Rattle.bip_channels.specs.Rules.{is_available, fits, moved, received, is_short}
 
 -- An open channel: the size of its buffer, the bytes that are kept for later, all bytes that were sent, how many of these

@@ -1,7 +1,7 @@
 -- What the card gave to a channel and got from it since it was opened.
 use Rattle.std.specs.Prelude.{◌≡◌, ℕ, Bool, true, false, List, [], ◌∷◌, ◌++◌, take, unwrap_or, ◌==◌, if◌then◌else◌}
-use Rattle.toolkit_commands.specs.comprehension_tlv.Model.{Object}
-use Rattle.toolkit_commands.specs.comprehension_tlv.Reading.{first_value}
+use Rattle.comprehension_tlv.specs.Model.{Object}
+use Rattle.comprehension_tlv.specs.Reading.{first_value}
 use Rattle.toolkit_commands.specs.declared.results.TheConstants.{PERFORMED}
 use Rattle.bip_channels.specs.declared.codes.TheConstants.{CHANNEL_DATA}
 use Rattle.bip_channels.specs.Channels.{BipChannel, IsSound, new_channel, unless_dropped, sending, receiving, echoing}

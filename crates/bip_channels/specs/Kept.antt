@@ -2,7 +2,7 @@
 -- those that came back, those on their way to the far end, and those that are kept for later.
 use Rattle.std.specs.Prelude.{◌≡◌, ℕ, ◌+◌, ◌-◌, ◌≤◌, Bool, true, false, List, [], ◌∷◌, ◌++◌, length, take, drop, map, Option, Some, None, position, slice_index_or, slice_set, ◌==◌, if◌then◌else◌}
 use Rattle.circular_buffer.specs.Buffer.{Buffer}
-use Rattle.toolkit_commands.specs.comprehension_tlv.Model.{Object}
+use Rattle.comprehension_tlv.specs.Model.{Object}
 use Rattle.bip_channels.specs.declared.channels.Link.{Link}
 use Rattle.bip_channels.specs.declared.channels.Link.TheVariants.{Closed, Up, Dropped}
 use Rattle.bip_channels.specs.declared.channels.TheConstants.{MOST_SIZE, MOST_OUTGOING, RING}

@@ -6,5 +6,3 @@ pub mod Reading
 pub mod Replies
 pub mod Rules
 pub mod Traffic
-pub use Rattle.toolkit_commands.specs.comprehension_tlv
-pub use Rattle.toolkit_commands.specs as toolkit_commands

@@ -1,8 +1,9 @@
 -- What the terminal tells the card: terminal responses (ETSI TS 102 223, 6.8) and envelopes of events (7.5).
 use Rattle.std.specs.Prelude.{ℕ, ◌+◌, Bool, true, false, List, [], ◌∷◌, if◌then◌else◌}
 use Rattle.std.specs.Int.{to_be_bytes, w16}
-use Rattle.toolkit_commands.specs.comprehension_tlv.Model.{Object}
-use Rattle.toolkit_commands.specs.comprehension_tlv.Writing.{tagged, spellings}
+use Rattle.uicc_types.specs.declared.events.TheConstants.{DATA_AVAILABLE, CHANNEL_STATUS as STATUS_EVENT}
+use Rattle.comprehension_tlv.specs.Model.{Object}
+use Rattle.comprehension_tlv.specs.Writing.{tagged, spellings}
 use Rattle.toolkit_commands.specs.Table.{required}
 use Rattle.toolkit_commands.specs.Responses.{result_object}
 use Rattle.toolkit_commands.specs.declared.commands.Details.{Details}
@@ -11,7 +12,6 @@ use Rattle.toolkit_commands.specs.declared.faults.ProactiveFault.{ProactiveFault
 use Rattle.toolkit_commands.specs.declared.faults.ProactiveFault.TheVariants.{Tlv, Missing, UnknownType, BadData}
 use Rattle.toolkit_commands.specs.declared.results.TheConstants.{PERFORMED, UNABLE_TO_PROCESS, TYPE_NOT_UNDERSTOOD, DATA_NOT_UNDERSTOOD, VALUES_MISSING}
 use Rattle.toolkit_commands.specs.declared.tags.TheConstants.{EVENT_DOWNLOAD, COMMAND_DETAILS, DEVICE_IDENTITIES, RESULT, EVENT_LIST}
-use Rattle.toolkit_commands.specs.uicc_types.declared.events.TheConstants.{DATA_AVAILABLE, CHANNEL_STATUS as STATUS_EVENT}
 use Rattle.bip_channels.specs.Rules.{in_a_byte}
 use Rattle.bip_channels.specs.declared.codes.TheConstants.{BEARER_DESCRIPTION, CHANNEL_DATA, CHANNEL_DATA_LENGTH, CHANNEL_STATUS, BUFFER_SIZE, DEFAULT_BEARER, PARTLY_PERFORMED, PROTOCOL_ERROR, LINK_UP, NOTHING_MORE, LINK_DROPPED}
 

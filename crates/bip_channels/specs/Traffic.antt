@@ -1,7 +1,7 @@
 -- What the card gave to each channel of the terminal and got from it since it was opened, whatever happened to the terminal.
 -- Channel 1 stands at place 0.
 use Rattle.std.specs.Prelude.{ℕ, ◌-◌, List, [], ◌∷◌, ◌++◌, Option, Some, None, slice_index_or, Result, Ok, Err, ◌==◌, if◌then◌else◌}
-use Rattle.toolkit_commands.specs.comprehension_tlv.Model.{Object}
+use Rattle.comprehension_tlv.specs.Model.{Object}
 use Rattle.toolkit_commands.specs.declared.commands.Details.{Details}
 use Rattle.toolkit_commands.specs.declared.faults.ProactiveFault.{ProactiveFault}
 use Rattle.bip_channels.specs.declared.commands.BipCommand.{BipCommand}

@@ -7,7 +7,7 @@ ghost use Rattle.bip_channels.specs.Rules.{fits, moved};
 use circular_buffer::HeapCircularBuffer;
 use std::alloc::Global;
 use std::marker::Model;
-use toolkit_commands::OutOfMemory;
+use uicc_types::OutOfMemory;
 
 /// The largest buffer that a channel can be opened with.
 pub const MOST_SIZE: usize = 1500;

@@ -1,5 +1,5 @@
 //! What the card can ask of the terminal's channels.
-use toolkit_commands::Octets;
+use uicc_types::Octets;
 
 /// A proactive command of the bearer independent protocol.
 #[derive(Debug, Drop)]

@@ -5,16 +5,18 @@ ghost use Rattle.toolkit_commands.specs.Values.{one_byte, two_bytes, three_bytes
 ghost use Rattle.bip_channels.specs.Commands.{IsNumber, IsProper};
 ghost use Rattle.bip_channels.specs.Reading.{channel_of, is_default_bearer, opening_in, closing_in, receiving_in, sending_in, status_in, command_in, command_of, bip_of};
 
-use crate::BipCommand;
 use crate::codes::{
     AT_ONCE, BEARER_DESCRIPTION, BUFFER_SIZE, CHANNEL_DATA, CHANNEL_DATA_LENGTH, CHANNEL_DEVICES,
     CLOSE_CHANNEL, DEFAULT_BEARER, GET_CHANNEL_STATUS, OPEN_CHANNEL, RECEIVE_DATA, SEND_DATA,
     SEND_NOW,
 };
+use crate::commands::BipCommand;
+use comprehension_tlv::{find, read_template};
 use toolkit_commands::devices::{CARD, TERMINAL};
 use toolkit_commands::qualifiers::NONE;
 use toolkit_commands::tags::{COMMAND_DETAILS, DEVICE_IDENTITIES, PROACTIVE_COMMAND};
-use toolkit_commands::{Details, Octets, ProactiveFault, find, read_template};
+use toolkit_commands::{Details, ProactiveFault};
+use uicc_types::Octets;
 
 /// The list of objects in the template of a command.
 #[tactic(auto, unfolding(toolkit_commands::specs::Steps::template_in))]

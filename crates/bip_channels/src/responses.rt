@@ -1,6 +1,6 @@
 //! The objects of responses and of events, with the comprehension flag.
 ghost use Rattle.std.specs.Prelude.{◌≡◌, ◌+◌, ◌≤◌, ◌<◌, ◌++◌, ◌∷◌, [], length};
-ghost use Rattle.toolkit_commands.specs.comprehension_tlv.Writing.{spellings, tagged};
+ghost use Rattle.comprehension_tlv.specs.Writing.{spellings, tagged};
 ghost use Rattle.toolkit_commands.specs.Table.{required};
 ghost use Rattle.toolkit_commands.specs.Responses.{result_object};
 ghost use Rattle.bip_channels.specs.Replies.{heading, from_terminal, status_object, count_object, protocol_error, unable, opened, misread, no_channel, bytes_available, link_lost};
@@ -9,18 +9,20 @@ use crate::codes::{
     BEARER_DESCRIPTION, BUFFER_SIZE, CHANNEL_DATA, CHANNEL_DATA_LENGTH, CHANNEL_STATUS,
     DEFAULT_BEARER, LINK_DROPPED, LINK_UP, NOTHING_MORE, PROTOCOL_ERROR,
 };
+use comprehension_tlv::TlvWriter;
 use toolkit_commands::devices::{CARD, TERMINAL};
-use toolkit_commands::events::{CHANNEL_STATUS as STATUS_EVENT, DATA_AVAILABLE};
 use toolkit_commands::results::{
     DATA_NOT_UNDERSTOOD, PERFORMED, TYPE_NOT_UNDERSTOOD, UNABLE_TO_PROCESS, VALUES_MISSING,
 };
 use toolkit_commands::tags::{
     COMMAND_DETAILS, DEVICE_IDENTITIES, EVENT_DOWNLOAD, EVENT_LIST, RESULT,
 };
-use toolkit_commands::{Details, Full, Octets, ProactiveFault, TlvWriter};
+use toolkit_commands::{Details, ProactiveFault};
+use uicc_types::events::{CHANNEL_STATUS as STATUS_EVENT, DATA_AVAILABLE};
+use uicc_types::{Full, Octets};
 
 /// Adds an object of less than 128 bytes.
-#[tactic(auto, using(toolkit_commands::proofs::Sizes::short_tagged))]
+#[tactic(auto, using(toolkit_commands::proofs::LengthsOfCommandsLemmas::short_tagged))]
 pub fn put(objects: &mut TlvWriter, tag: u16, value: &[u8])
     requires low { 1 ≤ tag }
     requires high { tag ≤ 126 }
@@ -36,7 +38,7 @@ pub fn put(objects: &mut TlvWriter, tag: u16, value: &[u8])
 }
 
 /// Adds the bytes of a channel.
-#[tactic(auto, using(toolkit_commands::proofs::Sizes::long_tagged))]
+#[tactic(auto, using(toolkit_commands::proofs::LengthsOfCommandsLemmas::long_tagged))]
 pub fn put_bytes(objects: &mut TlvWriter, bytes: &[u8])
     requires short { length bytes.now < 256 }
     requires room { length objects.old + length bytes.now + 3 ≤ 255 }
@@ -164,7 +166,7 @@ fn event(code: u8) -> TlvWriter
 }
 
 /// ENVELOPE (EVENT DOWNLOAD) of less than 128 bytes.
-#[tactic(auto, using(toolkit_commands::proofs::Sizes::short_tagged))]
+#[tactic(auto, using(toolkit_commands::proofs::LengthsOfCommandsLemmas::short_tagged))]
 fn enveloped(objects: TlvWriter) -> Octets
     requires { length objects ≤ 100 }
     ensures { result ≡ tagged EVENT_DOWNLOAD objects }

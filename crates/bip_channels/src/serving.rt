@@ -1,6 +1,6 @@
 //! What a command does to one channel, and what the terminal then replies.
 ghost use Rattle.std.specs.Prelude.{◌≡◌, ◌+◌, ◌≤◌, ◌++◌, length, true, if◌then◌else◌};
-ghost use Rattle.toolkit_commands.specs.comprehension_tlv.Writing.{spellings};
+ghost use Rattle.comprehension_tlv.specs.Writing.{spellings};
 ghost use Rattle.bip_channels.specs.Channels.{Outcome, Noted};
 ghost use Rattle.bip_channels.specs.Kept.{kept_closing, if_up, kept_receiving, kept_taking, kept_sending, kept_accepting, if_up_noted, kept_echoing, kept_coming, kept_dropping};
 ghost use Rattle.bip_channels.specs.Replies.{taken_bytes};
@@ -11,8 +11,9 @@ use crate::codes::{LINK_IS_DOWN, NOT_VALID, PARTLY_PERFORMED};
 use crate::responses::{
     bytes_available, link_lost, put_bytes, put_count, put_error, put_result, put_unable,
 };
+use comprehension_tlv::TlvWriter;
 use toolkit_commands::results::PERFORMED;
-use toolkit_commands::{Octets, TlvWriter};
+use uicc_types::Octets;
 
 /// CLOSE CHANNEL.
 pub fn close(channel: &mut Channel, objects: &mut TlvWriter)

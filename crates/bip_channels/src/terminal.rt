@@ -1,24 +1,27 @@
 //! All channels of the terminal.
 ghost use Rattle.std.specs.Prelude.{◌≡◌, ◌+◌, ◌*◌, ◌≤◌, ◌<◌, [], ◌∷◌, ◌++◌, List, Option, length, position, IfOk, IfSome};
-ghost use Rattle.toolkit_commands.specs.comprehension_tlv.Writing.{spellings};
+ghost use Rattle.comprehension_tlv.specs.Writing.{spellings};
 ghost use Rattle.toolkit_commands.specs.Reading.{details_found};
+ghost use Rattle.toolkit_commands.specs.Responses.{result_object};
 ghost use Rattle.bip_channels.specs.Commands.{IsProper};
 ghost use Rattle.bip_channels.specs.Channels.{BipChannel, none_open, answered, echoed, cut};
 ghost use Rattle.bip_channels.specs.Kept.{IsKept, is_closed, listed, kept_statuses, kept_opening, kept_carried, kept_echoed, kept_cut};
 ghost use Rattle.bip_channels.specs.Replies.{performed, or_none, response, misread};
-ghost use Rattle.toolkit_commands.specs.Responses.{result_object};
 
 use crate::channels::{Channel, Link, MOST_SIZE};
 use crate::codes::{NONE_AVAILABLE, SIZE_NOT_AVAILABLE};
+use crate::commands::BipCommand;
+use crate::reading::read_bip;
 use crate::responses::{
     headed, misread, put_error, put_no_channel, put_opened, put_result, put_status,
 };
 use crate::serving::{close, cut, echo, receive, send};
-use crate::{BipCommand, read_bip};
+use comprehension_tlv::TlvWriter;
 use std::alloc::Global;
 use std::marker::Model;
 use toolkit_commands::results::PERFORMED;
-use toolkit_commands::{Details, Octets, OutOfMemory, ProactiveFault, TlvWriter, found_details};
+use toolkit_commands::{Details, ProactiveFault, found_details};
+use uicc_types::{Octets, OutOfMemory};
 
 /// How many channels there can be.
 const CHANNELS: usize = 7;
@@ -42,7 +45,7 @@ impl Model for Bip {
 }
 
 /// The place of the first channel that isn't open.
-#[tactic(auto, using(crate::proofs::Places::found_below))]
+#[tactic(auto, using(crate::proofs::SetLemmas::found_below))]
 fn first_closed(channels: &[Channel]) -> Option<usize>
     ensures value { result ≡ position is_closed channels.now }
     ensures below { IfSome result (λ place. place < length channels.now) }

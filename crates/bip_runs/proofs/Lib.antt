@@ -1,5 +1,5 @@
-pub mod ScriptLaws
-mod Lines
-mod Putting
-pub mod Readings
-mod Worked
+pub mod IsLineLemmas
+mod IsServingLemmas
+pub mod ScriptsLemmas
+mod TakesFrontLemmas
+mod worked

@@ -1,12 +1,12 @@
 -- What a line of the script is for a terminal: one row a line.
 use Rattle.std.specs.Prelude.{List, [], ◌∷◌}
+use Rattle.script_form.specs.declared.lines.ScriptLine.{ScriptLine}
+use Rattle.script_form.specs.declared.lines.ScriptLine.TheVariants.{Passed, Start, Reset, Df, Transparent, Linear, Cyclic, Fill, Rec, Pin, Row, Apdu, Cut, Fail, ReadFail, Handset, Cmd, Echo, Lose, Tpdu}
 use Rattle.bip_channels.specs.Traffic.{Occurrence, Commands, Echoes, Cuts}
 use Rattle.bip_runs.specs.declared.effects.Effect.{Effect}
 use Rattle.bip_runs.specs.declared.effects.Effect.TheVariants.{Nothing, Starts, Happens, OutOfPlace}
 use Rattle.bip_runs.specs.declared.effects.Happening.{Happening}
 use Rattle.bip_runs.specs.declared.effects.Happening.TheVariants as happening
-use Rattle.script_form.specs.declared.lines.ScriptLine.{ScriptLine}
-use Rattle.script_form.specs.declared.lines.ScriptLine.TheVariants.{Passed, Start, Reset, Df, Transparent, Linear, Cyclic, Fill, Rec, Pin, Row, Apdu, Cut, Fail, ReadFail, Handset, Cmd, Echo, Lose, Tpdu}
 
 -- it does nothing, it is `start`, this happens, or it may stand nowhere
 pub data Part : Type 0 where

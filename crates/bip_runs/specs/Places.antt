@@ -1,9 +1,9 @@
 -- Where lines may stand: up to `start`, or behind it.
 use Rattle.std.specs.Prelude.{List, [], ◌∷◌, Option, Some, None, option_and_then}
+use Rattle.script_form.specs.declared.lines.ScriptLine.{ScriptLine}
 use Rattle.bip_runs.specs.Parts.{Part, Blank, Begins, Does, Foreign, part_of}
 use Rattle.bip_runs.specs.declared.effects.Place.{Place}
 use Rattle.bip_runs.specs.declared.effects.Place.TheVariants.{Before, Behind}
-use Rattle.script_form.specs.declared.lines.ScriptLine.{ScriptLine}
 
 -- where the script goes on behind a part, if it may stand here: up to the first `start` that alone, and then what happens
 abbrev pub step : Place → Part → Option Place

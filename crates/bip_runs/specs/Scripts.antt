@@ -1,12 +1,12 @@
 -- Which scripts are carried out to their end, and behind which lines the others stop.
 use Rattle.std.specs.Prelude.{◌≡◌, ℕ, List, ◌++◌, Some}
+use Rattle.byte_streams.specs.Lines.{LineList, lines}
+use Rattle.script_form.specs.declared.lines.ScriptLine.{ScriptLine}
+use Rattle.script_reader.specs.Said.{Say}
 use Rattle.bip_runs.specs.Places.{moved_by}
 use Rattle.bip_runs.specs.Serving.{IsBadAt}
 use Rattle.bip_runs.specs.declared.effects.Place.{Place}
 use Rattle.bip_runs.specs.declared.effects.Place.TheVariants.{Before, Behind}
-use Rattle.script_form.specs.byte_streams.Lines.{LineList, lines}
-use Rattle.card_sections.specs.Script.{Say}
-use Rattle.script_form.specs.declared.lines.ScriptLine.{ScriptLine}
 
 -- these lines say this, each in its place, and the script goes on here
 pub record AreInPlace (found : LineList) (said : List ScriptLine) (place : Place) : Type 0 where

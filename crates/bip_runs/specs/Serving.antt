@@ -1,6 +1,17 @@
 -- Where the run of a terminal stands between two lines of its script, and how it ends.
 use Rattle.std.specs.Io.KnownBytes.{append_known}
 use Rattle.std.specs.Prelude.{◌≡◌, ℕ, List, [], ◌∷◌, ◌++◌, Option, Some, None, Result, Ok, Err}
+use Rattle.uicc_types.specs.Told.{Becomes}
+use Rattle.byte_streams.specs.Lines.{LineList, lines}
+use Rattle.byte_streams.specs.Reading.{IsTextCutShort, IsReadOut}
+use Rattle.byte_streams.specs.Streams.{TakesFront}
+use Rattle.script_form.specs.Forms.{IsLine}
+use Rattle.script_form.specs.declared.lines.ScriptLine.{ScriptLine}
+use Rattle.script_reader.specs.Reading.{Finds, Follows, GoesOn}
+use Rattle.script_reader.specs.Said.{AreRead}
+use Rattle.script_reader.specs.declared.behind.PlayEnd.{PlayEnd}
+use Rattle.script_reader.specs.declared.behind.PlayEnd.TheVariants.{Finished, BadLine, ReadFailed, SinkFailed, ResetFailed}
+use Rattle.script_reader.specs.declared.reader.ScriptReader.{ScriptReader}
 use Rattle.bip_channels.specs.Channels.{BipChannel}
 use Rattle.bip_channels.specs.History.{Tells}
 use Rattle.bip_channels.specs.Kept.{Held, IsKept}
@@ -9,17 +20,6 @@ use Rattle.bip_runs.specs.Places.{moved, moved_by}
 use Rattle.bip_runs.specs.Traces.{history, lines_of, shown, text_of, trace_of}
 use Rattle.bip_runs.specs.declared.effects.Place.{Place}
 use Rattle.bip_runs.specs.declared.effects.Place.TheVariants.{Before, Behind}
-use Rattle.script_form.specs.byte_streams.Lines.{LineList, lines}
-use Rattle.script_form.specs.byte_streams.Reading.{IsTextCutShort, IsReadOut}
-use Rattle.script_form.specs.byte_streams.Streams.{TakesFront}
-use Rattle.card_sections.specs.Reading.{Finds, Follows, GoesOn}
-use Rattle.card_sections.specs.Script.{AreRead}
-use Rattle.card_sections.specs.declared.behind.PlayEnd.{PlayEnd}
-use Rattle.card_sections.specs.declared.behind.PlayEnd.TheVariants.{Finished, BadLine, ReadFailed, SinkFailed, ResetFailed}
-use Rattle.card_sections.specs.declared.script_reader.ScriptReader.{ScriptReader}
-use Rattle.script_form.specs.Forms.{IsLine}
-use Rattle.script_form.specs.declared.lines.ScriptLine.{ScriptLine}
-use Rattle.script_form.specs.uicc_types.Told.{Becomes}
 
 -- these lines of the text were read, each with one reading alone and in its place, and the script goes on here
 pub record AreReadInPlace (found : LineList) (said : List ScriptLine) (place : Place) : Type 0 where

@@ -2,13 +2,13 @@
 -- their bytes.
 use Rattle.std.specs.List.{flat_map}
 use Rattle.std.specs.Prelude.{ℕ, List, [], ◌∷◌, ◌++◌, reverse, Option, Some, None}
-use Rattle.bip_channels.specs.Channels.{BipChannel, answered, echoed, cut}
-use Rattle.bip_channels.specs.Traffic.{Occurrence, Commands, Echoes, Cuts, channels_after}
-use Rattle.bip_runs.specs.Parts.{occurrences_of}
 use Rattle.script_form.specs.Traces.{trace_text}
 use Rattle.script_form.specs.declared.lines.ScriptLine.{ScriptLine}
 use Rattle.script_form.specs.declared.trace.TraceLine.{TraceLine}
 use Rattle.script_form.specs.declared.trace.TraceLine.TheVariants.{Command, Response, Event}
+use Rattle.bip_channels.specs.Channels.{BipChannel, answered, echoed, cut}
+use Rattle.bip_channels.specs.Traffic.{Occurrence, Commands, Echoes, Cuts, channels_after}
+use Rattle.bip_runs.specs.Parts.{occurrences_of}
 
 -- a command and its response
 abbrev pub command_lines : List ℕ → List ℕ → List TraceLine

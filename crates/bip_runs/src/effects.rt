@@ -2,7 +2,8 @@
 ghost use Rattle.std.specs.Prelude.{◌≡◌};
 ghost use Rattle.bip_runs.specs.Parts.{part_for, part_of};
 
-use script_form::{Octets, ScriptLine};
+use script_form::ScriptLine;
+use uicc_types::Octets;
 
 /// What happens to the terminal.
 #[derive(Clone, Copy, Debug)]

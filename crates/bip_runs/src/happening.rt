@@ -1,16 +1,18 @@
 //! What happens to the terminal, and what is shown of it.
 ghost use Rattle.std.specs.Prelude.{◌≡◌, ◌∷◌, List, IsErr, OnOk, is_some};
+ghost use Rattle.uicc_types.specs.Counts.{CountsFailure};
+ghost use Rattle.script_form.specs.Traces.{IsPut};
 ghost use Rattle.bip_channels.specs.Channels.{BipChannel, answered};
 ghost use Rattle.bip_channels.specs.Kept.{IsKept};
 ghost use Rattle.bip_channels.specs.Traffic.{Occurrence, channels_after};
 ghost use Rattle.bip_runs.specs.Parts.{occurrence_for};
 ghost use Rattle.bip_runs.specs.Traces.{command_lines, event_lines, lines_of, text_of};
-ghost use Rattle.script_form.specs.Traces.{IsPut};
-ghost use Rattle.script_form.specs.uicc_types.Counts.{CountsFailure};
 
 use crate::effects::Happening;
 use bip_channels::Bip;
-use script_form::{Failed, Octets, Sink, TraceLine, write_command, write_trace};
+use byte_streams::{Failed, Sink};
+use script_form::{TraceLine, write_command, write_trace};
+use uicc_types::Octets;
 
 /// Has this happen to the terminal, and writes what is shown of it. A command is written before it is carried out.
 pub fn happen<W: Sink>(what: Happening<'_>, bip: &mut Bip, trace: &mut W) -> Result<(), Failed>

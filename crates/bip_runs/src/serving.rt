@@ -1,20 +1,22 @@
 //! The lines of a script, read one by one, each carried out as soon as its end was read.
 ghost use Rattle.std.specs.Prelude.{◌≡◌, ◌≢◌, ◌<◌, ◌+◌, List, ℕ, Ok, Err, Option, OnOk, OnErr, Some, IfOk, is_some};
+ghost use Rattle.uicc_types.specs.Counts.{CountsFailure};
+ghost use Rattle.byte_streams.specs.Lines.{LineList};
+ghost use Rattle.byte_streams.specs.Reading.{IsTaken, IsWithin};
+ghost use Rattle.byte_streams.specs.declared.limits.TheConstants.{MOST_BYTES};
+ghost use Rattle.script_reader.specs.Reading.{Follows, reading, room_of};
 ghost use Rattle.bip_channels.specs.Channels.{none_open};
 ghost use Rattle.bip_channels.specs.Kept.{IsKept};
 ghost use Rattle.bip_runs.specs.Serving.{BipComesTo, GivesLine, GivesServed, IsServing};
-ghost use Rattle.script_form.specs.byte_streams.Lines.{LineList};
-ghost use Rattle.script_form.specs.byte_streams.Reading.{IsTaken, IsWithin};
-ghost use Rattle.script_form.specs.byte_streams.declared.limits.TheConstants.{MOST_BYTES};
-ghost use Rattle.card_sections.specs.Reading.{Follows, reading, room_of};
-ghost use Rattle.script_form.specs.uicc_types.Counts.{CountsFailure};
 
 use crate::effects::{Effect, Place, effect_of};
 use crate::happening::happen;
 use bip_channels::{Bip, each_channel_tells};
-use card_sections::{PlayEnd, ScriptReader, end_for};
-use script_form::{Failed, OutOfMemory, ScriptLine, Sink, Source};
+use byte_streams::{Failed, Sink, Source};
+use script_form::ScriptLine;
+use script_reader::{PlayEnd, ScriptReader, end_for};
 use std::alloc::Global;
+use uicc_types::OutOfMemory;
 
 /// Has a new terminal carry out a script: `start`, and behind it proactive commands and what the network does. Shows each command,
 /// each response and each event, and answers why the run ends. It takes all memory before the script is read.

@@ -1,3 +1,3 @@
-mod CastLemmas
-pub mod PlacedRows
-pub mod HalfBytes
+mod CastsLemmas
+pub mod DigitsUpToLemmas
+pub mod RowFromLemmas

@@ -1,8 +1,8 @@
 -- The applets that the program gives a card.
 use Rattle.std.specs.Prelude.{ℕ, ◌+◌, ◌%◌, List, [], map, Option, Some}
 use Rattle.std.specs.List.{range_with_len}
+use Rattle.card_state.specs.declared.sizes.TheConstants.{ROW_COUNT}
 use Rattle.applet_trait.specs.Minds.{AppletState, fresh}
-use Rattle.card_layout.specs.declared.sizes.TheConstants.{ROW_COUNT}
 
 -- the one on a shelf: of the seven kinds in turn, kind 1 on shelf 0 and again on shelf 7; it keeps nothing yet
 abbrev pub applet_on : ℕ → Option AppletState

@@ -5,8 +5,8 @@ ghost use Rattle.applet_trait.specs.declared.numbers.TheConstants.{START};
 
 use applet_trait::Act;
 use applet_trait::numbers::{MOST_KEPT, START};
-use card_layout::ShortText;
-use toolkit_commands::{Items, Octets, Proactive, TimeValue};
+use toolkit_commands::{Items, Proactive, TimeValue};
+use uicc_types::{Octets, ShortText};
 
 /// Nothing more. Mostly that stands there already, and then no act is made.
 pub fn be_done(does: &mut Act)

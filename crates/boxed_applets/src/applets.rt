@@ -1,8 +1,14 @@
 //! One type for an applet of any kind.
 
-use crate::{Barrier, Clock, Greeter, Menu, Notebook, Table, Watcher};
+use crate::barriers::Barrier;
+use crate::clocks::Clock;
+use crate::greeters::Greeter;
+use crate::menus::Menu;
+use crate::notebooks::Notebook;
+use crate::tables::Table;
+use crate::watchers::Watcher;
 use applet_trait::{Act, Applet, Stimulus};
-use toolkit_commands::Kept;
+use uicc_types::Kept;
 
 /// An applet of one of the seven kinds. Its mind is that of the applet in it.
 #[derive(Drop)]

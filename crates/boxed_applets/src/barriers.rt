@@ -8,8 +8,8 @@ use crate::states::State;
 use applet_trait::numbers::{LAST_GOOD, MOST_DIGITS};
 use applet_trait::texts::ASK_FOR_DIGITS;
 use applet_trait::{Act, Applet, Stimulus};
-use toolkit_commands::Kept;
-use toolkit_commands::events::{CALL_CONTROL, MENU_SELECTION};
+use uicc_types::Kept;
+use uicc_types::events::{CALL_CONTROL, MENU_SELECTION};
 
 #[derive(Clone, Copy)]
 enum Phase {

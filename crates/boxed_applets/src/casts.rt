@@ -1,16 +1,23 @@
 //! Which applet stands on which shelf.
 ghost use Rattle.std.specs.Prelude.{◌≡◌, ◌%◌, ◌+◌, ◌++◌, [], ◌∷◌, length, map, option_map, IfOk, OnOk};
+ghost use Rattle.card_state.specs.declared.sizes.TheConstants.{ROW_COUNT};
 ghost use Rattle.applet_trait.specs.Minds.{fresh};
-ghost use Rattle.card_layout.specs.declared.sizes.TheConstants.{ROW_COUNT};
 ghost use Rattle.boxed_applets.specs.Casts.{applet_on, program_boxes};
 
-use crate::{Barrier, Clock, Greeter, Menu, Notebook, ProgramApplet, Table, Watcher};
+use crate::applets::ProgramApplet;
+use crate::barriers::Barrier;
+use crate::clocks::Clock;
+use crate::greeters::Greeter;
+use crate::menus::Menu;
+use crate::notebooks::Notebook;
+use crate::tables::Table;
+use crate::watchers::Watcher;
 use applet_trait::Applet;
-use card_layout::sizes::ROW_COUNT;
+use card_state::sizes::ROW_COUNT;
 use std::alloc::{AllocError, Global};
 
 /// An applet on each shelf. None keeps anything yet.
-#[tactic(auto, using(crate::proofs::CastLemmas::one_more))]
+#[tactic(auto, using(crate::proofs::CastsLemmas::one_more))]
 pub fn make_applets(alloc: Global) -> Result<Vec<Option<ProgramApplet>>, AllocError>
     ensures minds { IfOk result (λ cast. map (option_map ⟦<ProgramApplet as Applet>⟧.mind) cast.items ≡ program_boxes) }
     ensures shelves { IfOk result (λ cast. length cast.items ≡ ROW_COUNT) }

@@ -10,8 +10,9 @@ use crate::states::State;
 use applet_trait::numbers::MINUTES;
 use applet_trait::texts::TICK;
 use applet_trait::{Act, Applet, Stimulus};
-use toolkit_commands::events::{PROFILE_DOWNLOAD, TIMER_EXPIRATION};
-use toolkit_commands::{Kept, TimeValue};
+use toolkit_commands::TimeValue;
+use uicc_types::Kept;
+use uicc_types::events::{PROFILE_DOWNLOAD, TIMER_EXPIRATION};
 
 #[derive(Clone, Copy)]
 enum Phase {

@@ -6,8 +6,8 @@ use crate::acts::{be_done, show};
 use crate::states::State;
 use applet_trait::texts::GREETING;
 use applet_trait::{Act, Applet, Stimulus};
-use toolkit_commands::Kept;
-use toolkit_commands::events::PROFILE_DOWNLOAD;
+use uicc_types::Kept;
+use uicc_types::events::PROFILE_DOWNLOAD;
 
 #[derive(Clone, Copy)]
 enum Phase {

@@ -8,9 +8,9 @@ use crate::states::State;
 use applet_trait::numbers::{GENERAL_BEEP, LAST_GOOD, TEXT, TONE};
 use applet_trait::texts::{CHOICE_TITLE, TEXT_ITEM, TONE_ITEM};
 use applet_trait::{Act, Applet, Stimulus};
-use card_layout::ShortText;
-use toolkit_commands::events::MENU_SELECTION;
-use toolkit_commands::{Full, Item, Items, Kept};
+use toolkit_commands::{Item, Items};
+use uicc_types::events::MENU_SELECTION;
+use uicc_types::{Full, Kept, ShortText};
 
 #[derive(Clone, Copy)]
 enum Phase {

@@ -10,8 +10,8 @@ use crate::states::State;
 use applet_trait::numbers::{LAST_GOOD, LONGEST_NOTE};
 use applet_trait::texts::ASK_FOR_NOTE;
 use applet_trait::{Act, Applet, Stimulus};
-use toolkit_commands::Kept;
-use toolkit_commands::events::{MENU_SELECTION, PROFILE_DOWNLOAD};
+use uicc_types::Kept;
+use uicc_types::events::{MENU_SELECTION, PROFILE_DOWNLOAD};
 
 #[derive(Clone, Copy)]
 enum Phase {

@@ -3,7 +3,7 @@ ghost use Rattle.std.specs.Prelude.{◌≡◌, ◌≤◌, ◌<◌, ◌+◌, ◌+
 ghost use Rattle.applet_trait.specs.Tables.{halves, is_digit_half, address_digits, is_barred};
 ghost use Rattle.boxed_applets.specs.Numbers.{digit_of, digits_of, digits_up_to, has_two_digits};
 
-use toolkit_commands::ByteList;
+use uicc_types::ByteList;
 
 /// The digits of an address, two a byte.
 type Number = ByteList<508>;

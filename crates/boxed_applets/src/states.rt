@@ -3,7 +3,7 @@ ghost use Rattle.std.specs.Prelude.{◌≡◌, ◌≤◌, [], Some, None, length
 ghost use Rattle.applet_trait.specs.Minds.{kept_after};
 
 use applet_trait::{Act, Stimulus};
-use toolkit_commands::{Kept, Octets};
+use uicc_types::{Kept, Octets};
 
 /// Where an applet stands.
 #[derive(Drop)]

@@ -16,7 +16,7 @@ use applet_trait::actions::{
     TELL_INFORMATION,
 };
 use applet_trait::{Act, Applet, Stimulus};
-use toolkit_commands::Kept;
+use uicc_types::Kept;
 
 #[derive(Clone, Copy)]
 enum Phase {

@@ -1,8 +1,8 @@
 //! The applet that watches the handset.
 ghost use Rattle.std.specs.Prelude.{◌≡◌, ◌≤◌, [], length, option_copied};
+ghost use Rattle.toolkit_commands.specs.Envelopes.{value_in};
 ghost use Rattle.applet_trait.specs.Minds.{fresh};
 ghost use Rattle.applet_trait.specs.Tables.{located};
-ghost use Rattle.toolkit_commands.specs.Envelopes.{value_in};
 ghost use Rattle.boxed_applets.specs.Watchers.{watcher_mind};
 ghost use Rattle.boxed_applets.specs.Made.{made};
 
@@ -11,8 +11,9 @@ use crate::states::State;
 use applet_trait::numbers::{LOCATION_INFORMATION, MOST_KEPT};
 use applet_trait::texts::{ACTIVE, IDLE, LOST, MOVED};
 use applet_trait::{Act, Applet, Stimulus};
-use toolkit_commands::events::{IDLE_SCREEN, LOCATION_STATUS, USER_ACTIVITY};
-use toolkit_commands::{Kept, find};
+use comprehension_tlv::find;
+use uicc_types::Kept;
+use uicc_types::events::{IDLE_SCREEN, LOCATION_STATUS, USER_ACTIVITY};
 
 #[derive(Clone, Copy)]
 enum Phase {

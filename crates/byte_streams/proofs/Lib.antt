@@ -1,7 +1,7 @@
-pub mod BadLemmas
+pub mod BeginsBadLemmas
+pub mod IsWithinLemmas
 pub mod LineLemmas
-pub mod OutcomeLemmas
+pub mod NextLineLemmas
 pub mod ReadingLemmas
-pub mod TakenLemmas
 pub mod WindowLemmas
-pub mod WorkedLines
+mod worked

@@ -2,8 +2,8 @@
 use Rattle.std.proofs.Common.{◌≡◌, ◌==◌, true, slice_index, Option, Some, None, MatchOption, ℕ, ◌+◌, ◌-◌, ◌≤◌, List, ◌++◌, length, take, drop, get_or, slice_range, inl, inr, sym, ap, ◌∙◌, refl, arith, take-add}
 use Rattle.std.proofs.lemmas.List.{take_at, drop_at, take-append-le, drop-append-le, drop-take, drop-drop, length-take-le, length-drop, get_or-drop}
 use Rattle.std.proofs.lemmas.Bool.{cases_lt}
-use Rattle.byte_streams.specs.Search.{IsFirstEnd, NoEndBelow}
 use Rattle.memchr.specs.Find.{IsFirstByte, is_byte}
+use Rattle.byte_streams.specs.Search.{IsFirstEnd, NoEndBelow}
 use borrow.Rule.Slice.PartMut.{put_mid, post_of}
 
 pub grown : (xs ys : List ℕ) (start end k n : ℕ) → start ≤ end → end ≤ length xs → n ≤ length ys

@@ -2,8 +2,10 @@
 ghost use Rattle.std.specs.Prelude.{◌≡◌, ◌≤◌, ◌<◌, length, take};
 ghost use Rattle.std.specs.Str.Lines.{strip_carriage_return};
 
+use crate::limits::{LONGEST_LINE, MOST_BYTES};
+use crate::next_line::NextLine;
+use crate::streams::{Failed, Source};
 use crate::window::{Found, SIZE, Window};
-use crate::{Failed, LONGEST_LINE, MOST_BYTES, NextLine, Source};
 use std::marker::Model;
 
 /// Reads a text line by line from a source that hands it on in pieces of any size. A line ends with `0A`, or with the

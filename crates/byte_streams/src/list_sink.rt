@@ -7,7 +7,7 @@ ghost use Rattle.byte_streams.specs.Planned.{FailsNext, no_calls, with_call};
 ghost use Rattle.byte_streams.specs.Streams.{TakesFront};
 
 use crate::planned::is_planned;
-use crate::{Failed, Sink};
+use crate::streams::{Failed, Sink};
 use std::alloc::Global;
 use std::marker::Model;
 use uicc_types::OutOfMemory;

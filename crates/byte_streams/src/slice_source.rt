@@ -5,7 +5,7 @@ ghost use Rattle.uicc_types.specs.Counts.{CountsFailure};
 ghost use Rattle.byte_streams.specs.Planned.{FailsNext, no_calls, with_call};
 
 use crate::planned::is_planned;
-use crate::{Failed, Source};
+use crate::streams::{Failed, Source};
 use std::marker::Model;
 
 /// Hands on the bytes of a slice. Exactly those of its calls fail, counted from 1, whose numbers it was given; they take

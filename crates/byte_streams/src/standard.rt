@@ -2,7 +2,7 @@
 ghost use Rattle.std.specs.Prelude.{OnOk};
 ghost use Rattle.std.specs.Io.KnownBytes.{Appends};
 
-use crate::{Failed, Sink, Source};
+use crate::streams::{Failed, Sink, Source};
 use std::io;
 use std::io::{Read, Write};
 
@@ -30,8 +30,7 @@ impl<I: Read> InputSource<I> {
 impl<I: Read> Source for InputSource<I> {
     ghost use Rattle.std.specs.Prelude.{◌≡◌, ◌≤◌, None, length, if◌then◌else◌, is_err, IfOk, IsErr};
     ghost use Rattle.std.specs.Io.KnownBytes.{ReadConsumes};
-    ghost use Rattle.uicc_types.specs.Counts.{CountsFailure};
-    ghost use Rattle.uicc_types.specs.Counts.{raised};
+    ghost use Rattle.uicc_types.specs.Counts.{CountsFailure, raised};
     ghost use Rattle.byte_streams.specs.Standard.{reader_of, source_faults};
 
     ghost faults = { source_faults };
@@ -82,8 +81,7 @@ impl<O: Write> OutputSink<O> {
 impl<O: Write> Sink for OutputSink<O> {
     ghost use Rattle.std.specs.Prelude.{◌≡◌, None, if◌then◌else◌, is_err, IsErr, OnOk};
     ghost use Rattle.std.specs.Io.KnownBytes.{Appends};
-    ghost use Rattle.uicc_types.specs.Counts.{CountsFailure};
-    ghost use Rattle.uicc_types.specs.Counts.{raised};
+    ghost use Rattle.uicc_types.specs.Counts.{CountsFailure, raised};
     ghost use Rattle.byte_streams.specs.Standard.{sink_faults, writer_of};
 
     ghost faults = { sink_faults };

@@ -4,7 +4,8 @@ ghost use Rattle.std.specs.Io.KnownBytes.{prepend_known, IsAtEnd};
 ghost use Rattle.uicc_types.specs.Counts.{CountsFailure};
 ghost use Rattle.byte_streams.specs.Search.{Finds, IsFirstEnd, NoEndBelow, TakesMore};
 
-use crate::{Failed, LONGEST_LINE, Source};
+use crate::limits::LONGEST_LINE;
+use crate::streams::{Failed, Source};
 use memchr::memchr;
 use std::marker::Model;
 

@@ -1,19 +1,20 @@
 -- What the commands do over any store, be its bytes told or not, where nothing is due: by kinds, and as a whole.
 use Rattle.std.specs.Prelude.{◌≡◌, ◌⊎◌, ℕ, List, [], ◌∷◌, length, true, false, Option, Some, Result, Ok, Err, IsOk, OnOk, OnErr}
-use Rattle.file_model.specs.uicc_types.Counts.{raised_by}
-use Rattle.file_model.specs.uicc_types.declared.answers.Answer.{Answer}
-use Rattle.file_model.specs.uicc_types.declared.answers.StatusWord.{StatusWord}
-use Rattle.file_model.specs.store_form.declared.store.StoreFault.{StoreFault}
-use Rattle.file_model.specs.apdu_form.Model.{Apdu, command_in}
-use Rattle.file_model.specs.card_layout.Persistent.{Persistent}
-use Rattle.proactive_handler.specs.card_memory.Laws.{IsTold}
-use Rattle.proactive_handler.specs.card_memory.Performing.{CommitsAtMost}
+use Rattle.uicc_types.specs.Counts.{raised_by}
+use Rattle.uicc_types.specs.declared.answers.Answer.{Answer}
+use Rattle.uicc_types.specs.declared.answers.StatusWord.{StatusWord}
+use Rattle.apdu_form.specs.Model.{Apdu, command_in}
+use Rattle.store_form.specs.declared.store.StoreFault.{StoreFault}
+use Rattle.card_state.specs.Persistent.{Persistent}
+use Rattle.file_model.specs.Channels.{basic_channel_alone}
+use Rattle.card_commits.specs.Laws.{IsTold}
+use Rattle.card_commits.specs.Performing.{CommitsAtMost}
 use Rattle.toolkit_model.specs.Commands.{pending}
+use Rattle.proactive_handler.specs.Boxes.{kinds_of}
 use Rattle.card_model.specs.Answers.{Answered, settled, carried_out, tried, answer, told_pending}
 use Rattle.card_model.specs.Instructions.{instruction_tried, is_known, is_of_tree}
-use Rattle.card_model.specs.States.{CardState, basic_channel_alone}
+use Rattle.card_model.specs.States.{CardState}
 use Rattle.card_model.specs.declared.instructions.Instruction.{Instruction}
-use Rattle.proactive_handler.specs.Boxes.{kinds_of}
 use Rattle.card_core.specs.AnyStore.{BeginsAnew, command_named, IsRefusedWith, MayBe, AnswersAs, IsOfMemory, MayStand, AnswersStanding, LeavesMemory, NeedsNoContents, CommitsByTable, ReachesApplets, RefusesByTable, IsDenied, MovesStatus, MovesItsOwn, ActsAnew}
 use Rattle.card_core.specs.Cards.{card_with}
 use Rattle.card_core.specs.Commands.{by_instruction}

@@ -1,15 +1,13 @@
 -- What is said of a card over any store, be its bytes told or not.
 use Rattle.std.specs.Prelude.{◌≡◌, ◌≢◌, true, false, ℕ, List, [], Option, Some, None, unwrap_or, Result, Ok, Err}
-use Rattle.file_model.specs.uicc_types.declared.answers.Answer.{Answer}
-use Rattle.file_model.specs.uicc_types.declared.answers.StatusWord.{StatusWord}
-use Rattle.file_model.specs.uicc_types.declared.answers.TheConstants.StatusWord.{WRONG_LENGTH}
-use Rattle.file_model.specs.apdu_form.Model.{Apdu, command_in}
-use Rattle.file_model.specs.card_layout.declared.entries.Loaded.{Loaded}
-use Rattle.file_model.specs.card_layout.Persistent.{Persistent}
-use Rattle.file_model.specs.card_layout.Standing.{Stands}
-use Rattle.file_model.specs.card_layout.States.{pins_of, rows_of}
-use Rattle.proactive_handler.specs.card_memory.Laws.{IsTold}
-use Rattle.proactive_handler.specs.card_memory.Model.{HasRowOn}
+use Rattle.uicc_types.specs.declared.answers.Answer.{Answer}
+use Rattle.uicc_types.specs.declared.answers.StatusWord.{StatusWord}
+use Rattle.uicc_types.specs.declared.answers.TheConstants.StatusWord.{WRONG_LENGTH}
+use Rattle.apdu_form.specs.Model.{Apdu, command_in}
+use Rattle.card_state.specs.declared.entries.Loaded.{Loaded}
+use Rattle.card_state.specs.Persistent.{Persistent}
+use Rattle.card_state.specs.Standing.{Stands}
+use Rattle.card_state.specs.States.{pins_of, rows_of}
 use Rattle.file_model.specs.declared.commands.FileCommand.{FileCommand}
 use Rattle.file_model.specs.declared.commands.FileCommand.TheVariants.{Select, Status, Contents}
 use Rattle.file_model.specs.declared.descriptors.Descriptor.{Descriptor}
@@ -18,25 +16,27 @@ use Rattle.file_model.specs.declared.selections.TheConstants.Selection.{AT_START
 use Rattle.file_model.specs.Chains.{given}
 use Rattle.file_model.specs.Commands.{file_addressed, pin_outcome}
 use Rattle.file_model.specs.Files.{descriptors_of}
+use Rattle.file_model.specs.Channels.{channel_of, selected_on, basic_channel_alone}
+use Rattle.layout_mount.specs.Mounted.{HasRead}
+use Rattle.card_commits.specs.Laws.{IsTold}
+use Rattle.card_commits.specs.Entries.{HasRowOn}
 use Rattle.record_commands.specs.Tables.{HasOtherFiles}
-use Rattle.toolkit_model.specs.Commands.{pending}
-use Rattle.toolkit_model.specs.Model.{fresh_session}
+use Rattle.toolkit_model.specs.Commands.{pending, woken_boxes}
+use Rattle.toolkit_model.specs.Sessions.{fresh_session}
 use Rattle.toolkit_model.specs.Running.{mind_on}
+use Rattle.proactive_handler.specs.Boxes.{kinds_of}
 use Rattle.card_model.specs.Answers.{Answered, answer, told_pending}
-use Rattle.card_model.specs.Channels.{channel_of, selected_on}
 use Rattle.card_model.specs.Instructions.{instruction_tried, is_known, is_of_tree}
-use Rattle.card_model.specs.States.{CardState, basic_channel_alone, nothing_verified, woken_boxes}
+use Rattle.card_model.specs.States.{CardState, nothing_verified}
 use Rattle.card_model.specs.declared.instructions.Instruction.{Instruction}
 use Rattle.card_model.specs.declared.instructions.Instruction.TheVariants.{File, Pin, ManageChannel, Toolkit, Tree}
-use Rattle.card_model.specs.declared.instructions.ToolkitCommand.{ToolkitCommand}
-use Rattle.card_model.specs.declared.instructions.ToolkitCommand.TheVariants.{Fetch, InstallApplet, DeleteApplet}
+use Rattle.card_model.specs.declared.instructions.CatCommand.{CatCommand}
+use Rattle.card_model.specs.declared.instructions.CatCommand.TheVariants.{Fetch, InstallApplet, DeleteApplet}
+use Rattle.cat_commands.specs.Deleting.{LeavesUnregistered}
 use Rattle.card_core.specs.Commands.{KindsKept}
 use Rattle.card_core.specs.Cards.{boxes_kept}
 use Rattle.card_core.specs.Parts.{CardParts}
-use Rattle.card_opening.specs.Starts.{IsReadAgain}
-use Rattle.card_opening.specs.layout_mount.Mounted.{HasRead}
-use Rattle.proactive_handler.specs.Boxes.{kinds_of}
-use Rattle.session_commands.specs.Deleting.{LeavesUnregistered}
+use Rattle.card_core.specs.Starts.{IsReadAgain}
 
 -- The card begins anew: the basic channel alone is open, with the MF selected, no key is verified, and each registered applet
 -- woke in its box; the toolkit has nothing to remember. The box of an applet that was leaving is gone where its row is.
@@ -175,14 +175,14 @@ pub record MovesChannels (old new : CardParts) : Type 0 where
   pub boxes : new.boxes ≡ old.boxes
 
 -- on each shelf that had no row and has none the applet is as it was, unless it was to be installed
-abbrev pub LeavesOtherUnregistered : ToolkitCommand → Apdu → CardParts → CardParts → Type 0
+abbrev pub LeavesOtherUnregistered : CatCommand → Apdu → CardParts → CardParts → Type 0
 LeavesOtherUnregistered command apdu old new =
     (shelf : ℕ) → (command ≡ InstallApplet → shelf ≢ apdu.p2) → (HasRowOn old.table shelf → ⊥) → (HasRowOn new.table shelf → ⊥) → mind_on new.boxes shelf ≡ mind_on old.boxes shelf
 
 -- Of the table, the rows alone may be others, and the next sequence number where an applet is installed. No row goes but that of an
 -- applet that is deleted. On a shelf that had no row and has none the applet is as it was, unless it was to be installed. Boxes keep
 -- their kinds, but for that of a deleted applet, for which there is no row then.
-pub record MovesToolkit (command : ToolkitCommand) (apdu : Apdu) (old new : CardParts) : Type 0 where
+pub record MovesToolkit (command : CatCommand) (apdu : Apdu) (old new : CardParts) : Type 0 where
   pub table : new.table ≡ record old.table { rows = new.table.rows; next = new.table.next }
   pub next : (command ≡ InstallApplet → ⊥) → new.table.next ≡ old.table.next
   pub rows_stay : (other : ℕ) → (command ≡ DeleteApplet → other ≢ apdu.p2) → HasRowOn old.table other → HasRowOn new.table other

@@ -1,25 +1,26 @@
 -- What a card of the code stands for, and what always holds of it.
 use Rattle.std.specs.Prelude.{◌≡◌, ℕ, Bool, true, false, if◌then◌else◌, List, length, slice_set, All, Option, Some, None, is_none, option_map, IfSome, Result, OnOk, OnErr}
-use Rattle.toolkit_model.specs.applet_trait.declared.applets.Applet.{Ghosts as AppletWords}
-use Rattle.file_model.specs.store_form.declared.store.Store.{Ghosts as StoreWords}
-use Rattle.file_model.specs.store_form.declared.store.StoreFault.{StoreFault}
-use Rattle.toolkit_model.specs.applet_trait.Minds.{AppletState, minds_of}
-use Rattle.file_model.specs.card_layout.declared.entries.Loaded.{Loaded}
-use Rattle.file_model.specs.card_layout.Persistent.{Registration, Persistent}
-use Rattle.file_model.specs.card_layout.Places.{memory_size}
-use Rattle.file_model.specs.card_layout.Standing.{standing, Agrees}
-use Rattle.file_model.specs.card_layout.Memory.{Memory, IsMounted}
-use Rattle.file_model.specs.card_layout.States.{rows_of}
+use Rattle.uicc_types.specs.declared.identifiers.Shelf.{Shelf}
+use Rattle.store_form.specs.declared.store.Store.{Ghosts as StoreWords}
+use Rattle.store_form.specs.declared.store.StoreFault.{StoreFault}
+use Rattle.card_state.specs.declared.entries.Loaded.{Loaded}
+use Rattle.card_state.specs.Persistent.{Registration, Persistent}
+use Rattle.card_state.specs.Places.{memory_size}
+use Rattle.card_state.specs.Standing.{standing, Agrees}
+use Rattle.card_state.specs.Memory.{Memory, IsMounted}
+use Rattle.card_state.specs.States.{rows_of}
 use Rattle.file_model.specs.Files.{descriptors_of}
+use Rattle.file_model.specs.LawfulTrees.{AreSelected}
+use Rattle.applet_trait.specs.declared.applets.Applet.{Ghosts as AppletWords}
+use Rattle.applet_trait.specs.Minds.{AppletState, minds_of}
 use Rattle.toolkit_model.specs.Sessions.{SessionState}
 use Rattle.toolkit_model.specs.Passing.{ToolkitState}
 use Rattle.toolkit_model.specs.OrderlySessions.{IsInOrder}
-use Rattle.proactive_handler.specs.applet_registry.Indexes.{StandsFor}
-use Rattle.card_model.specs.States.{CardState, HasBox, IsGood, row_on, woken}
-use Rattle.file_model.specs.uicc_types.declared.identifiers.Shelf.{Shelf}
-use Rattle.card_opening.specs.Starts.{HoldsCard}
+use Rattle.toolkit_model.specs.Registry.{row_on}
+use Rattle.event_dispatch.specs.Indexes.{StandsFor}
+use Rattle.card_model.specs.States.{CardState, HasBox, IsGood, woken}
+use Rattle.card_core.specs.Starts.{HoldsCard}
 use Rattle.card_core.specs.Parts.{CardParts}
-use Rattle.file_making.specs.Lawful.{AreSelected}
 use Rattle.card_core.specs.declared.cards.CardOver.{CardOver}
 
 -- the parts of a card over any store, with boxes of any applets

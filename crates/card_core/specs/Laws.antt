@@ -1,9 +1,9 @@
 -- What holds of every table of a card.
 use Rattle.std.specs.Prelude.{ℕ, ◌<◌, List, All, Option}
-use Rattle.file_model.specs.card_layout.declared.entries.Loaded.{Loaded}
-use Rattle.file_model.specs.card_layout.Standing.{Agrees}
-use Rattle.file_model.specs.card_layout.States.{rows_of}
-use Rattle.file_model.specs.card_layout.Used.{HasOwnKeys}
+use Rattle.card_state.specs.declared.entries.Loaded.{Loaded}
+use Rattle.card_state.specs.Standing.{Agrees}
+use Rattle.card_state.specs.States.{rows_of}
+use Rattle.card_state.specs.Used.{HasOwnKeys}
 use Rattle.file_model.specs.Files.{descriptors_of}
 use Rattle.file_model.specs.Selections.{IsSelection}
 use Rattle.file_model.specs.declared.selections.TheConstants.Selection.{AT_START}

@@ -1,14 +1,14 @@
 -- How the calls of a card move it, over a store that tells its bytes; and what a command owes at a fault and without power.
 use Rattle.std.specs.Prelude.{◌≡◌, ◌≢◌, ◌⊎◌, ◌↔◌, ℕ, ◌+◌, ◌≤◌, List, [], ◌∷◌, slice_index_or, true, false, length, map, Contains, Option, Some, is_some, IfSome, IsSomeAnd, Result, Ok, Err, IsOk, OnOk, OnErr, IsErrOf}
-use Rattle.file_model.specs.uicc_types.Counts.{Caused, raised_by}
-use Rattle.file_model.specs.uicc_types.declared.answers.Answer.{Answer}
-use Rattle.file_model.specs.uicc_types.declared.answers.StatusWord.{StatusWord}
-use Rattle.file_model.specs.uicc_types.declared.answers.TheConstants.StatusWord.{MEMORY_PROBLEM}
-use Rattle.file_model.specs.store_form.declared.store.StoreFault.{StoreFault}
-use Rattle.file_model.specs.card_layout.Persistent.{Persistent}
-use Rattle.file_model.specs.card_layout.States.{rows_of}
-use Rattle.card_model.specs.States.{CardState}
+use Rattle.uicc_types.specs.Counts.{Caused, raised_by}
+use Rattle.uicc_types.specs.declared.answers.Answer.{Answer}
+use Rattle.uicc_types.specs.declared.answers.StatusWord.{StatusWord}
+use Rattle.uicc_types.specs.declared.answers.TheConstants.StatusWord.{MEMORY_PROBLEM}
+use Rattle.store_form.specs.declared.store.StoreFault.{StoreFault}
+use Rattle.card_state.specs.Persistent.{Persistent}
+use Rattle.card_state.specs.States.{rows_of}
 use Rattle.toolkit_model.specs.Commands.{polled}
+use Rattle.card_model.specs.States.{CardState}
 use Rattle.card_model.specs.Answers.{Answered, settled, on_toolkit, answer, passed}
 use Rattle.card_model.specs.Toolkit.{toolkit_of, coming_to}
 use Rattle.card_model.specs.Runs.{IsLeft}

@@ -1,12 +1,12 @@
 -- The card that is opened.
 use Rattle.std.specs.Prelude.{◌≡◌, ◌++◌, ◌-◌, true, false, List, length, replicate, Option, None, is_some, option_map}
-use Rattle.file_model.specs.uicc_types.Counts.{Caused}
-use Rattle.toolkit_model.specs.applet_trait.Minds.{AppletState}
-use Rattle.file_model.specs.card_layout.Memory.{Memory, held}
-use Rattle.file_model.specs.card_layout.Migration.{migrated}
-use Rattle.file_model.specs.card_layout.Persistent.{Persistent}
+use Rattle.uicc_types.specs.Counts.{Caused}
+use Rattle.card_state.specs.Memory.{Memory, held}
+use Rattle.card_state.specs.Migration.{migrated}
+use Rattle.card_state.specs.Persistent.{Persistent}
+use Rattle.applet_trait.specs.Minds.{AppletState}
 use Rattle.card_model.specs.States.{CardState, woken}
-use Rattle.card_opening.specs.Starts.{Opens}
+use Rattle.card_core.specs.Starts.{Opens}
 use Rattle.card_core.specs.Cards.{card_of, memory_of, IsCardReady}
 use Rattle.card_core.specs.Parts.{CardParts}
 

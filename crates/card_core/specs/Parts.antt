@@ -1,12 +1,12 @@
 -- What is seen of the parts of a card.
 use Rattle.std.specs.Prelude.{ℕ, Bool, List, Option}
-use Rattle.file_model.specs.uicc_types.Counts.{Meter}
-use Rattle.file_model.specs.uicc_types.declared.identifiers.Shelf.{Shelf}
-use Rattle.file_model.specs.declared.rules.Verified.{Verified}
-use Rattle.toolkit_model.specs.applet_trait.Minds.{AppletState}
-use Rattle.file_model.specs.card_layout.declared.entries.Loaded.{Loaded}
+use Rattle.uicc_types.specs.Counts.{Meter}
+use Rattle.uicc_types.specs.declared.identifiers.Shelf.{Shelf}
+use Rattle.card_state.specs.declared.entries.Loaded.{Loaded}
+use Rattle.access_rules.specs.declared.rules.Verified.{Verified}
 use Rattle.file_model.specs.declared.selections.Selection.{Selection}
-use Rattle.toolkit_model.specs.Model.{SessionState}
+use Rattle.applet_trait.specs.Minds.{AppletState}
+use Rattle.toolkit_model.specs.Sessions.{SessionState}
 
 -- Of its store: whether no recovery is due there, its size, its mark, the bytes that it tells, if it tells them, the counts of its
 -- device, and how often it was committed. Of the card itself: the table of entries, the index of its rows by events, what is selected

@@ -1,7 +1,7 @@
 -- The entries of rows that hold no applet.
 use Rattle.std.specs.Prelude.{◌≡◌, false}
-use Rattle.file_model.specs.card_layout.declared.entries.Row.{Row}
-use Rattle.file_model.specs.card_layout.Blank.{unused_row}
+use Rattle.card_state.specs.declared.entries.Row.{Row}
+use Rattle.card_state.specs.Blank.{unused_row}
 
 -- a row that is not used is the empty one
 abbrev pub IsUsedOrBlank : Row → Type 0

@@ -1,8 +1,8 @@
 -- Restarts and resets, over any store.
 use Rattle.std.specs.Prelude.{◌≡◌, true, false, is_some, Result, Err, OnOk, OnErr, IsErrOf}
-use Rattle.file_model.specs.uicc_types.Counts.{Caused}
-use Rattle.file_model.specs.store_form.Faults.{HasCause}
-use Rattle.file_model.specs.store_form.declared.store.StoreFault.{StoreFault}
+use Rattle.uicc_types.specs.Counts.{Caused}
+use Rattle.store_form.specs.Faults.{HasCause}
+use Rattle.store_form.specs.declared.store.StoreFault.{StoreFault}
 use Rattle.card_core.specs.AnyStore.{BeginsAnew}
 use Rattle.card_core.specs.Cards.{IsSet, IsRunning}
 use Rattle.card_core.specs.Parts.{CardParts}

@@ -1,32 +1,32 @@
 -- What the parts of a command do to a card's memory and boxes.
 use Rattle.std.specs.Prelude.{◌≡◌, ◌≢◌, ℕ, List, Option, None, Result, IsOk, OnOk, OnErr}
-use Rattle.file_model.specs.uicc_types.declared.answers.Answer.{Answer}
-use Rattle.file_model.specs.uicc_types.declared.answers.StatusWord.{StatusWord}
-use Rattle.file_model.specs.store_form.declared.store.StoreFault.{StoreFault}
-use Rattle.file_model.specs.apdu_form.Model.{Apdu}
-use Rattle.file_model.specs.declared.rules.Verified.{Verified}
-use Rattle.file_model.specs.card_layout.Memory.{Memory, Keeps}
-use Rattle.file_model.specs.card_layout.Persistent.{Persistent}
-use Rattle.file_model.specs.card_layout.Standing.{Agrees}
-use Rattle.file_model.specs.card_layout.States.{pins_of, rows_of}
-use Rattle.proactive_handler.specs.card_memory.Laws.{IsTold}
-use Rattle.proactive_handler.specs.card_memory.Model.{HasRowOn}
-use Rattle.card_model.specs.declared.instructions.Instruction.TheVariants.{File}
-use Rattle.card_model.specs.declared.instructions.ToolkitCommand.{ToolkitCommand}
-use Rattle.card_model.specs.declared.instructions.ToolkitCommand.TheVariants.{InstallApplet, DeleteApplet}
-use Rattle.file_admin.specs.Outcomes.{AnswersTree, CommitsTree}
-use Rattle.file_commands.specs.Targets.{IsAnswer, IsRefused}
-use Rattle.file_making.specs.Outcomes.{TreeOutcome}
+use Rattle.uicc_types.specs.declared.answers.Answer.{Answer}
+use Rattle.uicc_types.specs.declared.answers.StatusWord.{StatusWord}
+use Rattle.apdu_form.specs.Model.{Apdu}
+use Rattle.store_form.specs.declared.store.StoreFault.{StoreFault}
+use Rattle.card_state.specs.Memory.{Memory, Keeps}
+use Rattle.card_state.specs.Persistent.{Persistent}
+use Rattle.card_state.specs.Standing.{Agrees}
+use Rattle.card_state.specs.States.{pins_of, rows_of}
+use Rattle.access_rules.specs.declared.rules.Verified.{Verified}
+use Rattle.file_model.specs.TreeOutcomes.{TreeOutcome}
 use Rattle.file_model.specs.Access.{keys_seen}
 use Rattle.file_model.specs.Commands.{file_outcome}
 use Rattle.file_model.specs.declared.commands.FileCommand.{FileCommand}
 use Rattle.file_model.specs.declared.selections.Selection.{Selection}
 use Rattle.file_model.specs.Files.{descriptors_of}
 use Rattle.file_model.specs.Outcomes.{settled_file}
+use Rattle.card_commits.specs.Laws.{IsTold}
+use Rattle.card_commits.specs.Entries.{HasRowOn}
+use Rattle.binary_commands.specs.Targets.{IsAnswer, IsRefused}
+use Rattle.file_admin.specs.Outcomes.{AnswersTree, CommitsTree}
+use Rattle.event_dispatch.specs.Indexes.{StandsFor}
 use Rattle.proactive_handler.specs.Boxes.{kinds_of}
 use Rattle.proactive_handler.specs.Steps.{Scene}
-use Rattle.session_commands.specs.Deleting.{LeavesUnregistered}
-use Rattle.proactive_handler.specs.applet_registry.Indexes.{StandsFor}
+use Rattle.card_model.specs.declared.instructions.Instruction.TheVariants.{File}
+use Rattle.card_model.specs.declared.instructions.CatCommand.{CatCommand}
+use Rattle.card_model.specs.declared.instructions.CatCommand.TheVariants.{InstallApplet, DeleteApplet}
+use Rattle.cat_commands.specs.Deleting.{LeavesUnregistered}
 use Rattle.card_core.specs.AnyStore.{NeedsNoContents, RefusesFile}
 use Rattle.card_core.specs.Commands.{KindsKept}
 
@@ -47,7 +47,7 @@ pub record TellsOfTree (result : Result Unit StoreFault) (before after : Memory)
   pub commits : CommitsTree result before after old meaning
 
 -- What a command of the toolkit keeps, also where a fault stops it.
-pub record KeepsToolkit {X : Type 0} (command : ToolkitCommand) (apdu : Apdu) (old new : Scene) (result : Result X StoreFault) : Type 0 where
+pub record KeepsToolkit {X : Type 0} (command : CatCommand) (apdu : Apdu) (old new : Scene) (result : Result X StoreFault) : Type 0 where
   -- boxes keep their kinds, but for that of an applet that is deleted; after a fault each keeps its kind
   pub kinds : KindsKept command apdu new.memory.table old.minds new.minds
   pub boxes : OnErr result (kinds_of new.minds ≡ kinds_of old.minds)

@@ -1,10 +1,10 @@
 -- A card inside a command: what it is when a method begins, and how a method leaves it.
 use Rattle.std.specs.Prelude.{◌≡◌, true, false, is_some, Result, OnOk}
-use Rattle.file_model.specs.apdu_form.Model.{Apdu}
-use Rattle.card_model.specs.Channels.{channel_of, is_open}
-use Rattle.file_commands.specs.Commands.{IsSomeCommand}
-use Rattle.file_model.specs.store_form.Faults.{HasCause}
-use Rattle.file_model.specs.store_form.declared.store.StoreFault.{StoreFault}
+use Rattle.apdu_form.specs.Model.{Apdu}
+use Rattle.store_form.specs.Faults.{HasCause}
+use Rattle.store_form.specs.declared.store.StoreFault.{StoreFault}
+use Rattle.file_model.specs.Channels.{channel_of, is_open}
+use Rattle.binary_commands.specs.Commands.{IsSomeCommand}
 use Rattle.card_core.specs.Cards.{IsSet, IsRunning}
 use Rattle.card_core.specs.Parts.{CardParts}
 

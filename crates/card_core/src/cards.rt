@@ -1,13 +1,16 @@
 //! A card, and how it is given away.
 ghost use Rattle.std.specs.Prelude.{◌≡◌};
-ghost use Rattle.file_model.specs.uicc_types.Counts.{armed};
+ghost use Rattle.uicc_types.specs.Counts.{armed};
 
 use crate::registered::Registered;
-use applet_registry::Index;
-use file_model::{Loaded, Plan, Shelf, Store, Verified};
+use access_rules::Verified;
+use applet_trait::Applet;
+use card_state::Loaded;
+use event_dispatch::Index;
 use file_tree::Channels;
 use proactive_handler::Session;
-use toolkit_model::Applet;
+use store_form::Store;
+use uicc_types::{Plan, Shelf};
 
 /// A card over a store, with the boxes of its applets on their shelves. It takes no memory once it is opened.
 #[derive(Drop)]
@@ -36,8 +39,8 @@ pub struct CardOver<S: Store, B> {
 pub type Card<S> = CardOver<S, Box<dyn Applet>>;
 
 impl<S: Store, B: Applet> CardOver<S, B> {
+    ghost use Rattle.applet_trait.specs.Minds.{minds_of};
     ghost use Rattle.card_core.specs.Cards.{parts_of, card_of, IsCardReady};
-    ghost use Rattle.toolkit_model.specs.applet_trait.Minds.{minds_of};
 
     /// The store and the boxes, as they are: place s of the list has the box of shelf s.
     pub fn close(self) -> (S, Vec<Option<B>>)

@@ -1,15 +1,16 @@
 //! MANAGE CHANNEL (ETSI TS 102 221, 11.1.17).
 ghost use Rattle.std.specs.Prelude.{◌≡◌, ◌≢◌, ◌≤◌, List, true, Err, OnErr, unwrap_or};
 ghost use Rattle.file_model.specs.declared.selections.TheConstants.Selection.{AT_START};
-ghost use Rattle.card_model.specs.Channels.{channel_of, selected_on, is_open, is_le_of_number, channel_opened, channel_closed, channel_tried};
+ghost use Rattle.file_model.specs.Channels.{channel_of, selected_on, is_open, is_le_of_number, channel_opened, channel_closed, channel_tried};
 ghost use Rattle.file_model.specs.declared.descriptors.Descriptor.{Descriptor};
 ghost use Rattle.file_model.specs.Selections.{IsSelection};
-ghost use Rattle.file_making.specs.Lawful.{AreSelected};
+ghost use Rattle.file_model.specs.LawfulTrees.{AreSelected};
 ghost use Rattle.card_core.specs.Commands.{channels_managed};
 
+use apdu_form::Command;
 use file_admin::channel_of;
-use file_model::{Command, StatusWord};
 use file_tree::Channels;
+use uicc_types::StatusWord;
 
 // Le asks for one byte, or for all that there are.
 fn is_le_of_number(expected: Option<u16>) -> bool
@@ -61,7 +62,7 @@ fn close(channels: &mut Channels, command: &Command<'_>) -> Result<Option<u8>, S
 }
 
 /// P1 00 opens a channel from that of the command, and answers its number; P1 80 closes the one in P2, also that of the command.
-#[tactic(auto, unfolding(card_model::specs::Channels::channel_tried))]
+#[tactic(auto, unfolding(file_model::specs::Channels::channel_tried))]
 pub fn manage(channels: &mut Channels, command: &Command<'_>) -> Result<Option<u8>, StatusWord>
     requires open { is_open channels.old (channel_of command.now.class) ≡ true }
     ensures tried { channel_tried channels.old

@@ -1,50 +1,51 @@
 //! How a command is carried out.
 ghost use Rattle.std.specs.Prelude.{◌≡◌, [], true, Some, Ok, Err, IsOk, OnErr};
-ghost use Rattle.file_commands.specs.Commands.{IsSomeCommand, IsInPlace};
-ghost use Rattle.file_commands.specs.Ends.{EndsWell};
-ghost use Rattle.file_commands.specs.Targets.{IsRefused};
-ghost use Rattle.file_model.specs.card_layout.States.{pins_of};
+ghost use Rattle.apdu_form.specs.Model.{cut_to};
+ghost use Rattle.card_state.specs.States.{pins_of};
+ghost use Rattle.card_state.specs.Memory.{IsMounted, memory};
 ghost use Rattle.file_model.specs.Access.{keys_seen};
 ghost use Rattle.file_model.specs.Files.{descriptors_of};
 ghost use Rattle.file_model.specs.Outcomes.{settled_file};
-ghost use Rattle.card_model.specs.Answers.{settled, carried_out, carried_with, tried, answer, passed, told_pending};
-ghost use Rattle.file_model.specs.apdu_form.Model.{cut_to};
-ghost use Rattle.card_model.specs.Channels.{channel_of, is_open};
-ghost use Rattle.card_model.specs.Instructions.{instruction_tried, is_known};
+ghost use Rattle.file_model.specs.Channels.{channel_of, is_open};
 ghost use Rattle.file_model.specs.Commands.{contents_outcome, file_addressed, file_outcome};
-ghost use Rattle.card_core.specs.Commands.{tree_by, by_instruction};
-ghost use Rattle.file_admin.specs.Outcomes.{PerformsTree, IfNothingPasses, EndsTree};
-ghost use Rattle.file_making.specs.Lawful.{AreSelected};
-ghost use Rattle.card_core.specs.Serving.{TellsOfFiles, TellsOfTree};
-ghost use Rattle.proactive_handler.specs.card_memory.Performing.{Performs, StaysStill};
+ghost use Rattle.file_model.specs.LawfulTrees.{AreSelected};
+ghost use Rattle.card_commits.specs.Performing.{Performs, StaysStill};
+ghost use Rattle.binary_commands.specs.Commands.{IsSomeCommand, IsInPlace};
+ghost use Rattle.binary_commands.specs.Ends.{EndsWell};
+ghost use Rattle.binary_commands.specs.Targets.{IsRefused};
 ghost use Rattle.record_commands.specs.Tables.{KeepsOtherFiles};
-ghost use Rattle.file_model.specs.card_layout.Memory.{IsMounted, memory};
+ghost use Rattle.file_admin.specs.Outcomes.{PerformsTree, IfNothingPasses, EndsTree};
+ghost use Rattle.card_model.specs.Answers.{settled, carried_out, carried_with, tried, answer, passed, told_pending};
+ghost use Rattle.card_model.specs.Instructions.{instruction_tried, is_known};
+ghost use Rattle.card_core.specs.Commands.{tree_by, by_instruction};
+ghost use Rattle.card_core.specs.Serving.{TellsOfFiles, TellsOfTree};
 
-use crate::CardOver;
+use crate::cards::CardOver;
 use crate::channels::manage;
 use crate::instructions::instruction_of;
 use crate::keys::keys_seen;
 use crate::laws::{keys_are_own, tables_have_rows, the_mf_is_there};
 use crate::sessions::told_pending;
 use crate::toolkit::{by_toolkit, leaving};
+use access_rules::Verified;
+use apdu_form::{Command, WrongLength, read_command};
+use applet_trait::Applet;
+use binary_commands::{read_binary, select, status, update_binary};
+use card_commits::tables_tell_states;
 use card_laws::cards_go_on;
-use card_model::{Instruction, ToolkitCommand};
+use card_model::{CatCommand, Instruction};
+use card_state::{Loaded, states_are_of_entries};
+use cat_commands::poll;
 use file_admin::{channel_of, create_file, delete_file, resize_file};
-use file_commands::{read_binary, select, status, update_binary};
-use file_making::TreeCommand;
-use file_model::{
-    Answer, AnswerData, Command, ContentsCommand, FileCommand, Loaded, PinCommand, Selection,
-    StatusWord, Store, StoreFault, Verified, WrongLength, read_command, states_are_of_entries,
-};
+use file_model::{ContentsCommand, FileCommand, PinCommand, Selection, TreeCommand};
 use file_tree::Channels;
 use pin_rules::named_pin_command;
-use proactive_handler::tables_tell_states;
 use record_commands::{activate, deactivate, increase, read_record, search_record, update_record};
-use session_commands::poll;
-use toolkit_model::Applet;
+use store_form::{Store, StoreFault};
+use uicc_types::{Answer, AnswerData, StatusWord};
 
 // A command on what a file holds, which its access rule may forbid, over what is selected on its channel.
-#[tactic(auto, using(file_commands::proofs::ChainedLemmas::stays_still), unfolding(file_model::specs::Commands::contents_outcome, file_model::specs::Commands::file_addressed))]
+#[tactic(auto, using(binary_commands::proofs::GivesLemmas::stays_still), unfolding(file_model::specs::Commands::contents_outcome, file_model::specs::Commands::file_addressed))]
 fn on_contents<S: Store>(
     command: ContentsCommand,
     store: &mut S,
@@ -82,7 +83,7 @@ fn on_contents<S: Store>(
 }
 
 // A command on files, over what is selected on its channel. The keys are looked at where access is tested.
-#[tactic(auto, using(file_commands::proofs::ChainedLemmas::stays_still), unfolding(file_model::specs::Commands::file_outcome))]
+#[tactic(auto, using(binary_commands::proofs::GivesLemmas::stays_still), unfolding(file_model::specs::Commands::file_outcome))]
 fn on_files<S: Store>(
     command: FileCommand,
     store: &mut S,
@@ -122,7 +123,7 @@ fn on_files<S: Store>(
 
 // A command that makes, deletes or resizes a file, over what is selected on each channel. The keys are looked at where access is
 // tested.
-#[tactic(auto, unfolding(file_making::specs::Commands::tree_outcome))]
+#[tactic(auto, unfolding(file_model::specs::TreeCommands::tree_outcome))]
 fn on_tree<S: Store>(
     command: TreeCommand,
     store: &mut S,
@@ -324,7 +325,7 @@ impl<S: Store, B: Applet> CardOver<S, B> {
     // its box goes once its row is known to be gone.
     fn serve_toolkit(
         &mut self,
-        command: ToolkitCommand,
+        command: CatCommand,
         apdu: &Command<'_>,
         out: &mut Answer,
     ) -> Result<(), StoreFault>
@@ -367,7 +368,7 @@ impl<S: Store, B: Applet> CardOver<S, B> {
     // A command of the toolkit. One that a fault stops leaves the table as it was, whatever was committed.
     fn carry_out_by_toolkit(
         &mut self,
-        command: ToolkitCommand,
+        command: CatCommand,
         apdu: &Command<'_>,
         out: &mut Answer,
     ) -> Result<(), StoreFault>
@@ -387,7 +388,7 @@ impl<S: Store, B: Applet> CardOver<S, B> {
         cards_go_on();
         states_are_of_entries();
         // FETCH meets no fault.
-        if command == ToolkitCommand::Fetch {
+        if command == CatCommand::Fetch {
             return self.serve_toolkit(command, apdu, out);
         }
         self.before.note(&self.loaded);

@@ -1,22 +1,22 @@
 //! The table of instructions: how a command is told by its class and instruction bytes.
 ghost use Rattle.std.specs.Prelude.{◌≡◌, ◌≢◌, true, false, Err, Some, OnOk, option_map};
-ghost use Rattle.card_model.specs.Channels.{is_class, asks_secure_messaging, channel_of, is_open};
+ghost use Rattle.file_model.specs.Channels.{is_class, asks_secure_messaging, channel_of, is_open};
 ghost use Rattle.card_model.specs.Instructions.{instruction_tried, is_known, has_ins, row_named};
 
-use card_model::Instruction::{self, File, ManageChannel, Pin, Toolkit, Tree};
-use card_model::ToolkitCommand::{
+use card_model::CatCommand::{
     DeleteApplet, Envelope, Fetch, InstallApplet, TerminalProfile, TerminalResponse,
 };
+use card_model::Instruction::{self, File, ManageChannel, Pin, Toolkit, Tree};
 use file_admin::{channel_of, family, names_channel};
-use file_making::TreeCommand::{Create, Delete, Resize};
 use file_model::ContentsCommand::{
     Activate, Deactivate, Increase, ReadBinary, ReadRecord, SearchRecord, UpdateBinary,
     UpdateRecord,
 };
 use file_model::FileCommand::{Contents, Select, Status};
 use file_model::PinCommand::{Change, Disable, Enable, Unblock, Verify};
-use file_model::StatusWord;
+use file_model::TreeCommand::{Create, Delete, Resize};
 use file_tree::Channels;
+use uicc_types::StatusWord;
 
 /// A command by its class, without the channel; one that is basic is taken on the basic channel alone.
 #[derive(Clone, Copy, Debug)]

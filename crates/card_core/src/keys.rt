@@ -1,10 +1,11 @@
 //! The keys whose conditions are satisfied.
 ghost use Rattle.std.specs.Prelude.{◌≡◌, ◌&&◌, ◌||◌, ◌==◌, not};
-ghost use Rattle.file_model.specs.card_layout.States.{pins_of};
-ghost use Rattle.file_model.specs.card_layout.Used.{HasOwnKeys};
+ghost use Rattle.card_state.specs.States.{pins_of};
+ghost use Rattle.card_state.specs.Used.{HasOwnKeys};
 ghost use Rattle.file_model.specs.Access.{keys_seen};
 
-use file_model::{Loaded, PinSlot, Verified};
+use access_rules::Verified;
+use card_state::{Loaded, PinSlot};
 
 // Whether the condition of a slot's key is satisfied: there is a PIN, which is verified or disabled.
 fn is_met(slot: &PinSlot, is_verified: bool) -> bool

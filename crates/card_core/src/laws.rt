@@ -1,8 +1,9 @@
 //! What holds of every table of a card. The functions do nothing: each one's contract is the law.
 ghost use Rattle.card_core.specs.Laws.{TheMfIsThere, TablesHaveRows, KeysAreOwn};
 
+use card_state::{standing_is_sound, standing_keys_are_own};
 use file_model::files_are_found;
-use proactive_handler::{cards_are_known, standing_is_sound, standing_keys_are_own};
+use layout_laws::cards_are_known;
 
 /// In the table of each card the MF is there to be selected.
 pub fn the_mf_is_there()

@@ -1,28 +1,31 @@
 //! The opening of a card.
 ghost use Rattle.std.specs.Prelude.{◌≡◌, [], ◌∷◌, ◌++◌, ◌≤◌, true, length, take, replicate, None, OnOk, OnErr, IfOk, IfErr, IsErrOf};
-ghost use Rattle.file_model.specs.card_layout.declared.sizes.TheConstants.{ROW_COUNT};
-ghost use Rattle.file_model.specs.card_layout.Memory.{memory};
-ghost use Rattle.file_model.specs.card_layout.Places.{memory_size};
-ghost use Rattle.file_model.specs.card_layout.States.{rows_of};
-ghost use Rattle.card_model.specs.States.{woken_boxes};
-ghost use Rattle.toolkit_model.specs.applet_trait.Minds.{minds_of};
-ghost use Rattle.card_opening.specs.Starts.{Opens, Refuses, IsKept};
-ghost use Rattle.card_opening.specs.layout_mount.Mounted.{unread};
+ghost use Rattle.card_state.specs.declared.sizes.TheConstants.{ROW_COUNT};
+ghost use Rattle.card_state.specs.Memory.{memory};
+ghost use Rattle.card_state.specs.Places.{memory_size};
+ghost use Rattle.card_state.specs.States.{rows_of};
+ghost use Rattle.layout_mount.specs.Mounted.{unread};
+ghost use Rattle.applet_trait.specs.Minds.{minds_of};
+ghost use Rattle.toolkit_model.specs.Commands.{woken_boxes};
+ghost use Rattle.card_core.specs.Starts.{Opens, Refuses, IsKept};
 ghost use Rattle.card_core.specs.Openings.{with_all_shelves};
 
-use crate::CardOver;
+use crate::box_waking::wake_boxes;
+use crate::cards::CardOver;
 use crate::laws::{tables_have_rows, the_mf_is_there};
+use crate::opening_faults::OpenFault;
 use crate::registered::Registered;
 use crate::resetting::NOTHING_VERIFIED;
 use crate::sessions::fresh_session;
-use applet_registry::Index;
-use card_opening::{OpenFault, start, wake_boxes};
-use file_model::sizes::ROW_COUNT;
-use file_model::{Loaded, Store};
+use crate::starting::start;
+use applet_trait::Applet;
+use card_commits::tables_tell_states;
+use card_state::Loaded;
+use card_state::sizes::ROW_COUNT;
+use event_dispatch::Index;
 use file_tree::Channels;
-use proactive_handler::tables_tell_states;
 use std::alloc::Global;
-use toolkit_model::Applet;
+use store_form::Store;
 
 // Adds an empty shelf.
 fn add_shelf<B: Drop>(boxes: &mut Vec<Option<B>>) -> Result<(), OpenFault>

@@ -1,12 +1,13 @@
 //! What a table has of the applets, as it was before a command, to be put back where a fault stops that.
 ghost use Rattle.std.specs.Prelude.{◌≡◌, All, length, replicate};
-ghost use Rattle.file_model.specs.card_layout.declared.sizes.TheConstants.{ROW_COUNT};
-ghost use Rattle.file_model.specs.card_layout.Blank.{unused_row};
+ghost use Rattle.card_state.specs.declared.sizes.TheConstants.{ROW_COUNT};
+ghost use Rattle.card_state.specs.Blank.{unused_row};
 ghost use Rattle.card_core.specs.Registered.{IsUsedOrBlank};
 
-use file_model::sizes::ROW_COUNT;
-use file_model::{ByteList, Full, Loaded, Row};
+use card_state::sizes::ROW_COUNT;
+use card_state::{Loaded, Row};
 use std::array;
+use uicc_types::{ByteList, Full};
 
 /// The rows of a table and its next sequence number.
 #[derive(Drop)]

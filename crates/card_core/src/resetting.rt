@@ -1,22 +1,27 @@
 //! Resets, and what is due after a fault.
 ghost use Rattle.std.specs.Prelude.{◌≡◌, length, true, All, OnOk, OnErr, IfSome, option_map};
-ghost use Rattle.file_model.specs.card_layout.declared.sizes.TheConstants.{ROW_COUNT};
-ghost use Rattle.file_model.specs.card_layout.States.{rows_of};
-ghost use Rattle.card_model.specs.States.{HasBox, restarted, woken_boxes};
-ghost use Rattle.toolkit_model.specs.applet_trait.Minds.{minds_of};
-ghost use Rattle.card_opening.specs.Starts.{MayRestart, RestartsMemory};
+ghost use Rattle.card_state.specs.declared.sizes.TheConstants.{ROW_COUNT};
+ghost use Rattle.card_state.specs.States.{rows_of};
+ghost use Rattle.card_state.specs.Memory.{Reads, memory};
+ghost use Rattle.applet_trait.specs.Minds.{minds_of};
+ghost use Rattle.toolkit_model.specs.Commands.{woken_boxes};
+ghost use Rattle.card_model.specs.States.{HasBox, restarted};
+ghost use Rattle.card_core.specs.Starts.{MayRestart, RestartsMemory};
 ghost use Rattle.card_core.specs.Cards.{boxes_kept};
-ghost use Rattle.file_model.specs.card_layout.Memory.{Reads, memory};
 
+use crate::cards::CardOver;
+use crate::faults::ResetFault;
 use crate::laws::{tables_have_rows, the_mf_is_there};
 use crate::toolkit::drop_leaving;
-use crate::{CardOver, ResetFault};
-use applet_registry::Index;
+use access_rules::Verified;
+use applet_trait::Applet;
+use card_commits::tables_tell_states;
 use card_model::restarts_are_good;
-use file_model::{Loaded, Shelf, Store, StoreFault, Verified};
+use card_state::Loaded;
+use event_dispatch::Index;
 use file_tree::Channels;
-use proactive_handler::tables_tell_states;
-use toolkit_model::Applet;
+use store_form::{Store, StoreFault};
+use uicc_types::Shelf;
 
 /// No key is verified.
 pub(crate) const NOTHING_VERIFIED: Verified = Verified {
@@ -42,7 +47,7 @@ fn wake_again<S: Store, B: Applet>(
     ensures table { OnErr result (loaded.new ≡ loaded.old) }
     ensures reads { Reads (memory S.Store store.old loaded.old) (memory S.Store store.new loaded.new) result }
 {
-    match card_opening::restart(store, loaded, boxes) {
+    match crate::restarting::restart(store, loaded, boxes) {
         Ok(()) => {
             drop_leaving(loaded, boxes, leaving);
             Ok(())

@@ -1,12 +1,13 @@
 //! The toolkit's session of a card.
 ghost use Rattle.std.specs.Prelude.{◌≡◌, ◌≢◌, IfOk};
+ghost use Rattle.toolkit_model.specs.Sessions.{fresh_session};
 ghost use Rattle.card_model.specs.Answers.{told_pending};
-ghost use Rattle.toolkit_model.specs.Model.{fresh_session};
 
-use file_model::{OutOfMemory, StatusWord};
+use event_dispatch::{Late, Waiting};
 use frame_store::FrameStore;
-use proactive_handler::{Late, Session, Waiting};
+use proactive_handler::Session;
 use std::alloc::Global;
+use uicc_types::{OutOfMemory, StatusWord};
 
 /// A session as it is after a reset. All the memory that it ever needs is taken here.
 pub fn fresh_session(alloc: Global) -> Result<Session, OutOfMemory>

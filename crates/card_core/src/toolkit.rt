@@ -1,31 +1,35 @@
 //! The commands of the toolkit.
 ghost use Rattle.std.specs.Prelude.{◌≡◌, ◌≤◌, length, slice_set, None, IsOk, is_some};
-ghost use Rattle.file_model.specs.card_layout.Memory.{memory};
-ghost use Rattle.file_model.specs.card_layout.States.{pins_of, rows_of};
+ghost use Rattle.card_state.specs.Memory.{memory};
+ghost use Rattle.card_state.specs.States.{pins_of, rows_of};
 ghost use Rattle.file_model.specs.Access.{keys_seen};
-ghost use Rattle.toolkit_model.specs.applet_trait.Minds.{minds_of};
+ghost use Rattle.applet_trait.specs.Minds.{minds_of};
+ghost use Rattle.toolkit_model.specs.Registry.{row_on};
 ghost use Rattle.proactive_handler.specs.Steps.{scene};
-ghost use Rattle.card_model.specs.States.{row_on};
 ghost use Rattle.card_model.specs.Toolkit.{toolkit_outcome};
-ghost use Rattle.session_commands.specs.Bounds.{IsBetweenCommands, EndsToolkitWell};
-ghost use Rattle.session_commands.specs.Carrying.{CarriesOut};
+ghost use Rattle.cat_commands.specs.Bounds.{IsBetweenCommands, EndsToolkitWell};
+ghost use Rattle.cat_commands.specs.Carrying.{CarriesOut};
 ghost use Rattle.card_core.specs.Cards.{boxes_kept};
 ghost use Rattle.card_core.specs.Commands.{leaving_by};
 ghost use Rattle.card_core.specs.Serving.{KeepsToolkit};
 
 use crate::keys::keys_seen;
 use crate::laws::keys_are_own;
-use applet_registry::Index;
-use card_model::ToolkitCommand;
-use file_model::{Answer, Command, Loaded, Shelf, StatusWord, Store, StoreFault, Verified};
+use access_rules::Verified;
+use apdu_form::Command;
+use applet_trait::Applet;
+use card_model::CatCommand;
+use card_state::Loaded;
+use cat_commands::{delete, fetch, install, take_envelope, take_profile, take_response};
+use event_dispatch::Index;
 use proactive_handler::Session;
-use session_commands::{delete, fetch, install, take_envelope, take_profile, take_response};
-use toolkit_model::Applet;
+use store_form::{Store, StoreFault};
+use uicc_types::{Answer, Shelf, StatusWord};
 
 /// A command of the toolkit, over a card's memory and its boxes. The keys are looked at where one is needed.
 #[tactic(auto, unfolding(card_model::specs::Toolkit::toolkit_outcome))]
 pub(crate) fn by_toolkit<S: Store, B: Applet>(
-    command: ToolkitCommand,
+    command: CatCommand,
     store: &mut S,
     loaded: &mut Loaded,
     index: &mut Index,
@@ -42,7 +46,7 @@ pub(crate) fn by_toolkit<S: Store, B: Applet>(
         (λ card. toolkit_outcome command card (keys_seen (pins_of loaded.old) verified.now) apdu.now) out.new
         (scene (memory S.Store store.old loaded.old) index.old session.old (minds_of B.mind cast.old))
         (scene (memory S.Store store.new loaded.new) index.new session.new (minds_of B.mind cast.new)) result }
-    ensures done { command ≡ ToolkitCommand.Fetch → IsOk result }
+    ensures done { command ≡ CatCommand.Fetch → IsOk result }
     ensures keeps { KeepsToolkit command apdu.now
         (scene (memory S.Store store.old loaded.old) index.old session.old (minds_of B.mind cast.old))
         (scene (memory S.Store store.new loaded.new) index.new session.new (minds_of B.mind cast.new)) result }
@@ -52,19 +56,19 @@ pub(crate) fn by_toolkit<S: Store, B: Applet>(
     // This call is a law, and does nothing.
     keys_are_own();
     match command {
-        ToolkitCommand::TerminalProfile => {
+        CatCommand::TerminalProfile => {
             take_profile(store, loaded, index, cast, session, apdu, out)
         }
-        ToolkitCommand::Fetch => fetch(store, loaded, index, cast, session, apdu, out),
-        ToolkitCommand::TerminalResponse => {
+        CatCommand::Fetch => fetch(store, loaded, index, cast, session, apdu, out),
+        CatCommand::TerminalResponse => {
             take_response(store, loaded, index, cast, session, apdu, out)
         }
-        ToolkitCommand::Envelope => take_envelope(store, loaded, index, cast, session, apdu, out),
-        ToolkitCommand::InstallApplet => {
+        CatCommand::Envelope => take_envelope(store, loaded, index, cast, session, apdu, out),
+        CatCommand::InstallApplet => {
             let seen = keys_seen(loaded, verified);
             install(store, loaded, index, cast, session, &seen, apdu, out)
         }
-        ToolkitCommand::DeleteApplet => {
+        CatCommand::DeleteApplet => {
             let seen = keys_seen(loaded, verified);
             delete(store, loaded, index, cast, session, &seen, apdu, out)
         }
@@ -72,17 +76,17 @@ pub(crate) fn by_toolkit<S: Store, B: Applet>(
 }
 
 /// The shelf of the applet that leaves where a fault stops this command.
-pub(crate) fn leaving(command: ToolkitCommand, apdu: &Command<'_>) -> Option<Shelf>
+pub(crate) fn leaving(command: CatCommand, apdu: &Command<'_>) -> Option<Shelf>
     ensures { result ≡ leaving_by command apdu.now }
 {
     match command {
-        ToolkitCommand::DeleteApplet => Some(Shelf(apdu.p2)),
+        CatCommand::DeleteApplet => Some(Shelf(apdu.p2)),
         _ => None,
     }
 }
 
 // Whether an applet is registered on a shelf. That of an idle one may go exactly where it is there.
-#[tactic(auto, using(crate::proofs::Shelves::may_go_is))]
+#[tactic(auto, using(crate::proofs::RowOnLemmas::may_go_is))]
 fn has_row(loaded: &Loaded, shelf: Shelf) -> bool
     ensures { result ≡ is_some (row_on (rows_of loaded.now) shelf.0) }
 {
@@ -100,7 +104,7 @@ fn empty<B: Applet>(boxes: &mut [Option<B>], shelf: Shelf)
 }
 
 /// The box of an applet that was leaving is dropped, if the applet is registered no more.
-#[tactic(auto, using(crate::proofs::Boxes::dropped, crate::proofs::Boxes::not_dropped))]
+#[tactic(auto, using(crate::proofs::BoxesKeptLemmas::dropped, crate::proofs::BoxesKeptLemmas::not_dropped))]
 pub(crate) fn drop_leaving<B: Applet>(
     loaded: &Loaded,
     boxes: &mut [Option<B>],

@@ -1,11 +1,13 @@
 //! The way of a command.
 ghost use Rattle.std.specs.Prelude.{◌≡◌, [], true, false, Ok, Err, IsOk, OnOk, OnErr};
-ghost use Rattle.file_model.specs.uicc_types.Told.{AreBytes};
+ghost use Rattle.uicc_types.specs.Told.{AreBytes};
 
-use crate::{CardFault, CardOver};
+use crate::cards::CardOver;
+use crate::faults::CardFault;
+use applet_trait::Applet;
 use card_laws::cards_stay_good;
-use file_model::{Answer, StatusWord, Store, StoreFault};
-use toolkit_model::Applet;
+use store_form::{Store, StoreFault};
+use uicc_types::{Answer, StatusWord};
 
 // Does nothing. What a slice of bytes has are bytes.
 fn are_bytes(slice: &[u8])

@@ -1,49 +1,45 @@
-mod Lasting
-mod Determined
-mod Counted
-mod Files
-mod Pins
-mod Marks
-mod Trials
-mod Answers
-mod Steps
-mod WholeRuns
-mod Few
-mod Worked
-mod WorkedRuns
-mod PutAndRead
-mod Refused
-mod WorkedReading
-mod ObjectsRead
-mod FcpRead
-mod FcpTold
-mod Numbers
-mod Events
-mod EntriesRead
-mod WorkedSending
-mod Fitted
-mod Fixed
-mod SevenKinds
-mod Rows
-mod Taken
-pub mod Coming
-mod Waking
-mod Breaking
-pub mod Going
-mod Refusing
-mod Good
-mod Targets
-mod Runs
-pub mod Statuses
-mod Answering
-pub mod Held
-pub mod Naming
-mod Signals
-mod Noting
-mod Telling
-mod Stretching
-mod Bodies
-mod Carrying
-mod Acts
-mod Announcing
-mod Turning
+mod ActInTurnLemmas
+mod AfterActLemmas
+mod AllTriesLemmas
+mod AreEventsWantedLemmas
+mod AreOfSevenKindsLemmas
+mod BoxesLeftLemmas
+mod EventsInLemmas
+mod FaultsAreSeenLemmas
+mod FcpAreObjectsLemmas
+mod FcpTellFilesLemmas
+mod FetchingLemmas
+mod FittingLemmas
+pub mod GoesOnLemmas
+mod GuessLawsLemmas
+mod HaveFixedLemmas
+mod HaveSamePinsLemmas
+pub mod InsOfLemmas
+mod IsGoodLemmas
+mod IsLawfulWithAppletsLemmas
+pub mod IsStatusLemmas
+mod KeepsThroughoutLemmas
+pub mod LeavesUnansweredLemmas
+mod MarkedLemmas
+mod NotedLemmas
+mod NumberAfterLemmas
+mod ObjectsInLemmas
+mod PassedRowsLemmas
+mod PinOutcomeLemmas
+mod PowerLastsLemmas
+mod PresentsByLemmas
+mod ReadingLawsLemmas
+mod RefusalLawsLemmas
+mod RefusalsTakeNothingLemmas
+mod ResponsesToLemmas
+mod RunsAreOneLemmas
+mod RunsTargetsLemmas
+mod TakenLemmas
+mod TakingLemmas
+mod TellsTriesLemmas
+mod TellsWhatWaitsLemmas
+pub mod ToolkitOutcomeLemmas
+mod ToolkitWokenLemmas
+mod TracesLemmas
+mod WithPinLemmas
+mod worked

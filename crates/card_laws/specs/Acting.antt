@@ -1,13 +1,13 @@
 -- What is noted of turns is what the applets do.
 use Rattle.std.specs.Prelude.{◌≡◌, ◌⊎◌, ℕ, ◌+◌, ◌==◌, Bool, true, false, List, [], ◌∷◌, Option, Some, None, is_some, ⊤}
-use Rattle.file_model.specs.card_layout.Persistent.{Registration}
-use Rattle.toolkit_model.specs.toolkit_commands.declared.commands.Proactive.{Proactive}
-use Rattle.toolkit_model.specs.applet_trait.declared.stimuli.Stimulus.{Stimulus}
-use Rattle.toolkit_model.specs.applet_trait.declared.stimuli.Stimulus.TheVariants as Told
-use Rattle.toolkit_model.specs.applet_trait.declared.stimuli.Act.TheVariants as Acts
-use Rattle.toolkit_model.specs.applet_trait.Minds.{AppletState, fresh}
-use Rattle.toolkit_model.specs.applet_trait.Turns.{act}
-use Rattle.toolkit_model.specs.Timers.{Owners}
+use Rattle.card_state.specs.Persistent.{Registration}
+use Rattle.toolkit_commands.specs.declared.commands.Proactive.{Proactive}
+use Rattle.timer_table.specs.Timers.{Owners}
+use Rattle.applet_trait.specs.declared.stimuli.Stimulus.{Stimulus}
+use Rattle.applet_trait.specs.declared.stimuli.Stimulus.TheVariants as Told
+use Rattle.applet_trait.specs.declared.stimuli.Act.TheVariants as Acts
+use Rattle.applet_trait.specs.Minds.{AppletState, fresh}
+use Rattle.applet_trait.specs.Turns.{act}
 use Rattle.toolkit_model.specs.Commands.{with_profile, registering, unregistering, toolkit_woken}
 use Rattle.toolkit_model.specs.Passing.{ToolkitState, ShelfTurn, Happening, Turned, Committed}
 use Rattle.toolkit_model.specs.Running.{Setting, Works, Carried, admitted, awakened, carried, kept_on, most_acts, begins_call, mind_on, with_mind}

@@ -1,7 +1,7 @@
 -- What the status of an answer tells of the command that there is to fetch (ETSI TS 102 221, 7.4.2.1).
 use Rattle.std.specs.Prelude.{◌≡◌, ℕ, ◌+◌, ◌≤◌, Bool, true, List, Some, None}
-use Rattle.update_journal.specs.uicc_types.Told.{AreBytes}
-use Rattle.update_journal.specs.uicc_types.declared.answers.TheConstants.StatusWord.{DONE}
+use Rattle.uicc_types.specs.Told.{AreBytes}
+use Rattle.uicc_types.specs.declared.answers.TheConstants.StatusWord.{DONE}
 use Rattle.toolkit_model.specs.Commands.{pending}
 use Rattle.card_model.specs.Answers.{Answered, answer_of}
 use Rattle.card_model.specs.Instructions.{has_toolkit}

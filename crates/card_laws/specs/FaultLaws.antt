@@ -1,13 +1,13 @@
 -- What holds of each run of a card that begins with power.
 use Rattle.std.specs.Prelude.{◌≡◌, true, List}
+use Rattle.uicc_types.specs.Counts.{Meter}
+use Rattle.uicc_types.specs.declared.plans.Plan.{Plan}
+use Rattle.uicc_types.specs.declared.runs.Step.{Step}
+use Rattle.uicc_types.specs.declared.runs.TraceItem.{TraceItem}
 use Rattle.card_model.specs.Counts.{IsCounted}
 use Rattle.card_model.specs.Runs.{IsRun}
 use Rattle.card_model.specs.States.{Machine}
 use Rattle.card_laws.specs.Faults.{CountsNoFault, ShowsNoCut, ShowsNoFailure, ShowsNoFault, ShowsNoOff}
-use Rattle.update_journal.specs.uicc_types.Counts.{Meter}
-use Rattle.update_journal.specs.uicc_types.declared.plans.Plan.{Plan}
-use Rattle.update_journal.specs.uicc_types.declared.runs.Step.{Step}
-use Rattle.update_journal.specs.uicc_types.declared.runs.TraceItem.{TraceItem}
 
 -- Where no loss of power is seen, each command finds power, and the card has it at the end.
 abbrev pub PowerLasts : Type 0

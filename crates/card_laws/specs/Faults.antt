@@ -1,9 +1,9 @@
 -- What the trace of a run shows of faults, and what the device of the memory counts of them.
 use Rattle.std.specs.Prelude.{◌≡◌, Bool, true, false, List, All}
+use Rattle.uicc_types.specs.Counts.{Meter, Rose}
+use Rattle.uicc_types.specs.declared.runs.TraceItem.{TraceItem}
+use Rattle.uicc_types.specs.declared.runs.TraceItem.TheVariants as item
 use Rattle.card_model.specs.Counts.{is_cut, is_failure}
-use Rattle.update_journal.specs.uicc_types.Counts.{Meter, Rose}
-use Rattle.update_journal.specs.uicc_types.declared.runs.TraceItem.{TraceItem}
-use Rattle.update_journal.specs.uicc_types.declared.runs.TraceItem.TheVariants as item
 
 -- a command found no power
 abbrev pub is_off : TraceItem → Bool

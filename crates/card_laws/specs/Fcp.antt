@@ -2,8 +2,8 @@
 -- TS 102 221, 11.1.1.3).
 use Rattle.std.specs.Prelude.{ℕ, zero, suc, ◌*◌, ◌==◌, if◌then◌else◌, List, [], ◌∷◌, ◌++◌, length, map, Option, Some, None, option_map, option_and_then}
 use Rattle.std.specs.Int.{to_be_bytes, w16}
-use Rattle.file_model.specs.Reading.{part_in}
-use Rattle.file_model.specs.card_layout.Persistent.{Pin}
+use Rattle.card_state.specs.Persistent.{Pin}
+use Rattle.access_rules.specs.Reading.{part_in}
 use Rattle.file_model.specs.Fcp.{enabled_bits, kind_bytes}
 use Rattle.file_model.specs.Files.{is_df}
 use Rattle.file_model.specs.declared.descriptors.Descriptor.{Descriptor}

@@ -1,8 +1,8 @@
 -- What SELECT and STATUS answer is read back, object by object, and tells what the file is (ETSI TS 102 221, 11.1.1.3 and 11.1.1.4).
 use Rattle.std.specs.Prelude.{◌≡◌, ℕ, ◌^◌, ◌<◌, ◌≤◌, List, ◌∷◌, length, Contains, Option, Some, IfSome, Ok}
-use Rattle.file_model.specs.apdu_form.Model.{Apdu, cut_to}
-use Rattle.file_model.specs.card_layout.Persistent.{File, Persistent, Pin}
-use Rattle.file_model.specs.card_layout.Soundness.{IsSound}
+use Rattle.apdu_form.specs.Model.{Apdu, cut_to}
+use Rattle.card_state.specs.Persistent.{File, Persistent, Pin}
+use Rattle.card_state.specs.Soundness.{IsSound}
 use Rattle.file_model.specs.Fcp.{fcp}
 use Rattle.file_model.specs.Files.{descriptor_in, descriptors_in, file_found}
 use Rattle.file_model.specs.Laws.{IsSoundCard}

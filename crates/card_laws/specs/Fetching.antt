@@ -1,7 +1,7 @@
 -- What a card that runs applets answers to FETCH (ETSI TS 102 221, 11.2.3).
 use Rattle.std.specs.Prelude.{◌≡◌, ◌≤◌, ℕ, Bool, true, List, length, Some}
-use Rattle.update_journal.specs.uicc_types.Told.{AreBytes}
-use Rattle.update_journal.specs.uicc_types.declared.answers.TheConstants.StatusWord.{DONE}
+use Rattle.uicc_types.specs.Told.{AreBytes}
+use Rattle.uicc_types.specs.declared.answers.TheConstants.StatusWord.{DONE}
 use Rattle.toolkit_model.specs.Commands.{unfetched, unanswered, as_fetched, command_bytes}
 use Rattle.toolkit_model.specs.Sessions.{Outstanding}
 use Rattle.toolkit_model.specs.Steps.{Fetch}

@@ -1,10 +1,10 @@
 -- Of what the memory of a card stands for, some numbers fit into the bytes that they are written in, which no check tests: identifiers, the
 -- record of a rule, the next sequence number; and a PIN has its eight.
 use Rattle.std.specs.Prelude.{◌≡◌, ℕ, ◌<◌, ◌^◌, List, length, All, IfSome, Ok}
-use Rattle.file_model.specs.card_layout.Persistent.{File, Persistent, Pin}
-use Rattle.file_model.specs.card_layout.Places.{memory_size}
-use Rattle.file_model.specs.card_layout.Standing.{stands_for}
-use Rattle.update_journal.specs.uicc_types.Told.{AreBytes}
+use Rattle.uicc_types.specs.Told.{AreBytes}
+use Rattle.card_state.specs.Persistent.{File, Persistent, Pin}
+use Rattle.card_state.specs.Places.{memory_size}
+use Rattle.card_state.specs.Standing.{stands_for}
 
 -- an identifier of two bytes; of the record that rules the access, two for its file and one for its number (ETSI TS 102 221, 11.1.1.4)
 pub record FitsFile (file : File) : Type 0 where

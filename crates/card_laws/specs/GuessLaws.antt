@@ -1,9 +1,10 @@
 -- Guesses are bounded, whatever power is lost and whatever memory fails in a run.
 use Rattle.std.specs.Prelude.{◌≡◌, ℕ, ◌+◌, ◌≤◌, true, false, List, Some, IsSomeAnd}
 use Rattle.std.specs.List.{list_any}
-use Rattle.update_journal.specs.uicc_types.declared.runs.Step.{Step}
-use Rattle.update_journal.specs.uicc_types.declared.runs.TraceItem.{TraceItem}
-use Rattle.file_model.specs.card_layout.Persistent.{Pin, Persistent}
+use Rattle.uicc_types.specs.declared.runs.Step.{Step}
+use Rattle.uicc_types.specs.declared.runs.TraceItem.{TraceItem}
+use Rattle.card_state.specs.Persistent.{Pin, Persistent}
+use Rattle.access_rules.specs.Conditions.{is_satisfied}
 use Rattle.file_model.specs.Guards.{Guard, OfPin, OfUnblock}
 use Rattle.file_model.specs.Laws.{EachStep}
 use Rattle.file_model.specs.Outcomes.{last_of}
@@ -13,7 +14,6 @@ use Rattle.card_model.specs.Runs.{IsRun}
 use Rattle.card_model.specs.States.{CardState, Machine, IsGood}
 use Rattle.card_laws.specs.Commits.{commits_in}
 use Rattle.card_laws.specs.Guesses.{presents, tells_tries, guesses, tries_of, IsOneLess, all_tries, presents_right}
-use Rattle.file_model.specs.Conditions.{is_satisfied}
 
 -- Where a value that a command presents is answered `63CX`, the guard of its key has one try less than before, and X is the number
 -- that is left.

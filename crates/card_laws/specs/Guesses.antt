@@ -1,14 +1,14 @@
 -- What a guess of a PIN or an UNBLOCK PIN is (ETSI TS 102 221, 9.5): a value that was presented, and that the card told to be wrong.
 use Rattle.std.specs.Prelude.{◌≡◌, ℕ, ◌+◌, ◌/◌, ◌==◌, ◌||◌, ◌&&◌, Bool, false, if◌then◌else◌, List, [], ◌∷◌, Option, Some, None}
 use Rattle.std.specs.Str.{bytes_eq}
-use Rattle.update_journal.specs.uicc_types.declared.answers.StatusWord.{StatusWord}
-use Rattle.update_journal.specs.uicc_types.declared.runs.Step.{Step}
-use Rattle.update_journal.specs.uicc_types.declared.runs.Step.TheVariants as step
-use Rattle.update_journal.specs.uicc_types.declared.runs.TraceItem.{TraceItem}
-use Rattle.update_journal.specs.uicc_types.declared.runs.TraceItem.TheVariants as item
-use Rattle.file_model.specs.apdu_form.Model.{Apdu, command_in}
-use Rattle.file_model.specs.card_layout.declared.sizes.TheConstants.{TRIES, UNBLOCK_TRIES}
-use Rattle.file_model.specs.card_layout.Persistent.{Pin}
+use Rattle.uicc_types.specs.declared.answers.StatusWord.{StatusWord}
+use Rattle.uicc_types.specs.declared.runs.Step.{Step}
+use Rattle.uicc_types.specs.declared.runs.Step.TheVariants as step
+use Rattle.uicc_types.specs.declared.runs.TraceItem.{TraceItem}
+use Rattle.uicc_types.specs.declared.runs.TraceItem.TheVariants as item
+use Rattle.apdu_form.specs.Model.{Apdu, command_in}
+use Rattle.card_state.specs.declared.sizes.TheConstants.{TRIES, UNBLOCK_TRIES}
+use Rattle.card_state.specs.Persistent.{Pin}
 use Rattle.file_model.specs.Guards.{Guard, OfPin, OfUnblock, tries_by, TakesATry}
 use Rattle.file_model.specs.Outcomes.{has_data}
 use Rattle.file_model.specs.Pins.{pin_found, value_presented, tries_left}

@@ -1,9 +1,9 @@
 -- What happens to a card in a run.
 use Rattle.std.proofs.Common.{inl, inr}
 use Rattle.std.specs.Prelude.{ℕ, Bool, true, false, List, [], ◌∷◌, ◌++◌, MatchBool}
-use Rattle.update_journal.specs.uicc_types.declared.runs.Step.{Step}
-use Rattle.update_journal.specs.uicc_types.declared.runs.Step.TheVariants as step
-use Rattle.update_journal.specs.uicc_types.declared.runs.TraceItem.{TraceItem}
+use Rattle.uicc_types.specs.declared.runs.Step.{Step}
+use Rattle.uicc_types.specs.declared.runs.Step.TheVariants as step
+use Rattle.uicc_types.specs.declared.runs.TraceItem.{TraceItem}
 use Rattle.toolkit_model.specs.Passing.{Passed}
 use Rattle.card_model.specs.Instructions.{is_known}
 use Rattle.card_model.specs.Runs.{Commands, MeetsNoPower, StepGives, IsRun}

@@ -1,9 +1,9 @@
 -- What a good card that runs applets answers, whatever it is sent.
 use Rattle.std.specs.Prelude.{◌≡◌, ◌⊎◌, ◌≤◌, ℕ, Bool, true, false, List, [], ◌∷◌, length, Contains, All, Some}
-use Rattle.update_journal.specs.uicc_types.Told.{AreBytes}
-use Rattle.update_journal.specs.uicc_types.declared.answers.StatusWord.{StatusWord}
-use Rattle.update_journal.specs.uicc_types.declared.answers.TheConstants.StatusWord.{WRONG_DATA, NO_ROOM, TOOLKIT_BUSY}
-use Rattle.file_model.specs.card_layout.Persistent.{Persistent}
+use Rattle.uicc_types.specs.Told.{AreBytes}
+use Rattle.uicc_types.specs.declared.answers.StatusWord.{StatusWord}
+use Rattle.uicc_types.specs.declared.answers.TheConstants.StatusWord.{WRONG_DATA, NO_ROOM, TOOLKIT_BUSY}
+use Rattle.card_state.specs.Persistent.{Persistent}
 use Rattle.file_model.specs.Laws.{EachStep, IsSoundCard}
 use Rattle.file_model.specs.Outcomes.{last_of}
 use Rattle.card_model.specs.Answers.{Answered, answer_of, is_carried_out, refusal}

@@ -10,7 +10,6 @@ pub mod Fitting
 pub mod GuessLaws
 pub mod Guesses
 pub mod Happened
-pub mod JournalLaws
 pub mod Lawful
 pub mod Moving
 pub mod Noted

@@ -1,11 +1,12 @@
 -- Which command of the toolkit a command to a card is, and how the card goes on by it.
 use Rattle.std.specs.Prelude.{◌≡◌, ℕ, ◌<◌, Bool, true, List, [], ◌∷◌, ◌++◌, map, All, Option, Some, None, option_map, option_and_then, Result, Ok, Err, ⊤}
 use Rattle.std.specs.Option.{option_to_list}
-use Rattle.update_journal.specs.uicc_types.declared.answers.StatusWord.{StatusWord}
-use Rattle.file_model.specs.apdu_form.Model.{Apdu, command_in}
-use Rattle.file_model.specs.card_layout.Persistent.{Registration}
-use Rattle.file_model.specs.card_layout.Sections.{with_row}
-use Rattle.toolkit_model.specs.toolkit_commands.Envelopes.{envelope_of}
+use Rattle.uicc_types.specs.declared.answers.StatusWord.{StatusWord}
+use Rattle.apdu_form.specs.Model.{Apdu, command_in}
+use Rattle.card_state.specs.Persistent.{Registration}
+use Rattle.card_state.specs.Sections.{with_row}
+use Rattle.file_model.specs.declared.commands.FileCommand.TheVariants as file
+use Rattle.toolkit_commands.specs.Envelopes.{envelope_of}
 use Rattle.toolkit_model.specs.declared.faults.RowFault.{RowFault}
 use Rattle.toolkit_model.specs.Commands.{unfetched, unanswered, reply_to}
 use Rattle.toolkit_model.specs.Passing.{Passed, passed_rows}
@@ -19,9 +20,8 @@ use Rattle.card_model.specs.States.{CardState, HasBox, restarted}
 use Rattle.card_model.specs.Toolkit.{toolkit_of, kind_in}
 use Rattle.card_model.specs.declared.instructions.Instruction.{Instruction}
 use Rattle.card_model.specs.declared.instructions.Instruction.TheVariants.{File, Toolkit}
-use Rattle.card_model.specs.declared.instructions.ToolkitCommand.{ToolkitCommand}
-use Rattle.card_model.specs.declared.instructions.ToolkitCommand.TheVariants as toolkit
-use Rattle.file_model.specs.declared.commands.FileCommand.TheVariants as file
+use Rattle.card_model.specs.declared.instructions.CatCommand.{CatCommand}
+use Rattle.card_model.specs.declared.instructions.CatCommand.TheVariants as toolkit
 
 -- ---- rows
 
@@ -50,7 +50,7 @@ if_row (Ok row) = Some (Install row)
 if_row (Err fault) = None
 
 -- the command of the toolkit that an instruction with these data is; the others are none
-abbrev pub command_of : ToolkitCommand → CardState → Apdu → Option ToolkitInput
+abbrev pub command_of : CatCommand → CardState → Apdu → Option ToolkitInput
 command_of toolkit.TerminalProfile card apdu = Some (Profile apdu.body)
 command_of toolkit.Fetch card apdu = option_map (λ out. Fetch out) (unfetched card.session)
 command_of toolkit.TerminalResponse card apdu =

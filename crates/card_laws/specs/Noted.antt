@@ -1,7 +1,7 @@
 -- What is noted of the commands of the toolkit: of an envelope that each applet that it triggers was given its event.
 use Rattle.std.specs.Prelude.{◌≡◌, Bool, true, false, not, List, [], ◌∷◌, ◌++◌, map, filter, Option, Some, None}
 use Rattle.std.specs.List.{filter_map}
-use Rattle.toolkit_model.specs.toolkit_commands.declared.envelopes.Envelope.{Envelope}
+use Rattle.toolkit_commands.specs.declared.envelopes.Envelope.{Envelope}
 use Rattle.toolkit_model.specs.Commands.{triggered_by, triggered, enveloped}
 use Rattle.toolkit_model.specs.Driving.{trigger_for}
 use Rattle.toolkit_model.specs.Passing.{ToolkitState, Happening, Woke, Fetched, Responded, Given, Turned, Committed}

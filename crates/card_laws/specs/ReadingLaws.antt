@@ -1,9 +1,9 @@
 -- What a command reads that another one put there (ETSI TS 102 221, 11.1.3 to 11.1.6).
 use Rattle.std.specs.Prelude.{◌≡◌, ◌≤◌, ℕ, length, Contains, Some, Ok}
-use Rattle.file_model.specs.declared.rules.Verified.{Verified}
-use Rattle.file_model.specs.apdu_form.Model.{Apdu}
-use Rattle.file_model.specs.card_layout.Persistent.{File, Persistent}
-use Rattle.file_model.specs.card_layout.Soundness.{IsSound}
+use Rattle.apdu_form.specs.Model.{Apdu}
+use Rattle.card_state.specs.Persistent.{File, Persistent}
+use Rattle.card_state.specs.Soundness.{IsSound}
+use Rattle.access_rules.specs.declared.rules.Verified.{Verified}
 use Rattle.file_model.specs.Binaries.{binary_read, binary_updated, offset_of, short_in_p1}
 use Rattle.file_model.specs.Files.{descriptor_in, descriptors_in}
 use Rattle.file_model.specs.Outcomes.{FileOutcome, addressed, last_of, pointer_before}

@@ -1,19 +1,19 @@
 -- A command on files is refused for the first thing that speaks against it, and is carried out where nothing does (ETSI TS 102 221, 11.1.3 to
 -- 11.1.8, and 9.2 and 9.5 on who may do what).
 use Rattle.std.specs.Prelude.{◌≡◌, ◌↔◌, ℕ, true, false, List, ◌∷◌, ◌++◌, Option, Some, None, Result, Ok, Err, All}
-use Rattle.file_model.specs.declared.rules.Op.{Op}
-use Rattle.file_model.specs.declared.rules.Verified.{Verified}
-use Rattle.file_model.specs.apdu_form.Model.{Apdu}
-use Rattle.file_model.specs.card_layout.Kinds.{activated}
-use Rattle.file_model.specs.card_layout.Persistent.{Persistent}
-use Rattle.file_model.specs.card_layout.Soundness.{IsSound}
-use Rattle.card_model.specs.file_making.Outcomes.{TreeOutcome}
+use Rattle.uicc_types.specs.declared.answers.StatusWord.{StatusWord}
+use Rattle.apdu_form.specs.Model.{Apdu}
+use Rattle.card_state.specs.Kinds.{activated}
+use Rattle.card_state.specs.Persistent.{Persistent}
+use Rattle.card_state.specs.Soundness.{IsSound}
+use Rattle.access_rules.specs.declared.rules.Op.{Op}
+use Rattle.access_rules.specs.declared.rules.Verified.{Verified}
+use Rattle.file_model.specs.TreeOutcomes.{TreeOutcome}
 use Rattle.file_model.specs.Access.{may}
 use Rattle.file_model.specs.Outcomes.{FileOutcome}
 use Rattle.file_model.specs.declared.descriptors.Descriptor.{Descriptor}
 use Rattle.file_model.specs.declared.selections.Selection.{Selection}
 use Rattle.card_laws.specs.Refusals.{Refusal, file_meant}
-use Rattle.update_journal.specs.uicc_types.declared.answers.StatusWord.{StatusWord}
 
 -- a command on files: what it comes to in this state, with these keys verified and this file selected
 abbrev pub CommandOnFiles : Type 0

@@ -1,17 +1,19 @@
 -- What commands on files are refused for (ETSI TS 102 221, 11.1.1 to 11.1.8, 11.1.14 and 11.1.15; ETSI TS 102 222, 6.3, 6.4 and 6.10): each
 -- condition with its status, in the order in which they are tested.
 use Rattle.std.specs.Prelude.{ℕ, ◌+◌, ◌^◌, ◌==◌, not, nat_lt, nat_le, Bool, List, [], ◌∷◌, length, Option, Some, None, is_none, unwrap_or}
-use Rattle.file_model.specs.declared.rules.Op.{Op}
-use Rattle.file_model.specs.declared.rules.Op.TheVariants.{ReadBinary, UpdateBinary, ReadRecord, UpdateRecord, Search, Increase}
-use Rattle.file_model.specs.declared.rules.Verified.{Verified}
-use Rattle.file_model.specs.apdu_form.Model.{Apdu}
-use Rattle.file_model.specs.card_layout.Kinds.{transparent_kind, has_records}
-use Rattle.file_model.specs.card_layout.Persistent.{Persistent}
-use Rattle.card_model.specs.file_making.Creating.{is_there, made_in}
-use Rattle.card_model.specs.file_making.Deleting.{is_in_use}
-use Rattle.card_model.specs.file_making.Outcomes.{child_named, df_on}
-use Rattle.card_model.specs.file_making.Resizing.{has_no_room, may_have, size_asked}
-use Rattle.card_model.specs.file_making.Templates.{asked_in}
+use Rattle.uicc_types.specs.declared.answers.StatusWord.{StatusWord}
+use Rattle.uicc_types.specs.declared.answers.TheConstants.StatusWord.{CONDITIONS_NOT_SATISFIED, FILE_ALREADY_THERE, FILE_NOT_FOUND, NO_CURRENT_FILE, NO_ROOM, OVERFLOW, RECORD_NOT_FOUND, SECURITY_NOT_SATISFIED, WRONG_DATA, WRONG_LENGTH, WRONG_OFFSET, WRONG_PARAMETERS, WRONG_STRUCTURE}
+use Rattle.apdu_form.specs.Model.{Apdu}
+use Rattle.card_state.specs.Kinds.{transparent_kind, has_records}
+use Rattle.card_state.specs.Persistent.{Persistent}
+use Rattle.access_rules.specs.declared.rules.Op.{Op}
+use Rattle.access_rules.specs.declared.rules.Op.TheVariants.{ReadBinary, UpdateBinary, ReadRecord, UpdateRecord, Search, Increase}
+use Rattle.access_rules.specs.declared.rules.Verified.{Verified}
+use Rattle.file_model.specs.Creating.{is_there, made_in}
+use Rattle.file_model.specs.Deleting.{is_in_use}
+use Rattle.file_model.specs.TreeOutcomes.{child_named, df_on}
+use Rattle.file_model.specs.Resizing.{has_no_room, may_have, size_asked}
+use Rattle.file_model.specs.Templates.{asked_in}
 use Rattle.file_model.specs.Access.{may}
 use Rattle.file_model.specs.Binaries.{has_binary_parameters, offset_of, short_in_p1}
 use Rattle.file_model.specs.Files.{descriptors_in, file_found}
@@ -22,8 +24,6 @@ use Rattle.file_model.specs.Selections.{chosen, current_ef}
 use Rattle.file_model.specs.declared.descriptors.Descriptor.{Descriptor}
 use Rattle.file_model.specs.declared.descriptors.Wanted.TheVariants.{Number, Short}
 use Rattle.file_model.specs.declared.selections.Selection.{Selection}
-use Rattle.update_journal.specs.uicc_types.declared.answers.StatusWord.{StatusWord}
-use Rattle.update_journal.specs.uicc_types.declared.answers.TheConstants.StatusWord.{CONDITIONS_NOT_SATISFIED, FILE_ALREADY_THERE, FILE_NOT_FOUND, NO_CURRENT_FILE, NO_ROOM, OVERFLOW, RECORD_NOT_FOUND, SECURITY_NOT_SATISFIED, WRONG_DATA, WRONG_LENGTH, WRONG_OFFSET, WRONG_PARAMETERS, WRONG_STRUCTURE}
 
 -- where this is so, a command is refused with this status
 abbrev pub Refusal : Type 0

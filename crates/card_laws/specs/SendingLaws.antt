@@ -1,9 +1,9 @@
 -- What the card sends: the numbers of its commands (ETSI TS 102 223, 8.6), and the events that it asks the handset to report (6.4.16, 8.25).
 use Rattle.std.specs.Prelude.{◌≡◌, ◌≢◌, ◌↔◌, ℕ, suc, zero, ◌+◌, ◌≤◌, ◌<◌, true, List, [], ◌∷◌, length, AllPairs, Contains, Option, Some, None, option_map}
-use Rattle.file_model.specs.card_layout.Persistent.{Registration}
-use Rattle.toolkit_model.specs.Profiles.{allowed, allowed_event}
-use Rattle.toolkit_model.specs.toolkit_commands.declared.commands.Proactive.{Proactive}
-use Rattle.toolkit_model.specs.toolkit_commands.declared.commands.Proactive.TheVariants.{SetUpEventList}
+use Rattle.card_state.specs.Persistent.{Registration}
+use Rattle.toolkit_commands.specs.declared.commands.Proactive.{Proactive}
+use Rattle.toolkit_commands.specs.declared.commands.Proactive.TheVariants.{SetUpEventList}
+use Rattle.terminal_profile.specs.Profiles.{allowed, allowed_event}
 use Rattle.toolkit_model.specs.Driving.{wanted}
 use Rattle.toolkit_model.specs.Running.{next_number, putting_out}
 use Rattle.toolkit_model.specs.Sessions.{Announced, SessionState}

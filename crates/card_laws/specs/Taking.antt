@@ -1,6 +1,6 @@
 -- Which commands a card takes: those of the toolkit that it carries out.
 use Rattle.std.specs.Prelude.{◌≡◌, ℕ, ◌||◌, Bool, true, List, Some, is_some, Ok}
-use Rattle.file_model.specs.apdu_form.Model.{Apdu, command_in}
+use Rattle.apdu_form.specs.Model.{Apdu, command_in}
 use Rattle.card_model.specs.Answers.{answer_of, is_carried_out, is_status}
 use Rattle.card_model.specs.Instructions.{instruction_tried, has_toolkit, is_of_toolkit}
 use Rattle.card_model.specs.States.{CardState, IsGood}

@@ -1,10 +1,10 @@
 -- The laws of the toolkit over each stretch of what happens to a card, so also up to each wake and from it on.
 use Rattle.std.specs.Prelude.{◌≡◌, ℕ, ◌==◌, Bool, true, false, if◌then◌else◌, List, ◌++◌, Option, Some, None}
 use Rattle.std.specs.List.{filter_map, list_any}
-use Rattle.update_journal.specs.uicc_types.declared.runs.Step.{Step}
-use Rattle.update_journal.specs.uicc_types.declared.runs.TraceItem.{TraceItem}
-use Rattle.toolkit_model.specs.applet_trait.declared.stimuli.Stimulus.{Stimulus}
-use Rattle.toolkit_model.specs.applet_trait.declared.stimuli.Stimulus.TheVariants.{Response}
+use Rattle.uicc_types.specs.declared.runs.Step.{Step}
+use Rattle.uicc_types.specs.declared.runs.TraceItem.{TraceItem}
+use Rattle.applet_trait.specs.declared.stimuli.Stimulus.{Stimulus}
+use Rattle.applet_trait.specs.declared.stimuli.Stimulus.TheVariants.{Response}
 use Rattle.toolkit_model.specs.Orderly.{asks}
 use Rattle.toolkit_model.specs.Passing.{Happening, Responded, Turned}
 use Rattle.toolkit_model.specs.Awaiting.{awaited, is_owner, ReachesWhoAsked}

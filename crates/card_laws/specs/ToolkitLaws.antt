@@ -1,9 +1,10 @@
 -- The toolkit of a card that runs applets moves by the commands of the toolkit alone, and what holds of those holds of it.
 use Rattle.std.specs.Prelude.{MatchResult, All, ◌≡◌, ℕ, Bool, true, List, [], filter, Some, None, ⊤}
-use Rattle.update_journal.specs.uicc_types.Told.{AreBytes}
-use Rattle.update_journal.specs.uicc_types.declared.events.TheConstants.{PROFILE_DOWNLOAD, STATUS_COMMAND}
-use Rattle.update_journal.specs.uicc_types.declared.answers.StatusWord.{StatusWord}
-use Rattle.file_model.specs.apdu_form.Model.{Apdu}
+use Rattle.uicc_types.specs.Told.{AreBytes}
+use Rattle.uicc_types.specs.declared.events.TheConstants.{PROFILE_DOWNLOAD, STATUS_COMMAND}
+use Rattle.uicc_types.specs.declared.answers.StatusWord.{StatusWord}
+use Rattle.apdu_form.specs.Model.{Apdu}
+use Rattle.file_model.specs.Laws.{IsSoundCard}
 use Rattle.toolkit_model.specs.Commands.{polled, unanswered, registered_told, with_profile, triggered_by, triggered}
 use Rattle.toolkit_model.specs.Driving.{is_idle, driven}
 use Rattle.toolkit_model.specs.Orderly.{asks}
@@ -14,7 +15,6 @@ use Rattle.toolkit_model.specs.Awaiting.{awaited, ReachesWhoAsked}
 use Rattle.toolkit_model.specs.Begun.{begun}
 use Rattle.toolkit_model.specs.Fetching.{OneAtATime, AnsweredBetween}
 use Rattle.toolkit_model.specs.Owing.{LosesNothing}
-use Rattle.file_model.specs.Laws.{IsSoundCard}
 use Rattle.card_model.specs.Answers.{on_toolkit, carried_with, answer_of, passed_of, refusal}
 use Rattle.card_model.specs.Instructions.{has_toolkit}
 use Rattle.card_model.specs.Runs.{IsLeft}

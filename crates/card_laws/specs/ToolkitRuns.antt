@@ -1,9 +1,9 @@
 -- What holds of the toolkit in every run of a card.
 use Rattle.std.specs.Prelude.{◌≡◌, ℕ, true, List, ◌∷◌, ◌++◌, All, Some, ⊤}
-use Rattle.update_journal.specs.uicc_types.Told.{AreBytes}
-use Rattle.update_journal.specs.uicc_types.declared.runs.Step.{Step}
-use Rattle.update_journal.specs.uicc_types.declared.runs.Step.TheVariants as step
-use Rattle.update_journal.specs.uicc_types.declared.runs.TraceItem.{TraceItem}
+use Rattle.uicc_types.specs.Told.{AreBytes}
+use Rattle.uicc_types.specs.declared.runs.Step.{Step}
+use Rattle.uicc_types.specs.declared.runs.Step.TheVariants as step
+use Rattle.uicc_types.specs.declared.runs.TraceItem.{TraceItem}
 use Rattle.toolkit_model.specs.Commands.{unanswered}
 use Rattle.toolkit_model.specs.Orderly.{asks}
 use Rattle.toolkit_model.specs.Passing.{Passed}

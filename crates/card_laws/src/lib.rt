@@ -18,9 +18,7 @@ pub use refusals::{
     files_are_made_by_leave, the_first_condition_refuses, the_first_condition_refuses_on_files,
     what_is_done_was_allowed,
 };
-pub use rereading::{
-    what_is_put_is_read, what_is_spelled_is_read, what_is_told_is_read, what_stands_fits,
-};
+pub use rereading::{what_is_put_is_read, what_is_told_is_read, what_stands_fits};
 pub use sending::{commands_are_numbered, events_are_asked_for};
 pub use stretches::{
     answers_tell_what_waits, applets_act_at_each_event, applets_act_in_turn,

@@ -1,8 +1,8 @@
 //! What commands on files are refused for. The functions do nothing: their contracts are the laws.
-ghost use Rattle.file_model.specs.declared.rules.Op.TheVariants.{Activate, Deactivate, Increase, ReadBinary, ReadRecord, Search, UpdateBinary, UpdateRecord};
-ghost use Rattle.card_model.specs.file_making.Creating.{created};
-ghost use Rattle.card_model.specs.file_making.Deleting.{deleted};
-ghost use Rattle.card_model.specs.file_making.Resizing.{resized};
+ghost use Rattle.access_rules.specs.declared.rules.Op.TheVariants.{Activate, Deactivate, Increase, ReadBinary, ReadRecord, Search, UpdateBinary, UpdateRecord};
+ghost use Rattle.file_model.specs.Creating.{created};
+ghost use Rattle.file_model.specs.Deleting.{deleted};
+ghost use Rattle.file_model.specs.Resizing.{resized};
 ghost use Rattle.file_model.specs.Binaries.{binary_read, binary_updated, short_in_p1};
 ghost use Rattle.file_model.specs.LifeCycles.{file_activated, file_deactivated};
 ghost use Rattle.file_model.specs.Records.{increased, record_read, record_updated, searched, short_in_p2, short_to_increase};

@@ -1,7 +1,6 @@
 //! What is read where it was put. The function does nothing: its contract is the law.
 ghost use Rattle.card_laws.specs.Fitting.{WhatStandsFits};
 ghost use Rattle.card_laws.specs.FcpLaws.{FcpAreNotCut, FcpAreObjects, FcpTellFiles, SelectAnswersFcp, StatusAnswersFcp};
-ghost use Rattle.card_laws.specs.JournalLaws.{EntriesAreRead, NothingElseIsRead};
 ghost use Rattle.card_laws.specs.ReadingLaws.{BytesAreRead, RecordsAreRead};
 
 /// READ BINARY gives the bytes that UPDATE BINARY put, and READ RECORD the record that UPDATE RECORD put, which in a cyclic file is the
@@ -19,12 +18,6 @@ pub fn what_is_told_is_read()
     ensures status { StatusAnswersFcp }
     ensures whole { FcpAreNotCut }
     ensures files { FcpTellFiles }
-{}
-
-/// The bytes that spell the pieces of a commit in a journal are read back as just these pieces, and no other bytes are read so.
-pub fn what_is_spelled_is_read()
-    ensures entries { EntriesAreRead }
-    ensures nothing_else { NothingElseIsRead }
 {}
 
 /// Whatever bytes the memory of a card has, an identifier of a file that it stands for has two, so has the EF_ARR of its rule and the next

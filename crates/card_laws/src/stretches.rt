@@ -8,8 +8,9 @@ ghost use Rattle.card_laws.specs.Taking.{CarriedCommandsAreTaken};
 ghost use Rattle.card_laws.specs.Throughout.{LawsHoldThroughout, LawsHoldThroughoutRuns};
 
 use crate::toolkit_laws::{cards_go_on, toolkit_laws_hold_of_cards, toolkit_laws_hold_of_runs};
-use card_model::commands_on_trees_are_lawful;
-use file_model::{commands_on_files_are_lawful, pin_commands_are_lawful};
+use file_model::{
+    commands_on_files_are_lawful, commands_on_trees_are_lawful, pin_commands_are_lawful,
+};
 use toolkit_model::{responses_reach_who_asked, sessions_stay_in_order};
 
 /// What is noted of a command besides the turns of applets and the commits of rows: of an envelope that each applet that it

@@ -4,11 +4,12 @@ ghost use Rattle.card_laws.specs.Lawful.{AnswersAreLawful, RefusalsChangeTriesAn
 ghost use Rattle.card_laws.specs.ToolkitRuns.{RunsAreEvents, RunsLeaveGoodCards, ToolkitLawsHoldOfRuns};
 ghost use Rattle.card_laws.specs.Traces.{TracesAlternate, FetchesAreAnswered};
 
+use applet_trait::turns_are_lawful;
 use card_model::{answers_are_lawful, restarts_are_good};
 use toolkit_model::{
     idle_targets_run_in_order, installations_are_accepted, installed_rows_are_sound,
     no_event_is_lost, one_command_is_outstanding, responses_reach_who_asked,
-    sessions_stay_in_order, steps_leave_good, turns_are_lawful,
+    sessions_stay_in_order, steps_leave_good,
 };
 
 /// A card that runs applets goes on by commands of the toolkit alone: a command that it carries out is one of those, which is

@@ -1,8 +1,8 @@
 -- What comes of a chain of tests: where each refusal is of one kind and what comes of the rest of another, so is what comes of it all.
 use Rattle.std.proofs.Common.{◌≡◌, Bool, true, false, cond, Option, Result, Ok, Err, refl, MatchResult}
-use Rattle.file_model.specs.uicc_types.declared.answers.StatusWord.{StatusWord}
+use Rattle.uicc_types.specs.declared.answers.StatusWord.{StatusWord}
 use Rattle.file_model.specs.Chains.{refused_if, given, and_given}
-use Rattle.file_model.proofs.ChainedLemmas.{unless_so, given_so}
+use Rattle.file_model.proofs.ChainsLemmas.{unless_so, given_so}
 use Rattle.card_model.specs.Chained.{Any}
 
 pub either_so : {X : Type 0} (P : X → Type 0) (R : StatusWord → Type 0) (b : Bool) (x y : Result X StatusWord)

@@ -1,15 +1,12 @@
-pub mod Answering
-pub mod CaseLemmas
+pub mod AnswersLemmas
+mod AnswersNeverFailLemmas
 pub mod ChainedLemmas
-pub mod Counted
-pub mod Lawful
-pub mod NamingLemmas
+pub mod IsCountedLemmas
+mod IsKnownStatusLemmas
+pub mod IsLawfulAnswerLemmas
 pub mod OtherFilesLemmas
-pub mod PendingLemmas
-mod Statuses
-mod Usual
+pub mod RowNamedLemmas
+pub mod ToldPendingLemmas
+pub mod TriedLemmas
 pub mod WokenLemmas
-mod Worked
-mod WorkedRuns
-mod WorkedToolkit
-mod WorkedTrees
+mod worked

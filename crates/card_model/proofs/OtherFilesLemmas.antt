@@ -1,13 +1,13 @@
 -- Commands on files, and those that make, delete and resize files, change no more than files.
 use Rattle.std.proofs.Common.{ℕ, Bool, true, false, List, [], ◌∷◌, Option, refl, ◌==◌, if◌then◌else◌, MatchResult, Result}
-use Rattle.file_model.specs.uicc_types.declared.answers.StatusWord.{StatusWord}
-use Rattle.file_model.specs.declared.rules.Op.{Op}
-use Rattle.file_model.specs.declared.rules.Op.TheVariants as op
-use Rattle.file_model.specs.declared.rules.Verified.{Verified}
-use Rattle.file_model.specs.apdu_form.Model.{Apdu}
-use Rattle.file_model.specs.card_layout.Changing.{with_file_changed, with_life, with_newest_record, with_record}
-use Rattle.file_model.specs.card_layout.Kinds.{activated, deactivated}
-use Rattle.file_model.specs.card_layout.Persistent.{Persistent}
+use Rattle.uicc_types.specs.declared.answers.StatusWord.{StatusWord}
+use Rattle.apdu_form.specs.Model.{Apdu}
+use Rattle.card_state.specs.Changing.{with_file_changed, with_life, with_newest_record, with_record}
+use Rattle.card_state.specs.Kinds.{activated, deactivated}
+use Rattle.card_state.specs.Persistent.{Persistent}
+use Rattle.access_rules.specs.declared.rules.Op.{Op}
+use Rattle.access_rules.specs.declared.rules.Op.TheVariants as op
+use Rattle.access_rules.specs.declared.rules.Verified.{Verified}
 use Rattle.file_model.specs.declared.descriptors.Descriptor.{Descriptor}
 use Rattle.file_model.specs.declared.selections.Selection.{Selection}
 use Rattle.file_model.specs.Outcomes.{FileOutcome}
@@ -19,13 +19,13 @@ use Rattle.file_model.specs.Commands.{contents_outcome, file_outcome}
 use Rattle.file_model.specs.declared.commands.ContentsCommand.TheVariants.{ReadBinary, UpdateBinary, ReadRecord, UpdateRecord, SearchRecord, Increase, Deactivate, Activate}
 use Rattle.file_model.specs.declared.commands.FileCommand.{FileCommand}
 use Rattle.file_model.specs.declared.commands.FileCommand.TheVariants.{Select, Status, Contents}
-use Rattle.file_making.specs.declared.commands.TreeCommand.{TreeCommand}
-use Rattle.file_making.specs.declared.commands.TreeCommand.TheVariants.{Create, Delete, Resize}
-use Rattle.file_making.specs.Commands.{tree_outcome}
-use Rattle.file_making.specs.Outcomes.{TreeOutcome}
-use Rattle.file_making.specs.Creating.{creating, created}
-use Rattle.file_making.specs.Deleting.{deleting, deleted}
-use Rattle.file_making.specs.Resizing.{size_asked, resizing, resized}
+use Rattle.file_model.specs.declared.tree_commands.TreeCommand.{TreeCommand}
+use Rattle.file_model.specs.declared.tree_commands.TreeCommand.TheVariants.{Create, Delete, Resize}
+use Rattle.file_model.specs.TreeCommands.{tree_outcome}
+use Rattle.file_model.specs.TreeOutcomes.{TreeOutcome}
+use Rattle.file_model.specs.Creating.{creating, created}
+use Rattle.file_model.specs.Deleting.{deleting, deleted}
+use Rattle.file_model.specs.Resizing.{size_asked, resizing, resized}
 use Rattle.card_model.specs.Chained.{Any}
 use Rattle.card_model.proofs.ChainedLemmas.{past, past_given, past_result}
 use Rattle.card_model.specs.OtherFiles.{HaveOtherFiles, IsWithFiles}

@@ -1,37 +1,23 @@
 -- A card that woke over a sound state is a good one.
-use Rattle.std.proofs.Common.{◌≡◌, ℕ, ◌<◌, ◌+◌, add-zero, List, [], ◌∷◌, length, map, Option, Some, None, refl, sym, ◌∙◌, ap, subst, arith, zero, suc, find, All, AllPairs, IsTrue, IsSomeAnd, IfSome, option_map, slice_index_or, ◌==◌, ◌≢◌}
+use Rattle.std.proofs.Common.{◌≡◌, ℕ, ◌<◌, ◌+◌, add-zero, List, [], ◌∷◌, length, map, Option, Some, None, refl, sym, ◌∙◌, ap, subst, arith, zero, suc, All, AllPairs, IsSomeAnd, IfSome, option_map, slice_index_or, ◌≢◌}
 use Rattle.std.specs.List.{enumerate_from}
 use Rattle.std.proofs.lemmas.List.{length-map, get_or-replicate, get_or_default, same_lists}
 use Rattle.std.proofs.lemmas.List.FromFn.{length-enumerate_from}
-use Rattle.file_model.proofs.uicc_types.PairLemmas.{pairs_nil}
-use Rattle.file_model.proofs.uicc_types.FindingLemmas.{find-map, numbered_found}
-use Rattle.file_model.specs.card_layout.Persistent.{Registration, Persistent}
-use Rattle.file_model.specs.card_layout.Soundness.{mf, IsSound}
-use Rattle.file_model.specs.Files.{is_df, is_wanted, descriptor_in, descriptors_in, file_found}
+use Rattle.list_laws.proofs.AllPairsLemmas.{pairs_nil}
+use Rattle.uicc_types.specs.declared.identifiers.Shelf.{Shelf}
+use Rattle.card_state.specs.Persistent.{Registration, Persistent}
+use Rattle.card_state.specs.Soundness.{IsSound}
+use Rattle.file_model.specs.Files.{descriptors_in}
 use Rattle.file_model.specs.Laws.{IsSoundCard}
 use Rattle.file_model.specs.Selections.{IsSelection}
-use Rattle.file_model.specs.declared.descriptors.Wanted.TheVariants.{Number}
-use Rattle.file_model.specs.declared.selections.TheConstants.Selection.{AT_START}
-use Rattle.file_model.specs.uicc_types.declared.identifiers.Shelf.{Shelf}
-use Rattle.toolkit_model.specs.Model.{AppletState, Sent, LateTrigger, fresh_session}
+use Rattle.file_model.specs.Channels.{basic_channel_alone}
+use Rattle.file_model.proofs.AtStartLemmas.{start_is_selected}
+use Rattle.applet_trait.specs.Minds.{AppletState}
+use Rattle.toolkit_model.specs.Sessions.{Sent, LateTrigger, fresh_session}
 use Rattle.toolkit_model.specs.Orderly.{IsRegistered, CanBeSent, asks, IsSuspended, IsOrderly}
-use Rattle.card_model.specs.States.{AreChannels, HasBox, IsOfSevenKinds, AreOfSevenKinds, IsGood, basic_channel_alone, row_on, woken_mind, woken_box, woken_boxes, woken}
-
--- the MF is the file with the number 0
-mf_is_found : (state : Persistent) → IsSound state → file_found (descriptors_in state) (Number 0) ≡ Some (descriptor_in mf)
-unfolding descriptor_in descriptors_in file_found
-mf_is_found state sound =
-    let ascend : AllPairs (λ a b. a.number < b.number) state.files = λ i j d less low. (sound.distinct_files i j d less low).number in
-    let found : find (λ file. file.number == 0) state.files ≡ Some mf = numbered_found (λ file. file.number) state.files mf ascend sound.mf_there in
-    find-map (is_wanted (Number 0)) descriptor_in state.files ∙ ap (option_map descriptor_in) found
-
-pub start_is_selected : (state : Persistent) → IsSound state → IsSelection (descriptors_in state) AT_START
-unfolding descriptor_in
-start_is_selected state sound = record {
-  df = subst (λ found. IsSomeAnd found (λ file. IsTrue (is_df file))) (sym (mf_is_found state sound)) refl;
-  ef = _;
-  pointer = _;
-}
+use Rattle.toolkit_model.specs.Registry.{row_on}
+use Rattle.toolkit_model.specs.Commands.{woken_mind, woken_box, woken_boxes}
+use Rattle.card_model.specs.States.{AreChannels, HasBox, IsOfSevenKinds, AreOfSevenKinds, IsGood, woken}
 
 pub basic_channel : (state : Persistent) → IsSound state → AreChannels state basic_channel_alone
 basic_channel state sound = record {

@@ -1,10 +1,10 @@
 -- What a card answers to a command, and what it is after it.
 use Rattle.std.specs.Prelude.{ℕ, ◌+◌, ◌==◌, ◌/◌, ◌||◌, Bool, true, false, if◌then◌else◌, List, [], ◌∷◌, ◌++◌, map, slice_set, Option, Some, None, unwrap_or, Result, Ok, Err}
-use Rattle.file_model.specs.uicc_types.declared.answers.StatusWord.{StatusWord}
-use Rattle.file_model.specs.uicc_types.declared.answers.TheConstants.StatusWord.{DONE, END_OF_FILE, FILE_DEACTIVATED, WRONG_LENGTH}
-use Rattle.file_model.specs.apdu_form.Model.{Apdu, command_in, cut_to}
-use Rattle.file_model.specs.declared.rules.Verified.{Verified}
-use Rattle.file_model.specs.card_layout.Persistent.{Pin as HeldPin, Persistent}
+use Rattle.uicc_types.specs.declared.answers.StatusWord.{StatusWord}
+use Rattle.uicc_types.specs.declared.answers.TheConstants.StatusWord.{DONE, END_OF_FILE, FILE_DEACTIVATED, WRONG_LENGTH}
+use Rattle.apdu_form.specs.Model.{Apdu, command_in, cut_to}
+use Rattle.card_state.specs.Persistent.{Pin as HeldPin, Persistent}
+use Rattle.access_rules.specs.declared.rules.Verified.{Verified}
 use Rattle.file_model.specs.declared.selections.Selection.{Selection}
 use Rattle.file_model.specs.declared.selections.TheConstants.Selection.{AT_START}
 use Rattle.file_model.specs.Chains.{given, and_given}
@@ -12,11 +12,11 @@ use Rattle.file_model.specs.Access.{keys_seen}
 use Rattle.file_model.specs.Outcomes.{FileOutcome, PinOutcome, last_of}
 use Rattle.file_model.specs.Commands.{file_outcome, pin_outcome}
 use Rattle.file_model.specs.declared.commands.FileCommand.TheVariants.{Status}
-use Rattle.file_making.specs.Commands.{tree_outcome}
-use Rattle.file_making.specs.Outcomes.{TreeOutcome}
+use Rattle.file_model.specs.TreeCommands.{tree_outcome}
+use Rattle.file_model.specs.TreeOutcomes.{TreeOutcome}
+use Rattle.file_model.specs.Channels.{ChannelOutcome, channel_of, selected_on, channel_tried}
 use Rattle.toolkit_model.specs.Commands.{polled, pending}
 use Rattle.card_model.specs.States.{CardState}
-use Rattle.card_model.specs.Channels.{ChannelOutcome, channel_of, selected_on, channel_tried}
 use Rattle.card_model.specs.Instructions.{instruction_tried, is_known, has_toolkit}
 use Rattle.card_model.specs.Toolkit.{ToolkitOutcome, toolkit_of, coming_to, states_passed, toolkit_outcome}
 use Rattle.card_model.specs.declared.instructions.Instruction.{Instruction}

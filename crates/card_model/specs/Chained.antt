@@ -1,6 +1,6 @@
 -- Where no refusal matters.
 use Rattle.std.specs.Prelude.{⊤}
-use Rattle.file_model.specs.uicc_types.declared.answers.StatusWord.{StatusWord}
+use Rattle.uicc_types.specs.declared.answers.StatusWord.{StatusWord}
 
 abbrev pub Any : StatusWord → Type 0
 Any status = ⊤

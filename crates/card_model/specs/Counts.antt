@@ -1,11 +1,11 @@
 -- What the counts of a memory's device say of a trace: how often it failed and lost power, and which plans it was given.
 use Rattle.std.specs.Prelude.{◌≡◌, ◌==◌, Bool, true, false, List, length, count_by}
-use Rattle.file_model.specs.uicc_types.Counts.{Meter, raised_by}
-use Rattle.file_model.specs.uicc_types.declared.answers.TheConstants.StatusWord.{MEMORY_PROBLEM}
-use Rattle.file_model.specs.uicc_types.declared.plans.Plan.{Plan}
-use Rattle.file_model.specs.uicc_types.declared.plans.TheConstants.Plan.{NONE}
-use Rattle.file_model.specs.uicc_types.declared.runs.TraceItem.{TraceItem}
-use Rattle.file_model.specs.uicc_types.declared.runs.TraceItem.TheVariants as item
+use Rattle.uicc_types.specs.Counts.{Meter, raised_by}
+use Rattle.uicc_types.specs.declared.answers.TheConstants.StatusWord.{MEMORY_PROBLEM}
+use Rattle.uicc_types.specs.declared.plans.Plan.{Plan}
+use Rattle.uicc_types.specs.declared.plans.TheConstants.Plan.{NONE}
+use Rattle.uicc_types.specs.declared.runs.TraceItem.{TraceItem}
+use Rattle.uicc_types.specs.declared.runs.TraceItem.TheVariants as item
 use Rattle.file_model.specs.Outcomes.{last_of}
 
 -- the memory failed: in a command, which the card answers, or in a reset, which ends the run

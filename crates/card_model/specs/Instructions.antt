@@ -1,19 +1,19 @@
 -- The one list of instructions (ETSI TS 102 221, 10.1.2), and how a command is told by its class and instruction bytes.
 use Rattle.std.specs.Prelude.{ℕ, ◌==◌, not, ◌&&◌, ◌||◌, Bool, true, false, List, [], ◌∷◌, find, filter, Option, Result, Ok}
 use Rattle.std.specs.List.{list_any}
-use Rattle.file_model.specs.uicc_types.declared.answers.StatusWord.{StatusWord}
-use Rattle.file_model.specs.uicc_types.declared.answers.TheConstants.StatusWord.{NO_SUCH_CLASS, NO_SECURE_MESSAGING, NO_SUCH_CHANNEL, NO_SUCH_INSTRUCTION}
+use Rattle.uicc_types.specs.declared.answers.StatusWord.{StatusWord}
+use Rattle.uicc_types.specs.declared.answers.TheConstants.StatusWord.{NO_SUCH_CLASS, NO_SECURE_MESSAGING, NO_SUCH_CHANNEL, NO_SUCH_INSTRUCTION}
 use Rattle.file_model.specs.Chains.{refused_if, given, needs}
 use Rattle.file_model.specs.declared.selections.Selection.{Selection}
-use Rattle.card_model.specs.Channels.{family, is_class, asks_secure_messaging, channel_of, is_open}
+use Rattle.file_model.specs.Channels.{family, is_class, asks_secure_messaging, channel_of, is_open}
 use Rattle.file_model.specs.declared.commands.ContentsCommand.TheVariants.{ReadBinary, UpdateBinary, ReadRecord, UpdateRecord, SearchRecord, Increase, Deactivate, Activate}
 use Rattle.file_model.specs.declared.commands.FileCommand.TheVariants.{Select, Status, Contents}
 use Rattle.file_model.specs.declared.commands.PinCommand.TheVariants as pin
-use Rattle.file_making.specs.declared.commands.TreeCommand.TheVariants as tree
+use Rattle.file_model.specs.declared.tree_commands.TreeCommand.TheVariants as tree
 use Rattle.card_model.specs.declared.instructions.Instruction.{Instruction}
 use Rattle.card_model.specs.declared.instructions.Instruction.TheVariants.{File, Pin, ManageChannel, Toolkit, Tree}
-use Rattle.card_model.specs.declared.instructions.ToolkitCommand.{ToolkitCommand}
-use Rattle.card_model.specs.declared.instructions.ToolkitCommand.TheVariants.{TerminalProfile, Fetch, TerminalResponse, Envelope, InstallApplet, DeleteApplet}
+use Rattle.card_model.specs.declared.instructions.CatCommand.{CatCommand}
+use Rattle.card_model.specs.declared.instructions.CatCommand.TheVariants.{TerminalProfile, Fetch, TerminalResponse, Envelope, InstallApplet, DeleteApplet}
 
 -- a command with its class, without the channel, and its instruction byte; those between the toolkit and the handset are taken
 -- on the basic channel alone
@@ -89,7 +89,7 @@ is_known instruction = true
 -- ---- applets
 
 -- the commands between the toolkit and the terminal, and those that install and delete applets
-abbrev pub toolkit_commands : List ToolkitCommand
+abbrev pub toolkit_commands : List CatCommand
 toolkit_commands = TerminalProfile ∷ Fetch ∷ TerminalResponse ∷ Envelope ∷ InstallApplet ∷ DeleteApplet ∷ []
 
 -- a card that knows one of them runs applets

@@ -1,22 +1,22 @@
 -- What holds of every card, command and run.
 use Rattle.std.specs.Prelude.{◌≡◌, ◌≢◌, ◌⊎◌, ◌≤◌, ◌+◌, ℕ, Bool, true, false, List, [], ◌∷◌, ◌++◌, length, slice_index_or, count_by, Contains, All, Some, MatchBool, MatchResult, ⊤}
-use Rattle.file_model.specs.uicc_types.Told.{AreBytes}
-use Rattle.file_model.specs.uicc_types.Counts.{Meter, Caused, armed as plan_given}
-use Rattle.file_model.specs.uicc_types.declared.answers.StatusWord.{StatusWord}
-use Rattle.file_model.specs.uicc_types.declared.answers.TheConstants.StatusWord.{DONE, END_OF_FILE, FILE_DEACTIVATED, MEMORY_PROBLEM, WRONG_LENGTH, NO_SUCH_CHANNEL, NO_SECURE_MESSAGING, WRONG_STRUCTURE, SECURITY_NOT_SATISFIED, PIN_BLOCKED, PIN_DISABLED, CONDITIONS_NOT_SATISFIED, NO_CURRENT_FILE, NO_FREE_CHANNEL, FILE_NOT_FOUND, RECORD_NOT_FOUND, WRONG_PARAMETERS, REFERENCE_NOT_FOUND, WRONG_OFFSET, NO_SUCH_INSTRUCTION, NO_SUCH_CLASS, OVERFLOW, WRONG_DATA, NO_ROOM, FILE_ALREADY_THERE}
-use Rattle.file_model.specs.uicc_types.declared.plans.Plan.{Plan}
-use Rattle.file_model.specs.uicc_types.declared.plans.TheConstants.Plan.{NONE}
-use Rattle.file_model.specs.uicc_types.declared.runs.Step.{Step}
-use Rattle.file_model.specs.uicc_types.declared.runs.TraceItem.{TraceItem}
-use Rattle.file_model.specs.apdu_form.Model.{Apdu, IsCommand}
-use Rattle.file_model.specs.card_layout.Persistent.{Persistent}
+use Rattle.uicc_types.specs.Told.{AreBytes}
+use Rattle.uicc_types.specs.Counts.{Meter, Caused, armed as plan_given}
+use Rattle.uicc_types.specs.declared.answers.StatusWord.{StatusWord}
+use Rattle.uicc_types.specs.declared.answers.TheConstants.StatusWord.{DONE, END_OF_FILE, FILE_DEACTIVATED, MEMORY_PROBLEM, WRONG_LENGTH, NO_SUCH_CHANNEL, NO_SECURE_MESSAGING, WRONG_STRUCTURE, SECURITY_NOT_SATISFIED, PIN_BLOCKED, PIN_DISABLED, CONDITIONS_NOT_SATISFIED, NO_CURRENT_FILE, NO_FREE_CHANNEL, FILE_NOT_FOUND, RECORD_NOT_FOUND, WRONG_PARAMETERS, REFERENCE_NOT_FOUND, WRONG_OFFSET, NO_SUCH_INSTRUCTION, NO_SUCH_CLASS, OVERFLOW, WRONG_DATA, NO_ROOM, FILE_ALREADY_THERE}
+use Rattle.uicc_types.specs.declared.plans.Plan.{Plan}
+use Rattle.uicc_types.specs.declared.plans.TheConstants.Plan.{NONE}
+use Rattle.uicc_types.specs.declared.runs.Step.{Step}
+use Rattle.uicc_types.specs.declared.runs.TraceItem.{TraceItem}
+use Rattle.apdu_form.specs.Model.{Apdu, IsCommand}
+use Rattle.card_state.specs.Persistent.{Persistent}
 use Rattle.file_model.specs.Laws.{ChangesOneFile, ChangesOnePin, ChangesTriesAlone, EachStep, IsSoundCard, TellsTries}
 use Rattle.file_model.specs.Outcomes.{last_of}
 use Rattle.file_model.specs.Pins.{marked}
 use Rattle.file_model.specs.Records.{other_length}
-use Rattle.file_making.specs.Lawful.{ChangesOneNode}
+use Rattle.file_model.specs.LawfulTrees.{ChangesOneNode}
+use Rattle.file_model.specs.Channels.{family}
 use Rattle.card_model.specs.Answers.{Answered, carried_out, answer_of, passed_of, is_carried_out, refusal}
-use Rattle.card_model.specs.Channels.{family}
 use Rattle.card_model.specs.Counts.{is_failure, is_cut, IsCounted}
 use Rattle.card_model.specs.Instructions.{has_toolkit, is_of_toolkit, is_of_tree, is_row_of_tree}
 use Rattle.card_model.specs.Runs.{due, armed_after, waiting_after, IsLeft}

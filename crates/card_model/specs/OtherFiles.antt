@@ -1,6 +1,6 @@
 -- Commands on files, and those that make, delete and resize files, change no more than files.
 use Rattle.std.specs.Prelude.{⊤, ◌≡◌, List, [], ◌∷◌}
-use Rattle.file_model.specs.card_layout.Persistent.{Persistent}
+use Rattle.card_state.specs.Persistent.{Persistent}
 
 -- each state passed is the one before the command with other files
 abbrev pub HaveOtherFiles : Persistent → List Persistent → Type 0

@@ -2,17 +2,18 @@
 use Rattle.std.specs.Prelude.{◌≡◌, ◌⊎◌, ◌&&◌, ℕ, if◌then◌else◌, List, [], ◌∷◌, ◌++◌, map, Contains, Option, None, is_some, is_none, MatchBool}
 use Rattle.std.specs.List.{enumerate_from}
 use Rattle.std.specs.Option.{option_or}
-use Rattle.file_model.specs.uicc_types.Counts.{names_fault}
-use Rattle.file_model.specs.uicc_types.declared.plans.Plan.{Plan}
-use Rattle.file_model.specs.uicc_types.declared.plans.TheConstants.Plan.{NONE}
-use Rattle.file_model.specs.uicc_types.declared.answers.TheConstants.StatusWord.{MEMORY_PROBLEM}
-use Rattle.file_model.specs.uicc_types.declared.runs.Step.{Step}
-use Rattle.file_model.specs.uicc_types.declared.runs.Step.TheVariants as step
-use Rattle.file_model.specs.uicc_types.declared.runs.TraceItem.{TraceItem}
-use Rattle.file_model.specs.uicc_types.declared.runs.TraceItem.TheVariants as item
-use Rattle.file_model.specs.card_layout.Persistent.{Registration, Persistent}
-use Rattle.toolkit_model.specs.Model.{AppletState}
-use Rattle.card_model.specs.States.{CardState, Machine, powered, unpowered, row_on, woken, restarted}
+use Rattle.uicc_types.specs.Counts.{names_fault}
+use Rattle.uicc_types.specs.declared.plans.Plan.{Plan}
+use Rattle.uicc_types.specs.declared.plans.TheConstants.Plan.{NONE}
+use Rattle.uicc_types.specs.declared.answers.TheConstants.StatusWord.{MEMORY_PROBLEM}
+use Rattle.uicc_types.specs.declared.runs.Step.{Step}
+use Rattle.uicc_types.specs.declared.runs.Step.TheVariants as step
+use Rattle.uicc_types.specs.declared.runs.TraceItem.{TraceItem}
+use Rattle.uicc_types.specs.declared.runs.TraceItem.TheVariants as item
+use Rattle.card_state.specs.Persistent.{Registration, Persistent}
+use Rattle.applet_trait.specs.Minds.{AppletState}
+use Rattle.toolkit_model.specs.Registry.{row_on}
+use Rattle.card_model.specs.States.{CardState, Machine, powered, unpowered, woken, restarted}
 use Rattle.card_model.specs.Answers.{answer, passed}
 
 -- ---- what a fault leaves

@@ -1,16 +1,16 @@
 -- The state of a card, and what a reset leaves of it.
-use Rattle.std.specs.Prelude.{◌≡◌, ◌≤◌, Bool, true, false, List, [], ◌∷◌, length, All, Option, Some, None, is_some, slice_index_or, IfSome, IsSomeAnd}
-use Rattle.file_model.specs.declared.rules.Verified.{Verified}
-use Rattle.file_model.specs.card_layout.Persistent.{Registration, Persistent}
+use Rattle.std.specs.Prelude.{◌≡◌, ◌≤◌, Bool, true, false, List, length, All, Option, None, is_some, slice_index_or, IfSome, IsSomeAnd}
+use Rattle.card_state.specs.Persistent.{Registration, Persistent}
+use Rattle.access_rules.specs.declared.rules.Verified.{Verified}
 use Rattle.file_model.specs.Files.{descriptors_in}
 use Rattle.file_model.specs.Laws.{IsSoundCard}
 use Rattle.file_model.specs.declared.selections.Selection.{Selection}
-use Rattle.file_model.specs.declared.selections.TheConstants.Selection.{AT_START}
-use Rattle.file_making.specs.Lawful.{AreSelected}
-use Rattle.toolkit_model.specs.Model.{AppletState, SessionState, fresh_session, IsOrderly}
-pub use Rattle.toolkit_model.specs.Registry.{row_on}
-pub use Rattle.toolkit_model.specs.Commands.{woken_mind, woken_box}
-unfoldable pub use Rattle.toolkit_model.specs.Commands.{woken_boxes}
+use Rattle.file_model.specs.LawfulTrees.{AreSelected}
+use Rattle.file_model.specs.Channels.{basic_channel_alone}
+use Rattle.applet_trait.specs.Minds.{AppletState}
+use Rattle.toolkit_model.specs.Sessions.{SessionState, fresh_session}
+use Rattle.toolkit_model.specs.Orderly.{IsOrderly}
+use Rattle.toolkit_model.specs.Commands.{woken_boxes}
 
 -- What a card holds for good, and what it loses at a reset: what is selected on each of the logical channels 0 to 3 that
 -- is open (ETSI TS 102 221, 8.7), the verified keys, and the toolkit's session. An applet's box stands on its shelf, with
@@ -34,10 +34,6 @@ abbrev pub unpowered : CardState → Machine
 unpowered card = record { card = card; on = false }
 
 -- ---- after a reset
-
--- the basic channel alone is open, with the MF selected (8.7)
-abbrev pub basic_channel_alone : List (Option Selection)
-basic_channel_alone = Some AT_START ∷ None ∷ None ∷ None ∷ []
 
 abbrev pub nothing_verified : Verified
 nothing_verified = record { pin1 = false; pin2 = false; adm1 = false }

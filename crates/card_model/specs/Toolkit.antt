@@ -1,15 +1,15 @@
 -- The commands between a handset and the toolkit of a card (ETSI TS 102 221, 11.2), and those that install and delete applets:
 -- what each is refused for, in the written order, and what it makes of the toolkit.
 use Rattle.std.specs.Prelude.{ℕ, ◌+◌, ◌==◌, ◌&&◌, ◌||◌, nat_le, Bool, List, [], length, map, Option, unwrap_or, option_map, Result, Ok, Err}
-use Rattle.file_model.specs.uicc_types.declared.answers.StatusWord.{StatusWord}
-use Rattle.file_model.specs.uicc_types.declared.answers.TheConstants.StatusWord.{WRONG_LENGTH, WRONG_PARAMETERS, WRONG_DATA, NO_ROOM, TOOLKIT_BUSY, CONDITIONS_NOT_SATISFIED, SECURITY_NOT_SATISFIED, REFERENCE_NOT_FOUND}
-use Rattle.file_model.specs.apdu_form.Model.{Apdu}
-use Rattle.file_model.specs.declared.rules.Verified.{Verified}
-use Rattle.file_model.specs.card_layout.Persistent.{Registration, Persistent}
-use Rattle.toolkit_model.specs.toolkit_commands.Envelopes.{envelope_of}
+use Rattle.uicc_types.specs.declared.answers.StatusWord.{StatusWord}
+use Rattle.uicc_types.specs.declared.answers.TheConstants.StatusWord.{WRONG_LENGTH, WRONG_PARAMETERS, WRONG_DATA, NO_ROOM, TOOLKIT_BUSY, CONDITIONS_NOT_SATISFIED, SECURITY_NOT_SATISFIED, REFERENCE_NOT_FOUND}
+use Rattle.apdu_form.specs.Model.{Apdu}
+use Rattle.card_state.specs.Persistent.{Registration, Persistent}
+use Rattle.access_rules.specs.declared.rules.Verified.{Verified}
 use Rattle.file_model.specs.Chains.{refused_if, given, and_given, needs}
 use Rattle.file_model.specs.Outcomes.{has_data, has_no_data, has_le_alone, has_no_parameters}
 use Rattle.file_model.specs.Records.{other_length}
+use Rattle.toolkit_commands.specs.Envelopes.{envelope_of}
 use Rattle.toolkit_model.specs.declared.faults.RowFault.{RowFault}
 use Rattle.toolkit_model.specs.declared.faults.RowFault.TheVariants.{BadData, NoBox, Narrow, Taken, MenuFull, Spent, NoRow, NotIdle}
 use Rattle.toolkit_model.specs.Orderly.{asks}
@@ -19,8 +19,8 @@ use Rattle.toolkit_model.specs.Running.{mind_on}
 use Rattle.toolkit_model.specs.Driving.{is_idle}
 use Rattle.toolkit_model.specs.Commands.{profiled, enveloped, is_busy, call_data, unfetched, unanswered, command_bytes, fetched, reply_to, responded, installed, delete_carried}
 use Rattle.card_model.specs.States.{CardState}
-use Rattle.card_model.specs.declared.instructions.ToolkitCommand.{ToolkitCommand}
-use Rattle.card_model.specs.declared.instructions.ToolkitCommand.TheVariants.{TerminalProfile, Fetch, TerminalResponse, Envelope, InstallApplet, DeleteApplet}
+use Rattle.card_model.specs.declared.instructions.CatCommand.{CatCommand}
+use Rattle.card_model.specs.declared.instructions.CatCommand.TheVariants.{TerminalProfile, Fetch, TerminalResponse, Envelope, InstallApplet, DeleteApplet}
 
 -- A command of the toolkit was carried out: the data of its answer, what the toolkit came to, and the next sequence number of a
 -- row, which stands in each commit.
@@ -134,7 +134,7 @@ applet_deleted card seen apdu =
 -- ---- the commands by their names
 
 -- what a command of the toolkit comes to, or its refusal
-unfoldable pub toolkit_outcome : ToolkitCommand → CardState → Verified → Apdu → Result ToolkitOutcome StatusWord
+unfoldable pub toolkit_outcome : CatCommand → CardState → Verified → Apdu → Result ToolkitOutcome StatusWord
 toolkit_outcome TerminalProfile card seen apdu = profile_taken card apdu
 toolkit_outcome Fetch card seen apdu = command_fetched card apdu
 toolkit_outcome TerminalResponse card seen apdu = response_taken card apdu

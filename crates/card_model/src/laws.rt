@@ -1,8 +1,9 @@
 //! What holds of every card, command and run. The functions do nothing: each one's contract is the law.
 ghost use Rattle.card_model.specs.Laws.{RestartsAreGood, CountsJoin, CallsAreCounted, PlansAreCounted, PlansAreSetInOrder, PlainAnswersAreLawful, CommandsAreLawful, PlainRefusalsChangeTriesAndMarkAlone, AnswersNeverFail, PlainFaultsLeaveGoodCards};
 
-use file_making::commands_on_trees_are_lawful;
-use file_model::{commands_on_files_are_lawful, pin_commands_are_lawful};
+use file_model::{
+    commands_on_files_are_lawful, commands_on_trees_are_lawful, pin_commands_are_lawful,
+};
 
 /// A reset leaves a good card good.
 pub fn restarts_are_good()

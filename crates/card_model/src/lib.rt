@@ -1,13 +1,9 @@
 //! The abstract card: its state, its one list of instructions, what it answers to a command, and how it moves in a run of
 //! commands, resets, losses of power and memory failures. Definitions, and laws that hold of them.
-//!
-//! It passes on words of the crates below, for those who stand on it.
 #![tactic(auto)]
 
 mod instructions;
 mod laws;
 
-pub use file_making::commands_on_trees_are_lawful;
-pub use instructions::{Instruction, ToolkitCommand};
+pub use instructions::{CatCommand, Instruction};
 pub use laws::{answers_are_lawful, plans_are_set_in_order, restarts_are_good, runs_are_counted};
-pub use toolkit_model::Applet;

@@ -1,10 +1,13 @@
 //! Boxes and a sink that note what happens to them, where the test sees it.
 ghost use Rattle.std.specs.Prelude.{◌≤◌, length, IfOk};
 
+use applet_trait::{Act, Applet, Stimulus};
 use boxed_applets::{ProgramApplet, applet_of};
+use byte_streams::{Failed, ListSink, Sink};
+use card_state::sizes::ROW_COUNT;
 use std::alloc::{AllocError, Global};
 use std::cell::Cell;
-use uicc_run::{Act, Applet, Failed, Kept, ListSink, ROW_COUNT, Sink, Stimulus};
+use uicc_types::Kept;
 
 const MOST: usize = 64;
 

@@ -1,16 +1,23 @@
 //! What a T=0 link passes for a handset, and that a handset whose card is behind one uses it: the trace is the same without it.
 ghost use Rattle.std.specs.Prelude.{◌≡◌, ◌≤◌, length};
-ghost use Rattle.uicc_run.specs.handset_model.History.{span_of};
-ghost use Rattle.uicc_run.specs.handset_model.Legal.{IsBounded};
+ghost use Rattle.handset_model.specs.History.{span_of};
+ghost use Rattle.handset_model.specs.Legal.{IsBounded};
 
+use applet_trait::Applet;
+use byte_streams::{ListSink, Sink};
+use card_core::{CardOver, OpenFault};
+use eeprom_model::BenchEeprom;
+use layout_section::{Section, format};
 use phone_runs::{PhoneMove, Places, play_on_phone, start_phone};
+use run_steps::{CardEnd, Carrier};
+use script_form::{HandsetLine, Note};
 use std::alloc::Global;
 use std::test::Fail;
+use store_form::Store;
 use t0_link::{Endpoint, Link, LinkFault, is_carried};
-use uicc_run::{
-    Answer, ApduBytes, Applet, BenchEeprom, CardEnd, CardOver, Carrier, HandsetLine, Journal,
-    ListSink, Next, Note, Octets, OpenFault, Phone, Plan, Section, Sink, StatusWord, Store, format,
-};
+use terminal_side::{Next, Phone};
+use uicc_types::{Answer, ApduBytes, Octets, Plan, StatusWord};
+use update_journal::Journal;
 
 const SIZE: usize = 65_536;
 

@@ -2,9 +2,10 @@
 
 use crate::boxes::{Notes, Noting, boxes};
 use crate::runs::words_of;
+use byte_streams::{ListSink, SliceSource};
 use std::rt::HostRuntime;
 use std::test::Fail;
-use uicc_run::{ListSink, SliceSource, answer};
+use uicc_run::answer;
 
 /// The words of a command line, whether the sink fails in its first call, what is shown first, and the status.
 type Page = (&'static str, &'static [u32], &'static str, u8);

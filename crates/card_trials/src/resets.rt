@@ -1,12 +1,15 @@
 //! A reset that fails.
 ghost use Rattle.std.specs.Prelude.{◌≡◌, ◌≤◌, length};
 
+use applet_trait::Applet;
+use card_core::{CardOver, OpenFault, ResetFault};
+use eeprom_model::BenchEeprom;
+use layout_section::{Section, format};
 use std::alloc::Global;
 use std::test::Fail;
-use uicc_run::{
-    Answer, Applet, BenchEeprom, CardOver, Journal, OpenFault, Plan, ResetFault, Section,
-    StatusWord, Store, format,
-};
+use store_form::Store;
+use uicc_types::{Answer, Plan, StatusWord};
+use update_journal::Journal;
 
 const SIZE: usize = 65_536;
 

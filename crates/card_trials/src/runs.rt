@@ -4,11 +4,14 @@ ghost use Rattle.uicc_run.specs.Stores.{IsSizeFor};
 
 use crate::boxes::{Noting, NotingSink};
 use boxed_applets::make_applets;
+use byte_streams::{ListSink, SliceSource};
+use card_state::places::MEMORY_SIZE;
+use card_state::sizes::ROW_COUNT;
+use command_line::devices;
+use eeprom_model::{BenchEeprom, Eeprom};
 use std::alloc::{AllocError, Global};
 use std::test::Fail;
-use uicc_run::{
-    BenchEeprom, Eeprom, ListSink, MEMORY_SIZE, ROW_COUNT, SliceSource, device_size, devices, run,
-};
+use uicc_run::{device_size, run};
 
 /// A script, and the trace that it is to have.
 #[derive(Drop)]

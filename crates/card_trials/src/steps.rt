@@ -2,10 +2,11 @@
 
 use crate::boxes::{Notes, Noting, NotingSink, boxes};
 use crate::runs::{Ended, blank, carried_out, sink};
+use applet_trait::{Act, Applet, Stimulus};
 use boxed_applets::applet_of;
 use std::alloc::{AllocError, Global};
 use std::test::Fail;
-use uicc_run::{Act, Applet, Octets, Stimulus};
+use uicc_types::Octets;
 
 /// A script over boxes of one kind, what its lines show, and what is noted meanwhile: a dot for each line of the trace, the mark of
 /// each box that steps, what a box keeps when it is woken, and a dash where one is let go.

@@ -2,9 +2,9 @@
 
 use crate::boxes::{Notes, NotingSink, boxes};
 use crate::runs::{blank, carried_out, device_with, sink};
+use eeprom_model::{BenchEeprom, SwitchedEeprom};
 use std::alloc::Global;
 use std::test::Fail;
-use uicc_run::{BenchEeprom, SwitchedEeprom};
 
 // A transparent file, PIN 1 and ADM 1, and an applet that greets.
 const GREETED: &str = "ef 2FE2 t 10 2 -\n\

@@ -1,13 +1,15 @@
 //! An applet in a place, known by its trait alone.
 ghost use Rattle.std.specs.Prelude.{◌≡◌, IfSome};
-ghost use Rattle.uicc_run.specs.applet_trait.Laws.{IsWritableAct};
-ghost use Rattle.uicc_run.specs.applet_trait.Minds.{fresh};
-ghost use Rattle.uicc_run.specs.applet_trait.Turns.{act};
+ghost use Rattle.applet_trait.specs.Laws.{IsWritableAct};
+ghost use Rattle.applet_trait.specs.Minds.{fresh};
+ghost use Rattle.applet_trait.specs.Turns.{act};
 
+use applet_trait::{Act, Applet, Stimulus};
 use boxed_applets::{ProgramApplet, applet_of};
 use std::rt::HostRuntime;
-use uicc_run::events::PROFILE_DOWNLOAD;
-use uicc_run::{Act, Applet, Kept, Octets, Proactive, Stimulus};
+use toolkit_commands::Proactive;
+use uicc_types::events::PROFILE_DOWNLOAD;
+use uicc_types::{Kept, Octets};
 
 /// The kind of the applet in a place, and what it does at a stimulus once it woke.
 fn turn_of<B: Applet>(place: &mut Option<B>, kept: &Kept, stimulus: &Stimulus) -> Option<(u8, Act)>

@@ -1,5 +1,5 @@
-pub mod Steps
-pub mod Forms
-pub mod Outlines
-pub mod Finding
-pub mod Readings
+pub mod IsBytesLemmas
+pub mod ObjectAtLemmas
+pub mod OutlineAtLemmas
+pub mod ReadingLemmas
+pub mod ValueOfLemmas

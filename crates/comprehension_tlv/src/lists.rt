@@ -3,7 +3,7 @@ ghost use Rattle.std.specs.Prelude.{◌≡◌, ◌+◌, ◌≤◌, List, length,
 ghost use Rattle.comprehension_tlv.specs.Model.{Object, IsObjects};
 ghost use Rattle.comprehension_tlv.specs.Reading.{Gives, IsOutline, outline, flaw, first_value, value_of};
 
-use crate::TlvFault;
+use crate::faults::TlvFault;
 use crate::walks::Walk;
 
 /// A walk over the objects that fill the bytes.

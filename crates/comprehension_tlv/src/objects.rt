@@ -3,7 +3,7 @@ ghost use Rattle.std.specs.Prelude.{◌<◌, length, IfOk};
 ghost use Rattle.comprehension_tlv.specs.Reading.{Gives, tag_at, length_at, value_at, object_at};
 ghost use Rattle.comprehension_tlv.specs.Seen.{object_of};
 
-use crate::TlvFault;
+use crate::faults::TlvFault;
 
 /// One comprehension-TLV object.
 #[derive(Clone, Copy, Debug, PartialEq, Eq)]

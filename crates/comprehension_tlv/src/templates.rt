@@ -3,7 +3,7 @@ ghost use Rattle.std.specs.Prelude.{◌≡◌, ◌+◌, ◌≤◌, ℕ, List, le
 ghost use Rattle.comprehension_tlv.specs.Model.{IsTemplate};
 ghost use Rattle.comprehension_tlv.specs.Reading.{Gives, template_of};
 
-use crate::TlvFault;
+use crate::faults::TlvFault;
 use crate::objects::read_value;
 
 /// The tag and the content of one BER template that fills the bytes. Its tag may be any byte, and its own faults have

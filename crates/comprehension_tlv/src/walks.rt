@@ -3,8 +3,8 @@ ghost use Rattle.std.specs.Prelude.{◌≡◌};
 ghost use Rattle.comprehension_tlv.specs.Reading.{outline};
 ghost use Rattle.comprehension_tlv.specs.Seen.{IsNext};
 
-use crate::objects::read_object;
-use crate::{Part, TlvFault};
+use crate::faults::TlvFault;
+use crate::objects::{Part, read_object};
 use std::marker::Model;
 
 /// A walk over a list of objects. It hands out the parts in order.

@@ -1,8 +1,8 @@
 -- The bench device: a memory in which faults are planned, each at a call of its kind, counted from 1 since the plan
 -- was set. Calls without power do nothing and are not counted.
 use Rattle.std.specs.Prelude.{ℕ, Bool, true, false, ◌==◌, ◌-◌, if◌then◌else◌, List, ◌++◌, length, take, replicate, Option, Some, None, Result, Ok, Err, ⊤}
+use Rattle.list_laws.specs.Patches.{patched}
 use Rattle.uicc_types.specs.Counts.{Meter, raised, armed}
-use Rattle.uicc_types.specs.Patches.{patched}
 use Rattle.uicc_types.specs.declared.plans.Plan.{Plan}
 use Rattle.uicc_types.specs.declared.plans.CutAt.{CutAt}
 use Rattle.uicc_types.specs.declared.plans.FailAt.{FailAt}

@@ -3,7 +3,7 @@ ghost use Rattle.std.specs.Prelude.{◌≡◌, ◌≤◌, length, is_some};
 ghost use Rattle.uicc_types.specs.Counts.{names_fault};
 ghost use Rattle.eeprom_model.specs.Adapter.{is_planned as planned_for};
 
-use crate::{Eeprom, EepromFault, PAGE_LENGTH};
+use crate::device::{Eeprom, EepromFault, PAGE_LENGTH};
 use std::fs::File;
 use std::io;
 use std::io::{Read, Seek, SeekFrom, Write};

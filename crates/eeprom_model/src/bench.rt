@@ -1,13 +1,13 @@
 //! A device of the bench: a vector in which faults are planned.
 ghost use Rattle.std.specs.Prelude.{◌≡◌, refl, ◌+◌, ◌≤◌, IsTrue, Some, true, false, length, replicate, option_map, slice_range, IfOk, IfSome, OnOk, OnErr, IsErrOf};
+ghost use Rattle.list_laws.specs.Patches.{patched, Torn};
 ghost use Rattle.uicc_types.specs.Counts.{names_fault};
-ghost use Rattle.uicc_types.specs.Patches.{patched, Torn};
 ghost use Rattle.uicc_types.specs.Told.{AreBytes, Becomes};
 ghost use Rattle.eeprom_model.specs.Faults.{HasCause};
 ghost use Rattle.eeprom_model.specs.Ranges.{IsPageWrite};
 ghost use Rattle.eeprom_model.specs.Bench.{new_bench, planned_for, cut_bytes, program_outcome, read_outcome, given_plan};
 
-use crate::{Eeprom, EepromFault};
+use crate::device::{Eeprom, EepromFault};
 use std::alloc::Global;
 use std::marker::Model;
 use uicc_types::{CutAt, FailAt, OutOfMemory, Plan};
@@ -92,7 +92,7 @@ fn planned_read_failure(plan: &Plan, number: u64) -> Option<u32>
     plan.read_fail.filter(|call| u64::from(*call) == number)
 }
 
-#[tactic(auto, unfolding(uicc_types::specs::Patches::patched))]
+#[tactic(auto, unfolding(list_laws::specs::Patches::patched))]
 // Puts these bytes in, from `at` on.
 fn overwrite(memory: &mut [u8], at: usize, bytes: &[u8])
     requires { at + length bytes.now ≤ length memory.old }
@@ -101,7 +101,7 @@ fn overwrite(memory: &mut [u8], at: usize, bytes: &[u8])
     memory[at..at + bytes.len()].copy_from_slice(bytes);
 }
 
-#[tactic(auto, unfolding(uicc_types::specs::Patches::patched))]
+#[tactic(auto, unfolding(list_laws::specs::Patches::patched))]
 // Puts one byte into `count` places, from `at` on. Faults are rare, and this is out of the way of a call without one.
 #[inline(never)]
 fn fill(memory: &mut [u8], at: usize, count: usize, byte: u8)

@@ -1,10 +1,10 @@
 //! What is asked of an EEPROM, and what can go wrong in it.
 ghost use Rattle.std.specs.Prelude.{◌≡◌, ◌+◌, ◌≤◌, ℕ, Bool, List, Option, false, true, length, option_map, slice_range, IfSome, OnOk, OnErr};
+ghost use Rattle.list_laws.specs.Patches.{patched, Torn};
+ghost use Rattle.uicc_types.specs.Counts.{Meter, armed};
+ghost use Rattle.uicc_types.specs.Told.{AreBytes, Becomes};
 ghost use Rattle.eeprom_model.specs.Faults.{HasCause};
 ghost use Rattle.eeprom_model.specs.Ranges.{IsPageWrite};
-ghost use Rattle.uicc_types.specs.Counts.{Meter, armed};
-ghost use Rattle.uicc_types.specs.Patches.{patched, Torn};
-ghost use Rattle.uicc_types.specs.Told.{AreBytes, Becomes};
 
 use uicc_types::Plan;
 

@@ -1,7 +1,7 @@
 //! A device for trials: it shows the bytes of another one while it is told to. No proof can see which.
 ghost use Rattle.std.specs.Prelude.{◌≡◌, None};
 
-use crate::{Eeprom, EepromFault};
+use crate::device::{Eeprom, EepromFault};
 use std::cell::Cell;
 use std::marker::Model;
 use uicc_types::Plan;

@@ -1,2 +1,4 @@
+pub mod NewEntries
 pub mod Outcomes
 pub mod Written
+pub mod WrittenFiles

@@ -1,27 +1,27 @@
 -- What a command that makes, deletes or resizes a file has done to a card.
 use Rattle.std.specs.Prelude.{◌≡◌, ◌≢◌, ℕ, List, [], length, Option, Some, IfSome, Result, Ok, Err, IfOk, OnOk, OnErr}
-use Rattle.file_model.specs.uicc_types.Counts.{raised_by}
-use Rattle.file_model.specs.uicc_types.declared.answers.Answer.{Answer}
-use Rattle.file_model.specs.uicc_types.declared.answers.StatusWord.{StatusWord}
-use Rattle.file_model.specs.uicc_types.declared.answers.TheConstants.StatusWord.{DONE, MEMORY_PROBLEM}
-use Rattle.file_model.specs.apdu_form.Model.{Apdu}
-use Rattle.file_model.specs.declared.rules.Verified.{Verified}
-use Rattle.file_model.specs.card_layout.declared.entries.Loaded.{Loaded}
-use Rattle.file_model.specs.card_layout.Persistent.{Persistent}
-use Rattle.file_model.specs.store_form.declared.store.StoreFault.{StoreFault}
-use Rattle.file_model.specs.card_layout.Memory.{Memory, held, Keeps}
-use Rattle.file_model.specs.card_layout.Standing.{Stands}
-use Rattle.card_memory.specs.Performing.{PassesOne}
+use Rattle.uicc_types.specs.Counts.{raised_by}
+use Rattle.uicc_types.specs.declared.answers.Answer.{Answer}
+use Rattle.uicc_types.specs.declared.answers.StatusWord.{StatusWord}
+use Rattle.uicc_types.specs.declared.answers.TheConstants.StatusWord.{DONE, MEMORY_PROBLEM}
+use Rattle.apdu_form.specs.Model.{Apdu}
+use Rattle.store_form.specs.declared.store.StoreFault.{StoreFault}
+use Rattle.card_state.specs.declared.entries.Loaded.{Loaded}
+use Rattle.card_state.specs.Persistent.{Persistent}
+use Rattle.card_state.specs.Memory.{Memory, held, Keeps}
+use Rattle.card_state.specs.Standing.{Stands}
+use Rattle.access_rules.specs.declared.rules.Verified.{Verified}
 use Rattle.file_model.specs.declared.descriptors.Descriptor.{Descriptor}
 use Rattle.file_model.specs.declared.selections.Selection.{Selection}
-use Rattle.file_tree.specs.card_model.Channels.{channel_of}
+use Rattle.file_model.specs.Channels.{channel_of}
 use Rattle.file_model.specs.Files.{descriptors_of, descriptors_in}
 use Rattle.file_model.specs.Outcomes.{last_of}
-use Rattle.file_making.specs.Creating.{created}
-use Rattle.file_making.specs.Deleting.{deleted}
-use Rattle.file_making.specs.Lawful.{AreSelected}
-use Rattle.file_making.specs.Outcomes.{TreeOutcome, settled_tree, child_named}
-use Rattle.file_making.specs.Resizing.{resized}
+use Rattle.file_model.specs.Creating.{created}
+use Rattle.file_model.specs.Deleting.{deleted}
+use Rattle.file_model.specs.LawfulTrees.{AreSelected}
+use Rattle.file_model.specs.TreeOutcomes.{TreeOutcome, settled_tree, child_named}
+use Rattle.file_model.specs.Resizing.{resized}
+use Rattle.card_commits.specs.Performing.{PassesOne}
 
 -- 9000, or the status that refuses the command
 abbrev pub tree_status_of : {X : Type 0} → Result X StatusWord → StatusWord

@@ -1,16 +1,16 @@
 -- What is written for a change, over each memory that a table is of.
 use Rattle.std.specs.Prelude.{ℕ, List, option_map}
-use Rattle.file_model.specs.card_layout.declared.entries.Node.{Node}
-use Rattle.file_model.specs.card_layout.declared.entries.Loaded.{Loaded}
-use Rattle.file_model.specs.card_layout.Changing.{with_file_at}
-use Rattle.file_model.specs.card_layout.Laws.{after}
-use Rattle.file_model.specs.card_layout.Persistent.{Persistent}
-use Rattle.file_model.specs.card_layout.Spelling.{node_part}
-use Rattle.file_model.specs.card_layout.Standing.{Stands}
-use Rattle.file_model.specs.card_layout.StateLaws.{file_with_number}
-use Rattle.card_memory.specs.layout_standing.Changes.{with_node}
-use Rattle.file_making.specs.Resizing.{file_resized}
-use Rattle.file_making.specs.Rooms.{room_at}
+use Rattle.card_state.specs.declared.entries.Node.{Node}
+use Rattle.card_state.specs.declared.entries.Loaded.{Loaded}
+use Rattle.card_state.specs.Changing.{with_file_at}
+use Rattle.card_state.specs.Persistent.{Persistent}
+use Rattle.card_state.specs.Standing.{Stands}
+use Rattle.card_state.specs.StateLaws.{file_with_number}
+use Rattle.file_model.specs.Resizing.{file_resized}
+use Rattle.file_model.specs.Rooms.{room_at}
+use Rattle.layout_entries.specs.Laws.{after}
+use Rattle.layout_entries.specs.Spelling.{node_part}
+use Rattle.layout_laws.specs.Changes.{with_node}
 
 -- Bytes are prepared in it, and then some bytes of an entry are written: it stands for the changed state.
 abbrev pub IsWrittenOver : Loaded → (List ℕ → List ℕ) → ℕ → Node → ℕ → ℕ → (Persistent → Persistent) → Type 0

@@ -1,15 +1,16 @@
 //! A file that comes: its bytes, FF, are prepared where none is a file's, and then its entry is committed.
 ghost use Rattle.std.specs.Prelude.{◌≡◌, ◌≤◌, ◌<◌, OnOk, OnErr};
-ghost use Rattle.file_model.specs.card_layout.Memory.{IsMounted, Committed, memory};
-ghost use Rattle.file_model.specs.card_layout.Persistent.{Persistent};
-ghost use Rattle.card_memory.specs.layout_standing.Changes.{with_node};
-ghost use Rattle.card_memory.specs.layout_standing.Known.{IsBesideNodes};
-ghost use Rattle.card_memory.specs.Prepared.{filled, Prepares};
+ghost use Rattle.card_state.specs.Memory.{IsMounted, Committed, memory};
+ghost use Rattle.card_state.specs.Persistent.{Persistent};
+ghost use Rattle.layout_laws.specs.Changes.{with_node};
+ghost use Rattle.layout_laws.specs.Known.{IsBesideNodes};
+ghost use Rattle.card_commits.specs.Prepared.{filled, Prepares};
 ghost use Rattle.file_admin.specs.Written.{IsWrittenOver};
 
-use card_memory::{commit_node, prepare_blank};
-use file_model::sizes::NODE_COUNT;
-use file_model::{Loaded, Node, Store, StoreFault};
+use card_commits::{commit_node, prepare_blank};
+use card_state::sizes::NODE_COUNT;
+use card_state::{Loaded, Node};
+use store_form::{Store, StoreFault};
 
 // Prepares the bytes of an entry. A DF has none.
 fn prepare_bytes<S: Store>(store: &mut S, loaded: &Loaded, node: &Node) -> Result<(), StoreFault>

@@ -1,14 +1,14 @@
 //! What is selected on the logical channels, where a file comes or goes.
 ghost use Rattle.std.specs.Prelude.{◌≡◌, ◌==◌, ℕ, false, slice_set, option_map};
 ghost use Rattle.std.specs.Option.{option_map_or};
-ghost use Rattle.file_tree.specs.card_model.Channels.{channel_of, family, names_channel, selected_on};
+ghost use Rattle.file_model.specs.Channels.{channel_of, family, names_channel, selected_on};
 ghost use Rattle.file_model.specs.Files.{descriptor_in};
 ghost use Rattle.file_model.specs.Selections.{selection_of};
-ghost use Rattle.file_making.specs.Creating.{file_made};
-ghost use Rattle.file_making.specs.Outcomes.{df_on, is_current, without_ef, all_without_ef};
+ghost use Rattle.file_model.specs.Creating.{file_made};
+ghost use Rattle.file_model.specs.TreeOutcomes.{df_on, is_current, without_ef, all_without_ef};
 
-use file_making::NewFile;
-use file_tree::{Channels, Selection};
+use file_model::{NewFile, Selection};
+use file_tree::Channels;
 
 /// The class without the channel.
 pub fn family(class: u8) -> u8

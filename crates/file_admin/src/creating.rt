@@ -1,24 +1,28 @@
 //! CREATE FILE.
 ghost use Rattle.std.specs.Prelude.{◌≡◌, true, false, IsTrue, IsOk, OnOk, IsSomeAnd};
-ghost use Rattle.file_model.specs.card_layout.Memory.{IsMounted, memory};
-ghost use Rattle.file_tree.specs.card_model.Channels.{channel_of, is_open};
+ghost use Rattle.card_state.specs.Memory.{IsMounted, memory};
+ghost use Rattle.file_model.specs.Channels.{channel_of, is_open};
 ghost use Rattle.file_model.specs.Files.{descriptors_of, file_found, is_df};
 ghost use Rattle.file_model.specs.declared.descriptors.Wanted.TheVariants.{Number};
-ghost use Rattle.file_making.specs.Creating.{is_there, created_if_room};
-ghost use Rattle.file_making.specs.Lawful.{AreSelected};
-ghost use Rattle.file_making.specs.Outcomes.{df_on};
-ghost use Rattle.file_making.specs.Templates.{may_be_made};
+ghost use Rattle.file_model.specs.Creating.{is_there, created_if_room};
+ghost use Rattle.file_model.specs.LawfulTrees.{AreSelected};
+ghost use Rattle.file_model.specs.TreeOutcomes.{df_on};
+ghost use Rattle.file_model.specs.Templates.{may_be_made};
 ghost use Rattle.file_admin.specs.Outcomes.{PerformsTree, AnswersTree, CommitsTree, IfNothingPasses, EndsTree, ChangesNodes, IsDone, creation_by};
 
 use crate::adding::add;
 use crate::channels::{channel_of, df_on, selection_of};
+use crate::new_entries::new_entry;
 use crate::refusals::try_creation;
-use card_memory::{cards_are_known, stores_stand};
-use file_making::{NewFile, new_entry, selections_stay, written_files_stand};
-use file_model::{
-    Answer, Command, Loaded, StatusWord, Store, StoreFault, Verified, files_are_found,
-};
+use crate::written_files::written_files_stand;
+use access_rules::Verified;
+use apdu_form::Command;
+use card_state::Loaded;
+use file_model::{NewFile, files_are_found, selections_stay};
 use file_tree::Channels;
+use layout_laws::{cards_are_known, stores_stand};
+use store_form::{Store, StoreFault};
+use uicc_types::{Answer, StatusWord};
 
 // Makes this file in the current DF of the channel where there is room for it, and answers the status.
 fn create<S: Store>(

@@ -1,22 +1,26 @@
 //! DELETE FILE.
 ghost use Rattle.std.specs.Prelude.{◌≡◌, true, false, Ok, IsOk, OnOk};
-ghost use Rattle.file_model.specs.card_layout.Memory.{IsMounted, memory};
-ghost use Rattle.file_tree.specs.card_model.Channels.{channel_of, is_open};
+ghost use Rattle.card_state.specs.Memory.{IsMounted, memory};
+ghost use Rattle.file_model.specs.Channels.{channel_of, is_open};
 ghost use Rattle.file_model.specs.Files.{descriptors_of};
+ghost use Rattle.file_model.specs.Deleting.{is_in_use, deleting};
+ghost use Rattle.file_model.specs.LawfulTrees.{AreSelected};
 ghost use Rattle.file_tree.specs.Tables.{IsNumbered};
-ghost use Rattle.file_making.specs.Deleting.{is_in_use, deleting};
-ghost use Rattle.file_making.specs.Lawful.{AreSelected};
 ghost use Rattle.file_admin.specs.Outcomes.{PerformsTree, AnswersTree, CommitsTree, IfNothingPasses, EndsTree, ChangesNodes, IsDone, IsNamedIn, deletion_by};
 
 use crate::channels::{channel_of, leave};
 use crate::entries::entry_of;
 use crate::refusals::try_deletion;
-use card_memory::{cards_are_known, commit_node, stores_stand};
-use file_making::{selections_stay, written_files_stand};
-use file_model::{
-    Answer, Command, Loaded, Node, StatusWord, Store, StoreFault, Verified, files_are_found,
-};
-use file_tree::{Channels, Descriptor};
+use crate::written_files::written_files_stand;
+use access_rules::Verified;
+use apdu_form::Command;
+use card_commits::commit_node;
+use card_state::{Loaded, Node};
+use file_model::{Descriptor, files_are_found, selections_stay};
+use file_tree::Channels;
+use layout_laws::{cards_are_known, stores_stand};
+use store_form::{Store, StoreFault};
+use uicc_types::{Answer, StatusWord};
 
 // Deletes this file, and answers the status.
 fn delete<S: Store>(

@@ -1,12 +1,12 @@
 //! The entry of a file.
 ghost use Rattle.std.specs.Prelude.{◌≡◌, ◌<◌};
-ghost use Rattle.file_model.specs.card_layout.Used.{HasNode};
+ghost use Rattle.card_state.specs.Used.{HasNode};
 ghost use Rattle.file_model.specs.Files.{descriptor_of, descriptors_of};
 ghost use Rattle.file_tree.specs.Tables.{IsNumbered};
 
-use file_model::sizes::NODE_COUNT;
-use file_model::{Loaded, Node, files_are_found};
-use file_tree::Descriptor;
+use card_state::sizes::NODE_COUNT;
+use card_state::{Loaded, Node};
+use file_model::{Descriptor, files_are_found};
 
 /// The entry of this file.
 pub fn entry_of(loaded: &Loaded, file: &Descriptor) -> Node

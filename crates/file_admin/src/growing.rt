@@ -1,14 +1,16 @@
 //! A file that grows: its bytes are prepared where none is a file's, and then place and size of its entry are committed.
 ghost use Rattle.std.specs.Prelude.{◌≡◌, ◌<◌, OnOk, OnErr};
-ghost use Rattle.file_model.specs.card_layout.Memory.{IsMounted, Committed, memory};
-ghost use Rattle.file_model.specs.card_layout.Persistent.{Persistent};
-ghost use Rattle.card_memory.specs.layout_standing.Changes.{with_node};
-ghost use Rattle.card_memory.specs.layout_standing.Known.{IsBesideNodes};
-ghost use Rattle.card_memory.specs.Prepared.{IsTransparentFile, moved};
+ghost use Rattle.card_state.specs.Memory.{IsMounted, Committed, memory};
+ghost use Rattle.card_state.specs.Persistent.{Persistent};
+ghost use Rattle.layout_laws.specs.Changes.{with_node};
+ghost use Rattle.layout_laws.specs.Known.{IsBesideNodes};
+ghost use Rattle.card_commits.specs.Prepared.{IsTransparentFile, moved};
 ghost use Rattle.file_admin.specs.Written.{IsWrittenOver};
 
-use card_memory::{cards_are_known, commit_node, prepare_moved};
-use file_model::{Loaded, Node, Store, StoreFault};
+use card_commits::{commit_node, prepare_moved};
+use card_state::{Loaded, Node};
+use layout_laws::cards_are_known;
+use store_form::{Store, StoreFault};
 
 /// Moves a transparent file to this place, where it has more bytes: those that it holds, and FF behind them. After a fault the
 /// table is as it was.

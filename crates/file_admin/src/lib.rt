@@ -7,10 +7,18 @@ mod creating;
 mod deleting;
 mod entries;
 mod growing;
+mod new_entries;
 mod refusals;
 mod resizing;
+mod rooms;
+mod templates;
+mod written_files;
 
 pub use channels::{channel_of, family, names_channel};
 pub use creating::create_file;
 pub use deleting::delete_file;
+pub use new_entries::{NewEntry, new_entry};
 pub use resizing::resize_file;
+pub use rooms::room;
+pub use templates::read_template;
+pub use written_files::written_files_stand;

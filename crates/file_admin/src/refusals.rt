@@ -1,25 +1,27 @@
 //! What refuses the commands before room is looked for.
 ghost use Rattle.std.specs.Prelude.{◌≡◌, ◌≢◌, ◌≤◌, ◌+◌, ◌==◌, ◌&&◌, false, length, Some, Ok, Err, IsTrue, IfOk, IfErr, IfSome};
 ghost use Rattle.std.specs.List.{list_any};
-ghost use Rattle.file_model.specs.card_layout.Decoding.{number_at};
-ghost use Rattle.file_model.specs.card_layout.Kinds.{transparent_kind};
+ghost use Rattle.card_state.specs.Decoding.{number_at};
+ghost use Rattle.card_state.specs.Kinds.{transparent_kind};
 ghost use Rattle.file_model.specs.Files.{descriptor_of, descriptors_of, lies_in};
+ghost use Rattle.file_model.specs.Creating.{is_there, has_id, has_short, created_if_room, created};
+ghost use Rattle.file_model.specs.Deleting.{is_in_use, deleting, deleted};
+ghost use Rattle.file_model.specs.TreeOutcomes.{df_on, child_named};
+ghost use Rattle.file_model.specs.Resizing.{size_asked, may_have, resized_if_room, resized};
+ghost use Rattle.file_model.specs.Templates.{may_be_made};
 ghost use Rattle.file_tree.specs.Tables.{IsCardTable, IsNumbered};
-ghost use Rattle.file_making.specs.Creating.{is_there, has_id, has_short, created_if_room, created};
-ghost use Rattle.file_making.specs.Deleting.{is_in_use, deleting, deleted};
-ghost use Rattle.file_making.specs.Outcomes.{df_on, child_named};
-ghost use Rattle.file_making.specs.Resizing.{size_asked, may_have, resized_if_room, resized};
-ghost use Rattle.file_making.specs.Templates.{may_be_made};
 ghost use Rattle.file_admin.specs.Outcomes.{WithFilesOf};
 
 use crate::channels::{df_on, is_current};
-use file_making::{NewFile, read_template};
-use file_model::kinds::{DEACTIVATED, DF, TRANSPARENT};
-use file_model::sizes::{NODE_COUNT, SIZE_LIMIT};
-use file_model::{
-    Command, FileId, Loaded, Node, StatusWord, Verified, has_data, has_no_parameters,
-};
-use file_tree::{Channels, Descriptor, Wanted, first_file};
+use crate::templates::read_template;
+use access_rules::Verified;
+use apdu_form::Command;
+use card_state::kinds::{DEACTIVATED, DF, TRANSPARENT};
+use card_state::sizes::{NODE_COUNT, SIZE_LIMIT};
+use card_state::{Loaded, Node};
+use file_model::{Descriptor, NewFile, Wanted, has_data, has_no_parameters};
+use file_tree::{Channels, first_file};
+use uicc_types::{FileId, StatusWord};
 
 // The number in two of the bytes.
 fn number_at(bytes: &[u8], at: usize) -> u16
@@ -58,7 +60,7 @@ fn is_there(loaded: &Loaded, df: u8, file: &NewFile) -> bool
 
 /// The file that CREATE FILE asks for in the current DF of this channel. Refused are, in this order, wrong P1 and P2, no data, no
 /// ADM1, other data than the template of a file that may be made, and one that the DF has already.
-#[tactic(auto, unfolding(file_making::specs::Creating::created, file_model::specs::Chains::refused_if, file_model::specs::Chains::given))]
+#[tactic(auto, unfolding(file_model::specs::Creating::created, file_model::specs::Chains::refused_if, file_model::specs::Chains::given))]
 pub fn try_creation(
     loaded: &Loaded,
     seen: &Verified,
@@ -141,7 +143,7 @@ fn is_in_use(loaded: &Loaded, channels: &Channels, file: &Descriptor) -> bool
 
 /// The file that DELETE FILE deletes, of those in the current DF of this channel. Refused are, in this order, wrong P1 and P2, a
 /// wrong length, no such file, no ADM1, and a DF that is in use.
-#[tactic(auto, unfolding(file_making::specs::Deleting::deleted, file_model::specs::Chains::refused_if, file_model::specs::Chains::given))]
+#[tactic(auto, unfolding(file_model::specs::Deleting::deleted, file_model::specs::Chains::refused_if, file_model::specs::Chains::given))]
 pub fn try_deletion(
     loaded: &Loaded,
     seen: &Verified,
@@ -199,7 +201,7 @@ fn may_have(size: u16) -> bool
 
 /// The file that RESIZE FILE resizes, of those in the current DF of this channel. Refused are, in this order, wrong P1 and P2, a
 /// wrong length, no such file, one that isn't transparent or is out of use, no ADM1, and a size that no file may have.
-#[tactic(auto, unfolding(file_making::specs::Resizing::resized, file_model::specs::Chains::refused_if, file_model::specs::Chains::given))]
+#[tactic(auto, unfolding(file_model::specs::Resizing::resized, file_model::specs::Chains::refused_if, file_model::specs::Chains::given))]
 pub fn try_resizing(
     loaded: &Loaded,
     seen: &Verified,

@@ -1,12 +1,12 @@
 //! RESIZE FILE.
 ghost use Rattle.std.specs.Prelude.{◌≡◌, ◌<◌, List, Option, true, IsTrue, IsOk, OnOk};
-ghost use Rattle.file_model.specs.card_layout.Kinds.{transparent_kind};
-ghost use Rattle.file_model.specs.card_layout.Memory.{IsMounted, memory};
-ghost use Rattle.file_tree.specs.card_model.Channels.{channel_of, is_open};
+ghost use Rattle.card_state.specs.Kinds.{transparent_kind};
+ghost use Rattle.card_state.specs.Memory.{IsMounted, memory};
+ghost use Rattle.file_model.specs.Channels.{channel_of, is_open};
 ghost use Rattle.file_model.specs.Files.{descriptors_of};
 ghost use Rattle.file_model.specs.declared.selections.Selection.{Selection};
-ghost use Rattle.file_making.specs.Lawful.{AreSelected};
-ghost use Rattle.file_making.specs.Resizing.{may_have, resized_if_room};
+ghost use Rattle.file_model.specs.LawfulTrees.{AreSelected};
+ghost use Rattle.file_model.specs.Resizing.{may_have, resized_if_room};
 ghost use Rattle.file_tree.specs.Tables.{IsNumbered};
 ghost use Rattle.file_admin.specs.Outcomes.{PerformsTree, AnswersTree, CommitsTree, IfNothingPasses, EndsTree, ChangesNodes, IsDone, resizing_by};
 
@@ -14,13 +14,17 @@ use crate::channels::channel_of;
 use crate::entries::entry_of;
 use crate::growing::grow;
 use crate::refusals::{size_asked, try_resizing};
-use card_memory::{cards_are_known, commit_node, stores_stand};
-use file_making::{room, rooms_are_smallest, selections_stay, written_files_stand};
-use file_model::{
-    Answer, Command, Loaded, Node, StatusWord, Store, StoreFault, Verified, files_are_found,
-    node_ranges,
-};
-use file_tree::{Channels, Descriptor};
+use crate::rooms::room;
+use crate::written_files::written_files_stand;
+use access_rules::Verified;
+use apdu_form::Command;
+use card_commits::commit_node;
+use card_state::{Loaded, Node, node_ranges};
+use file_model::{Descriptor, files_are_found, rooms_are_smallest, selections_stay};
+use file_tree::Channels;
+use layout_laws::{cards_are_known, stores_stand};
+use store_form::{Store, StoreFault};
+use uicc_types::{Answer, StatusWord};
 
 // Gives a transparent file fewer bytes, and answers the status.
 fn shrink_to<S: Store>(

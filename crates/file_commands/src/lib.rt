@@ -1,17 +1,7 @@
-//! The commands on files over a store (ETSI TS 102 221, 11.1).
+//! The commands on files, under one name.
 #![tactic(auto)]
 
-mod access;
-mod binaries;
-mod laws;
-mod selecting;
-mod settling;
-mod targets;
-mod telling;
-
-pub use access::is_allowed;
-pub use binaries::{read_binary, update_binary};
-pub use laws::is_card_table;
-pub use selecting::{select, status};
-pub use settling::settle;
-pub use targets::{addressed, is_deactivated, worked_on};
+pub use binary_commands::{read_binary, select, status, update_binary};
+pub use record_commands::{
+    activate, deactivate, increase, read_record, search_record, update_record,
+};

@@ -1,37 +1,30 @@
-mod BinaryLaws
-pub mod Cases
-pub mod ChainedLemmas
-pub mod Changed
-mod Committed
-pub mod ConditionLemmas
-pub mod Entries
-pub mod GroupLemmas
-pub mod GuardLaws
-mod LifeLaws
-mod Lookups
-pub mod ObjectLemmas
-mod Optional
-pub mod PairLemmas
-mod Parts
-mod PinLaws
-pub mod ReadingConditions
-pub mod ReadingLaws
-pub mod ReadingPairs
-pub mod RecordLaws
-pub mod SelectLaws
-mod Selected
-mod Shapes
-mod Telling
-mod WorkedBinaries
-mod WorkedCards
-mod WorkedCorners
-mod WorkedFiles
-mod WorkedLifeCycles
-mod WorkedPins
-mod WorkedRecords
-pub mod WorkedRules
-mod WorkedSelecting
-pub use Rattle.apdu_form.proofs as apdu_form
-pub use Rattle.card_layout.proofs as card_layout
-pub use Rattle.card_layout.proofs.store_form
-pub use Rattle.card_layout.proofs.uicc_types
+pub mod AtStartLemmas
+mod BinariesLemmas
+pub mod ChainsLemmas
+pub mod ChildNamedLemmas
+mod FileFoundLemmas
+pub mod FileMadeLemmas
+pub mod FileResizedLemmas
+mod FindsNearestLemmas
+mod FindsWholePartsLemmas
+pub mod GuardsLemmas
+pub mod HasSameAttributesLemmas
+mod HasSameShapeLemmas
+mod IsLawfulOutcomeLemmas
+pub mod IsLawfulTreeCommandLemmas
+pub mod IsNodeInTheWayLemmas
+mod IsSelectionLemmas
+mod KeepsSelectedLemmas
+mod KeepsSelectionLemmas
+mod LifeCyclesLemmas
+pub mod NumbersAreEntriesLemmas
+mod OneFileLemmas
+mod OptionLemmas
+mod PinsLemmas
+pub mod RecordsLemmas
+pub mod RoomsLemmas
+pub mod SelectingLemmas
+pub mod SelectionOfLemmas
+mod TablesTellFilesLemmas
+pub mod TemplatesLemmas
+mod worked

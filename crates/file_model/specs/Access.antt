@@ -1,13 +1,13 @@
 -- Who may do what with a file (ETSI TS 102 221, 9.2 and 9.5).
 use Rattle.std.specs.Prelude.{ℕ, zero, suc, ◌==◌, ◌-◌, not, ◌&&◌, ◌||◌, Bool, true, false, if◌then◌else◌, List, [], ◌∷◌, filter, slice_get, Option, Some, None, option_and_then}
 use Rattle.std.specs.List.{flat_map, list_any}
-use Rattle.card_layout.specs.uicc_types.declared.identifiers.FileId.{FileId}
-use Rattle.card_layout.specs.uicc_types.declared.keys.TheConstants.{PIN_1, PIN_2, ADM_1}
-use Rattle.file_model.specs.Reading.{grants}
-use Rattle.file_model.specs.declared.rules.Op.{Op}
-use Rattle.file_model.specs.declared.rules.Verified.{Verified}
-use Rattle.card_layout.specs.Kinds.{linear_kind}
-use Rattle.card_layout.specs.Persistent.{Pin, Persistent}
+use Rattle.uicc_types.specs.declared.identifiers.FileId.{FileId}
+use Rattle.uicc_types.specs.declared.keys.TheConstants.{PIN_1, PIN_2, ADM_1}
+use Rattle.card_state.specs.Kinds.{linear_kind}
+use Rattle.card_state.specs.Persistent.{Pin, Persistent}
+use Rattle.access_rules.specs.Reading.{grants}
+use Rattle.access_rules.specs.declared.rules.Op.{Op}
+use Rattle.access_rules.specs.declared.rules.Verified.{Verified}
 use Rattle.file_model.specs.declared.descriptors.Descriptor.{Descriptor}
 use Rattle.file_model.specs.declared.descriptors.RuleReference.{RuleReference}
 use Rattle.file_model.specs.declared.descriptors.Wanted.TheVariants.{ChildEf}

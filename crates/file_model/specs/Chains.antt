@@ -1,6 +1,6 @@
 -- How a command is tested: one test after the other, in the written order. The first that is not met refuses it.
 use Rattle.std.specs.Prelude.{Bool, not, if◌then◌else◌, Option, Some, None, Result, Ok, Err}
-use Rattle.card_layout.specs.uicc_types.declared.answers.StatusWord.{StatusWord}
+use Rattle.uicc_types.specs.declared.answers.StatusWord.{StatusWord}
 
 -- refused with this status where this is so, or else tested further
 unfoldable pub refused_if : {X : Type 0} → Bool → StatusWord → Result X StatusWord → Result X StatusWord

@@ -1,9 +1,9 @@
 -- The commands on files and on PINs, by their names.
 use Rattle.std.specs.Prelude.{List, Result}
-use Rattle.card_layout.specs.uicc_types.declared.answers.StatusWord.{StatusWord}
+use Rattle.uicc_types.specs.declared.answers.StatusWord.{StatusWord}
 use Rattle.apdu_form.specs.Model.{Apdu}
-use Rattle.file_model.specs.declared.rules.Verified.{Verified}
-use Rattle.card_layout.specs.Persistent.{Pin, Persistent}
+use Rattle.card_state.specs.Persistent.{Pin, Persistent}
+use Rattle.access_rules.specs.declared.rules.Verified.{Verified}
 use Rattle.file_model.specs.declared.commands.ContentsCommand.{ContentsCommand}
 use Rattle.file_model.specs.declared.commands.ContentsCommand.TheVariants.{ReadBinary, UpdateBinary, ReadRecord, UpdateRecord, SearchRecord, Increase, Deactivate, Activate}
 use Rattle.file_model.specs.declared.commands.FileCommand.{FileCommand}

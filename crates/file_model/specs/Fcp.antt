@@ -2,9 +2,9 @@
 use Rattle.std.specs.Prelude.{ℕ, ◌+◌, ◌*◌, ◌/◌, ◌==◌, if◌then◌else◌, List, [], ◌∷◌, ◌++◌, Option, Some, None}
 use Rattle.std.specs.List.{flat_map}
 use Rattle.std.specs.Int.{to_be_bytes, w16}
-use Rattle.file_model.specs.Objects.{object}
-use Rattle.card_layout.specs.Kinds.{has_records}
-use Rattle.card_layout.specs.Persistent.{Pin}
+use Rattle.card_state.specs.Kinds.{has_records}
+use Rattle.card_state.specs.Persistent.{Pin}
+use Rattle.access_rules.specs.Objects.{object}
 use Rattle.file_model.specs.declared.descriptors.Descriptor.{Descriptor}
 use Rattle.file_model.specs.declared.descriptors.RuleReference.{RuleReference}
 use Rattle.file_model.specs.Files.{is_df}

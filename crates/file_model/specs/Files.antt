@@ -1,12 +1,12 @@
 -- What is known of the files of a card without their contents, in a table of entries and in a persistent state; and how a
 -- file is found among them.
 use Rattle.std.specs.Prelude.{ℕ, ◌==◌, ◌/◌, not, ◌&&◌, Bool, if◌then◌else◌, List, [], length, map, find, Option, Some, None, option_map, slice_index_or}
-use Rattle.card_layout.specs.declared.entries.Node.{Node}
-use Rattle.card_layout.specs.declared.entries.Loaded.{Loaded}
-use Rattle.card_layout.specs.Blank.{unused_node}
-use Rattle.card_layout.specs.Kinds.{df_kind, has_records, is_ef_kind, activated}
-use Rattle.card_layout.specs.Persistent.{Rule, Contents, Files, Bytes, Records, File, Persistent}
-use Rattle.card_layout.specs.States.{used_nodes}
+use Rattle.card_state.specs.declared.entries.Node.{Node}
+use Rattle.card_state.specs.declared.entries.Loaded.{Loaded}
+use Rattle.card_state.specs.Blank.{unused_node}
+use Rattle.card_state.specs.Kinds.{df_kind, has_records, is_ef_kind, activated}
+use Rattle.card_state.specs.Persistent.{Rule, Contents, Files, Bytes, Records, File, Persistent}
+use Rattle.card_state.specs.States.{used_nodes}
 use Rattle.file_model.specs.declared.descriptors.Descriptor.{Descriptor}
 use Rattle.file_model.specs.declared.descriptors.RuleReference.{RuleReference}
 use Rattle.file_model.specs.declared.descriptors.Wanted.{Wanted}

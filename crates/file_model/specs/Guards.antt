@@ -1,9 +1,9 @@
 -- What keeps a PIN from being guessed: each value that is presented takes a try before it is compared (ETSI TS 102 221, 9.5).
 use Rattle.std.specs.Prelude.{◌≡◌, ℕ, ◌-◌, ◌≤◌, ◌⊎◌, List, [], ◌∷◌, Some, IsSomeAnd, Result, IfOk}
-use Rattle.card_layout.specs.uicc_types.declared.answers.StatusWord.{StatusWord}
+use Rattle.uicc_types.specs.declared.answers.StatusWord.{StatusWord}
 use Rattle.apdu_form.specs.Model.{Apdu}
-use Rattle.file_model.specs.declared.rules.Verified.{Verified}
-use Rattle.card_layout.specs.Persistent.{Pin}
+use Rattle.card_state.specs.Persistent.{Pin}
+use Rattle.access_rules.specs.declared.rules.Verified.{Verified}
 use Rattle.file_model.specs.declared.commands.PinCommand.{PinCommand}
 use Rattle.file_model.specs.declared.commands.PinCommand.TheVariants.{Unblock}
 use Rattle.file_model.specs.Outcomes.{PinOutcome, last_of}

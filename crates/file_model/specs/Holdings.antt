@@ -1,7 +1,7 @@
 -- What the files of a card hold.
 use Rattle.std.specs.Prelude.{ℕ, List, [], Option, Some, None}
-use Rattle.card_layout.specs.Persistent.{Contents, Files, Bytes, Records, File, Persistent}
-use Rattle.card_layout.specs.StateLaws.{file_with_number}
+use Rattle.card_state.specs.Persistent.{Contents, Files, Bytes, Records, File, Persistent}
+use Rattle.card_state.specs.StateLaws.{file_with_number}
 
 abbrev pub contents_if : Option File → Contents
 contents_if None = Files

@@ -2,16 +2,16 @@
 use Rattle.std.specs.Prelude.{◌≡◌, ◌≢◌, ◌↔◌, ℕ, ◌^◌, ◌++◌, true, ◌≤◌, ◌<◌, ◌⊎◌, ◌==◌, Bool, false, if◌then◌else◌, List, [], ◌∷◌, length, find, slice_get, Contains, All, ◌&&◌, None, option_map, option_and_then, Result, MatchResult}
 use Rattle.std.specs.List.{enumerate_from}
 use Rattle.std.specs.Option.{option_or}
-use Rattle.card_layout.specs.uicc_types.declared.answers.StatusWord.{StatusWord}
-use Rattle.card_layout.specs.uicc_types.declared.answers.TheConstants.StatusWord.{DONE, END_OF_FILE, FILE_DEACTIVATED, WRONG_LENGTH, WRONG_STRUCTURE, SECURITY_NOT_SATISFIED, CONDITIONS_NOT_SATISFIED, NO_CURRENT_FILE, FILE_NOT_FOUND, RECORD_NOT_FOUND, REFERENCE_NOT_FOUND, PIN_BLOCKED, PIN_DISABLED, WRONG_PARAMETERS, WRONG_OFFSET, OVERFLOW}
-use Rattle.card_layout.specs.uicc_types.declared.identifiers.FileId.{FileId}
+use Rattle.uicc_types.specs.declared.answers.StatusWord.{StatusWord}
+use Rattle.uicc_types.specs.declared.answers.TheConstants.StatusWord.{DONE, END_OF_FILE, FILE_DEACTIVATED, WRONG_LENGTH, WRONG_STRUCTURE, SECURITY_NOT_SATISFIED, CONDITIONS_NOT_SATISFIED, NO_CURRENT_FILE, FILE_NOT_FOUND, RECORD_NOT_FOUND, REFERENCE_NOT_FOUND, PIN_BLOCKED, PIN_DISABLED, WRONG_PARAMETERS, WRONG_OFFSET, OVERFLOW}
+use Rattle.uicc_types.specs.declared.identifiers.FileId.{FileId}
 use Rattle.apdu_form.specs.Model.{Apdu, IsCommand}
-use Rattle.file_model.specs.declared.rules.Verified.{Verified}
-use Rattle.card_layout.specs.declared.entries.Loaded.{Loaded}
-use Rattle.card_layout.specs.Persistent.{File, Pin, Persistent}
-use Rattle.card_layout.specs.States.{state_of}
-use Rattle.card_layout.specs.Changing.{with_file_changed}
-use Rattle.card_layout.specs.Soundness.{IsSound}
+use Rattle.card_state.specs.declared.entries.Loaded.{Loaded}
+use Rattle.card_state.specs.Persistent.{File, Pin, Persistent}
+use Rattle.card_state.specs.States.{state_of}
+use Rattle.card_state.specs.Changing.{with_file_changed}
+use Rattle.card_state.specs.Soundness.{IsSound}
+use Rattle.access_rules.specs.declared.rules.Verified.{Verified}
 use Rattle.file_model.specs.declared.descriptors.Descriptor.{Descriptor}
 use Rattle.file_model.specs.declared.descriptors.Wanted.{Wanted}
 use Rattle.file_model.specs.declared.descriptors.Wanted.TheVariants.{Number, Named, Child, ChildDf, ChildEf}

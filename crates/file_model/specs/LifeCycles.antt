@@ -1,14 +1,14 @@
 -- DEACTIVATE FILE and ACTIVATE FILE (ETSI TS 102 221, 11.1.14 and 11.1.15).
 use Rattle.std.specs.Prelude.{ℕ, ◌==◌, if◌then◌else◌, List, [], ◌∷◌, None, Result, Ok}
-use Rattle.card_layout.specs.uicc_types.declared.answers.StatusWord.{StatusWord}
-use Rattle.card_layout.specs.uicc_types.declared.answers.TheConstants.StatusWord.{DONE, WRONG_PARAMETERS, WRONG_LENGTH, SECURITY_NOT_SATISFIED}
+use Rattle.uicc_types.specs.declared.answers.StatusWord.{StatusWord}
+use Rattle.uicc_types.specs.declared.answers.TheConstants.StatusWord.{DONE, WRONG_PARAMETERS, WRONG_LENGTH, SECURITY_NOT_SATISFIED}
 use Rattle.apdu_form.specs.Model.{Apdu}
-use Rattle.file_model.specs.declared.rules.Op.{Op}
-use Rattle.file_model.specs.declared.rules.Op.TheVariants.{Deactivate, Activate}
-use Rattle.file_model.specs.declared.rules.Verified.{Verified}
-use Rattle.card_layout.specs.Kinds.{activated, deactivated}
-use Rattle.card_layout.specs.Persistent.{Persistent}
-use Rattle.card_layout.specs.Changing.{with_life}
+use Rattle.card_state.specs.Kinds.{activated, deactivated}
+use Rattle.card_state.specs.Persistent.{Persistent}
+use Rattle.card_state.specs.Changing.{with_life}
+use Rattle.access_rules.specs.declared.rules.Op.{Op}
+use Rattle.access_rules.specs.declared.rules.Op.TheVariants.{Deactivate, Activate}
+use Rattle.access_rules.specs.declared.rules.Verified.{Verified}
 use Rattle.file_model.specs.declared.descriptors.Descriptor.{Descriptor}
 use Rattle.file_model.specs.declared.selections.Selection.{Selection}
 use Rattle.file_model.specs.Chains.{and_given, needs}

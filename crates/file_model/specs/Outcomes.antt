@@ -1,11 +1,11 @@
 -- What a command comes to.
 use Rattle.std.specs.Prelude.{ℕ, not, ◌&&◌, ◌==◌, Bool, List, [], ◌∷◌, length, Option, Some, None, is_some, Result, Ok, Err}
-use Rattle.card_layout.specs.uicc_types.declared.answers.StatusWord.{StatusWord}
-use Rattle.card_layout.specs.uicc_types.declared.answers.TheConstants.StatusWord.{NO_CURRENT_FILE, FILE_NOT_FOUND}
+use Rattle.uicc_types.specs.declared.answers.StatusWord.{StatusWord}
+use Rattle.uicc_types.specs.declared.answers.TheConstants.StatusWord.{NO_CURRENT_FILE, FILE_NOT_FOUND}
 use Rattle.apdu_form.specs.Model.{Apdu}
-use Rattle.file_model.specs.declared.rules.Verified.{Verified}
-use Rattle.card_layout.specs.Kinds.{deactivated}
-use Rattle.card_layout.specs.Persistent.{Pin, Persistent}
+use Rattle.card_state.specs.Kinds.{deactivated}
+use Rattle.card_state.specs.Persistent.{Pin, Persistent}
+use Rattle.access_rules.specs.declared.rules.Verified.{Verified}
 use Rattle.file_model.specs.declared.descriptors.Descriptor.{Descriptor}
 use Rattle.file_model.specs.declared.descriptors.Wanted.TheVariants.{Short}
 use Rattle.file_model.specs.declared.selections.Selection.{Selection}

@@ -1,12 +1,12 @@
 -- VERIFY PIN, CHANGE PIN, DISABLE PIN, ENABLE PIN and UNBLOCK PIN (ETSI TS 102 221, 9.5 and 11.1.9 to 11.1.13).
 use Rattle.std.specs.Prelude.{ℕ, ◌+◌, ◌-◌, ◌==◌, ◌||◌, Bool, true, false, if◌then◌else◌, List, [], ◌∷◌, length, take, drop, map, find, Option, Result, Ok}
 use Rattle.std.specs.Str.{bytes_eq}
-use Rattle.card_layout.specs.uicc_types.declared.answers.StatusWord.{StatusWord}
-use Rattle.card_layout.specs.uicc_types.declared.answers.TheConstants.StatusWord.{DONE, WRONG_PARAMETERS, WRONG_LENGTH, PIN_BLOCKED, PIN_DISABLED, CONDITIONS_NOT_SATISFIED, REFERENCE_NOT_FOUND}
-use Rattle.card_layout.specs.uicc_types.declared.keys.TheConstants.{PIN_1, PIN_2, ADM_1}
+use Rattle.uicc_types.specs.declared.answers.StatusWord.{StatusWord}
+use Rattle.uicc_types.specs.declared.answers.TheConstants.StatusWord.{DONE, WRONG_PARAMETERS, WRONG_LENGTH, PIN_BLOCKED, PIN_DISABLED, CONDITIONS_NOT_SATISFIED, REFERENCE_NOT_FOUND}
+use Rattle.uicc_types.specs.declared.keys.TheConstants.{PIN_1, PIN_2, ADM_1}
 use Rattle.apdu_form.specs.Model.{Apdu}
-use Rattle.file_model.specs.declared.rules.Verified.{Verified}
-use Rattle.card_layout.specs.Persistent.{Pin}
+use Rattle.card_state.specs.Persistent.{Pin}
+use Rattle.access_rules.specs.declared.rules.Verified.{Verified}
 use Rattle.file_model.specs.Chains.{refused_if, given, needs}
 use Rattle.file_model.specs.Outcomes.{PinOutcome, has_no_data}
 

@@ -1,9 +1,9 @@
 -- SELECT and STATUS (ETSI TS 102 221, 11.1.1 and 11.1.2).
 use Rattle.std.specs.Prelude.{◌==◌, ◌%◌, ◌&&◌, ◌||◌, nat_le, Bool, if◌then◌else◌, [], length, Result, Ok}
-use Rattle.card_layout.specs.uicc_types.declared.answers.StatusWord.{StatusWord}
-use Rattle.card_layout.specs.uicc_types.declared.answers.TheConstants.StatusWord.{DONE, FILE_DEACTIVATED, WRONG_PARAMETERS, WRONG_LENGTH, FILE_NOT_FOUND}
+use Rattle.uicc_types.specs.declared.answers.StatusWord.{StatusWord}
+use Rattle.uicc_types.specs.declared.answers.TheConstants.StatusWord.{DONE, FILE_DEACTIVATED, WRONG_PARAMETERS, WRONG_LENGTH, FILE_NOT_FOUND}
 use Rattle.apdu_form.specs.Model.{Apdu}
-use Rattle.card_layout.specs.Persistent.{Persistent}
+use Rattle.card_state.specs.Persistent.{Persistent}
 use Rattle.file_model.specs.declared.descriptors.Descriptor.{Descriptor}
 use Rattle.file_model.specs.declared.descriptors.Wanted.TheVariants.{Number}
 use Rattle.file_model.specs.declared.selections.Selection.{Selection}

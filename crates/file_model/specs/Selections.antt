@@ -1,7 +1,7 @@
 -- What is selected, and what SELECT finds (ETSI TS 102 221, 8.4 and 11.1.1).
 use Rattle.std.specs.Prelude.{ℕ, ◌≤◌, ◌==◌, ◌&&◌, if◌then◌else◌, List, [], ◌∷◌, ◌++◌, filter, find, IsTrue, Option, Some, None, option_map, option_and_then, unwrap_or, IfSome, IsSomeAnd}
 use Rattle.std.specs.Int.{from_be_bytes, w16}
-use Rattle.card_layout.specs.uicc_types.declared.identifiers.FileId.{FileId}
+use Rattle.uicc_types.specs.declared.identifiers.FileId.{FileId}
 use Rattle.apdu_form.specs.Model.{Apdu}
 use Rattle.file_model.specs.declared.descriptors.Descriptor.{Descriptor}
 use Rattle.file_model.specs.declared.descriptors.Wanted.TheVariants.{Number, Child, ChildDf}

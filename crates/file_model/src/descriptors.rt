@@ -1,6 +1,6 @@
 //! What is known of a file without its contents, and by what a file is looked for.
 
-use card_layout::FileId;
+use uicc_types::FileId;
 
 /// What is known of a file without its contents (ETSI TS 102 221, 11.1.1.3).
 #[derive(Clone, Copy, Debug, PartialEq, Eq)]

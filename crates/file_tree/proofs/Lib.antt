@@ -1,3 +1,3 @@
-mod FirstFound
-mod Lying
-mod Paths
+mod ChosenByPathLemmas
+mod FirstFileLemmas
+mod MayBeSelectedLemmas

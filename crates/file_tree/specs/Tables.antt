@@ -1,16 +1,15 @@
 -- The table of a card, and the files in it.
 use Rattle.std.specs.Prelude.{◌≡◌, ◌≢◌, ℕ, ◌≤◌, ◌<◌, ◌==◌, ◌&&◌, Bool, false, List, [], ◌∷◌, All, Option, None, Some, slice_index_or}
 use Rattle.std.specs.Option.{option_or}
-use Rattle.file_model.specs.card_layout.declared.entries.Node.{Node}
-use Rattle.file_model.specs.card_layout.declared.entries.Loaded.{Loaded}
-use Rattle.file_model.specs.card_layout.Blank.{unused_node}
-use Rattle.file_model.specs.card_layout.Persistent.{Persistent}
-use Rattle.file_model.specs.card_layout.Standing.{Stands}
+use Rattle.card_state.specs.declared.entries.Node.{Node}
+use Rattle.card_state.specs.declared.entries.Loaded.{Loaded}
+use Rattle.card_state.specs.Blank.{unused_node}
+use Rattle.card_state.specs.Persistent.{Persistent}
+use Rattle.card_state.specs.Standing.{Stands}
 use Rattle.file_model.specs.declared.descriptors.Descriptor.{Descriptor}
 use Rattle.file_model.specs.declared.descriptors.Wanted.{Wanted}
 use Rattle.file_model.specs.declared.descriptors.Wanted.TheVariants.{Number}
 use Rattle.file_model.specs.Files.{descriptor_of, is_ef, is_wanted, file_found}
-pub use Rattle.file_model.specs.Files.{node_at}
 use Rattle.file_model.specs.Selections.{IsSelection, selection_of}
 
 -- Its entries are those of a memory that stands for a state.

@@ -1,7 +1,6 @@
 //! What is selected on each logical channel.
 ghost use Rattle.std.specs.Prelude.{◌≡◌, ◌≤◌, ◌<◌, [], ◌∷◌, true, length, None, Some, slice_set, IfSome, IsSomeAnd};
-ghost use Rattle.card_model.specs.States.{basic_channel_alone};
-ghost use Rattle.card_model.specs.Channels.{selected_on, is_open, closed_channel, first_selection};
+ghost use Rattle.file_model.specs.Channels.{basic_channel_alone, selected_on, is_open, closed_channel, first_selection};
 
 use file_model::Selection;
 use std::marker::Model;

@@ -1,11 +1,12 @@
 //! What the entry of a file tells of it.
 ghost use Rattle.std.specs.Prelude.{◌≡◌, ◌==◌, ◌/◌, if◌then◌else◌, IsTrue};
-ghost use Rattle.file_model.specs.card_layout.Kinds.{has_records};
-ghost use Rattle.layout_standing.specs.Holding.{HasFullRecords};
+ghost use Rattle.card_state.specs.Kinds.{has_records};
+ghost use Rattle.card_state.specs.Holding.{HasFullRecords};
 ghost use Rattle.file_model.specs.Files.{descriptor_of, reference_of};
 
-use file_model::kinds::{self, ACTIVATED, DF};
-use file_model::{Descriptor, Node, RuleReference};
+use card_state::Node;
+use card_state::kinds::{self, ACTIVATED, DF};
+use file_model::{Descriptor, RuleReference};
 
 fn reference_of(node: &Node) -> Option<RuleReference>
     ensures { result ≡ reference_of node.now }

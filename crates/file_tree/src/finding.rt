@@ -9,8 +9,10 @@ ghost use Rattle.file_tree.specs.Tables.{HasNoneBetween, IsCardTable, IsNumbered
 
 use crate::laws::parents_come_first;
 use crate::searching::{first_by_id, first_file, first_with, has_all_nodes, only_file};
-use file_model::sizes::NODE_COUNT;
-use file_model::{Descriptor, FileId, Loaded, Selection, Wanted, files_are_found};
+use card_state::Loaded;
+use card_state::sizes::NODE_COUNT;
+use file_model::{Descriptor, Selection, Wanted, files_are_found};
+use uicc_types::FileId;
 
 /// There is no such file.
 #[derive(Clone, Copy, Debug, PartialEq, Eq)]

@@ -3,8 +3,8 @@ ghost use Rattle.file_model.specs.Files.{descriptors_of};
 ghost use Rattle.file_model.specs.Selections.{IsSelection};
 ghost use Rattle.file_tree.specs.Tables.{IsCardTable, HaveParentsFirst, MayBeSelected, HaveShortIds};
 
-use file_model::{Loaded, Selection, files_are_found};
-use layout_standing::standing_is_sound;
+use card_state::{Loaded, standing_is_sound};
+use file_model::{Selection, files_are_found};
 
 /// Each file but the MF lies in a DF with a smaller number.
 pub fn parents_come_first(loaded: &Loaded)

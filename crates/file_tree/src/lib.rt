@@ -9,7 +9,7 @@ mod laws;
 mod searching;
 
 pub use channels::Channels;
-pub use file_model::{Descriptor, RuleReference, Selection, Wanted};
+pub use file_model::Selection;
 pub use finding::{
     NotFound, above, by_path, by_short, chosen_by_identifier, chosen_by_path, current_ef, find,
     nearest_ef,

@@ -1,13 +1,14 @@
 //! The one search for a file.
 ghost use Rattle.std.specs.Prelude.{◌≡◌, ◌+◌, ◌<◌, ◌≤◌, length, false, IfSome};
-ghost use Rattle.file_model.specs.Files.{descriptor_of, descriptors_of, is_wanted, lies_in, file_found};
-ghost use Rattle.file_tree.specs.Tables.{AsksForId, AsksForNumber, AsksForShort, HasNoneBetween, IsCardTable, IsNumbered, is_there_and_wanted, node_at};
+ghost use Rattle.file_model.specs.Files.{descriptor_of, descriptors_of, is_wanted, lies_in, file_found, node_at};
+ghost use Rattle.file_tree.specs.Tables.{AsksForId, AsksForNumber, AsksForShort, HasNoneBetween, IsCardTable, IsNumbered, is_there_and_wanted};
 
 use crate::describing::descriptor_of;
-use file_model::kinds::{self, DF};
-use file_model::sizes::NODE_COUNT;
-use file_model::{Descriptor, FileId, Loaded, Node, Wanted, files_are_found};
-use layout_standing::standing_files_hold;
+use card_state::kinds::{self, DF};
+use card_state::sizes::NODE_COUNT;
+use card_state::{Loaded, Node, standing_files_hold};
+use file_model::{Descriptor, Wanted, files_are_found};
+use uicc_types::FileId;
 
 #[tactic(auto, unfolding(file_model::specs::Files::descriptor_of))]
 fn lies_in(df: u8, number: u8, node: &Node) -> bool
@@ -168,7 +169,7 @@ fn first_by_short(loaded: &Loaded, wanted: Wanted, short: u8) -> Option<Descript
 }
 
 /// The first file that is wanted, by ascending numbers; none where there is no such file.
-#[tactic(auto, using(crate::proofs::FirstFound::short_asks))]
+#[tactic(auto, using(crate::proofs::FirstFileLemmas::short_asks))]
 pub fn first_file(loaded: &Loaded, wanted: Wanted) -> Option<Descriptor>
     requires { IsCardTable loaded.now }
     ensures value { result ≡ file_found (descriptors_of loaded.now) wanted }

@@ -1,4 +1,4 @@
-pub mod Changes
-pub mod Lodging
-pub mod Parts
-pub mod Values
+pub mod FramesLemmas
+pub mod LodgeLemmas
+pub mod PartedLemmas
+pub mod RoomAndLeaseLemmas

@@ -50,7 +50,7 @@ fn bytes_before(lengths: &[usize], count: usize) -> usize
 }
 
 /// Where the frame at a place begins and where it ends, in the bytes of frames of these lengths.
-#[tactic(auto, using(crate::proofs::Parts::sum_more))]
+#[tactic(auto, using(crate::proofs::PartedLemmas::sum_more))]
 fn span_of(lengths: &[usize], at: usize) -> (usize, usize)
     requires in_bounds { at < length lengths.now }
     requires fits { sum lengths.now < 2 ^ 64 }
@@ -79,7 +79,7 @@ fn zeros(list: Vec<u8, Lodged>, size: usize) -> Vec<u8, Lodged>
 impl FrameStore {
     /// An empty store of at most `frames` frames and at most `bytes` bytes in all of them. `OutOfMemory` where the memory
     /// for that is not to be had, and for no other reason.
-    #[tactic(auto, using(crate::proofs::Parts::parted_none))]
+    #[tactic(auto, using(crate::proofs::PartedLemmas::parted_none))]
     pub fn new(alloc: Global, frames: usize, bytes: usize) -> Result<FrameStore, OutOfMemory>
         ensures ok { IfOk result (λ store. store ≡ record { parts = []; most = frames; room = bytes }) }
     {
@@ -110,7 +110,7 @@ impl FrameStore {
     }
 
     /// How many frames there are.
-    #[tactic(auto, using(crate::proofs::Parts::count_parted))]
+    #[tactic(auto, using(crate::proofs::PartedLemmas::count_parted))]
     pub fn len(&self) -> usize
         ensures { result ≡ length self.now.parts }
     {
@@ -118,7 +118,7 @@ impl FrameStore {
     }
 
     /// The frame at a place below `len`.
-    #[tactic(auto, using(crate::proofs::Parts::count_parted, crate::proofs::Parts::parted_get))]
+    #[tactic(auto, using(crate::proofs::PartedLemmas::count_parted, crate::proofs::PartedLemmas::parted_get))]
     pub fn get(&self, at: usize) -> &[u8]
         requires { at < length self.now.parts }
         ensures { result.now ≡ slice_index_or self.now.parts at [] }
@@ -129,7 +129,7 @@ impl FrameStore {
 
     /// Adds a frame at the end. `Full`, and no change, exactly where there would be more frames, or more bytes in all of
     /// them, than `new` was given.
-    #[tactic(auto, using(crate::proofs::Parts::count_parted, crate::proofs::Parts::bytes_parted, crate::proofs::Parts::parted_push))]
+    #[tactic(auto, using(crate::proofs::PartedLemmas::count_parted, crate::proofs::PartedLemmas::bytes_parted, crate::proofs::PartedLemmas::parted_push))]
     pub fn push(&mut self, part: &[u8]) -> Result<(), Full>
         ensures room { IsOk result ↔ ((length self.old.parts < self.old.most) ×
             (bytes_in self.old.parts + length part.now ≤ self.old.room)) }
@@ -147,7 +147,7 @@ impl FrameStore {
     }
 
     /// Takes the frame at a place below `len` out. Those after it move down by one place, and their bytes close the gap.
-    #[tactic(auto, using(crate::proofs::Parts::count_parted, crate::proofs::Parts::parted_remove))]
+    #[tactic(auto, using(crate::proofs::PartedLemmas::count_parted, crate::proofs::PartedLemmas::parted_remove))]
     pub fn remove(&mut self, at: usize)
         requires { at < length self.old.parts }
         ensures { self.new ≡ with_parts (remove self.old.parts at) self.old }
@@ -161,7 +161,7 @@ impl FrameStore {
     }
 
     /// Takes all frames out.
-    #[tactic(auto, using(crate::proofs::Parts::parted_none))]
+    #[tactic(auto, using(crate::proofs::PartedLemmas::parted_none))]
     pub fn clear(&mut self)
         ensures { self.new ≡ with_parts [] self.old }
     {

@@ -1,8 +1,8 @@
 //! The calls on small stores, and the block over an allocator that counts what it has given out.
 ghost use Rattle.frame_store.specs.Block.{IsBlockSize};
 
-use crate::FrameStore;
 use crate::block::{Lease, house, vacate};
+use crate::store::FrameStore;
 use linked_list_allocator::LocalHeap;
 use std::rt::HostRuntime;
 use std::test::Fail;

@@ -1,5 +1,4 @@
-mod Ending
-mod OneHistory
-mod Soonest
-mod Worked
-pub use Rattle.script_form.proofs.uicc_types
+mod OneHistoryLemmas
+mod SoonestLemmas
+mod WorkLeftLemmas
+mod worked

@@ -1,8 +1,8 @@
 -- What happened at a handset, newest first, and what it knows by looking back.
 use Rattle.std.specs.Prelude.{ℕ, suc, ◌+◌, ◌/◌, ◌%◌, min, Bool, true, false, ◌||◌, List, [], ◌∷◌, map, Option, Some, None, Result, Ok, Err, ◌==◌, if◌then◌else◌}
 use Rattle.std.specs.List.{list_any}
-use Rattle.script_form.specs.uicc_types.declared.answers.Answer.{Answer}
-use Rattle.script_form.specs.uicc_types.declared.events.TheConstants.{LOCATION_STATUS, USER_ACTIVITY, IDLE_SCREEN}
+use Rattle.uicc_types.specs.declared.answers.Answer.{Answer}
+use Rattle.uicc_types.specs.declared.events.TheConstants.{LOCATION_STATUS, USER_ACTIVITY, IDLE_SCREEN}
 use Rattle.script_form.specs.declared.handset.HandsetLine.{HandsetLine}
 use Rattle.script_form.specs.declared.handset.HandsetLine.TheVariants.{NetPlace, Time}
 use Rattle.script_form.specs.declared.handset.Note.{Note}

@@ -1,7 +1,7 @@
 -- When a trace is the one that the rules ask for, line by line.
 use Rattle.std.specs.Prelude.{◌≡◌, ◌≤◌, length, ◌⊎◌, List, [], ◌∷◌, ◌++◌, reverse, Option, Some, None}
-use Rattle.script_form.specs.uicc_types.declared.runs.TraceItem.{TraceItem}
-use Rattle.script_form.specs.uicc_types.declared.runs.TraceItem.TheVariants as item
+use Rattle.uicc_types.specs.declared.runs.TraceItem.{TraceItem}
+use Rattle.uicc_types.specs.declared.runs.TraceItem.TheVariants as item
 use Rattle.script_form.specs.declared.handset.HandsetLine.{HandsetLine}
 use Rattle.script_form.specs.declared.handset.HandsetLine.TheVariants.{UserType, UserPick, UserDial, NetPlace}
 use Rattle.script_form.specs.declared.handset.Note.{Note}

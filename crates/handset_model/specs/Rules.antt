@@ -1,13 +1,13 @@
 -- What a handset does next, a row for each proactive command, each answer and each line (ETSI TS 102 223, 6.4 to 7).
 use Rattle.std.specs.Prelude.{ℕ, ◌-◌, Bool, true, false, ◌&&◌, List, [], ◌∷◌, length, Option, Some, None, Result as Outcome, Ok, Err, is_none, nat_le, ◌==◌, if◌then◌else◌}
 use Rattle.std.specs.List.{list_any}
-use Rattle.script_form.specs.uicc_types.declared.answers.Answer.{Answer}
-use Rattle.script_form.specs.uicc_types.declared.answers.TheConstants.StatusWord.{TOOLKIT_BUSY}
-use Rattle.toolkit_commands.specs.Values.{is_pair}
+use Rattle.uicc_types.specs.declared.answers.Answer.{Answer}
+use Rattle.uicc_types.specs.declared.answers.TheConstants.StatusWord.{TOOLKIT_BUSY}
 use Rattle.script_form.specs.declared.handset.HandsetLine.{HandsetLine}
 use Rattle.script_form.specs.declared.handset.HandsetLine.TheVariants.{UserOk, UserEnd, UserBack, UserNone, UserType, UserPick, UserPress, UserIdle, UserDial, NetPlace, NetPoll, Time, Reset}
 use Rattle.script_form.specs.declared.handset.Note.{Note}
 use Rattle.script_form.specs.declared.handset.Note.TheVariants.{Text, Ask, Choose, Menu, Tone, Idle, Call, Barred, Busy}
+use Rattle.toolkit_commands.specs.Values.{is_pair}
 use Rattle.toolkit_commands.specs.Reading.{proactive_of, details_found}
 use Rattle.toolkit_commands.specs.declared.commands.Details.{Details}
 use Rattle.toolkit_commands.specs.declared.commands.Proactive.{Proactive}

@@ -1,7 +1,8 @@
 -- The bytes of what a handset sends (ETSI TS 102 221, 11; TS 102 223, 6.8 and 7).
 use Rattle.std.specs.Prelude.{ℕ, ◌+◌, ◌*◌, ◌%◌, List, [], ◌∷◌, ◌++◌, length}
-use Rattle.toolkit_commands.specs.comprehension_tlv.Model.{Object}
-use Rattle.toolkit_commands.specs.comprehension_tlv.Writing.{tagged, spellings}
+use Rattle.uicc_types.specs.declared.events.TheConstants.{LOCATION_STATUS as LOCATION_EVENT, USER_ACTIVITY, IDLE_SCREEN}
+use Rattle.comprehension_tlv.specs.Model.{Object}
+use Rattle.comprehension_tlv.specs.Writing.{tagged, spellings}
 use Rattle.toolkit_commands.specs.Table.{required, text_string, timer_value}
 use Rattle.toolkit_commands.specs.Responses.{result_object}
 use Rattle.toolkit_commands.specs.declared.commands.Details.{Details}
@@ -9,7 +10,6 @@ use Rattle.toolkit_commands.specs.declared.devices.TheConstants.{KEYPAD, DISPLAY
 use Rattle.toolkit_commands.specs.declared.qualifiers.TheConstants.{IN_SECONDS}
 use Rattle.toolkit_commands.specs.declared.results.TheConstants.{PERFORMED, UNABLE_TO_PROCESS, AGAINST_TIMER_STATE}
 use Rattle.toolkit_commands.specs.declared.tags.TheConstants.{MENU_SELECTION, CALL_CONTROL, EVENT_DOWNLOAD, TIMER_EXPIRATION, COMMAND_DETAILS, DEVICE_IDENTITIES, RESULT, DURATION, ADDRESS, ITEM_IDENTIFIER, LOCATION_INFORMATION, EVENT_LIST, LOCATION_STATUS, TIMER_IDENTIFIER}
-use Rattle.script_form.specs.uicc_types.declared.events.TheConstants.{LOCATION_STATUS as LOCATION_EVENT, USER_ACTIVITY, IDLE_SCREEN}
 use Rattle.handset_model.specs.declared.commands.Command.{Command}
 use Rattle.handset_model.specs.declared.commands.Command.TheVariants.{SelectMf, SendProfile, Fetch, Respond, Tell, AskStatus}
 use Rattle.handset_model.specs.declared.commands.Report.{Report}

@@ -1,7 +1,7 @@
 //! What a handset sends to the card, before it is spelled in bytes.
 
-use script_form::ByteList;
 use toolkit_commands::{Details, TimeValue};
+use uicc_types::ByteList;
 
 /// A text that a user typed: at most 30 bytes.
 pub type Typed = ByteList<30>;

@@ -1,6 +1,6 @@
 //! What a handset knows, and what it is to do next.
 
-use crate::{Command, Place};
+use crate::commands::{Command, Place};
 use script_form::Note;
 use toolkit_commands::{Details, Items, Proactive, TimeValue};
 

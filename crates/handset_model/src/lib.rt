@@ -1,7 +1,5 @@
 //! What a handset with a toolkit (ETSI TS 102 223) does at each moment, as definitions over what happened before: what
 //! it sends to the card and notes, worked out by looking back.
-//!
-//! It passes on words of the crates below, for those who stand on it.
 #![tactic(auto)]
 
 mod commands;
@@ -12,12 +10,7 @@ mod steps;
 pub use commands::{Command, Digits, Place, Reply, Report, Typed};
 pub use known::{Due, Duty, Held, Known, LastSent, Listed, Running};
 pub use laws::{lines_end, one_history, soonest_first};
-pub use script_form::{
-    Answer, ApduBytes, ByteList, Failed, Full, HandsetLine, Note, Octets, Plan, ScriptLine, Sink,
-    Source, StatusWord, write_note,
-};
 pub use steps::PhoneStep;
-pub use toolkit_commands::{exact_reading, spelled_is_read};
 
 /// The most commands that a handset sends for one line of its script.
 pub const MOST_COMMANDS: u16 = 65535;

@@ -1,6 +1,7 @@
 //! What a handset asks of who runs it.
 
-use script_form::{ApduBytes, Note};
+use script_form::Note;
+use uicc_types::ApduBytes;
 
 /// One thing to do for the handset.
 #[derive(Debug, Drop)]

@@ -1,4 +1,4 @@
-mod Agreeing
-mod Filling
+mod FindsFirstLemmas
+mod ImagesLemmas
 pub mod MountedLemmas
-mod Parts
+mod SameEntriesLemmas

@@ -1,6 +1,6 @@
 -- The fault of a mount that a fault of its store is.
-use Rattle.card_layout.specs.store_form.declared.store.StoreFault.{StoreFault}
-use Rattle.card_layout.specs.store_form.declared.store.StoreFault.TheVariants as store
+use Rattle.store_form.specs.declared.store.StoreFault.{StoreFault}
+use Rattle.store_form.specs.declared.store.StoreFault.TheVariants as store
 use Rattle.layout_mount.specs.declared.mounting.MountFault.{MountFault}
 use Rattle.layout_mount.specs.declared.mounting.MountFault.TheVariants as mount
 

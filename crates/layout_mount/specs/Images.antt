@@ -1,8 +1,8 @@
 -- The parts of a card's memory in which its entries stand, as one content of the memory.
 use Rattle.std.specs.Prelude.{◌≡◌, ℕ, ◌-◌, List, ◌++◌, length, replicate, Option, IfSome}
-use Rattle.card_layout.specs.declared.places.TheConstants.{MEMORY_SIZE, PINS, DATA, UPPER_ROWS}
-use Rattle.card_layout.specs.Decoding.{bytes_at}
-use Rattle.card_layout.specs.Places.{memory_size}
+use Rattle.card_state.specs.declared.places.TheConstants.{MEMORY_SIZE, PINS, DATA, UPPER_ROWS}
+use Rattle.card_state.specs.Decoding.{bytes_at}
+use Rattle.card_state.specs.Places.{memory_size}
 use Rattle.layout_mount.specs.declared.image.Image.TheInside.{Inside}
 
 -- so many bytes FF

@@ -1,6 +1,6 @@
 -- The answer of a test of one check, and of some.
 use Rattle.std.specs.Prelude.{◌≡◌, ℕ, true, false, List, Some, None, Result, MatchResult}
-use Rattle.card_layout.specs.Checks.{Check, first_failed}
+use Rattle.card_state.specs.Checks.{Check, first_failed}
 
 -- all checks are met, or the place of the first that fails is answered
 abbrev pub FindsFirst : {X : Type 0} → List Check → Result X ℕ → Type 0

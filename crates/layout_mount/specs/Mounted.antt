@@ -1,14 +1,14 @@
 -- What a mount reads of a store, and what its table is then.
 use Rattle.std.specs.Prelude.{◌≡◌, ℕ, true, List, length, Option, IfSome, Err}
-use Rattle.card_layout.specs.uicc_types.Counts.{Caused}
-use Rattle.card_layout.specs.uicc_types.Told.{AreBytes}
-use Rattle.card_layout.specs.store_form.declared.store.Store.{Ghosts as StoreWords}
-use Rattle.card_layout.specs.declared.entries.Loaded.{Loaded}
-use Rattle.card_layout.specs.Blank.{empty_table}
-use Rattle.card_layout.specs.Memory.{Memory, memory}
-use Rattle.card_layout.specs.Places.{memory_size}
-use Rattle.card_layout.specs.Standing.{stands_for, Stands}
-use Rattle.card_layout.specs.States.{state_of}
+use Rattle.uicc_types.specs.Counts.{Caused}
+use Rattle.uicc_types.specs.Told.{AreBytes}
+use Rattle.store_form.specs.declared.store.Store.{Ghosts as StoreWords}
+use Rattle.card_state.specs.declared.entries.Loaded.{Loaded}
+use Rattle.card_state.specs.Blank.{empty_table}
+use Rattle.card_state.specs.Memory.{Memory, memory}
+use Rattle.card_state.specs.Places.{memory_size}
+use Rattle.card_state.specs.Standing.{stands_for, Stands}
+use Rattle.card_state.specs.States.{state_of}
 
 -- the memory of a store of which no table is loaded yet
 abbrev pub unread : {S : Type 0} → StoreWords S → S → Memory

@@ -1,18 +1,19 @@
 //! The checks of the entries.
 ghost use Rattle.std.specs.Prelude.{◌≡◌, ◌+◌, ◌≤◌, ◌<◌, ◌^◌, length, count_by};
 ghost use Rattle.std.specs.List.{list_any};
-ghost use Rattle.card_layout.specs.Checks.{is_pin, is_registration, is_row, is_mf, has_place_in_tree, has_whole_records, has_own_short, is_ef, is_node, is_call_control, has_known_numbers, has_short_parts, has_own_sequence, leaves_call_control, leaves_texts, is_known_kind, is_free_id, has_own_id, has_parent, is_new_short, lies_among_files, shares_no_byte, is_life_cycle, has_right_records, has_row_text, has_sequence_of, has_id_of, has_short_of, is_apart, is_sibling};
-ghost use Rattle.card_layout.specs.Decoding.{pin_of};
-ghost use Rattle.card_layout.specs.Kinds.{has_records, is_ef_kind};
+ghost use Rattle.card_state.specs.Checks.{is_pin, is_registration, is_row, is_mf, has_place_in_tree, has_whole_records, has_own_short, is_ef, is_node, is_call_control, has_known_numbers, has_short_parts, has_own_sequence, leaves_call_control, leaves_texts, is_known_kind, is_free_id, has_own_id, has_parent, is_new_short, lies_among_files, shares_no_byte, is_life_cycle, has_right_records, has_row_text, has_sequence_of, has_id_of, has_short_of, is_apart, is_sibling};
+ghost use Rattle.card_state.specs.Decoding.{pin_of};
+ghost use Rattle.card_state.specs.Kinds.{has_records, is_ef_kind};
 
-use card_layout::events::{EVENTS_END, has_call_control};
-use card_layout::kinds::{ACTIVATED, CYCLIC, DEACTIVATED, DF, has_records, is_ef, is_free_id};
-use card_layout::places::{DATA, MEMORY_SIZE, UPPER_ROWS};
-use card_layout::sizes::{
+use card_state::events::{EVENTS_END, has_call_control};
+use card_state::kinds::{ACTIVATED, CYCLIC, DEACTIVATED, DF, has_records, is_ef, is_free_id};
+use card_state::places::{DATA, MEMORY_SIZE, UPPER_ROWS};
+use card_state::sizes::{
     KEPT_LIMIT, KEPT_WIDTH, MENU_LIMIT, NODE_WIDTH, PIN_WIDTH, RECORD_LIMIT, ROW_WIDTH, TEXT_LIMIT,
     TRIES, UNBLOCK_TRIES,
 };
-use card_layout::{FileId, Node, PinSlot, Row};
+use card_state::{Node, PinSlot, Row};
+use uicc_types::FileId;
 
 /// Whether a PIN slot with these bytes has no key, or its own with tries that are left.
 pub fn pin_passes(key: u8, bytes: &[u8], pin: &PinSlot) -> bool

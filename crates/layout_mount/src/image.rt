@@ -1,19 +1,20 @@
 //! The bytes of a memory in which a card's entries stand.
 ghost use Rattle.std.specs.Prelude.{◌≡◌, ◌<◌, ◌≤◌, ◌+◌, length, slice_index, true, false, Err, OnOk, IfOk, IsErrOf};
-ghost use Rattle.card_layout.specs.uicc_types.Told.{AreBytes};
-ghost use Rattle.card_layout.specs.Places.{memory_size, sequence_place};
-ghost use Rattle.card_layout.specs.Decoding.{number_at, node_bytes, pin_bytes, row_bytes, kept_bytes};
+ghost use Rattle.uicc_types.specs.Told.{AreBytes};
+ghost use Rattle.card_state.specs.Places.{memory_size, sequence_place};
+ghost use Rattle.card_state.specs.Decoding.{number_at, node_bytes, pin_bytes, row_bytes, kept_bytes};
 ghost use Rattle.layout_mount.specs.Images.{IsImage};
 ghost use Rattle.layout_mount.specs.Mounted.{OnlyReads, unread};
 
 use crate::reading::read_number;
-use card_layout::places::{DATA, KEPT_APART, MEMORY_SIZE, NODES, PINS, ROWS, SEQUENCE, UPPER_ROWS};
-use card_layout::sizes::{
+use card_state::places::{DATA, KEPT_APART, MEMORY_SIZE, NODES, PINS, ROWS, SEQUENCE, UPPER_ROWS};
+use card_state::sizes::{
     KEPT_WIDTH, LOWER_ROW_COUNT, NODE_COUNT, NODE_WIDTH, PIN_COUNT, PIN_WIDTH, ROW_COUNT,
     ROW_STRIDE, ROW_WIDTH,
 };
-use card_layout::{Shelf, Store, StoreFault};
 use std::marker::Model;
+use store_form::{Store, StoreFault};
+use uicc_types::Shelf;
 
 // How many bytes there are from the PIN slots to the files, and from the upper rows on.
 const TABLE_LENGTH: usize = DATA - PINS as usize;

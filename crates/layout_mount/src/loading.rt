@@ -1,21 +1,22 @@
 //! The table of all entries of an image, if it passes the checks.
 ghost use Rattle.std.specs.Prelude.{◌≡◌, ◌<◌, ◌+◌, ℕ, true, false, ◌≤◌, ◌++◌, MatchResult, OnOk, IfOk, ◌==◌, if◌then◌else◌, length, map, replicate};
 ghost use Rattle.std.specs.List.{range_with_len};
-ghost use Rattle.card_layout.specs.Blank.{absent_pin, unused_node, unused_row, empty_table};
-ghost use Rattle.card_layout.specs.Places.{node_place, pin_place, row_place, row_count, sequence_place};
-ghost use Rattle.card_layout.specs.Decoding.{is_wide, number_at, node_at, pin_at, row_at, table_of};
-ghost use Rattle.card_layout.specs.Checks.{checks, header_checks, pin_checks, row_checks, node_checks, pin_check, row_check, node_check, rows_below, nodes_below, key_of_slot, has_card_mark, row_there};
+ghost use Rattle.card_state.specs.Blank.{absent_pin, unused_node, unused_row, empty_table};
+ghost use Rattle.card_state.specs.Places.{node_place, pin_place, row_place, row_count, sequence_place};
+ghost use Rattle.card_state.specs.Decoding.{is_wide, number_at, node_at, pin_at, row_at, table_of};
+ghost use Rattle.card_state.specs.Checks.{checks, header_checks, pin_checks, row_checks, node_checks, pin_check, row_check, node_check, rows_below, nodes_below, key_of_slot, has_card_mark, row_there};
 ghost use Rattle.layout_mount.specs.Loads.{FindsFirst, PassesCheck};
 
 use crate::checks::{node_passes, pin_passes, row_passes};
 use crate::image::Image;
 use crate::reading::{read_node, read_pin, read_row};
-use card_layout::keys::{ADM_1, PIN_1, PIN_2};
-use card_layout::places::{
+use card_state::places::{
     NARROW_VERSION, STORE_MARK, VERSION, WIDE_VERSION, place_of_node, place_of_pin, place_of_row,
 };
-use card_layout::sizes::{LOWER_ROW_COUNT, NODE_COUNT, PIN_COUNT, ROW_COUNT};
-use card_layout::{Loaded, Node, PinSlot, Row, Shelf};
+use card_state::sizes::{LOWER_ROW_COUNT, NODE_COUNT, PIN_COUNT, ROW_COUNT};
+use card_state::{Loaded, Node, PinSlot, Row};
+use uicc_types::Shelf;
+use uicc_types::keys::{ADM_1, PIN_1, PIN_2};
 
 fn has_mark(image: &Image) -> bool
     ensures { result ≡ has_card_mark image.now }

@@ -1,13 +1,14 @@
 //! The mount of what a store holds.
 ghost use Rattle.std.specs.Prelude.{◌≡◌, ℕ, true, false, Err, OnOk, OnErr, IsErrOf};
-ghost use Rattle.card_layout.specs.Blank.{empty_table};
-ghost use Rattle.card_layout.specs.Memory.{memory};
-ghost use Rattle.card_layout.specs.Places.{memory_size};
+ghost use Rattle.card_state.specs.Blank.{empty_table};
+ghost use Rattle.card_state.specs.Memory.{memory};
+ghost use Rattle.card_state.specs.Places.{memory_size};
 ghost use Rattle.layout_mount.specs.Mounted.{Mounts, FindsNoCard, OnlyReads, unread};
 
 use crate::image::Image;
 use crate::loading::load;
-use card_layout::{Loaded, Store, StoreFault};
+use card_state::Loaded;
+use store_form::{Store, StoreFault};
 use thiserror::Error;
 
 /// Why no table was loaded.

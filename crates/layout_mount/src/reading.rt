@@ -1,9 +1,10 @@
 //! The entries that bytes spell.
 ghost use Rattle.std.specs.Prelude.{◌≡◌, ◌+◌, ◌≤◌, ◌<◌, ◌++◌, length, take};
-ghost use Rattle.card_layout.specs.Decoding.{number_at, node_of, pin_of, row_of};
+ghost use Rattle.card_state.specs.Decoding.{number_at, node_of, pin_of, row_of};
 
-use card_layout::sizes::{KEPT_WIDTH, NODE_WIDTH, PIN_WIDTH, ROW_WIDTH};
-use card_layout::{ByteList, FileId, Kept, Node, Pin8, PinSlot, Row, ShortText};
+use card_state::sizes::{KEPT_WIDTH, NODE_WIDTH, PIN_WIDTH, ROW_WIDTH};
+use card_state::{Node, PinSlot, Row};
+use uicc_types::{ByteList, FileId, Kept, Pin8, ShortText};
 
 /// The number of two bytes that stands here.
 pub fn read_number(bytes: &[u8], at: usize) -> u16
@@ -14,7 +15,7 @@ pub fn read_number(bytes: &[u8], at: usize) -> u16
 }
 
 /// The file's entry that 16 bytes spell.
-#[tactic(auto, unfolding(card_layout::specs::Decoding::node_of))]
+#[tactic(auto, unfolding(card_state::specs::Decoding::node_of))]
 pub fn read_node(bytes: &[u8]) -> Node
     requires { length bytes.now ≡ NODE_WIDTH }
     ensures { result ≡ node_of bytes.now }
@@ -45,7 +46,7 @@ fn read_value(bytes: &[u8]) -> Pin8
 }
 
 /// The PIN slot that 20 bytes spell.
-#[tactic(auto, unfolding(card_layout::specs::Decoding::pin_of))]
+#[tactic(auto, unfolding(card_state::specs::Decoding::pin_of))]
 pub fn read_pin(bytes: &[u8]) -> PinSlot
     requires { length bytes.now ≡ PIN_WIDTH }
     ensures { result ≡ pin_of bytes.now }
@@ -83,7 +84,7 @@ fn read_kept(with_row: &[u8], apart: &[u8], count: u8) -> Kept
 }
 
 /// The row that 51 bytes spell, with the bytes for what it keeps beyond 32.
-#[tactic(auto, unfolding(card_layout::specs::Decoding::row_of))]
+#[tactic(auto, unfolding(card_state::specs::Decoding::row_of))]
 pub fn read_row(bytes: &[u8], more: &[u8]) -> Row
     requires with_row { length bytes.now ≡ ROW_WIDTH }
     requires apart { length more.now ≤ KEPT_WIDTH }

@@ -1,18 +1,18 @@
 -- What the calls that add to a section answer and leave.
 use Rattle.std.specs.Prelude.{◌≡◌, ℕ, ◌+◌, ◌-◌, ◌≤◌, ◌<◌, ◌==◌, Bool, true, false, not, ◌&&◌, ◌||◌, nat_le, if◌then◌else◌, List, [], ◌++◌, length, map, replicate, slice_set, slice_index_or, Option, Some, None, Result, Ok, Err}
 use Rattle.std.specs.List.{list_any}
-use Rattle.uicc_types.specs.Patches.{patched}
+use Rattle.list_laws.specs.Patches.{patched}
 use Rattle.uicc_types.specs.declared.identifiers.FileId.{FileId}
 use Rattle.uicc_types.specs.declared.keys.TheConstants.{ADM_1}
-use Rattle.card_layout.specs.declared.shapes.Shape.{Shape}
-use Rattle.card_layout.specs.declared.faults.SectionFault.{SectionFault}
-use Rattle.card_layout.specs.declared.faults.SectionFault.TheVariants.{Bad}
-use Rattle.card_layout.specs.Persistent.{Rule, Contents, Files, Bytes, Records, File, Pin, Registration, Persistent}
-use Rattle.card_layout.specs.Kinds.{df_kind, is_ef_kind, activated}
-use Rattle.card_layout.specs.Places.{data_place}
-use Rattle.card_layout.specs.Checks.{key_of_slot, is_free_id}
-use Rattle.card_layout.specs.Soundness.{mf}
-use Rattle.card_layout.specs.Sections.{SectionLine, line_added, is_key, with_pin, refilled, kind_of, size_of, blank_contents, byte_total_of, child_of}
+use Rattle.card_state.specs.declared.shapes.Shape.{Shape}
+use Rattle.card_state.specs.declared.faults.SectionFault.{SectionFault}
+use Rattle.card_state.specs.declared.faults.SectionFault.TheVariants.{Bad}
+use Rattle.card_state.specs.Persistent.{Rule, Contents, Files, Bytes, Records, File, Pin, Registration, Persistent}
+use Rattle.card_state.specs.Kinds.{df_kind, is_ef_kind, activated}
+use Rattle.card_state.specs.Places.{data_place}
+use Rattle.card_state.specs.Checks.{key_of_slot, is_free_id}
+use Rattle.card_state.specs.Soundness.{mf}
+use Rattle.card_state.specs.Sections.{SectionLine, line_added, is_key, with_pin, refilled, kind_of, size_of, blank_contents, byte_total_of, child_of}
 
 -- the new state and Ok, or the line's fault and no change
 abbrev pub Adds : Result Persistent SectionFault → Persistent → Result (Unit {0}) SectionFault → Persistent → Type 0

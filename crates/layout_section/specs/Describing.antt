@@ -1,15 +1,15 @@
 -- The persistent state that a section describes, and the places and the room for what a line adds to it.
 use Rattle.std.specs.Prelude.{◌≡◌, ◌⊎◌, ℕ, ◌+◌, ◌-◌, ◌==◌, Bool, true, false, not, ◌&&◌, ◌||◌, nat_le, List, [], ◌∷◌, ◌++◌, length, if◌then◌else◌, Option, Some, None, is_none, option_and_then}
 use Rattle.uicc_types.specs.declared.identifiers.FileId.{FileId}
-use Rattle.card_layout.specs.declared.sizes.TheConstants.{NODE_COUNT}
-use Rattle.card_layout.specs.Places.{data_place, data_end}
-use Rattle.card_layout.specs.Kinds.{df_kind}
-use Rattle.card_layout.specs.Persistent.{File, Persistent}
-use Rattle.card_layout.specs.Soundness.{mf}
-use Rattle.card_layout.specs.Sections.{file_at, df_for, is_new_path, id_for, fits_wide, byte_total_of, rows_fit}
+use Rattle.card_state.specs.declared.sizes.TheConstants.{NODE_COUNT}
+use Rattle.card_state.specs.Places.{data_place, data_end}
+use Rattle.card_state.specs.Kinds.{df_kind}
+use Rattle.card_state.specs.Persistent.{File, Persistent}
+use Rattle.card_state.specs.Soundness.{mf}
+use Rattle.card_state.specs.Sections.{file_at, df_for, is_new_path, id_for, fits_wide, byte_total_of, rows_fit}
+use Rattle.card_state.specs.declared.installation.Installed.{Installed}
 use Rattle.layout_section.specs.Adding.{IsPlaceIn}
 use Rattle.layout_section.specs.Installing.{wants_wide_card}
-use Rattle.card_layout.specs.declared.installation.Installed.{Installed}
 use Rattle.layout_section.specs.declared.section.Section.TheInside.{Inside}
 use Rattle.layout_section.specs.declared.section.Place.{Place}
 

@@ -1,10 +1,10 @@
 -- What is looked for among the entries of files.
 use Rattle.std.specs.Prelude.{◌≡◌, ◌≢◌, ◌⊎◌, ℕ, ◌+◌, ◌*◌, ◌≤◌, ◌<◌, ◌==◌, Bool, true, false, ◌&&◌, List, length, slice_index_or}
 use Rattle.uicc_types.specs.declared.identifiers.FileId.{FileId}
-use Rattle.card_layout.specs.declared.entries.Node.{Node}
-use Rattle.card_layout.specs.Blank.{unused_node}
-use Rattle.card_layout.specs.Kinds.{df_kind, transparent_kind, is_ef_kind}
-use Rattle.card_layout.specs.Places.{data_place}
+use Rattle.card_state.specs.declared.entries.Node.{Node}
+use Rattle.card_state.specs.Blank.{unused_node}
+use Rattle.card_state.specs.Kinds.{df_kind, transparent_kind, is_ef_kind}
+use Rattle.card_state.specs.Places.{data_place}
 
 abbrev pub is_child : ℕ → FileId → Node → Bool
 is_child df id node = node.parent == df && node.id.0 == id.0

@@ -1,18 +1,18 @@
 -- What a contract sees of the nodes and bytes of a section's files.
 use Rattle.std.specs.Prelude.{◌≡◌, ◌⊎◌, ℕ, ◌+◌, ◌-◌, ◌*◌, ◌≤◌, ◌<◌, true, false, IsTrue, List, map, take, length, sum_by, slice_index_or}
 use Rattle.std.specs.List.{enumerate_from}
-use Rattle.card_layout.specs.declared.sizes.TheConstants.{NODE_COUNT, NODE_WIDTH, RECORD_LIMIT}
-use Rattle.card_layout.specs.Ranges.{HasNodeRanges}
-use Rattle.card_layout.specs.declared.entries.Node.{Node}
-use Rattle.card_layout.specs.Blank.{unused_node}
-use Rattle.card_layout.specs.Kinds.{has_records, is_ef_kind, mf_id, activated}
-use Rattle.card_layout.specs.Places.{data_place, data_end}
-use Rattle.card_layout.specs.Persistent.{File}
-use Rattle.card_layout.specs.Decoding.{bytes_at}
-use Rattle.card_layout.specs.Spelling.{node_spelled}
-use Rattle.card_layout.specs.States.{contents_in, rule_of}
-use Rattle.card_layout.specs.Checks.{has_place_in_tree, has_own_short}
-use Rattle.card_layout.specs.NewFiles.{df_node}
+use Rattle.card_state.specs.declared.sizes.TheConstants.{NODE_COUNT, NODE_WIDTH, RECORD_LIMIT}
+use Rattle.card_state.specs.Ranges.{HasNodeRanges}
+use Rattle.card_state.specs.declared.entries.Node.{Node}
+use Rattle.card_state.specs.Blank.{unused_node}
+use Rattle.card_state.specs.Kinds.{has_records, is_ef_kind, mf_id, activated}
+use Rattle.card_state.specs.Places.{data_place, data_end}
+use Rattle.card_state.specs.Persistent.{File}
+use Rattle.card_state.specs.Decoding.{bytes_at}
+use Rattle.card_state.specs.States.{contents_in, rule_of}
+use Rattle.card_state.specs.Checks.{has_place_in_tree, has_own_short}
+use Rattle.card_state.specs.NewFiles.{df_node}
+use Rattle.layout_entries.specs.Spelling.{node_spelled}
 use Rattle.layout_section.specs.declared.files.Files.TheInside.{Inside}
 
 -- how many bytes all files may have

@@ -2,11 +2,11 @@
 use Rattle.std.specs.Prelude.{ℕ, ◌-◌, ◌==◌, Bool, not, ◌&&◌, ◌||◌, nat_lt, nat_le, count_by, List, length}
 use Rattle.std.specs.Int.{bit_at}
 use Rattle.std.specs.List.{list_any}
-use Rattle.card_layout.specs.declared.sizes.TheConstants.{ROW_COUNT, LOWER_ROW_COUNT, KEPT_WIDTH, MENU_LIMIT}
-use Rattle.card_layout.specs.Kinds.{call_control_bit}
-use Rattle.card_layout.specs.Persistent.{Registration}
-use Rattle.card_layout.specs.Sections.{is_call_control, has_text}
-use Rattle.card_layout.specs.declared.installation.Installed.{Installed}
+use Rattle.card_state.specs.declared.sizes.TheConstants.{ROW_COUNT, LOWER_ROW_COUNT, KEPT_WIDTH, MENU_LIMIT}
+use Rattle.card_state.specs.Kinds.{call_control_bit}
+use Rattle.card_state.specs.Persistent.{Registration}
+use Rattle.card_state.specs.Sections.{is_call_control, has_text}
+use Rattle.card_state.specs.declared.installation.Installed.{Installed}
 
 abbrev pub answers_calls : Installed → Bool
 answers_calls installed = bit_at installed.events call_control_bit == 1

@@ -1,8 +1,8 @@
 -- What the calls of a section come to, one after the other.
 use Rattle.std.specs.Prelude.{◌≡◌, ◌↔◌, List, [], ◌∷◌, ◌++◌, Ok, Err}
-use Rattle.card_layout.specs.declared.faults.SectionFault.{SectionFault}
-use Rattle.card_layout.specs.Persistent.{Persistent}
-use Rattle.card_layout.specs.Sections.{SectionLine, bare_card, made}
+use Rattle.card_state.specs.declared.faults.SectionFault.{SectionFault}
+use Rattle.card_state.specs.Persistent.{Persistent}
+use Rattle.card_state.specs.Sections.{SectionLine, bare_card, made}
 use Rattle.layout_section.specs.Adding.{AddsLine}
 
 -- calls for these lines, one after the other, each of which is taken

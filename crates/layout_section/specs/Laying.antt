@@ -1,16 +1,16 @@
 -- A card as its layout spells it, and the memory in which it is written.
 use Rattle.std.specs.Prelude.{◌≡◌, ◌⊎◌, ℕ, ◌+◌, ◌-◌, ◌*◌, ◌≤◌, ◌<◌, Bool, true, List, ◌∷◌, length, slice_index, is_some, Result, Ok, OnOk}
-use Rattle.card_layout.specs.store_form.declared.store.Store.{Ghosts as StoreWords}
-use Rattle.card_layout.specs.store_form.declared.store.StoreFault.{StoreFault}
-use Rattle.card_layout.specs.store_form.Faults.{HasCause}
-use Rattle.card_layout.specs.declared.places.TheConstants.{PINS, ROWS, NODES, UPPER_ROWS, KEPT_APART}
-use Rattle.card_layout.specs.declared.sizes.TheConstants.{NODE_COUNT, NODE_WIDTH, ROW_COUNT, ROW_STRIDE, LOWER_ROW_COUNT, KEPT_WIDTH}
-use Rattle.card_layout.specs.Places.{memory_size, version_of, data_place, data_end}
-use Rattle.card_layout.specs.Persistent.{Persistent}
-use Rattle.card_layout.specs.Decoding.{bytes_at}
-use Rattle.card_layout.specs.Spelling.{two_bytes}
-use Rattle.card_layout.specs.Sections.{fits_wide, byte_total_of, rows_fit}
-use Rattle.card_layout.specs.Standing.{stands_for}
+use Rattle.store_form.specs.declared.store.Store.{Ghosts as StoreWords}
+use Rattle.store_form.specs.declared.store.StoreFault.{StoreFault}
+use Rattle.store_form.specs.Faults.{HasCause}
+use Rattle.card_state.specs.declared.places.TheConstants.{PINS, ROWS, NODES, UPPER_ROWS, KEPT_APART}
+use Rattle.card_state.specs.declared.sizes.TheConstants.{NODE_COUNT, NODE_WIDTH, ROW_COUNT, ROW_STRIDE, LOWER_ROW_COUNT, KEPT_WIDTH}
+use Rattle.card_state.specs.Places.{memory_size, version_of, data_place, data_end}
+use Rattle.card_state.specs.Persistent.{Persistent}
+use Rattle.card_state.specs.Decoding.{bytes_at}
+use Rattle.card_state.specs.Numbers.{two_bytes}
+use Rattle.card_state.specs.Sections.{fits_wide, byte_total_of, rows_fit}
+use Rattle.card_state.specs.Standing.{stands_for}
 use Rattle.layout_section.specs.declared.section.SpelledCard.{SpelledCard}
 use Rattle.layout_section.specs.Filing.{SpellsFiles}
 use Rattle.layout_section.specs.PinSlots.{SpellsPins}

@@ -1,13 +1,13 @@
 -- What a contract sees of the slots of a section's PINs.
 use Rattle.std.specs.Prelude.{◌≡◌, ◌⊎◌, ℕ, ◌*◌, ◌<◌, List, map, length, slice_index_or}
-use Rattle.card_layout.specs.declared.sizes.TheConstants.{PIN_COUNT, PIN_WIDTH, TRIES, UNBLOCK_TRIES}
-use Rattle.card_layout.specs.declared.entries.PinSlot.{PinSlot}
-use Rattle.card_layout.specs.Blank.{absent_pin}
-use Rattle.card_layout.specs.Persistent.{Pin}
-use Rattle.card_layout.specs.States.{pin_state, present_pins}
-use Rattle.card_layout.specs.Checks.{key_of_slot}
-use Rattle.card_layout.specs.Decoding.{bytes_at}
-use Rattle.card_layout.specs.Spelling.{pin_spelled}
+use Rattle.card_state.specs.declared.sizes.TheConstants.{PIN_COUNT, PIN_WIDTH, TRIES, UNBLOCK_TRIES}
+use Rattle.card_state.specs.declared.entries.PinSlot.{PinSlot}
+use Rattle.card_state.specs.Blank.{absent_pin}
+use Rattle.card_state.specs.Persistent.{Pin}
+use Rattle.card_state.specs.States.{pin_state, present_pins}
+use Rattle.card_state.specs.Checks.{key_of_slot}
+use Rattle.card_state.specs.Decoding.{bytes_at}
+use Rattle.layout_entries.specs.Spelling.{pin_spelled}
 use Rattle.layout_section.specs.declared.pins.Pins.TheInside.{Inside}
 
 -- a new PIN in the slot of its key

@@ -1,13 +1,13 @@
 -- What a contract sees of the rows of a section.
 use Rattle.std.specs.Prelude.{◌≡◌, ℕ, ◌+◌, ◌-◌, ◌*◌, ◌≤◌, ◌<◌, ◌&&◌, ◌||◌, nat_lt, Bool, true, false, List, map, length, take, drop, count_by, slice_index_or}
-use Rattle.card_layout.specs.declared.events.TheConstants.{EVENTS_END}
-use Rattle.card_layout.specs.declared.sizes.TheConstants.{ROW_COUNT, LOWER_ROW_COUNT, ROW_STRIDE, ROW_WIDTH, TEXT_LIMIT, KEPT_LIMIT, KEPT_WIDTH, MENU_LIMIT}
-use Rattle.card_layout.specs.declared.entries.Row.{Row}
-use Rattle.card_layout.specs.Blank.{unused_row}
-use Rattle.card_layout.specs.States.{registration_of, used_rows}
-use Rattle.card_layout.specs.Checks.{is_call_control, shows_item}
-use Rattle.card_layout.specs.Decoding.{bytes_at}
-use Rattle.card_layout.specs.Spelling.{row_spelled}
+use Rattle.card_state.specs.declared.events.TheConstants.{EVENTS_END}
+use Rattle.card_state.specs.declared.sizes.TheConstants.{ROW_COUNT, LOWER_ROW_COUNT, ROW_STRIDE, ROW_WIDTH, TEXT_LIMIT, KEPT_LIMIT, KEPT_WIDTH, MENU_LIMIT}
+use Rattle.card_state.specs.declared.entries.Row.{Row}
+use Rattle.card_state.specs.Blank.{unused_row}
+use Rattle.card_state.specs.States.{registration_of, used_rows}
+use Rattle.card_state.specs.Checks.{is_call_control, shows_item}
+use Rattle.card_state.specs.Decoding.{bytes_at}
+use Rattle.layout_entries.specs.Spelling.{row_spelled}
 use Rattle.layout_section.specs.Adding.{RowList}
 use Rattle.layout_section.specs.declared.rows.Rows.TheInside.{Inside}
 

@@ -1,6 +1,6 @@
 //! The bytes of files.
 ghost use Rattle.std.specs.Prelude.{◌≡◌, ◌+◌, ◌-◌, ◌≤◌, ◌++◌, length, replicate, IfOk};
-ghost use Rattle.uicc_types.specs.Patches.{patched};
+ghost use Rattle.list_laws.specs.Patches.{patched};
 
 use std::alloc::Global;
 use uicc_types::OutOfMemory;
@@ -16,7 +16,7 @@ pub fn blank_bytes(alloc: Global, count: usize) -> Result<Vec<u8>, OutOfMemory>
 }
 
 /// Puts a part at a place of the bytes.
-#[tactic(auto, unfolding(uicc_types::specs::Patches::patched))]
+#[tactic(auto, unfolding(list_laws::specs::Patches::patched))]
 pub fn put(bytes: &mut [u8], at: usize, part: &[u8])
     requires { at + length part.now ≤ length bytes.old }
     ensures { bytes.new ≡ patched at part.now bytes.old }
@@ -25,7 +25,7 @@ pub fn put(bytes: &mut [u8], at: usize, part: &[u8])
 }
 
 /// Makes so many bytes at a place FF.
-#[tactic(auto, unfolding(uicc_types::specs::Patches::patched))]
+#[tactic(auto, unfolding(list_laws::specs::Patches::patched))]
 pub fn blank(bytes: &mut [u8], at: usize, count: usize)
     requires { at + count ≤ length bytes.old }
     ensures { bytes.new ≡ patched at (replicate count 255) bytes.old }

@@ -1,18 +1,19 @@
 //! What is looked for among the entries of files, and how they are spelled.
 ghost use Rattle.std.specs.Prelude.{◌≡◌, ◌≢◌, ℕ, ◌*◌, slice_index_or, ◌==◌, ◌<◌, ◌≤◌, ◌+◌, ◌^◌, length, MatchOption};
 ghost use Rattle.std.specs.List.{list_any};
-ghost use Rattle.card_layout.specs.Kinds.{df_kind, is_ef_kind};
-ghost use Rattle.card_layout.specs.Blank.{unused_node};
-ghost use Rattle.card_layout.specs.Decoding.{bytes_at};
-ghost use Rattle.card_layout.specs.Spelling.{node_spelled};
-ghost use Rattle.card_layout.specs.Places.{data_place};
+ghost use Rattle.card_state.specs.Kinds.{df_kind, is_ef_kind};
+ghost use Rattle.card_state.specs.Blank.{unused_node};
+ghost use Rattle.card_state.specs.Decoding.{bytes_at};
+ghost use Rattle.card_state.specs.Places.{data_place};
+ghost use Rattle.layout_entries.specs.Spelling.{node_spelled};
 ghost use Rattle.layout_section.specs.Entries.{is_child, has_short, HasNoChild, IsFirstChild, HasNoBytes, AreBytesAt, HasNoRecord, IsRecordAt};
 
 use crate::bytes::put;
-use card_layout::kinds::{DF, TRANSPARENT, is_ef};
-use card_layout::places::DATA;
-use card_layout::sizes::{NODE_COUNT, NODE_WIDTH};
-use card_layout::{EntryBytes, Node, spell_node};
+use card_state::Node;
+use card_state::kinds::{DF, TRANSPARENT, is_ef};
+use card_state::places::DATA;
+use card_state::sizes::{NODE_COUNT, NODE_WIDTH};
+use layout_entries::{EntryBytes, spell_node};
 use uicc_types::FileId;
 
 fn is_child_of(node: &Node, df: u8, id: FileId) -> bool

@@ -1,10 +1,10 @@
 //! The files of a section.
 ghost use Rattle.std.specs.Prelude.{◌≡◌, ◌==◌, ◌<◌, ◌≤◌, ◌+◌, ◌&&◌, ℕ, List, [], ◌∷◌, ◌++◌, length, take, true, IfOk};
 ghost use Rattle.std.specs.List.{list_any};
-ghost use Rattle.card_layout.specs.Kinds.{df_kind, is_ef_kind, mf_id};
-ghost use Rattle.card_layout.specs.Soundness.{mf};
-ghost use Rattle.card_layout.specs.Sections.{child_of, file_at, byte_total_of, size_of, is_shape};
-ghost use Rattle.card_layout.specs.NewFiles.{df_node, rule_from, rule_holds};
+ghost use Rattle.card_state.specs.Kinds.{df_kind, is_ef_kind, mf_id};
+ghost use Rattle.card_state.specs.Soundness.{mf};
+ghost use Rattle.card_state.specs.Sections.{child_of, file_at, byte_total_of, size_of, is_shape};
+ghost use Rattle.card_state.specs.NewFiles.{df_node, rule_from, rule_holds};
 ghost use Rattle.layout_section.specs.Adding.{file_numbered, IsAt, IsFound, IsPlaceIn, is_short_for, df_numbered, ef_numbered, filled, with_record, Rewrites};
 ghost use Rattle.layout_section.specs.Filing.{all_bytes, SpellsFiles};
 
@@ -12,10 +12,10 @@ use crate::bytes::{blank, blank_bytes, put, put_filled};
 use crate::entries::{
     NODES_LENGTH, first_child, place_of_bytes, place_of_record, some_has_short, spell_nodes,
 };
-use card_layout::kinds::DF;
-use card_layout::places::{DATA, MEMORY_SIZE};
-use card_layout::sizes::NODE_COUNT;
-use card_layout::{Node, SectionFault, Shape, new_df, new_ef, size_for};
+use card_state::kinds::DF;
+use card_state::places::{DATA, MEMORY_SIZE};
+use card_state::sizes::NODE_COUNT;
+use card_state::{Node, SectionFault, Shape, new_df, new_ef, size_for};
 use std::alloc::Global;
 use std::marker::Model;
 use uicc_types::{FileId, OutOfMemory};
@@ -38,7 +38,7 @@ pub struct Files {
 
 impl Model for Files {
     ghost use Rattle.std.specs.Prelude.{List};
-    ghost use Rattle.card_layout.specs.Persistent.{File};
+    ghost use Rattle.card_state.specs.Persistent.{File};
 
     ghost Value = { List File };
 

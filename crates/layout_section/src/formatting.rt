@@ -1,17 +1,16 @@
 //! The format of a store.
 ghost use Rattle.std.specs.Prelude.{◌≡◌, ◌⊎◌, ◌≤◌, ◌+◌, length, true, false, Ok, Err, OnOk, OnErr, IfSome, option_map};
-ghost use Rattle.uicc_types.specs.Patches.{patched};
+ghost use Rattle.list_laws.specs.Patches.{patched};
 ghost use Rattle.uicc_types.specs.Told.{Becomes};
-ghost use Rattle.card_layout.specs.store_form.Faults.{with_commit};
-ghost use Rattle.card_layout.specs.Places.{memory_size};
-ghost use Rattle.card_layout.specs.Standing.{stands_for};
+ghost use Rattle.store_form.specs.Faults.{with_commit};
+ghost use Rattle.card_state.specs.Places.{memory_size};
+ghost use Rattle.card_state.specs.Standing.{stands_for};
 ghost use Rattle.layout_section.specs.Laying.{IsPrepared, IsWritten, FitsBefore, KeepsFirst, KeepsFirstOr, KeepsLaying};
 
-use crate::Section;
 use crate::rows::SpelledRows;
-use crate::section::SpelledCard;
-use card_layout::places::{DATA, KEPT_APART, NODES, PINS, ROWS, UPPER_ROWS};
-use card_layout::{Store, StoreFault, Writes};
+use crate::section::{Section, SpelledCard};
+use card_state::places::{DATA, KEPT_APART, NODES, PINS, ROWS, UPPER_ROWS};
+use store_form::{Store, StoreFault, Writes};
 use uicc_types::Full;
 
 // Writes a part of a card behind its first bytes.

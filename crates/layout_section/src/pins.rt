@@ -1,15 +1,16 @@
 //! The PINs of a section.
 ghost use Rattle.std.specs.Prelude.{◌≡◌, ℕ, ◌*◌, ◌<◌, [], length, false, MatchOption, slice_index_or};
-ghost use Rattle.card_layout.specs.Blank.{absent_pin};
-ghost use Rattle.card_layout.specs.Decoding.{bytes_at};
-ghost use Rattle.card_layout.specs.Spelling.{pin_spelled};
+ghost use Rattle.card_state.specs.Blank.{absent_pin};
+ghost use Rattle.card_state.specs.Decoding.{bytes_at};
+ghost use Rattle.layout_entries.specs.Spelling.{pin_spelled};
 ghost use Rattle.layout_section.specs.PinSlots.{SpellsPins};
 ghost use Rattle.layout_section.specs.Adding.{AddsPin, new_pin, may_have_pin, IsSlotFor};
 
 use crate::bytes::put;
-use card_layout::places::{PINS, ROWS};
-use card_layout::sizes::{PIN_COUNT, PIN_WIDTH, TRIES, UNBLOCK_TRIES};
-use card_layout::{PinSlot, SectionFault, spell_pin};
+use card_state::places::{PINS, ROWS};
+use card_state::sizes::{PIN_COUNT, PIN_WIDTH, TRIES, UNBLOCK_TRIES};
+use card_state::{PinSlot, SectionFault};
+use layout_entries::spell_pin;
 use std::marker::Model;
 use uicc_types::Pin8;
 use uicc_types::keys::{ADM_1, PIN_1, PIN_2};
@@ -25,7 +26,7 @@ pub struct Pins {
 
 impl Model for Pins {
     ghost use Rattle.std.specs.Prelude.{List};
-    ghost use Rattle.card_layout.specs.Persistent.{Pin};
+    ghost use Rattle.card_state.specs.Persistent.{Pin};
 
     ghost Value = { List Pin };
 

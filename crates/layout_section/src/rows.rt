@@ -1,22 +1,23 @@
 //! The rows of a section.
 ghost use Rattle.std.specs.Prelude.{◌≡◌, ℕ, ◌==◌, ◌<◌, ◌≤◌, ◌+◌, ◌*◌, All, slice_index_or, not, true, [], ◌∷◌, length, count_by};
 ghost use Rattle.std.specs.List.{list_any, enumerate_from};
-ghost use Rattle.card_layout.specs.Sections.{has_text, is_call_control, needs_wide, with_row};
+ghost use Rattle.card_state.specs.Sections.{has_text, is_call_control, needs_wide, with_row};
+ghost use Rattle.card_state.specs.Installations.{HasParts, registered};
+ghost use Rattle.card_state.specs.Blank.{unused_row};
+ghost use Rattle.card_state.specs.Decoding.{bytes_at};
+ghost use Rattle.card_state.specs.Checks.{shows_item};
+ghost use Rattle.layout_entries.specs.Spelling.{row_spelled};
 ghost use Rattle.layout_section.specs.Adding.{IsKind};
-ghost use Rattle.card_layout.specs.Installations.{HasParts, registered};
 ghost use Rattle.layout_section.specs.Installing.{answers_calls, has_item, may_take};
-ghost use Rattle.card_layout.specs.Blank.{unused_row};
-ghost use Rattle.card_layout.specs.Decoding.{bytes_at};
-ghost use Rattle.card_layout.specs.Spelling.{row_spelled};
 ghost use Rattle.layout_section.specs.RowTables.{controls, wants_wide, IsKeptApart, SpellsRows};
-ghost use Rattle.card_layout.specs.Checks.{shows_item};
 
 use crate::bytes::put;
-use card_layout::events::has_call_control;
-use card_layout::sizes::{
+use card_state::events::has_call_control;
+use card_state::sizes::{
     KEPT_LIMIT, KEPT_WIDTH, LOWER_ROW_COUNT, MENU_LIMIT, ROW_COUNT, ROW_STRIDE, ROW_WIDTH,
 };
-use card_layout::{Installed, Row, spell_row};
+use card_state::{Installed, Row};
+use layout_entries::spell_row;
 use std::array;
 use std::marker::Model;
 use uicc_types::Shelf;

@@ -1,11 +1,11 @@
 //! A card as its section describes it.
 ghost use Rattle.std.specs.Prelude.{◌≡◌, ◌≤◌, ◌==◌, ◌&&◌, ◌+◌, ◌++◌, [], ◌∷◌, true, length, IfOk, IfSome, MatchOption};
 ghost use Rattle.std.specs.List.{list_all};
-ghost use Rattle.card_layout.specs.Kinds.{df_kind};
-ghost use Rattle.card_layout.specs.Checks.{is_free_id};
-ghost use Rattle.card_layout.specs.Soundness.{mf};
-ghost use Rattle.card_layout.specs.Sections.{bare_card, file_at, is_new_short, DfLine, EfLine, FillLine, RecordLine, PinLine, RowLine};
-ghost use Rattle.card_layout.specs.NewFiles.{rule_from};
+ghost use Rattle.card_state.specs.Kinds.{df_kind};
+ghost use Rattle.card_state.specs.Checks.{is_free_id};
+ghost use Rattle.card_state.specs.Soundness.{mf};
+ghost use Rattle.card_state.specs.Sections.{bare_card, file_at, is_new_short, DfLine, EfLine, FillLine, RecordLine, PinLine, RowLine};
+ghost use Rattle.card_state.specs.NewFiles.{rule_from};
 ghost use Rattle.layout_section.specs.Adding.{IsKind, IsFound, AddsLine};
 ghost use Rattle.layout_section.specs.Installing.{wants_wide_card};
 ghost use Rattle.layout_section.specs.Laying.{SpellsCard, FitsBefore};
@@ -14,10 +14,10 @@ ghost use Rattle.layout_section.specs.Describing.{HasNoPlaceAt, IsPlaceAt, HasNo
 use crate::files::{ALL_BYTES, Files, SpelledFiles};
 use crate::pins::{PINS_LENGTH, Pins};
 use crate::rows::{Rows, SpelledRows};
-use card_layout::kinds::is_free_id;
-use card_layout::places::{DATA, NARROW_VERSION, UPPER_ROWS, WIDE_VERSION};
-use card_layout::sizes::{KEPT_WIDTH, LOWER_ROW_COUNT, NODE_COUNT};
-use card_layout::{
+use card_state::kinds::is_free_id;
+use card_state::places::{DATA, NARROW_VERSION, UPPER_ROWS, WIDE_VERSION};
+use card_state::sizes::{KEPT_WIDTH, LOWER_ROW_COUNT, NODE_COUNT};
+use card_state::{
     Installed, SectionFault, Shape, may_be_rule, may_be_shape, read_installation, size_for,
 };
 use std::alloc::Global;
@@ -37,7 +37,7 @@ pub struct Section {
 }
 
 impl Model for Section {
-    ghost use Rattle.card_layout.specs.Persistent.{Persistent};
+    ghost use Rattle.card_state.specs.Persistent.{Persistent};
 
     ghost Value = { Persistent };
 

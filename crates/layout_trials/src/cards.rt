@@ -3,10 +3,11 @@
 use crate::answers::{Answer, Shown};
 use crate::devices::listed;
 use crate::words::{RowFault, Words, number_of};
-use card_layout::{FileId, Loaded, OutOfMemory, Pin8, PinSlot, SectionFault, Shape, Shelf};
+use card_state::{Loaded, PinSlot, SectionFault, Shape};
 use layout_mount::MountFault;
 use layout_section::Section;
 use std::alloc::Global;
+use uicc_types::{FileId, OutOfMemory, Pin8, Shelf};
 
 /// What is described of a card, and what was mounted last.
 #[derive(Drop)]

@@ -1,10 +1,10 @@
 //! A device that notes its calls.
 ghost use Rattle.std.specs.Prelude.{◌≡◌};
 
-use card_layout::Plan;
+use eeprom_model::{Eeprom, EepromFault};
 use std::alloc::Global;
 use std::marker::Model;
-use update_journal::{Eeprom, EepromFault};
+use uicc_types::Plan;
 
 /// What a device was asked for.
 #[derive(Drop)]

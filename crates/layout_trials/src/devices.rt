@@ -3,8 +3,8 @@
 use crate::answers::{Answer, Shown};
 use crate::counting::Calls;
 use crate::words::{RowFault, Words};
+use eeprom_model::{Eeprom, PAGE_LENGTH};
 use std::alloc::{AllocError, Global};
-use update_journal::{Eeprom, PAGE_LENGTH};
 
 /// Carries out a row on a device.
 pub fn carry_out<E: Eeprom>(

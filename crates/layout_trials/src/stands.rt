@@ -8,13 +8,14 @@ use crate::sweeps::sweep;
 use crate::words::{RowFault, Words};
 use crate::writing::SIZE;
 use crate::{devices, stores};
+use eeprom_model::{BenchEeprom, Eeprom, FileEeprom, SwitchedEeprom, open_image};
 use page_store::{DEVICE_SIZE, PageStore};
 use std::alloc::Global;
 use std::cell::Cell;
 use std::fs::File;
 use std::rt::Files;
 use std::{fs, io, mem};
-use update_journal::{BenchEeprom, Eeprom, FileEeprom, Journal, SwitchedEeprom, open_image};
+use update_journal::Journal;
 
 /// A device of the bench, which notes its calls.
 type Bench = Counting<BenchEeprom>;

@@ -3,11 +3,13 @@ ghost use Rattle.std.specs.Prelude.{◌≡◌};
 
 use crate::words::{Piece, RowFault};
 use crate::writing::{SIZE, is_usable, writes_of};
-use card_layout::{Loaded, OWN_END, OWN_START, Plan, Store};
+use card_state::Loaded;
 use layout_mount::{MountFault, mount};
 use layout_section::{Section, format};
 use std::alloc::Global;
 use std::marker::Model;
+use store_form::{OWN_END, OWN_START, Store};
+use uicc_types::Plan;
 
 /// A store of 65,536 bytes, and whether it is known that no recovery is due.
 #[derive(Drop)]

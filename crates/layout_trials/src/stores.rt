@@ -5,9 +5,9 @@ use crate::cards::Card;
 use crate::stored::Stored;
 use crate::words::{Piece, RowFault, Words};
 use crate::writing::SIZE;
-use card_layout::Store;
 use layout_mount::MountFault;
 use std::alloc::{AllocError, Global};
+use store_form::Store;
 
 /// A row makes at most so many commits.
 const MOST_COMMITS: usize = 1_000;

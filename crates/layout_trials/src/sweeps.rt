@@ -6,10 +6,12 @@ use crate::stored::Stored;
 use crate::stores::{image_of, put_all};
 use crate::words::{Piece, RowFault, Words};
 use crate::writing::SIZE;
-use card_layout::{CutAt, FailAt, Plan, Store};
+use eeprom_model::BenchEeprom;
 use page_store::{DEVICE_SIZE, PageStore};
 use std::alloc::Global;
-use update_journal::{BenchEeprom, Journal};
+use store_form::Store;
+use uicc_types::{CutAt, FailAt, Plan};
+use update_journal::Journal;
 
 /// What a commit does to the bytes that are read.
 #[derive(Drop)]

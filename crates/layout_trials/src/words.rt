@@ -1,10 +1,11 @@
 //! The words of a row, and what they say.
 ghost use Rattle.std.specs.Prelude.{◌≤◌, IfOk};
 
-use card_layout::{CutAt, FailAt, OutOfMemory, Plan, StoreFault};
+use eeprom_model::{EepromFault, PAGE_LENGTH};
 use std::alloc::{AllocError, Global};
 use std::str::SplitWhitespace;
-use update_journal::{EepromFault, PAGE_LENGTH};
+use store_form::StoreFault;
+use uicc_types::{CutAt, FailAt, OutOfMemory, Plan};
 
 /// Why a row isn't carried out.
 #[derive(Drop)]

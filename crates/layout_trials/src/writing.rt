@@ -1,9 +1,10 @@
 //! What may be asked of a store of 65,536 bytes.
 ghost use Rattle.std.specs.Prelude.{◌≡◌, ◌<◌, true, length, All, IfOk, OnOk};
-ghost use Rattle.card_layout.specs.store_form.Pieces.{IsUsable, IsUsablePiece};
+ghost use Rattle.store_form.specs.Pieces.{IsUsable, IsUsablePiece};
 
 use crate::words::{Piece, RowFault};
-use card_layout::{Full, OWN_END, OWN_START, Writes};
+use store_form::{OWN_END, OWN_START, Writes};
+use uicc_types::Full;
 
 /// The stores of the trials have so many bytes.
 pub const SIZE: usize = 65_536;

@@ -1,12 +1,12 @@
 -- What a step wants of the store below, what it keeps of it, and what it writes.
 use Rattle.std.specs.Prelude.{◌≡◌, ◌⊎◌, ℕ, ◌+◌, ◌%◌, ◌<◌, ◌≤◌, true, List, length, Option, option_map, All, Result, OnOk, OnErr}
-use Rattle.update_journal.specs.uicc_types.Patches.{patched, Torn}
-use Rattle.update_journal.specs.uicc_types.Told.{Becomes}
-use Rattle.update_journal.specs.store_form.declared.store.Store.{Ghosts as StoreWords}
-use Rattle.update_journal.specs.store_form.declared.store.StoreFault.{StoreFault}
-use Rattle.update_journal.specs.store_form.Faults.{HasCause}
-use Rattle.update_journal.specs.store_form.Pieces.{Piece, applied, IsUsable, IsUsablePiece}
-use Rattle.update_journal.specs.eeprom_model.declared.device.TheConstants.{PAGE_LENGTH}
+use Rattle.list_laws.specs.Patches.{patched, Torn}
+use Rattle.uicc_types.specs.Told.{Becomes}
+use Rattle.eeprom_model.specs.declared.device.TheConstants.{PAGE_LENGTH}
+use Rattle.store_form.specs.declared.store.Store.{Ghosts as StoreWords}
+use Rattle.store_form.specs.declared.store.StoreFault.{StoreFault}
+use Rattle.store_form.specs.Faults.{HasCause}
+use Rattle.store_form.specs.Pieces.{Piece, applied, IsUsable, IsUsablePiece}
 use Rattle.page_store.specs.declared.paged.Known.{Known}
 use Rattle.page_store.specs.declared.places.TheConstants.{CONTENT_SIZE, DEVICE_SIZE, FIRST_MAPPED, PAGES}
 use Rattle.page_store.specs.Commits.{Moves}

@@ -1,7 +1,7 @@
 -- A device that holds no map, and what it gets.
 use Rattle.std.specs.Prelude.{◌≡◌, ℕ, ◌*◌, ◌<◌, ◌≤◌, List, slice_index}
 use Rattle.std.specs.List.{range_with_len}
-use Rattle.update_journal.specs.eeprom_model.declared.device.TheConstants.{PAGE_LENGTH}
+use Rattle.eeprom_model.specs.declared.device.TheConstants.{PAGE_LENGTH}
 use Rattle.page_store.specs.declared.places.TheConstants.{DEVICE_SIZE, MAPPED, POOL}
 
 -- FF in the first page and in the pool

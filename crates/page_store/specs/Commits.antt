@@ -2,10 +2,10 @@
 use Rattle.std.specs.Prelude.{◌≡◌, ℕ, ◌+◌, ◌-◌, ◌*◌, ◌/◌, ◌<◌, ◌≤◌, Bool, ◌&&◌, nat_lt, if◌then◌else◌, List, Option, false, length, take, slice_range, slice_index}
 use Rattle.std.specs.Int.{w16, to_be_bytes}
 use Rattle.std.specs.List.{fold, flat_map, list_any, count_by, range_with_len}
-use Rattle.update_journal.specs.uicc_types.Told.{Becomes}
-use Rattle.update_journal.specs.eeprom_model.declared.device.TheConstants.{PAGE_LENGTH}
-use Rattle.update_journal.specs.store_form.declared.store.TheConstants.{OWN_START}
-use Rattle.update_journal.specs.store_form.Pieces.{Piece, applied}
+use Rattle.uicc_types.specs.Told.{Becomes}
+use Rattle.eeprom_model.specs.declared.device.TheConstants.{PAGE_LENGTH}
+use Rattle.store_form.specs.declared.store.TheConstants.{OWN_START}
+use Rattle.store_form.specs.Pieces.{Piece, applied}
 use Rattle.page_store.specs.declared.places.TheConstants.{FIRST_MAPPED, FREE, MAP, MAPPED, PAGES, POOL}
 use Rattle.page_store.specs.Pages.{through}
 use Rattle.page_store.specs.Tables.{Kept, moved, IsPool}

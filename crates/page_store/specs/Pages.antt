@@ -3,7 +3,7 @@
 use Rattle.std.specs.Prelude.{ℕ, ◌+◌, ◌-◌, ◌*◌, ◌/◌, ◌%◌, ◌==◌, Bool, not, ◌&&◌, nat_lt, nat_le, if◌then◌else◌, List, [], ◌∷◌, length, take, map, replicate, slice_index, slice_range, Option, option_map}
 use Rattle.std.specs.Int.{w16, from_be_bytes}
 use Rattle.std.specs.List.{range_with_len, list_any, list_all, filter}
-use Rattle.update_journal.specs.eeprom_model.declared.device.TheConstants.{PAGE_LENGTH}
+use Rattle.eeprom_model.specs.declared.device.TheConstants.{PAGE_LENGTH}
 use Rattle.page_store.specs.declared.places.TheConstants.{PAGE_COUNT, CONTENT_SIZE, FIRST_MAPPED, MAPPED, MAP, MAP_END, POOL}
 
 -- the number that two bytes spell, the upper one first

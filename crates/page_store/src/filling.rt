@@ -7,7 +7,8 @@ ghost use Rattle.page_store.specs.Tables.{loaded, IsKept};
 
 use crate::places::{DEVICE_SIZE, MAP, MAP_END, MAPPED, PAGE_COUNT, POOL};
 use crate::tables::Table;
-use update_journal::{PAGE_LENGTH, Store, StoreFault};
+use eeprom_model::PAGE_LENGTH;
+use store_form::{Store, StoreFault};
 
 // Puts an entry into the bytes of a map.
 fn put_entry(bytes: &mut [u8; MAP_END - MAP], k: usize, page: u16)

@@ -2,7 +2,7 @@
 ghost use Rattle.std.specs.Prelude.{◌≡◌, ◌+◌, ◌-◌, ◌*◌, ◌≤◌, ◌<◌, true, [], ◌∷◌, ◌++◌, length, map, slice_range, All, OnOk};
 ghost use Rattle.std.specs.Int.{w16, to_be_bytes};
 ghost use Rattle.std.specs.List.{flat_map};
-ghost use Rattle.update_journal.specs.store_form.Pieces.{byte_total, IsUsablePiece};
+ghost use Rattle.store_form.specs.Pieces.{byte_total, IsUsablePiece};
 ghost use Rattle.page_store.specs.Below.{AreToWrite, IsBelow, KeepsBelow, WritesAll};
 ghost use Rattle.page_store.specs.Pages.{content};
 ghost use Rattle.page_store.specs.Commits.{inner_piece, moved_below};
@@ -11,9 +11,9 @@ ghost use Rattle.page_store.specs.Tables.{IsKept, IsPool};
 use crate::moves::move_pages;
 use crate::places::{CONTENT_SIZE, DEVICE_SIZE, FIRST_MAPPED, MAP, PAGES};
 use crate::tables::{EntryBytes, Table};
-use update_journal::{
-    Full, MOST_BYTES, MOST_PIECES, OWN_START, PAGE_LENGTH, Store, StoreFault, Writes,
-};
+use eeprom_model::PAGE_LENGTH;
+use store_form::{MOST_BYTES, MOST_PIECES, OWN_START, Store, StoreFault, Writes};
+use uicc_types::Full;
 
 // Adds a piece that has room.
 fn add(inner: &mut Writes, place: u16, bytes: &[u8])

@@ -1,6 +1,6 @@
 //! The pages that a commit touches move.
 ghost use Rattle.std.specs.Prelude.{◌≡◌, ◌+◌, ◌*◌, ◌≤◌, ◌<◌, true, if◌then◌else◌, length, All, OnOk, OnErr};
-ghost use Rattle.update_journal.specs.store_form.Pieces.{IsUsablePiece};
+ghost use Rattle.store_form.specs.Pieces.{IsUsablePiece};
 ghost use Rattle.page_store.specs.Below.{IsBelow, KeepsBelow, MayMove, MovesOn};
 ghost use Rattle.page_store.specs.Pages.{content};
 ghost use Rattle.page_store.specs.Commits.{is_touched, done_count, moved_below, Moves};
@@ -9,7 +9,8 @@ ghost use Rattle.page_store.specs.Tables.{moved, IsKept, IsPool};
 use crate::overlays::{is_touched, put_pieces};
 use crate::places::{CONTENT_SIZE, DEVICE_SIZE, FIRST_MAPPED, FREE, PAGES};
 use crate::tables::Table;
-use update_journal::{PAGE_LENGTH, Store, StoreFault, Writes};
+use eeprom_model::PAGE_LENGTH;
+use store_form::{Store, StoreFault, Writes};
 
 // Writes a page, with what the pieces have in it, where it has been free longest.
 fn move_page<S: Store>(

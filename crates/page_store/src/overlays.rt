@@ -1,11 +1,12 @@
 //! Pieces of a commit, as far as they lie in one page.
 ghost use Rattle.std.specs.Prelude.{◌≡◌, ℕ, ◌+◌, ◌*◌, ◌≤◌, ◌<◌, List, length, slice_range, All};
-ghost use Rattle.update_journal.specs.uicc_types.Patches.{patched};
-ghost use Rattle.update_journal.specs.store_form.Pieces.{applied, IsUsablePiece, IsWithinBounds};
+ghost use Rattle.list_laws.specs.Patches.{patched};
+ghost use Rattle.store_form.specs.Pieces.{applied, IsUsablePiece, IsWithinBounds};
 ghost use Rattle.page_store.specs.Commits.{touches, is_touched, done_count, bytes_of_page};
 
 use crate::places::{CONTENT_SIZE, PAGES};
-use update_journal::{PAGE_LENGTH, Writes};
+use eeprom_model::PAGE_LENGTH;
+use store_form::Writes;
 
 // Whether some of these bytes lie in the page.
 fn lies_in(page: usize, place: u16, bytes: &[u8]) -> bool

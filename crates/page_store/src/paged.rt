@@ -1,6 +1,6 @@
 //! The calls of the store as steps on a store below.
 ghost use Rattle.std.specs.Prelude.{◌≡◌, ◌+◌, false, length, slice_range, IfOk, IfSome, OnOk};
-ghost use Rattle.update_journal.specs.store_form.Pieces.{IsUsable};
+ghost use Rattle.store_form.specs.Pieces.{IsUsable};
 ghost use Rattle.page_store.specs.Below.{AreToWrite, IsBelow, KeepsBelow, Knows, StillKnows, WritesAll, WritesRange};
 ghost use Rattle.page_store.specs.Commits.{moved_below};
 ghost use Rattle.page_store.specs.Pages.{entries_of, map_of, content};
@@ -12,7 +12,7 @@ use crate::places::{CONTENT_SIZE, DEVICE_SIZE, MAP, MAP_END, PAGES};
 use crate::tables::Table;
 use crate::{inner, steps};
 use std::mem;
-use update_journal::{Store, StoreFault, Writes};
+use store_form::{Store, StoreFault, Writes};
 
 /// What is known of the map.
 #[derive(Debug, Drop)]

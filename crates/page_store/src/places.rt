@@ -1,5 +1,6 @@
 //! Where everything lies on the device, by pages.
-use update_journal::{OWN_END, PAGE_LENGTH};
+use eeprom_model::PAGE_LENGTH;
+use store_form::OWN_END;
 
 /// The device has so many pages.
 pub const PAGE_COUNT: usize = 1_120;

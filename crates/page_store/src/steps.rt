@@ -1,13 +1,14 @@
 //! Reads and writes of the content through a map, on a store below.
 ghost use Rattle.std.specs.Prelude.{◌≡◌, ◌+◌, length, slice_range, IfSome, OnOk};
-ghost use Rattle.update_journal.specs.store_form.Pieces.{IsUsable};
+ghost use Rattle.store_form.specs.Pieces.{IsUsable};
 ghost use Rattle.page_store.specs.Below.{IsBelow, KeepsBelow, InPage, WritesRange};
 ghost use Rattle.page_store.specs.Pages.{content};
 ghost use Rattle.page_store.specs.Tables.{IsKept};
 
 use crate::places::{CONTENT_SIZE, DEVICE_SIZE};
 use crate::tables::Table;
-use update_journal::{PAGE_LENGTH, Store, StoreFault};
+use eeprom_model::PAGE_LENGTH;
+use store_form::{Store, StoreFault};
 
 // Reads a range of the content that lies in one page.
 fn read_part<S: Store>(

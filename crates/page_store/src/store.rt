@@ -1,15 +1,18 @@
 //! The store of pages that move.
 ghost use Rattle.std.specs.Prelude.{◌≡◌, ◌&&◌, option_map};
+ghost use Rattle.update_journal.specs.Journal.{stable, is_settled};
 ghost use Rattle.page_store.specs.Pages.{content};
 ghost use Rattle.page_store.specs.Paged.{is_known};
 ghost use Rattle.page_store.specs.Laws.{told_content, told_own};
-ghost use Rattle.update_journal.specs.Journal.{stable, is_settled};
 
 use crate::paged;
 use crate::paged::Known;
 use crate::places::DEVICE_SIZE;
+use eeprom_model::Eeprom;
 use std::marker::Model;
-use update_journal::{Eeprom, Journal, Plan, Store, StoreFault, Writes};
+use store_form::{Store, StoreFault, Writes};
+use uicc_types::Plan;
+use update_journal::Journal;
 
 /// A store of 65,536 bytes on a device of 71,680, over a journal in its first pages. What a contract sees of it is its
 /// device, what it knows of the map, and the count of its commits.
@@ -21,8 +24,8 @@ pub struct PageStore<E: Eeprom> {
 }
 
 impl<E: Eeprom> Model for PageStore<E> {
-    ghost use Rattle.page_store.specs.Paged.{Paged, IsPaged};
     ghost use Rattle.update_journal.specs.Journal.{stable};
+    ghost use Rattle.page_store.specs.Paged.{Paged, IsPaged};
 
     ghost Value = { Paged E };
 
@@ -78,7 +81,7 @@ impl<E: Eeprom> Store for PageStore<E> {
         1
     }
 
-    #[tactic(auto, using(crate::proofs::Recovering::told_bytes))]
+    #[tactic(auto, using(crate::proofs::KnownOfLemmas::told_bytes))]
     fn tells_bytes(&self) {
         self.journal.tells_bytes();
     }

@@ -9,8 +9,9 @@ use crate::places::{
     CONTENT_SIZE, FIRST_MAPPED, FREE, MAP, MAP_END, MAPPED, PAGE_COUNT, PAGES, POOL,
 };
 use arrayvec::ArrayVec;
+use eeprom_model::PAGE_LENGTH;
 use std::marker::Model;
-use update_journal::{ByteList, Full, PAGE_LENGTH};
+use uicc_types::{ByteList, Full};
 
 /// The page in which each mapped page lies, and the free pages, the one that has been free longest first.
 #[derive(Debug, Drop)]

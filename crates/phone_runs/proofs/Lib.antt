@@ -1,29 +1,19 @@
-mod CardEnded
-mod Ended
-mod Hearing
-mod Lawful
+mod AgreesLemmas
+mod ApduOfLemmas
+mod DetailsAreReadLemmas
+mod DutyLemmas
+mod EndsAreBegunLemmas
+mod EndsAreOfTheCardLemmas
+mod ExchangesLemmas
+mod HandsetServingLemmas
+mod HandsetsAreServedLemmas
+mod IsServedMoreLemmas
 pub mod LineLemmas
-mod Logging
-mod Serves
-mod OneTrace
-pub mod ShowSteps
-mod Adding
-mod Loading
-mod Table
-mod OneCount
-mod CountLemmas
-mod Digits
-mod Heads
-mod LineEnds
-mod Walks
-mod WalkLemmas
-mod WholeLines
-mod Reading
-mod Receiving
-mod Exchanging
-mod Duties
-mod Agreeing
-mod Answering
-mod Following
-mod WorkedHandsets
-pub use Rattle.card_sections.proofs as card_sections
+mod LoadRunsAreOneLemmas
+mod LoadRunsLemmas
+mod PhoneRunsAreOneLemmas
+mod RunsAreLegalLemmas
+mod RunsLemmas
+mod ServeLemmas
+pub mod ShowingLemmas
+mod worked

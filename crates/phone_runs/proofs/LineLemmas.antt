@@ -3,28 +3,28 @@ use Rattle.std.proofs.Common.{◌≡◌, ℕ, true, List, [], ◌∷◌, ◌++�
 use Rattle.std.proofs.lemmas.List.{append-nil, append_assoc, reverse-append}
 use Rattle.std.proofs.lemmas.List.Elements.{All-nil, All-push}
 use Rattle.std.proofs.lemmas.Grind.{flat_map-append}
-use Rattle.handset_model.specs.byte_streams.Lines.{LineList}
-use Rattle.card_steps.specs.card_core.Parts.{CardParts}
-use Rattle.card_sections.specs.Behind.{LinesReadTo, StopsReading}
-use Rattle.card_sections.proofs.LineLemmas.{AreRead-more}
-use Rattle.card_sections.specs.Reading.{Finds, Follows}
-use Rattle.card_sections.specs.Script.{AreRead}
-use Rattle.card_sections.specs.declared.behind.PlayEnd.{PlayEnd}
-use Rattle.card_sections.specs.declared.behind.PlayEnd.TheVariants.{Finished, BadLine, ReadFailed, SinkFailed, ResetFailed}
-use Rattle.card_sections.specs.declared.script_reader.ScriptReader.{ScriptReader}
-use Rattle.card_steps.proofs.StandingLemmas.{machine_minds, machine_stands}
-use Rattle.card_steps.specs.Stepping.{Moment, moment}
-use Rattle.card_steps.specs.declared.steps.StepEnd.{StepEnd}
-use Rattle.card_steps.specs.declared.steps.StepEnd.TheVariants as step_end
+use Rattle.uicc_types.specs.declared.plans.Plan.{Plan}
+use Rattle.byte_streams.specs.Lines.{LineList}
+use Rattle.script_form.specs.Forms.{IsLine}
+use Rattle.script_form.specs.Reads.{IsOnly}
+use Rattle.script_form.specs.declared.lines.ScriptLine.{ScriptLine}
+use Rattle.script_reader.specs.Behind.{LinesReadTo, StopsReading}
+use Rattle.script_reader.proofs.AreReadLemmas.{AreRead-more}
+use Rattle.script_reader.specs.Reading.{Finds, Follows}
+use Rattle.script_reader.specs.Said.{AreRead}
+use Rattle.script_reader.specs.declared.behind.PlayEnd.{PlayEnd}
+use Rattle.script_reader.specs.declared.behind.PlayEnd.TheVariants.{Finished, BadLine, ReadFailed, SinkFailed, ResetFailed}
+use Rattle.script_reader.specs.declared.reader.ScriptReader.{ScriptReader}
+use Rattle.card_core.specs.Parts.{CardParts}
+use Rattle.terminal_side.specs.Kept.{Kept}
+use Rattle.run_steps.proofs.StandingLemmas.{machine_minds, machine_stands}
+use Rattle.run_steps.specs.Stepping.{Moment, moment}
+use Rattle.run_steps.specs.declared.steps.StepEnd.{StepEnd}
+use Rattle.run_steps.specs.declared.steps.StepEnd.TheVariants as step_end
 use Rattle.phone_runs.specs.Effects.{may_be_heard, phone_lines, phone_lines_of}
 use Rattle.phone_runs.specs.Logs.{PhoneLine, lines_back}
 use Rattle.phone_runs.specs.Runs.{Beginning, Rests, RunEnds}
-use Rattle.handset_model.specs.script_form.Forms.{IsLine}
-use Rattle.handset_model.specs.script_form.Reads.{IsOnly}
-use Rattle.handset_model.specs.script_form.declared.lines.ScriptLine.{ScriptLine}
 use Rattle.phone_runs.specs.Lines.{AreServed, PhoneComesTo, EndsAmid, PhoneEnds, IsServing, StandsAtStart, StopsAmid, told_back}
-use Rattle.terminal_side.specs.Kept.{Kept}
-use Rattle.handset_model.specs.uicc_types.declared.plans.Plan.{Plan}
 
 -- ---- what the lines tell the handset
 

@@ -1,14 +1,14 @@
 -- What the lines after `start` are where a handset is used.
 use Rattle.std.specs.List.{flat_map}
 use Rattle.std.specs.Prelude.{◌≡◌, ℕ, Bool, true, false, List, [], ◌∷◌, Some}
+use Rattle.uicc_types.specs.declared.plans.TheConstants.Plan.{NONE}
+use Rattle.script_form.specs.declared.handset.HandsetLine.TheVariants as heard
+use Rattle.script_form.specs.declared.lines.ScriptLine.{ScriptLine}
+use Rattle.script_form.specs.declared.lines.ScriptLine.TheVariants.{Passed, Start, Reset, Df, Transparent, Linear, Cyclic, Fill, Rec, Pin, Row, Apdu, Tpdu, Cut, Fail, ReadFail, Handset, Cmd, Echo, Lose}
 use Rattle.phone_runs.specs.Logs.{PhoneLine, Hears, Arms}
 use Rattle.phone_runs.specs.Playing.{IsFit, line_of, span_of_move}
 use Rattle.phone_runs.specs.declared.effects.PhoneEffect.{PhoneEffect}
 use Rattle.phone_runs.specs.declared.effects.PhoneEffect.TheVariants.{Nothing, Takes, OutOfPlace}
-use Rattle.handset_model.specs.script_form.declared.handset.HandsetLine.TheVariants as heard
-use Rattle.handset_model.specs.script_form.declared.lines.ScriptLine.{ScriptLine}
-use Rattle.handset_model.specs.script_form.declared.lines.ScriptLine.TheVariants.{Passed, Start, Reset, Df, Transparent, Linear, Cyclic, Fill, Rec, Pin, Row, Apdu, Tpdu, Cut, Fail, ReadFail, Handset, Cmd, Echo, Lose}
-use Rattle.handset_model.specs.uicc_types.declared.plans.TheConstants.Plan.{NONE}
 
 -- whether a line may stand after `start`
 abbrev pub may_be_heard : ScriptLine → Bool

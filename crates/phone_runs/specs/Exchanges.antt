@@ -1,22 +1,22 @@
 -- The exchanges between a card and a handset: a command is announced, fetched and answered.
 use Rattle.std.specs.Prelude.{◌≡◌, ◌⊎◌, ℕ, ◌≤◌, ◌/◌, true, length, Some, Ok, is_some}
-use Rattle.handset_model.specs.uicc_types.declared.answers.TheConstants.StatusWord.{DONE}
-use Rattle.handset_model.specs.comprehension_tlv.Writing.{spellings}
-use Rattle.handset_model.specs.toolkit_commands.Reading.{proactive_of, details_found}
-use Rattle.handset_model.specs.toolkit_commands.Responses.{response_of}
-use Rattle.handset_model.specs.toolkit_commands.Table.{details_of, spelled}
-use Rattle.handset_model.specs.toolkit_commands.declared.commands.Details.{Details}
-use Rattle.handset_model.specs.toolkit_commands.declared.commands.Proactive.{Proactive}
-use Rattle.card_steps.specs.toolkit_model.Commands.{unanswered, pending, unfetched}
-use Rattle.card_steps.specs.toolkit_model.Sessions.{Outstanding}
+use Rattle.uicc_types.specs.declared.answers.TheConstants.StatusWord.{DONE}
+use Rattle.file_model.specs.Channels.{is_open}
+use Rattle.comprehension_tlv.specs.Writing.{spellings}
+use Rattle.toolkit_commands.specs.Reading.{proactive_of, details_found}
+use Rattle.toolkit_commands.specs.Responses.{response_of}
+use Rattle.toolkit_commands.specs.Table.{details_of, spelled}
+use Rattle.toolkit_commands.specs.declared.commands.Details.{Details}
+use Rattle.toolkit_commands.specs.declared.commands.Proactive.{Proactive}
+use Rattle.toolkit_model.specs.Commands.{unanswered, pending, unfetched}
+use Rattle.toolkit_model.specs.Sessions.{Outstanding}
+use Rattle.card_model.specs.Answers.{answer}
+use Rattle.card_model.specs.States.{CardState}
+use Rattle.card_laws.specs.Fetching.{GivesCommand}
+use Rattle.card_laws.specs.Moving.{HasOrder}
 use Rattle.handset_model.specs.Sending.{apdu_of, response_objects}
 use Rattle.handset_model.specs.declared.commands.Command.TheVariants.{Fetch, Respond}
 use Rattle.handset_model.specs.declared.commands.Reply.{Reply}
-use Rattle.card_steps.specs.card_model.Answers.{answer}
-use Rattle.card_steps.specs.card_model.Channels.{is_open}
-use Rattle.card_steps.specs.card_model.States.{CardState}
-use Rattle.card_laws.specs.Fetching.{GivesCommand}
-use Rattle.card_laws.specs.Moving.{HasOrder}
 
 -- ---- bytes
 

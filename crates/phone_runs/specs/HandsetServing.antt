@@ -1,18 +1,18 @@
 -- A card serves the FETCH and the TERMINAL RESPONSE of a handset (ETSI TS 102 221, 11.2.3 and 11.2.4).
 use Rattle.std.specs.Prelude.{◌≡◌, ◌⊎◌, ℕ, ◌/◌, ◌==◌, ◌||◌, Bool, true, List, [], ◌∷◌, length, All, Option, ⊤}
-use Rattle.handset_model.specs.uicc_types.declared.answers.StatusWord.{StatusWord}
-use Rattle.handset_model.specs.uicc_types.declared.answers.TheConstants.StatusWord.{DONE, MEMORY_PROBLEM}
-use Rattle.handset_model.specs.uicc_types.declared.runs.Step.{Step}
-use Rattle.handset_model.specs.uicc_types.declared.runs.TraceItem.{TraceItem}
-use Rattle.handset_model.specs.uicc_types.declared.runs.TraceItem.TheVariants as item
-use Rattle.handset_model.specs.script_form.declared.handset.HandsetLine.{HandsetLine}
-use Rattle.handset_model.specs.Legal.{TraceEntry, items_seen, IsLegal, IsBegun}
-use Rattle.card_steps.specs.card_layout.Persistent.{Persistent}
-use Rattle.card_steps.specs.file_model.Laws.{IsSoundCard}
-use Rattle.card_steps.specs.toolkit_model.Model.{AppletState}
-use Rattle.card_steps.specs.card_model.Runs.{IsRun}
-use Rattle.card_steps.specs.card_model.States.{Machine, HasBox, AreOfSevenKinds, IsGood, woken, powered}
+use Rattle.uicc_types.specs.declared.answers.StatusWord.{StatusWord}
+use Rattle.uicc_types.specs.declared.answers.TheConstants.StatusWord.{DONE, MEMORY_PROBLEM}
+use Rattle.uicc_types.specs.declared.runs.Step.{Step}
+use Rattle.uicc_types.specs.declared.runs.TraceItem.{TraceItem}
+use Rattle.uicc_types.specs.declared.runs.TraceItem.TheVariants as item
+use Rattle.script_form.specs.declared.handset.HandsetLine.{HandsetLine}
+use Rattle.card_state.specs.Persistent.{Persistent}
+use Rattle.file_model.specs.Laws.{IsSoundCard}
+use Rattle.applet_trait.specs.Minds.{AppletState}
+use Rattle.card_model.specs.Runs.{IsRun}
+use Rattle.card_model.specs.States.{Machine, HasBox, AreOfSevenKinds, IsGood, woken, powered}
 use Rattle.card_laws.specs.Traces.{ins_of}
+use Rattle.handset_model.specs.Legal.{TraceEntry, items_seen, IsLegal, IsBegun}
 
 -- the command was carried out, `9000` or `91XX`, or the memory failed in it, `6581`
 abbrev pub IsServing : StatusWord → Type 0

@@ -1,24 +1,24 @@
 -- What holds of every run of a handset.
 use Rattle.std.specs.Prelude.{◌≡◌, ◌⊎◌, ℕ, List, [], ◌∷◌, ◌++◌, map, reverse, Some}
-use Rattle.card_steps.specs.card_model.Runs.{IsRun}
-use Rattle.card_steps.specs.card_model.States.{Machine}
-use Rattle.card_steps.specs.Stepping.{Moment}
-use Rattle.card_steps.specs.declared.steps.StepEnd.{StepEnd}
-use Rattle.card_steps.specs.declared.steps.StepEnd.TheVariants.{SinkFailed, ResetFailed}
+use Rattle.uicc_types.specs.Told.{IsFront}
+use Rattle.uicc_types.specs.declared.runs.Step.{Step}
+use Rattle.uicc_types.specs.declared.runs.Step.TheVariants as step
+use Rattle.uicc_types.specs.declared.runs.TraceItem.{TraceItem}
+use Rattle.uicc_types.specs.declared.runs.TraceItem.TheVariants as item
+use Rattle.card_model.specs.Runs.{IsRun}
+use Rattle.card_model.specs.States.{Machine}
+use Rattle.card_laws.specs.Faults.{ShowsNoCut, ShowsNoFailure}
 use Rattle.handset_model.specs.Legal.{IsBegun, IsLegal, TraceEntry, Seen, Shown, items_seen}
 use Rattle.handset_model.specs.Rules.{asked}
 use Rattle.handset_model.specs.Sending.{apdu_of}
 use Rattle.handset_model.specs.declared.known.Duty.{Duty}
 use Rattle.handset_model.specs.declared.known.Duty.TheVariants.{Rest, Transmit, Await, Show, ResetCard}
+use Rattle.run_steps.specs.Stepping.{Moment}
+use Rattle.run_steps.specs.declared.steps.StepEnd.{StepEnd}
+use Rattle.run_steps.specs.declared.steps.StepEnd.TheVariants.{SinkFailed, ResetFailed}
 use Rattle.phone_runs.specs.Logs.{Event, PhoneLine, heard, history, log_lines, shown, steps, trace}
 use Rattle.phone_runs.specs.Runs.{Beginning, BreaksIn, RunEnds, IsPhoneRun}
 use Rattle.phone_runs.specs.Traces.{entries_text}
-use Rattle.card_laws.specs.Faults.{ShowsNoCut, ShowsNoFailure}
-use Rattle.handset_model.specs.uicc_types.Told.{IsFront}
-use Rattle.handset_model.specs.uicc_types.declared.runs.Step.{Step}
-use Rattle.handset_model.specs.uicc_types.declared.runs.Step.TheVariants as step
-use Rattle.handset_model.specs.uicc_types.declared.runs.TraceItem.{TraceItem}
-use Rattle.handset_model.specs.uicc_types.declared.runs.TraceItem.TheVariants as item
 
 -- where nothing more is asked for, the trace is the one that the rules of the handset ask for
 abbrev pub RunsAreLegal : Type 0

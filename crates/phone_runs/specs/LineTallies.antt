@@ -1,9 +1,9 @@
 -- What is counted of memory, source and sink while lines of a script are carried out.
 use Rattle.std.specs.Prelude.{ℕ}
-use Rattle.handset_model.specs.uicc_types.Counts.{CountsFailure, Rose}
-use Rattle.card_sections.specs.declared.behind.PlayEnd.{PlayEnd}
-use Rattle.card_sections.specs.declared.behind.PlayEnd.TheVariants.{ReadFailed, SinkFailed, ResetFailed}
-use Rattle.card_steps.specs.Tallies.{Tally, Tallies}
+use Rattle.uicc_types.specs.Counts.{CountsFailure, Rose}
+use Rattle.script_reader.specs.declared.behind.PlayEnd.{PlayEnd}
+use Rattle.script_reader.specs.declared.behind.PlayEnd.TheVariants.{ReadFailed, SinkFailed, ResetFailed}
+use Rattle.run_steps.specs.Tallies.{Tally, Tallies}
 
 -- What the steps of the lines count; the count of the source's faults doesn't fall, and a source that failed has counted it; and where a
 -- reset failed the count of the memory's faults rose.

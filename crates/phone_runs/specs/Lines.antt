@@ -1,22 +1,24 @@
 -- Where the run of a handset stands between two lines of a script, and how it ends.
 use Rattle.std.specs.List.{AllPass}
 use Rattle.std.specs.Prelude.{◌≡◌, ◌≤◌, ◌<◌, ◌*◌, ℕ, true, List, ◌++◌, reverse, Option, Some, Result, Ok, Err}
-use Rattle.handset_model.specs.byte_streams.Lines.{LineList, lines}
-use Rattle.card_steps.specs.card_model.Counts.{IsCounted}
-use Rattle.card_steps.specs.card_model.Runs.{plan_given}
-use Rattle.card_steps.specs.card_model.States.{Machine}
-use Rattle.card_sections.specs.Behind.{StopsReading}
-use Rattle.card_sections.specs.Reading.{Follows, line_count, room_of}
-use Rattle.card_sections.specs.Script.{AreRead}
-use Rattle.card_sections.specs.declared.behind.PlayEnd.{PlayEnd}
-use Rattle.card_sections.specs.declared.behind.PlayEnd.TheVariants.{Finished, BadLine, ReadFailed, SinkFailed, ResetFailed}
-use Rattle.card_sections.specs.declared.script_reader.ScriptReader.{ScriptReader}
-use Rattle.card_steps.specs.Runs.{ends_calm}
-use Rattle.card_steps.specs.Stepping.{Moment}
-use Rattle.card_steps.specs.declared.steps.StepEnd.{StepEnd}
-use Rattle.card_steps.specs.declared.steps.StepEnd.TheVariants as step_end
+use Rattle.byte_streams.specs.Lines.{LineList, lines}
+use Rattle.script_form.specs.declared.lines.ScriptLine.{ScriptLine}
+use Rattle.script_reader.specs.Behind.{StopsReading}
+use Rattle.script_reader.specs.Reading.{Follows, line_count, room_of}
+use Rattle.script_reader.specs.Said.{AreRead}
+use Rattle.script_reader.specs.declared.behind.PlayEnd.{PlayEnd}
+use Rattle.script_reader.specs.declared.behind.PlayEnd.TheVariants.{Finished, BadLine, ReadFailed, SinkFailed, ResetFailed}
+use Rattle.script_reader.specs.declared.reader.ScriptReader.{ScriptReader}
+use Rattle.card_model.specs.Counts.{IsCounted}
+use Rattle.card_model.specs.Runs.{plan_given}
+use Rattle.card_model.specs.States.{Machine}
 use Rattle.handset_model.specs.Rules.{asked}
 use Rattle.handset_model.specs.declared.known.Duty.TheVariants.{Rest}
+use Rattle.terminal_side.specs.Kept.{Kept}
+use Rattle.run_steps.specs.Runs.{ends_calm}
+use Rattle.run_steps.specs.Stepping.{Moment}
+use Rattle.run_steps.specs.declared.steps.StepEnd.{StepEnd}
+use Rattle.run_steps.specs.declared.steps.StepEnd.TheVariants as step_end
 use Rattle.phone_runs.specs.Effects.{may_be_heard, phone_lines}
 use Rattle.phone_runs.specs.Logs.{Event, PhoneLine, history, lines_back, shown, steps, trace}
 use Rattle.phone_runs.specs.Playing.{Begins}
@@ -24,8 +26,6 @@ use Rattle.phone_runs.specs.Runs.{Beginning, IsAt, IsPhoneRun, RunEnds}
 use Rattle.phone_runs.specs.Serving.{IsAtRest}
 use Rattle.phone_runs.specs.Traces.{entries_text}
 use Rattle.phone_runs.specs.declared.effects.TheConstants.{LONGEST_SPAN}
-use Rattle.handset_model.specs.script_form.declared.lines.ScriptLine.{ScriptLine}
-use Rattle.terminal_side.specs.Kept.{Kept}
 
 -- lines of a text say what stands up to `start`, and behind it what may be there where a handset is used
 pub record AreServed (opening : List ScriptLine) (found : LineList) (played : List ScriptLine) : Type 0 where

@@ -1,11 +1,11 @@
 -- What holds of long runs.
 use Rattle.std.specs.Prelude.{◌≡◌, true, List}
-use Rattle.card_steps.specs.Stepping.{Moment}
+use Rattle.script_form.specs.declared.handset.HandsetLine.{HandsetLine}
+use Rattle.card_laws.specs.Faults.{CountsNoFault}
+use Rattle.run_steps.specs.Stepping.{Moment}
+use Rattle.long_runs.specs.declared.counts.Counts.{Counts}
 use Rattle.phone_runs.specs.LoadRuns.{IsCountedRun}
 use Rattle.phone_runs.specs.Runs.{Beginning}
-use Rattle.card_laws.specs.Faults.{CountsNoFault}
-use Rattle.handset_model.specs.script_form.declared.handset.HandsetLine.{HandsetLine}
-use Rattle.phone_runs.specs.declared.counts.Counts.{Counts}
 
 -- A run over these lines, in which the device of the memory counts neither a failure nor a loss of power: this is counted in its trace.
 pub record IsCalmLoad (made : List HandsetLine) (given : Beginning) (counts : Counts) (now : Moment) : Type 0 where

@@ -1,24 +1,24 @@
 -- A long run of a handset, and what is counted in its trace.
 use Rattle.std.specs.Prelude.{◌≡◌, ℕ, Bool, true, false, List, [], ◌++◌, map, reverse, Option, Some, Result, Ok, Err}
-use Rattle.card_steps.specs.card_core.Parts.{CardParts}
-use Rattle.card_steps.specs.card_model.Counts.{IsCounted}
-use Rattle.card_steps.specs.card_model.States.{Machine}
-use Rattle.card_steps.specs.Runs.{ends_calm, line_of}
-use Rattle.card_steps.specs.Stepping.{Moment, moment}
-use Rattle.card_steps.specs.declared.steps.StepEnd.TheVariants.{ResetFailed}
+use Rattle.uicc_types.specs.declared.plans.Plan.{Plan}
+use Rattle.script_form.specs.declared.handset.HandsetLine.{HandsetLine}
+use Rattle.script_form.specs.declared.trace.TraceLine.{TraceLine}
+use Rattle.script_form.specs.declared.trace.TraceLine.TheVariants.{Note}
+use Rattle.card_model.specs.Counts.{IsCounted}
+use Rattle.card_model.specs.States.{Machine}
+use Rattle.card_core.specs.Parts.{CardParts}
 use Rattle.handset_model.specs.Legal.{TraceEntry, Seen, Shown}
 use Rattle.handset_model.specs.Rules.{asked}
 use Rattle.handset_model.specs.declared.known.Duty.TheVariants.{Rest}
+use Rattle.terminal_side.specs.Kept.{Kept}
+use Rattle.run_steps.specs.Runs.{ends_calm, line_of}
+use Rattle.run_steps.specs.Stepping.{Moment, moment}
+use Rattle.run_steps.specs.declared.steps.StepEnd.TheVariants.{ResetFailed}
+use Rattle.long_runs.specs.Counts.{counts_of}
+use Rattle.long_runs.specs.declared.counts.Counts.{Counts}
 use Rattle.phone_runs.specs.declared.counting.MemoryFailed.{MemoryFailed}
 use Rattle.phone_runs.specs.Logs.{Event, Hears, PhoneLine, history, log_lines, shown, trace}
 use Rattle.phone_runs.specs.Runs.{Beginning, RunEnds, IsAt, IsPhoneRun}
-use Rattle.handset_model.specs.script_form.declared.handset.HandsetLine.{HandsetLine}
-use Rattle.handset_model.specs.script_form.declared.trace.TraceLine.{TraceLine}
-use Rattle.handset_model.specs.script_form.declared.trace.TraceLine.TheVariants.{Note}
-use Rattle.terminal_side.specs.Kept.{Kept}
-use Rattle.phone_runs.specs.Counts.{counts_of}
-use Rattle.phone_runs.specs.declared.counts.Counts.{Counts}
-use Rattle.handset_model.specs.uicc_types.declared.plans.Plan.{Plan}
 
 -- the line of a trace that shows an entry
 abbrev pub entry_line : TraceEntry → TraceLine

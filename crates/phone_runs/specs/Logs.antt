@@ -1,16 +1,16 @@
 -- What happened in a run of a handset, newest first: to the handset, and what was planned of the memory's faults.
 use Rattle.std.specs.Prelude.{◌≡◌, List, [], ◌∷◌, ◌++◌, reverse}
+use Rattle.uicc_types.specs.declared.plans.Plan.{Plan}
+use Rattle.uicc_types.specs.declared.runs.Step.{Step}
+use Rattle.uicc_types.specs.declared.runs.Step.TheVariants as step
+use Rattle.uicc_types.specs.declared.runs.TraceItem.{TraceItem}
+use Rattle.script_form.specs.declared.handset.HandsetLine.{HandsetLine}
 use Rattle.handset_model.specs.History.{Happened, Said, Sent, Answered, Noted, Restarted, PowerCut, FoundOff}
 use Rattle.handset_model.specs.Legal.{TraceEntry, entries_of, items_seen}
 use Rattle.handset_model.specs.Rules.{asked}
 use Rattle.handset_model.specs.Sending.{apdu_of}
 use Rattle.handset_model.specs.declared.known.Duty.{Duty}
 use Rattle.handset_model.specs.declared.known.Duty.TheVariants.{Rest, Transmit, Await, Show, ResetCard}
-use Rattle.handset_model.specs.script_form.declared.handset.HandsetLine.{HandsetLine}
-use Rattle.handset_model.specs.uicc_types.declared.plans.Plan.{Plan}
-use Rattle.handset_model.specs.uicc_types.declared.runs.Step.{Step}
-use Rattle.handset_model.specs.uicc_types.declared.runs.Step.TheVariants as step
-use Rattle.handset_model.specs.uicc_types.declared.runs.TraceItem.{TraceItem}
 
 pub data Event : Type 0 where
   -- something happened at the handset

@@ -1,15 +1,15 @@
 -- The lines of a script, carried out by a handset.
 use Rattle.std.specs.Prelude.{◌≡◌, ℕ, ◌+◌, ◌<◌, ◌^◌, [], Some, false}
-use Rattle.card_steps.specs.card_model.Counts.{IsCounted}
-use Rattle.card_steps.specs.Stepping.{Moment}
+use Rattle.uicc_types.specs.declared.plans.TheConstants.Plan.{NONE}
+use Rattle.script_form.specs.declared.handset.HandsetLine.TheVariants.{Reset}
+use Rattle.card_model.specs.Counts.{IsCounted}
 use Rattle.handset_model.specs.History.{span_of}
 use Rattle.handset_model.specs.Legal.{IsBounded}
+use Rattle.run_steps.specs.Stepping.{Moment}
 use Rattle.phone_runs.specs.Logs.{PhoneLine, Hears, Arms}
 use Rattle.phone_runs.specs.Runs.{Beginning}
 use Rattle.phone_runs.specs.declared.playing.PhoneMove.{PhoneMove}
 use Rattle.phone_runs.specs.declared.playing.PhoneMove.TheVariants as move
-use Rattle.handset_model.specs.script_form.declared.handset.HandsetLine.TheVariants.{Reset}
-use Rattle.handset_model.specs.uicc_types.declared.plans.TheConstants.Plan.{NONE}
 
 -- the line that it is
 abbrev pub line_of : PhoneMove → PhoneLine

@@ -1,27 +1,27 @@
 -- A run of a handset that serves a card: what is sent to the card and noted is what the rules of the handset ask for, and what is
 -- seen of the card is how the card moves.
 use Rattle.std.specs.Prelude.{◌≡◌, ℕ, List, [], ◌∷◌, ◌++◌, Some, true, false, Result, Ok, Err, Bool}
-use Rattle.card_steps.specs.card_model.Counts.{IsCounted}
-use Rattle.card_steps.specs.card_model.Runs.{StepEnds, plan_given, armed_after, waiting_after}
-use Rattle.card_steps.specs.card_model.States.{Machine}
-use Rattle.card_steps.specs.Runs.{GoesOn, ends_calm, text_of}
-use Rattle.card_steps.specs.Stepping.{BreaksOff, IsCutOff, Moment}
-use Rattle.card_steps.specs.declared.steps.StepEnd.{StepEnd}
-use Rattle.card_steps.specs.declared.steps.StepEnd.TheVariants.{SinkFailed, ResetFailed}
+use Rattle.uicc_types.specs.Counts.{Meter}
+use Rattle.uicc_types.specs.Told.{IsFront}
+use Rattle.uicc_types.specs.declared.plans.Plan.{Plan}
+use Rattle.uicc_types.specs.declared.plans.TheConstants.Plan.{NONE}
+use Rattle.uicc_types.specs.declared.runs.Step.{Step}
+use Rattle.uicc_types.specs.declared.runs.Step.TheVariants as step
+use Rattle.uicc_types.specs.declared.runs.TraceItem.{TraceItem}
+use Rattle.script_form.specs.declared.handset.Note.{Note}
+use Rattle.card_model.specs.Counts.{IsCounted}
+use Rattle.card_model.specs.Runs.{StepEnds, plan_given, armed_after, waiting_after}
+use Rattle.card_model.specs.States.{Machine}
 use Rattle.handset_model.specs.Legal.{IsOrderly}
 use Rattle.handset_model.specs.Rules.{asked}
 use Rattle.handset_model.specs.Sending.{apdu_of}
 use Rattle.handset_model.specs.declared.known.Duty.{Duty}
 use Rattle.handset_model.specs.declared.known.Duty.TheVariants.{Rest, Transmit, Await, Show, ResetCard}
-use Rattle.handset_model.specs.script_form.declared.handset.Note.{Note}
 use Rattle.terminal_side.specs.Kept.{Kept, kept}
-use Rattle.handset_model.specs.uicc_types.Counts.{Meter}
-use Rattle.handset_model.specs.uicc_types.Told.{IsFront}
-use Rattle.handset_model.specs.uicc_types.declared.plans.Plan.{Plan}
-use Rattle.handset_model.specs.uicc_types.declared.plans.TheConstants.Plan.{NONE}
-use Rattle.handset_model.specs.uicc_types.declared.runs.Step.{Step}
-use Rattle.handset_model.specs.uicc_types.declared.runs.Step.TheVariants as step
-use Rattle.handset_model.specs.uicc_types.declared.runs.TraceItem.{TraceItem}
+use Rattle.run_steps.specs.Runs.{GoesOn, ends_calm, text_of}
+use Rattle.run_steps.specs.Stepping.{BreaksOff, IsCutOff, Moment}
+use Rattle.run_steps.specs.declared.steps.StepEnd.{StepEnd}
+use Rattle.run_steps.specs.declared.steps.StepEnd.TheVariants.{SinkFailed, ResetFailed}
 use Rattle.phone_runs.specs.Logs.{Event, PhoneLine, AreInTurn, history, lines_back, shown, steps, trace}
 use Rattle.phone_runs.specs.Traces.{entries_text, note_line}
 

@@ -1,16 +1,16 @@
 -- What is known of a handset that serves a card, also where neither the store nor the sink tells its bytes.
 use Rattle.std.specs.Prelude.{◌≡◌, ℕ, ◌<◌, List}
-use Rattle.card_steps.specs.declared.steps.Reply.{Reply}
-use Rattle.card_steps.specs.declared.steps.Reply.TheVariants as reply
-use Rattle.card_steps.specs.declared.steps.Restarted.{Restarted as AReset}
-use Rattle.card_steps.specs.declared.steps.Restarted.TheVariants as ended
+use Rattle.uicc_types.specs.declared.answers.Answer.{Answer}
 use Rattle.handset_model.specs.Ending.{work}
 use Rattle.handset_model.specs.History.{Happened, Answered, Restarted, PowerCut, FoundOff}
 use Rattle.handset_model.specs.Legal.{IsOrderly}
 use Rattle.handset_model.specs.Rules.{asked}
 use Rattle.handset_model.specs.declared.known.Duty.TheVariants.{Await, Rest}
 use Rattle.terminal_side.specs.Kept.{Kept, kept}
-use Rattle.handset_model.specs.uicc_types.declared.answers.Answer.{Answer}
+use Rattle.run_steps.specs.declared.steps.Reply.{Reply}
+use Rattle.run_steps.specs.declared.steps.Reply.TheVariants as reply
+use Rattle.run_steps.specs.declared.steps.Restarted.{Restarted as AReset}
+use Rattle.run_steps.specs.declared.steps.Restarted.TheVariants as ended
 
 -- it keeps what comes of some history in which all is as it was asked for, and waits for no answer
 pub record IsPhoneServed (phone : Kept) : Type 0 where

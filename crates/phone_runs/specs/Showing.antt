@@ -1,38 +1,38 @@
 -- What a handset's run shows, whatever the card's memory tells: as in `Runs` and `Lines`, with nothing said of the card itself but its power.
 use Rattle.std.specs.Prelude.{◌≡◌, ℕ, true, false, List, [], ◌∷◌, ◌++◌, Option, Some, Result, Ok, Err, Bool}
-use Rattle.handset_model.specs.byte_streams.Lines.{LineList, lines as text_lines}
-use Rattle.card_steps.specs.card_model.Counts.{IsCounted}
-use Rattle.card_steps.specs.card_model.Runs.{plan_given, armed_after, waiting_after}
-use Rattle.card_sections.specs.Behind.{StopsReading}
-use Rattle.card_sections.specs.Reading.{Follows}
-use Rattle.card_sections.specs.Script.{AreRead}
-use Rattle.card_sections.specs.declared.behind.PlayEnd.{PlayEnd}
-use Rattle.card_sections.specs.declared.behind.PlayEnd.TheVariants.{Finished, BadLine, ReadFailed, SinkFailed as SinkEnded, ResetFailed as ResetEnded}
-use Rattle.card_sections.specs.declared.script_reader.ScriptReader.{ScriptReader}
-use Rattle.card_steps.specs.Showing.{MayBreakOff, MayShowAll}
-use Rattle.card_steps.specs.Stepping.{IsCutOff, Moment}
-use Rattle.card_steps.specs.declared.steps.StepEnd.{StepEnd}
-use Rattle.card_steps.specs.declared.steps.StepEnd.TheVariants.{SinkFailed, ResetFailed}
+use Rattle.uicc_types.specs.Counts.{Meter}
+use Rattle.uicc_types.specs.Told.{IsFront}
+use Rattle.uicc_types.specs.declared.plans.Plan.{Plan}
+use Rattle.uicc_types.specs.declared.plans.TheConstants.Plan.{NONE}
+use Rattle.uicc_types.specs.declared.runs.Step.{Step}
+use Rattle.uicc_types.specs.declared.runs.Step.TheVariants as step
+use Rattle.uicc_types.specs.declared.runs.TraceItem.{TraceItem}
+use Rattle.uicc_types.specs.declared.runs.TraceItem.TheVariants as item
+use Rattle.byte_streams.specs.Lines.{LineList, lines as text_lines}
+use Rattle.script_form.specs.declared.handset.Note.{Note}
+use Rattle.script_form.specs.declared.lines.ScriptLine.{ScriptLine}
+use Rattle.script_reader.specs.Behind.{StopsReading}
+use Rattle.script_reader.specs.Reading.{Follows}
+use Rattle.script_reader.specs.Said.{AreRead}
+use Rattle.script_reader.specs.declared.behind.PlayEnd.{PlayEnd}
+use Rattle.script_reader.specs.declared.behind.PlayEnd.TheVariants.{Finished, BadLine, ReadFailed, SinkFailed as SinkEnded, ResetFailed as ResetEnded}
+use Rattle.script_reader.specs.declared.reader.ScriptReader.{ScriptReader}
+use Rattle.card_model.specs.Counts.{IsCounted}
+use Rattle.card_model.specs.Runs.{plan_given, armed_after, waiting_after}
 use Rattle.handset_model.specs.Legal.{IsLegal, IsOrderly, Seen}
 use Rattle.handset_model.specs.Rules.{asked}
 use Rattle.handset_model.specs.Sending.{apdu_of}
 use Rattle.handset_model.specs.declared.known.Duty.{Duty}
 use Rattle.handset_model.specs.declared.known.Duty.TheVariants.{Rest, Transmit, Await, Show, ResetCard}
+use Rattle.terminal_side.specs.Kept.{Kept, kept}
+use Rattle.run_steps.specs.Showing.{MayBreakOff, MayShowAll}
+use Rattle.run_steps.specs.Stepping.{IsCutOff, Moment}
+use Rattle.run_steps.specs.declared.steps.StepEnd.{StepEnd}
+use Rattle.run_steps.specs.declared.steps.StepEnd.TheVariants.{SinkFailed, ResetFailed}
 use Rattle.phone_runs.specs.Effects.{may_be_heard}
 use Rattle.phone_runs.specs.Lines.{AreServed, told_back}
 use Rattle.phone_runs.specs.Logs.{Event, PhoneLine, AreInTurn, heard, history, log_lines, lines_back, shown, steps, trace}
 use Rattle.phone_runs.specs.Traces.{entries_text, note_line}
-use Rattle.handset_model.specs.script_form.declared.handset.Note.{Note}
-use Rattle.handset_model.specs.script_form.declared.lines.ScriptLine.{ScriptLine}
-use Rattle.terminal_side.specs.Kept.{Kept, kept}
-use Rattle.handset_model.specs.uicc_types.Counts.{Meter}
-use Rattle.handset_model.specs.uicc_types.Told.{IsFront}
-use Rattle.handset_model.specs.uicc_types.declared.plans.Plan.{Plan}
-use Rattle.handset_model.specs.uicc_types.declared.plans.TheConstants.Plan.{NONE}
-use Rattle.handset_model.specs.uicc_types.declared.runs.Step.{Step}
-use Rattle.handset_model.specs.uicc_types.declared.runs.Step.TheVariants as step
-use Rattle.handset_model.specs.uicc_types.declared.runs.TraceItem.{TraceItem}
-use Rattle.handset_model.specs.uicc_types.declared.runs.TraceItem.TheVariants as item
 
 -- what the sink has taken already, the counts of the memory's device at first, and whether the card has power then
 pub record Outset : Type 0 where

@@ -1,11 +1,11 @@
 -- The text of a handset's trace.
 use Rattle.std.specs.List.{flat_map}
 use Rattle.std.specs.Prelude.{ℕ, List}
-use Rattle.card_steps.specs.Runs.{item_text}
+use Rattle.script_form.specs.Traces.{trace_text}
+use Rattle.script_form.specs.declared.handset.Note.{Note as ANote}
+use Rattle.script_form.specs.declared.trace.TraceLine.TheVariants.{Note}
 use Rattle.handset_model.specs.Legal.{TraceEntry, Seen, Shown}
-use Rattle.handset_model.specs.script_form.Traces.{trace_text}
-use Rattle.handset_model.specs.script_form.declared.handset.Note.{Note as ANote}
-use Rattle.handset_model.specs.script_form.declared.trace.TraceLine.TheVariants.{Note}
+use Rattle.run_steps.specs.Runs.{item_text}
 
 abbrev pub note_line : ANote → List ℕ
 note_line note = trace_text (Note note)

@@ -1,18 +1,21 @@
 //! The lines of a long run, and what is counted in its trace.
 ghost use Rattle.std.specs.Prelude.{◌≡◌, ◌<◌, ◌≤◌, ◌+◌, ◌*◌, ◌^◌, [], List, Some, Ok, IsErr, OnOk, length, true};
-ghost use Rattle.card_steps.specs.Ends.{moment_at};
-ghost use Rattle.phone_runs.specs.LoadLines.{made_lines};
-ghost use Rattle.phone_runs.specs.declared.load_lines.TheConstants.{LONGEST_SPAN};
+ghost use Rattle.uicc_types.specs.Counts.{Rose};
+ghost use Rattle.script_form.specs.declared.handset.HandsetLine.{HandsetLine as AnyLine};
+ghost use Rattle.run_steps.specs.Ends.{moment_at};
+ghost use Rattle.long_runs.specs.LoadLines.{made_lines};
+ghost use Rattle.long_runs.specs.declared.load_lines.TheConstants.{LONGEST_SPAN};
 ghost use Rattle.phone_runs.specs.LoadRuns.{Gives, GivesAll, GivesServed, IsLoading};
 ghost use Rattle.phone_runs.specs.Playing.{Begins};
 ghost use Rattle.phone_runs.specs.Runs.{Beginning};
 ghost use Rattle.phone_runs.specs.Serving.{IsAtRest};
-ghost use Rattle.handset_model.specs.script_form.declared.handset.HandsetLine.{HandsetLine as AnyLine};
-ghost use Rattle.handset_model.specs.uicc_types.Counts.{Rose};
 
-use crate::load_lines::LoadLines;
-use crate::{CountingSink, Counts, PhoneMove, Places, play_on_phone, start_phone};
-use card_steps::{Applet, CardEnd, Carrier, StepEnd, Store};
+use crate::playing::{PhoneMove, play_on_phone, start_phone};
+use crate::serving::Places;
+use applet_trait::Applet;
+use long_runs::{CountingSink, Counts, LoadLines};
+use run_steps::{CardEnd, Carrier, StepEnd};
+use store_form::Store;
 use terminal_side::Phone;
 
 /// The memory failed in a reset.

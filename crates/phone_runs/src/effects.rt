@@ -1,11 +1,12 @@
 //! What a line after `start` does where a handset is used.
 ghost use Rattle.std.specs.Prelude.{◌≤◌, ◌<◌, ◌+◌, ◌^◌, ℕ};
+ghost use Rattle.script_form.specs.Bounds.{IsBounded};
 ghost use Rattle.phone_runs.specs.Effects.{FitsIn, IsEffect, span_of_effect};
 ghost use Rattle.phone_runs.specs.declared.effects.TheConstants.{LONGEST_SPAN};
-ghost use Rattle.handset_model.specs.script_form.Bounds.{IsBounded};
 
 use crate::playing::PhoneMove;
-use handset_model::{Plan, ScriptLine};
+use script_form::ScriptLine;
+use uicc_types::Plan;
 
 /// The most seconds that a line of a script lets pass.
 pub const LONGEST_SPAN: u32 = 999_999_999;

@@ -2,7 +2,8 @@
 ghost use Rattle.phone_runs.specs.Exchanges.{DetailsAreRead, ResponsesAreRead, AnnouncedCommandsAreFetched, ResponsesAreTaken};
 
 use card_laws::{cards_go_on, fetches_give_commands};
-use handset_model::{exact_reading, spelled_is_read};
+use comprehension_tlv::exact_reading;
+use toolkit_commands::spelled_is_read;
 
 /// A handset finds the details of a command that a card spelled, also where it can't read the command itself.
 pub fn details_are_read()

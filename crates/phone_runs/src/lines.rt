@@ -1,23 +1,26 @@
 //! A line of a script behind `start`, read, and carried out by a handset that serves the card.
 ghost use Rattle.std.specs.Prelude.{◌≡◌, List, ℕ, Err, OnOk};
-ghost use Rattle.handset_model.specs.byte_streams.Reading.{IsWithin};
-ghost use Rattle.card_sections.specs.Behind.{GivesRead, IsReading};
-ghost use Rattle.card_sections.specs.Reading.{reading};
-ghost use Rattle.card_steps.specs.Ends.{moment_at};
-ghost use Rattle.card_steps.specs.Tallies.{tally};
+ghost use Rattle.byte_streams.specs.Reading.{IsWithin};
+ghost use Rattle.script_form.specs.declared.lines.ScriptLine.{ScriptLine as AnyLine};
+ghost use Rattle.script_reader.specs.Behind.{GivesRead, IsReading};
+ghost use Rattle.script_reader.specs.Reading.{reading};
+ghost use Rattle.run_steps.specs.Ends.{moment_at};
+ghost use Rattle.run_steps.specs.Tallies.{tally};
 ghost use Rattle.phone_runs.specs.LineTallies.{TalliesLines};
 ghost use Rattle.phone_runs.specs.Lines.{EndsAmid, GivesServed, IsBetweenLines, IsLineFurther, IsServing};
 ghost use Rattle.phone_runs.specs.Effects.{may_be_heard};
 ghost use Rattle.phone_runs.specs.Runs.{Beginning};
 ghost use Rattle.phone_runs.specs.Showing.{LineShows, Outset, ServesShowing};
-ghost use Rattle.handset_model.specs.script_form.declared.lines.ScriptLine.{ScriptLine as AnyLine};
 
 use crate::effects::{PhoneEffect, effect_on_phone};
 use crate::playing::play_on_phone;
 use crate::serving::Places;
-use card_sections::{PlayEnd, ScriptReader, read_behind};
-use card_steps::{Applet, CardEnd, Carrier, StepEnd, Store};
-use handset_model::{ScriptLine, Sink, Source};
+use applet_trait::Applet;
+use byte_streams::{Sink, Source};
+use run_steps::{CardEnd, Carrier, StepEnd};
+use script_form::ScriptLine;
+use script_reader::{PlayEnd, ScriptReader, read_behind};
+use store_form::Store;
 use terminal_side::Phone;
 
 /// Reads the next line behind `start` into `line`, and carries it out, as soon as its end was read. What the handset sends goes to the

@@ -1,21 +1,26 @@
 //! The lines of a script, carried out by a handset.
 ghost use Rattle.std.specs.Prelude.{◌≡◌, ◌<◌, ◌+◌, ◌^◌, ◌∷◌, [], List, Err, OnOk};
-ghost use Rattle.card_steps.specs.Ends.{moment_at};
-ghost use Rattle.card_steps.specs.Tallies.{Tallies, tally};
+ghost use Rattle.uicc_types.specs.Counts.{Rose};
 ghost use Rattle.handset_model.specs.History.{span_of};
 ghost use Rattle.handset_model.specs.Legal.{IsBounded};
+ghost use Rattle.terminal_side.specs.Kept.{unstarted};
+ghost use Rattle.run_steps.specs.Ends.{moment_at};
+ghost use Rattle.run_steps.specs.Tallies.{Tallies, tally};
 ghost use Rattle.phone_runs.specs.Logs.{Event, Hears, lines_back};
 ghost use Rattle.phone_runs.specs.Playing.{Begins, IsFit, line_of, span_of_move};
 ghost use Rattle.phone_runs.specs.Runs.{Beginning, IsAt, Settles};
 ghost use Rattle.phone_runs.specs.Serving.{IsAtRest};
 ghost use Rattle.phone_runs.specs.Showing.{BeginsShowing, IsShowing, Outset, ShowsSettled};
-ghost use Rattle.terminal_side.specs.Kept.{unstarted};
-ghost use Rattle.handset_model.specs.uicc_types.Counts.{Rose};
 
 use crate::serving::{Places, settle};
-use card_steps::{Applet, CardEnd, Carrier, StepEnd, Store, plans_are_set_in_order};
-use handset_model::{HandsetLine, Plan, Sink};
+use applet_trait::Applet;
+use byte_streams::Sink;
+use card_model::plans_are_set_in_order;
+use run_steps::{CardEnd, Carrier, StepEnd};
+use script_form::HandsetLine;
+use store_form::Store;
 use terminal_side::Phone;
+use uicc_types::Plan;
 
 /// What a line is for the handset.
 #[derive(Clone, Copy, Debug)]

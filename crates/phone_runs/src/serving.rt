@@ -1,22 +1,25 @@
 //! What the handset asks for, done one after the other.
 ghost use Rattle.std.specs.Prelude.{◌≡◌, ◌∷◌, List, Ok, Err, OnOk, true, false};
-ghost use Rattle.card_steps.specs.Ends.{moment_at};
-ghost use Rattle.card_steps.specs.Tallies.{Tallies, tally};
+ghost use Rattle.uicc_types.specs.Counts.{Rose, raised};
 ghost use Rattle.handset_model.specs.History.{Happened};
 ghost use Rattle.handset_model.specs.declared.known.Duty.TheVariants as duty;
+ghost use Rattle.terminal_side.specs.Kept.{kept};
+ghost use Rattle.run_steps.specs.Ends.{moment_at};
+ghost use Rattle.run_steps.specs.Tallies.{Tallies, tally};
 ghost use Rattle.phone_runs.specs.Logs.{Event, lines_back};
 ghost use Rattle.phone_runs.specs.Runs.{Beginning, GoesFurther, IsAt, Settles};
 ghost use Rattle.phone_runs.specs.Serving.{IsAtRest, IsPhoneServed, IsServedMore, replied, reset_by};
 ghost use Rattle.phone_runs.specs.Showing.{IsShowing, Outset, ShowsFurther, ShowsSettled};
-ghost use Rattle.terminal_side.specs.Kept.{kept};
-ghost use Rattle.handset_model.specs.uicc_types.Counts.{Rose, raised};
 
-use card_steps::{
-    Applet, CardEnd, Carrier, Reply, Restarted, StepEnd, Store, exchange, plans_are_set_in_order,
-    restart, runs_are_counted,
-};
-use handset_model::{Answer, ApduBytes, Failed, Note, Sink, lines_end, write_note};
+use applet_trait::Applet;
+use byte_streams::{Failed, Sink};
+use card_model::{plans_are_set_in_order, runs_are_counted};
+use handset_model::lines_end;
+use run_steps::{CardEnd, Carrier, Reply, Restarted, StepEnd, exchange, restart};
+use script_form::{Note, write_note};
+use store_form::Store;
 use terminal_side::{Next, Phone};
+use uicc_types::{Answer, ApduBytes};
 
 /// The places of what goes between a handset and its card, which are used again for each command.
 #[derive(Debug, Drop)]

@@ -1,4 +1,4 @@
-mod Finding
-mod Stopping
-mod Tried
-mod Trying
+mod IsTriedLemmas
+mod OutcomesLemmas
+mod PinFoundLemmas
+mod PresentPinLemmas

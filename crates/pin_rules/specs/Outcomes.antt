@@ -1,23 +1,23 @@
 -- What a PIN command has done, on any card, and on one that tells its state.
 use Rattle.std.specs.Prelude.{◌≡◌, ◌≢◌, ◌⊎◌, ℕ, ◌+◌, ◌<◌, ◌≤◌, ◌==◌, if◌then◌else◌, false, List, [], ◌∷◌, length, slice_index_or, None, Some, option_map, IfSome, IsSomeAnd, Result, IfOk, OnOk, OnErr}
-use Rattle.file_model.specs.uicc_types.Counts.{raised_by}
-use Rattle.file_model.specs.uicc_types.declared.answers.Answer.{Answer}
-use Rattle.file_model.specs.uicc_types.declared.answers.StatusWord.{StatusWord}
-use Rattle.file_model.specs.uicc_types.declared.answers.TheConstants.StatusWord.{MEMORY_PROBLEM}
-use Rattle.file_model.specs.store_form.declared.store.StoreFault.{StoreFault}
-use Rattle.file_model.specs.apdu_form.Model.{Apdu}
-use Rattle.file_model.specs.declared.rules.Verified.{Verified}
-use Rattle.file_model.specs.card_layout.Persistent.{Pin, Persistent}
-use Rattle.file_model.specs.card_layout.Memory.{Memory, held, Keeps}
-use Rattle.file_model.specs.card_layout.Standing.{Agrees}
-use Rattle.file_model.specs.card_layout.States.{pins_of}
+use Rattle.uicc_types.specs.Counts.{raised_by}
+use Rattle.uicc_types.specs.declared.answers.Answer.{Answer}
+use Rattle.uicc_types.specs.declared.answers.StatusWord.{StatusWord}
+use Rattle.uicc_types.specs.declared.answers.TheConstants.StatusWord.{MEMORY_PROBLEM}
+use Rattle.apdu_form.specs.Model.{Apdu}
+use Rattle.store_form.specs.declared.store.StoreFault.{StoreFault}
+use Rattle.card_state.specs.Persistent.{Pin, Persistent}
+use Rattle.card_state.specs.Memory.{Memory, held, Keeps}
+use Rattle.card_state.specs.Standing.{Agrees}
+use Rattle.card_state.specs.States.{pins_of}
+use Rattle.access_rules.specs.declared.rules.Verified.{Verified}
 use Rattle.file_model.specs.declared.commands.PinCommand.{PinCommand}
 use Rattle.file_model.specs.declared.commands.PinCommand.TheVariants.{Verify, Change, Disable, Enable, Unblock}
 use Rattle.file_model.specs.Commands.{pin_settled}
 use Rattle.file_model.specs.Outcomes.{PinOutcome, last_of, has_no_data}
 use Rattle.file_model.specs.Pins.{pin_found, tries_left}
 use Rattle.file_model.specs.Guards.{guard_of, tries_by, TakesATry}
-use Rattle.card_memory.specs.Performing.{with_each}
+use Rattle.card_commits.specs.Performing.{with_each}
 
 -- the status and the marks are those of the outcome, and the PINs those after its last commit
 pub record IsCarriedOut (outcome : PinOutcome) (before : List Pin) (status : StatusWord) (verified : Verified) (after : List Pin) : Type 0 where

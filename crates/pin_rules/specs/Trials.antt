@@ -1,18 +1,18 @@
 -- What a PIN command comes to once no test refuses it.
 use Rattle.std.specs.Prelude.{◌≡◌, ℕ, ◌≤◌, Bool, true, if◌then◌else◌, List, length, Result, Ok, Err}
-use Rattle.file_model.specs.uicc_types.declared.answers.StatusWord.{StatusWord}
-use Rattle.file_model.specs.apdu_form.Model.{Apdu}
-use Rattle.file_model.specs.declared.rules.Verified.{Verified}
-use Rattle.file_model.specs.card_layout.declared.entries.Loaded.{Loaded}
-use Rattle.file_model.specs.card_layout.declared.sizes.TheConstants.{TRIES}
-use Rattle.file_model.specs.card_layout.Persistent.{Pin}
-use Rattle.file_model.specs.card_layout.States.{pins_of, pin_state}
-use Rattle.file_model.specs.card_layout.Used.{HasPin}
-use Rattle.card_memory.specs.declared.pins.PinChange.{PinChange}
-use Rattle.card_memory.specs.declared.pins.PinChange.TheVariants.{Tries, UnblockTries, Value, Enabled, Unblocked}
-use Rattle.card_memory.specs.Pins.{changed_pin}
+use Rattle.uicc_types.specs.declared.answers.StatusWord.{StatusWord}
+use Rattle.apdu_form.specs.Model.{Apdu}
+use Rattle.card_state.specs.declared.entries.Loaded.{Loaded}
+use Rattle.card_state.specs.declared.sizes.TheConstants.{TRIES}
+use Rattle.card_state.specs.Persistent.{Pin}
+use Rattle.card_state.specs.States.{pins_of, pin_state}
+use Rattle.card_state.specs.Used.{HasPin}
+use Rattle.access_rules.specs.declared.rules.Verified.{Verified}
 use Rattle.file_model.specs.Outcomes.{PinOutcome, settled_pin, has_no_data}
 use Rattle.file_model.specs.Pins.{marked, told, value_presented, pin_presented, unblock_presented}
+use Rattle.card_commits.specs.declared.pins.PinChange.{PinChange}
+use Rattle.card_commits.specs.declared.pins.PinChange.TheVariants.{Tries, UnblockTries, Value, Enabled, Unblocked}
+use Rattle.card_commits.specs.Pins.{changed_pin}
 use Rattle.pin_rules.specs.declared.slots.Held.{Held}
 use Rattle.pin_rules.specs.declared.trials.Trial.{Trial}
 use Rattle.pin_rules.specs.declared.trials.Trial.TheVariants.{Tell, Present, Unblock}

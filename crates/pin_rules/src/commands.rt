@@ -1,19 +1,22 @@
 //! VERIFY PIN, CHANGE PIN, DISABLE PIN, ENABLE PIN and UNBLOCK PIN.
 ghost use Rattle.std.specs.Prelude.{◌≡◌, ◌≤◌, [], Err, IfErr, IfOk, IsOk, OnOk, OnErr};
-ghost use Rattle.file_model.specs.card_layout.Memory.{IsMounted, memory};
-ghost use Rattle.file_model.specs.card_layout.States.{pins_of};
+ghost use Rattle.card_state.specs.Memory.{IsMounted, memory};
+ghost use Rattle.card_state.specs.States.{pins_of};
 ghost use Rattle.file_model.specs.Commands.{pin_outcome, pin_settled};
-ghost use Rattle.card_memory.specs.Model.{PerformsPin};
+ghost use Rattle.card_commits.specs.Performing.{PerformsPin};
 ghost use Rattle.pin_rules.specs.Outcomes.{IsSettled, LeavesOneLess, IsPinRefused, IsPinCutShort, IsTried, ChangesPins, AnswersPins, pin_by_byte, settled_by_byte};
 ghost use Rattle.pin_rules.specs.Trials.{IsTrial, OnlyTells, comes_to};
 
 use crate::marks::{marked, tries_left};
 use crate::presenting::{present_pin, present_unblock};
 use crate::trials::{Trial, trial_of};
-use card_memory::tables_tell_states;
-use file_model::{
-    Answer, Command, Loaded, PinCommand, StatusWord, Store, StoreFault, Verified, pins_are_guarded,
-};
+use access_rules::Verified;
+use apdu_form::Command;
+use card_commits::tables_tell_states;
+use card_state::Loaded;
+use file_model::{PinCommand, pins_are_guarded};
+use store_form::{Store, StoreFault};
+use uicc_types::{Answer, StatusWord};
 
 // Does what a command does where nothing refuses it, and answers the status that it ends with.
 fn carry_out<S: Store>(

@@ -2,7 +2,7 @@
 ghost use Rattle.std.specs.Prelude.{◌≡◌, length};
 ghost use Rattle.std.specs.Str.{bytes_eq};
 
-use file_model::Pin8;
+use uicc_types::Pin8;
 
 /// Whether the eight bytes that are presented are this value. Every pair of bytes is compared, whatever the ones before came
 /// to: there is no early exit, and `&` evaluates both sides, so that each pair of values takes the same steps.

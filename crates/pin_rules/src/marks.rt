@@ -2,8 +2,9 @@
 ghost use Rattle.std.specs.Prelude.{◌≡◌, ◌≢◌};
 ghost use Rattle.file_model.specs.Pins.{marked, tries_left};
 
-use file_model::keys::{ADM_1, PIN_1, PIN_2};
-use file_model::{StatusWord, Verified};
+use access_rules::Verified;
+use uicc_types::StatusWord;
+use uicc_types::keys::{ADM_1, PIN_1, PIN_2};
 
 /// The marks with this truth for one key's.
 pub fn marked(verified: Verified, key: u8, truth: bool) -> Verified

@@ -1,7 +1,7 @@
 //! A value is presented: first a try is taken and committed, and only then is the value compared (ETSI TS 102 221, 9.5).
 ghost use Rattle.std.specs.Prelude.{◌≡◌, ◌≤◌, length};
-ghost use Rattle.file_model.specs.card_layout.Memory.{IsMounted, memory};
-ghost use Rattle.file_model.specs.card_layout.States.{pins_of};
+ghost use Rattle.card_state.specs.Memory.{IsMounted, memory};
+ghost use Rattle.card_state.specs.States.{pins_of};
 ghost use Rattle.file_model.specs.Pins.{marked};
 ghost use Rattle.pin_rules.specs.Outcomes.{IsTried, ChangesPins};
 ghost use Rattle.pin_rules.specs.Trials.{IsHeld, GivesTries, pin_trial, unblock_trial};
@@ -9,8 +9,12 @@ ghost use Rattle.pin_rules.specs.Trials.{IsHeld, GivesTries, pin_trial, unblock_
 use crate::comparing::is_value;
 use crate::marks::{marked, tries_left};
 use crate::slots::Held;
-use card_memory::{PinChange, cards_are_known, change_pin, tables_tell_states};
-use file_model::{Loaded, Pin8, StatusWord, Store, StoreFault, Verified};
+use access_rules::Verified;
+use card_commits::{PinChange, change_pin, tables_tell_states};
+use card_state::Loaded;
+use layout_laws::cards_are_known;
+use store_form::{Store, StoreFault};
+use uicc_types::{Pin8, StatusWord};
 
 /// Presents a value against a PIN that has a try. A wrong one takes the key's mark away; a right one brings this change, which
 /// gives all tries again, and these marks.

@@ -1,11 +1,11 @@
 //! The PIN that a key names.
 ghost use Rattle.std.specs.Prelude.{◌≡◌, ◌==◌, ◌&&◌, not, IfSome, option_map};
 ghost use Rattle.std.specs.List.{position_from};
-ghost use Rattle.file_model.specs.card_layout.States.{pins_of, pin_state};
+ghost use Rattle.card_state.specs.States.{pins_of, pin_state};
 ghost use Rattle.file_model.specs.Pins.{pin_found};
 ghost use Rattle.pin_rules.specs.Trials.{IsHeld};
 
-use file_model::{Loaded, PinSlot};
+use card_state::{Loaded, PinSlot};
 
 /// A PIN, and the slot that holds it.
 #[derive(Clone, Copy, Debug)]

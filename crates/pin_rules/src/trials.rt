@@ -1,18 +1,21 @@
 //! What refuses a PIN command, in the written order, and what it does where nothing refuses it.
 ghost use Rattle.std.specs.Prelude.{◌≡◌, ◌≤◌, ◌==◌, true, drop, length, IfOk, IfErr, Result};
-ghost use Rattle.file_model.specs.uicc_types.declared.answers.StatusWord.{StatusWord};
-ghost use Rattle.file_model.specs.card_layout.Persistent.{Pin};
-ghost use Rattle.file_model.specs.card_layout.States.{pins_of};
+ghost use Rattle.uicc_types.specs.declared.answers.StatusWord.{StatusWord};
+ghost use Rattle.card_state.specs.Persistent.{Pin};
+ghost use Rattle.card_state.specs.States.{pins_of};
 ghost use Rattle.file_model.specs.Commands.{pin_outcome};
 ghost use Rattle.file_model.specs.Outcomes.{PinOutcome};
 ghost use Rattle.file_model.specs.Pins.{is_users_key, is_pin_key, pin_addressed, pin_verified, pin_changed, pin_disabled, pin_enabled, pin_unblocked};
 ghost use Rattle.pin_rules.specs.Trials.{IsHeld, IsTrial, Means, tested_with};
 
 use crate::slots::{Held, find_pin};
-use card_memory::PinChange;
-use file_model::keys::{ADM_1, PIN_1, PIN_2};
-use file_model::sizes::TRIES;
-use file_model::{Command, Loaded, Pin8, PinCommand, StatusWord};
+use apdu_form::Command;
+use card_commits::PinChange;
+use card_state::Loaded;
+use card_state::sizes::TRIES;
+use file_model::PinCommand;
+use uicc_types::keys::{ADM_1, PIN_1, PIN_2};
+use uicc_types::{Pin8, StatusWord};
 
 /// What a PIN command does where nothing refuses it.
 #[derive(Clone, Copy, Debug)]
@@ -75,7 +78,7 @@ fn addressed(
 }
 
 // VERIFY PIN (11.1.9): without data it tells how many tries are left.
-#[tactic(auto, unfolding(file_model::specs::Pins::pin_verified, file_model::specs::Pins::pin_presented, file_model::specs::Chains::refused_if, card_memory::specs::Pins::changed_pin))]
+#[tactic(auto, unfolding(file_model::specs::Pins::pin_verified, file_model::specs::Pins::pin_presented, file_model::specs::Chains::refused_if, card_commits::specs::Pins::changed_pin))]
 fn to_verify(loaded: &Loaded, command: &Command<'_>) -> Result<Trial, StatusWord>
     ensures means { Means pin_verified loaded.now command.now result }
     ensures lawful { IfOk result (IsTrial loaded.now command.now) }
@@ -101,7 +104,7 @@ fn to_verify(loaded: &Loaded, command: &Command<'_>) -> Result<Trial, StatusWord
 }
 
 // CHANGE PIN (11.1.10).
-#[tactic(auto, unfolding(file_model::specs::Pins::pin_changed, file_model::specs::Pins::pin_presented, file_model::specs::Chains::refused_if, card_memory::specs::Pins::changed_pin))]
+#[tactic(auto, unfolding(file_model::specs::Pins::pin_changed, file_model::specs::Pins::pin_presented, file_model::specs::Chains::refused_if, card_commits::specs::Pins::changed_pin))]
 fn to_change(loaded: &Loaded, command: &Command<'_>) -> Result<Trial, StatusWord>
     ensures means { Means pin_changed loaded.now command.now result }
     ensures lawful { IfOk result (IsTrial loaded.now command.now) }
@@ -120,7 +123,7 @@ fn to_change(loaded: &Loaded, command: &Command<'_>) -> Result<Trial, StatusWord
 }
 
 // DISABLE PIN (11.1.11): the key stays verified if it was.
-#[tactic(auto, unfolding(file_model::specs::Pins::pin_disabled, file_model::specs::Pins::pin_presented, file_model::specs::Chains::refused_if, card_memory::specs::Pins::changed_pin))]
+#[tactic(auto, unfolding(file_model::specs::Pins::pin_disabled, file_model::specs::Pins::pin_presented, file_model::specs::Chains::refused_if, card_commits::specs::Pins::changed_pin))]
 fn to_disable(loaded: &Loaded, command: &Command<'_>) -> Result<Trial, StatusWord>
     ensures means { Means pin_disabled loaded.now command.now result }
     ensures lawful { IfOk result (IsTrial loaded.now command.now) }
@@ -138,7 +141,7 @@ fn to_disable(loaded: &Loaded, command: &Command<'_>) -> Result<Trial, StatusWor
 }
 
 // ENABLE PIN (11.1.12).
-#[tactic(auto, unfolding(file_model::specs::Pins::pin_enabled, file_model::specs::Pins::pin_presented, file_model::specs::Chains::refused_if, card_memory::specs::Pins::changed_pin))]
+#[tactic(auto, unfolding(file_model::specs::Pins::pin_enabled, file_model::specs::Pins::pin_presented, file_model::specs::Chains::refused_if, card_commits::specs::Pins::changed_pin))]
 fn to_enable(loaded: &Loaded, command: &Command<'_>) -> Result<Trial, StatusWord>
     ensures means { Means pin_enabled loaded.now command.now result }
     ensures lawful { IfOk result (IsTrial loaded.now command.now) }
@@ -156,7 +159,7 @@ fn to_enable(loaded: &Loaded, command: &Command<'_>) -> Result<Trial, StatusWord
 }
 
 // UNBLOCK PIN (11.1.13): without data it tells how many tries of the UNBLOCK PIN are left.
-#[tactic(auto, unfolding(file_model::specs::Pins::pin_unblocked, file_model::specs::Pins::unblock_presented, file_model::specs::Chains::refused_if, card_memory::specs::Pins::changed_pin))]
+#[tactic(auto, unfolding(file_model::specs::Pins::pin_unblocked, file_model::specs::Pins::unblock_presented, file_model::specs::Chains::refused_if, card_commits::specs::Pins::changed_pin))]
 fn to_unblock(loaded: &Loaded, command: &Command<'_>) -> Result<Trial, StatusWord>
     ensures means { Means pin_unblocked loaded.now command.now result }
     ensures lawful { IfOk result (IsTrial loaded.now command.now) }

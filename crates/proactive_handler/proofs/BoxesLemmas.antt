@@ -1,8 +1,8 @@
 -- One step after the other leaves the boxes of others alone.
 use Rattle.std.proofs.Common.{◌∙◌, ℕ, List, Option}
-use Rattle.toolkit_model.specs.applet_trait.Minds.{AppletState}
-use Rattle.card_memory.specs.card_layout.declared.entries.Loaded.{Loaded}
-use Rattle.card_memory.specs.Model.{HasRowOn}
+use Rattle.card_state.specs.declared.entries.Loaded.{Loaded}
+use Rattle.card_commits.specs.Entries.{HasRowOn}
+use Rattle.applet_trait.specs.Minds.{AppletState}
 use Rattle.proactive_handler.specs.Boxes.{LeavesOthers}
 
 -- one thing after the other, where rows stay

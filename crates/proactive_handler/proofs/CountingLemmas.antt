@@ -1,7 +1,7 @@
 -- How often a memory is committed.
 use Rattle.std.proofs.Common.{◌≡◌, refl, ap, ◌∙◌, List, [], ◌∷◌, ◌++◌, length, ℕ}
-use Rattle.card_memory.specs.uicc_types.Counts.{raised, raised_by}
-use Rattle.card_memory.specs.card_layout.Memory.{Memory}
+use Rattle.uicc_types.specs.Counts.{raised, raised_by}
+use Rattle.card_state.specs.Memory.{Memory}
 use Rattle.proactive_handler.specs.Counting.{Counts}
 
 pub raised_then : {X : Type 0} (first second : List X) (before : ℕ) → raised_by (length second) (raised_by (length first) before) ≡ raised_by (length (first ++ second)) before

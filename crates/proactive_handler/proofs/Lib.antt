@@ -1,24 +1,30 @@
-mod Answered
-mod Begun
+mod AnsweredLemmas
+pub mod AreForOthersLemmas
+pub mod AsksLemmas
 mod BoxesLemmas
-mod Caught
+mod CarriedLemmas
+mod CarriesLemmas
+mod CaughtUpLemmas
 pub mod CountingLemmas
-mod Doing
-pub mod Indexing
-mod Joined
-pub mod Joining
-mod Kept
-pub mod LateLemmas
-mod Listed
+pub mod EventsLemmas
+pub mod FilledLemmas
+pub mod FirstIdleLemmas
+mod HasPlacesLemmas
+mod HasRowOnLemmas
+mod InTurnLemmas
+pub mod IsSameItemLemmas
+mod IsSessionServedLemmas
 pub mod MovedLemmas
-mod Places
-mod Ran
+pub mod OutstandingLemmas
+pub mod PendingLemmas
 pub mod ReachedLemmas
-pub mod Registered
+mod RowsAreListedLemmas
+mod RunOfRowLemmas
+mod RunOnLemmas
 pub mod ScenesLemmas
-pub mod Served
-mod Serving
-mod Shelves
-mod Standings
-mod Told
-pub use Rattle.card_memory.proofs as card_memory
+pub mod SessionsAreServedLemmas
+pub mod StandsForLemmas
+pub mod StopsAtLemmas
+mod TurnsToLemmas
+pub mod WantedLemmas
+mod WithTheseRowsLemmas

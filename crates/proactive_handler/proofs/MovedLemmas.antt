@@ -4,14 +4,14 @@ use Rattle.std.specs.Option.{option_or}
 use Rattle.std.specs.List.{last_or}
 use Rattle.std.proofs.lemmas.List.{map-set, get_or-map}
 use Rattle.std.proofs.lemmas.List.Elements.{filter_map-append}
-use Rattle.card_memory.specs.store_form.declared.store.StoreFault.{StoreFault}
-use Rattle.card_memory.specs.card_layout.declared.entries.Loaded.{Loaded}
-use Rattle.card_memory.specs.card_layout.Memory.{Memory, held}
-use Rattle.card_memory.specs.card_layout.Persistent.{Registration, Persistent}
-use Rattle.card_memory.specs.card_layout.Standing.{standing, Agrees}
-use Rattle.card_memory.specs.card_layout.States.{rows_of}
-use Rattle.card_memory.specs.Laws.{TablesTellStates}
-use Rattle.toolkit_model.specs.applet_trait.Minds.{AppletState, minds_of}
+use Rattle.store_form.specs.declared.store.StoreFault.{StoreFault}
+use Rattle.card_state.specs.declared.entries.Loaded.{Loaded}
+use Rattle.card_state.specs.Memory.{Memory, held}
+use Rattle.card_state.specs.Persistent.{Registration, Persistent}
+use Rattle.card_state.specs.Standing.{standing, Agrees}
+use Rattle.card_state.specs.States.{rows_of}
+use Rattle.card_commits.specs.Laws.{TablesTellStates}
+use Rattle.applet_trait.specs.Minds.{AppletState, minds_of}
 use Rattle.toolkit_model.specs.Passing.{Happening, Passed, noting, ShelfTurn, turn_in, turns, passed_rows}
 use Rattle.toolkit_model.specs.Commands.{answer_in, last_answer}
 use Rattle.proactive_handler.specs.Acts.{with_these_rows}
@@ -20,7 +20,7 @@ use Rattle.proactive_handler.proofs.CountingLemmas.{counts_none}
 use Rattle.proactive_handler.specs.Runs.{StopsAt}
 use Rattle.proactive_handler.specs.Steps.{Scene, toolkit, IsDone, MovesTo}
 use Rattle.proactive_handler.specs.Boxes.{kinds_of}
-use Rattle.proactive_handler.proofs.Joining.{last_append, passed_append}
+use Rattle.proactive_handler.proofs.StopsAtLemmas.{last_append, passed_append}
 use Rattle.proactive_handler.specs.Moved.{HasRowsOf}
 
 module _ {X : Type 0} (passed : Passed) (old new : Scene) where

@@ -1,15 +1,15 @@
 -- Whose boxes a step leaves as they were, and what of it came to pass before a fault.
 use Rattle.std.proofs.Common.{◌≡◌, sym, ap, ◌∙◌, subst, ℕ, List, [], ◌∷◌, ◌++◌, length, ◌≢◌, All, Option, Result, Ok, Err, IsErr, append_assoc}
 use Rattle.std.proofs.lemmas.List.Elements.{filter_map-append}
-use Rattle.card_memory.proofs.uicc_types.MemberLemmas.{front_of, back_of}
-use Rattle.card_memory.specs.uicc_types.Counts.{raised_by}
-use Rattle.card_memory.specs.store_form.declared.store.StoreFault.{StoreFault}
-use Rattle.card_memory.specs.card_layout.Memory.{Memory}
-use Rattle.card_memory.specs.card_layout.Persistent.{Registration}
+use Rattle.list_laws.proofs.ContainsLemmas.{front_of, back_of}
+use Rattle.uicc_types.specs.Counts.{raised_by}
+use Rattle.store_form.specs.declared.store.StoreFault.{StoreFault}
+use Rattle.card_state.specs.Memory.{Memory}
+use Rattle.card_state.specs.Persistent.{Registration}
 use Rattle.toolkit_model.specs.Passing.{ToolkitState, ShelfTurn, Happening, Committed, Passed, noting, before, turn_in, turns, passed_rows}
 use Rattle.proactive_handler.specs.Boxes.{IsSameBox}
 use Rattle.proactive_handler.proofs.CountingLemmas.{raised_then}
-use Rattle.proactive_handler.proofs.Joining.{passed_append}
+use Rattle.proactive_handler.proofs.StopsAtLemmas.{passed_append}
 use Rattle.proactive_handler.specs.Steps.{Scene, toolkit, IsDone}
 use Rattle.proactive_handler.specs.Reached.{HasNoTurn, StopsBehind, TurnsTo}
 

@@ -1,13 +1,13 @@
 -- What a step of the toolkit needs of a scene, and what it keeps of it.
 use Rattle.std.proofs.Common.{◌∙◌, ap, subst, ◌≡◌, ℕ, List, Option, Result, Ok, Err, IsErrAnd, IsErr}
-use Rattle.card_memory.specs.store_form.declared.store.StoreFault.{StoreFault}
-use Rattle.card_memory.specs.card_layout.declared.entries.Loaded.{Loaded}
-use Rattle.card_memory.specs.card_layout.Memory.{Memory, Keeps}
-use Rattle.card_memory.specs.Model.{HasRowOn}
-use Rattle.toolkit_model.specs.applet_trait.Minds.{AppletState}
+use Rattle.store_form.specs.declared.store.StoreFault.{StoreFault}
+use Rattle.card_state.specs.declared.entries.Loaded.{Loaded}
+use Rattle.card_state.specs.Memory.{Memory, Keeps}
+use Rattle.card_commits.specs.Entries.{HasRowOn}
+use Rattle.card_commits.proofs.KeepsLemmas.{keeps_then, keeps_done, fault_keeps}
+use Rattle.applet_trait.specs.Minds.{AppletState}
 use Rattle.proactive_handler.specs.Boxes.{kinds_of, LeavesOthers}
 use Rattle.proactive_handler.proofs.BoxesLemmas.{others_then}
-use Rattle.card_memory.proofs.KeepingLemmas.{keeps_then, keeps_done, fault_keeps}
 use Rattle.proactive_handler.specs.Steps.{Scene}
 use Rattle.proactive_handler.specs.Scenes.{KeepsScene}
 

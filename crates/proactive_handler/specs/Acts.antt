@@ -1,17 +1,17 @@
 -- An act of an applet, carried out over the memory of a card.
 use Rattle.std.specs.Prelude.{◌≡◌, ◌⊎◌, ℕ, true, List, Option, Some, None, option_map, Result, Ok, Err}
-use Rattle.card_memory.specs.store_form.declared.store.StoreFault.{StoreFault}
-use Rattle.card_memory.specs.card_layout.Memory.{Memory, held}
-use Rattle.card_memory.specs.card_layout.Persistent.{Registration, Persistent}
-use Rattle.card_memory.specs.card_layout.States.{rows_of}
-use Rattle.toolkit_model.specs.toolkit_commands.declared.commands.Proactive.{Proactive}
-use Rattle.toolkit_model.specs.applet_trait.declared.stimuli.Stimulus.{Stimulus}
-use Rattle.toolkit_model.specs.applet_trait.declared.stimuli.Stimulus.TheVariants.{Went, Refused, Timer}
-use Rattle.toolkit_model.specs.applet_trait.declared.stimuli.Act.{Act}
-use Rattle.toolkit_model.specs.applet_trait.declared.stimuli.Act.TheVariants.{Send}
-use Rattle.toolkit_model.specs.applet_trait.Laws.{GivesTimer}
-use Rattle.toolkit_model.specs.applet_trait.Minds.{AppletState}
-use Rattle.toolkit_model.specs.Timers.{Owners}
+use Rattle.store_form.specs.declared.store.StoreFault.{StoreFault}
+use Rattle.card_state.specs.Memory.{Memory, held}
+use Rattle.card_state.specs.Persistent.{Registration, Persistent}
+use Rattle.card_state.specs.States.{rows_of}
+use Rattle.toolkit_commands.specs.declared.commands.Proactive.{Proactive}
+use Rattle.timer_table.specs.Timers.{Owners}
+use Rattle.applet_trait.specs.declared.stimuli.Stimulus.{Stimulus}
+use Rattle.applet_trait.specs.declared.stimuli.Stimulus.TheVariants.{Went, Refused, Timer}
+use Rattle.applet_trait.specs.declared.stimuli.Act.{Act}
+use Rattle.applet_trait.specs.declared.stimuli.Act.TheVariants.{Send}
+use Rattle.applet_trait.specs.Laws.{GivesTimer}
+use Rattle.applet_trait.specs.Minds.{AppletState}
 use Rattle.toolkit_model.specs.Passing.{passed_rows}
 use Rattle.toolkit_model.specs.Running.{Setting, Works, carried, committed, admitted}
 use Rattle.proactive_handler.specs.declared.settings.Setting.{Setting as GivenSetting}

@@ -1,8 +1,8 @@
 -- The boxes of applets on their shelves, as a contract sees them: by their minds.
 use Rattle.std.specs.Prelude.{◌≡◌, ◌≢◌, ℕ, List, map, All, slice_index_or, Option, None, option_map}
-use Rattle.toolkit_model.specs.applet_trait.Minds.{AppletState}
-use Rattle.card_memory.specs.card_layout.declared.entries.Loaded.{Loaded}
-use Rattle.card_memory.specs.Model.{HasRowOn}
+use Rattle.card_state.specs.declared.entries.Loaded.{Loaded}
+use Rattle.card_commits.specs.Entries.{HasRowOn}
+use Rattle.applet_trait.specs.Minds.{AppletState}
 use Rattle.toolkit_model.specs.Running.{mind_on}
 use Rattle.toolkit_model.specs.Sessions.{LateTrigger}
 

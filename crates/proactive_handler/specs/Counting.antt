@@ -1,7 +1,7 @@
 -- How often a memory is committed.
 use Rattle.std.specs.Prelude.{◌≡◌, List, [], length}
-use Rattle.card_memory.specs.uicc_types.Counts.{raised_by}
-use Rattle.card_memory.specs.card_layout.Memory.{Memory}
+use Rattle.uicc_types.specs.Counts.{raised_by}
+use Rattle.card_state.specs.Memory.{Memory}
 
 -- There was a commit for each of these. Where there are none of them, the bytes stay.
 pub record Counts {X : Type 0} (passed : List X) (old new : Memory) : Type 0 where

@@ -1,13 +1,15 @@
 pub mod Acts
+pub mod Bounds
 pub mod Boxes
+pub mod Catching
 pub mod Counting
+pub mod Events
+pub mod Lending
 pub mod Moved
 pub mod Reached
 pub mod Rows
 pub mod Runs
 pub mod Scenes
 pub mod Serving
+pub mod Spelled
 pub mod Steps
-pub use Rattle.applet_registry.specs as applet_registry
-pub use Rattle.card_memory.specs as card_memory
-pub use Rattle.card_memory.specs.layout_standing

@@ -1,6 +1,6 @@
 -- The rows of the state that a store stands for.
 use Rattle.std.specs.Prelude.{◌≡◌, List, Option, Some}
-use Rattle.card_memory.specs.card_layout.Persistent.{Registration, Persistent}
+use Rattle.card_state.specs.Persistent.{Registration, Persistent}
 
 -- the state, where the store tells one, has these rows
 abbrev pub HasRowsOf : Option Persistent → List Registration → Type 0

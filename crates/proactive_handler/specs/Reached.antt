@@ -1,8 +1,8 @@
 -- Whose boxes a step leaves as they were, and what of it came to pass before a fault.
 use Rattle.std.specs.Prelude.{◌≢◌, Bool, All, Option, Result, Ok, Err, IfOk, ◌≡◌, ℕ, List, ◌∷◌, ◌++◌, length}
-use Rattle.card_memory.specs.uicc_types.Counts.{raised_by}
-use Rattle.card_memory.specs.store_form.declared.store.StoreFault.{StoreFault}
-use Rattle.card_memory.specs.card_layout.Persistent.{Registration}
+use Rattle.uicc_types.specs.Counts.{raised_by}
+use Rattle.store_form.specs.declared.store.StoreFault.{StoreFault}
+use Rattle.card_state.specs.Persistent.{Registration}
 use Rattle.toolkit_model.specs.Commands.{last_answer}
 use Rattle.toolkit_model.specs.Passing.{ToolkitState, Happening, Committed, Passed, turns, passed_rows}
 use Rattle.proactive_handler.specs.Boxes.{IsSameBox}

@@ -1,9 +1,9 @@
 -- The rows of a card.
 use Rattle.std.specs.Prelude.{ℕ, List, Option}
-use Rattle.card_memory.specs.card_layout.declared.entries.Loaded.{Loaded}
-use Rattle.card_memory.specs.card_layout.Standing.{Agrees}
-use Rattle.card_memory.specs.card_layout.States.{rows_of}
-use Rattle.applet_registry.specs.Changes.{AreListed}
+use Rattle.card_state.specs.declared.entries.Loaded.{Loaded}
+use Rattle.card_state.specs.Standing.{Agrees}
+use Rattle.card_state.specs.States.{rows_of}
+use Rattle.event_dispatch.specs.Changes.{AreListed}
 
 -- a table that agrees with its store has rows that an index can be kept of
 abbrev pub RowsAreListed : Type 0

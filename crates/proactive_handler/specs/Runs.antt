@@ -1,20 +1,21 @@
 -- The run of an applet over the memory of a card.
 use Rattle.std.specs.Prelude.{◌≡◌, ◌⊎◌, ℕ, ◌+◌, ◌<◌, Bool, if◌then◌else◌, List, [], ◌∷◌, length, map, slice_index_or, Option, Some, None, option_map, Result, Ok, Err, OnOk, OnErr}
-use Rattle.card_memory.specs.uicc_types.Counts.{raised_by}
-use Rattle.card_memory.specs.store_form.declared.store.StoreFault.{StoreFault}
-use Rattle.card_memory.specs.card_layout.Memory.{Memory, held, IsMounted, Keeps}
-use Rattle.card_memory.specs.card_layout.Persistent.{Registration, Persistent}
-use Rattle.toolkit_model.specs.applet_trait.declared.stimuli.Stimulus.{Stimulus}
-use Rattle.toolkit_model.specs.applet_trait.declared.stimuli.Act.{Act}
-use Rattle.toolkit_model.specs.applet_trait.declared.stimuli.Act.TheVariants.{Answer}
-use Rattle.card_memory.specs.card_layout.Standing.{Agrees}
-use Rattle.card_memory.specs.card_layout.States.{rows_of}
-use Rattle.card_memory.specs.Model.{HasRowOn, PassesOne}
-use Rattle.toolkit_model.specs.toolkit_commands.declared.commands.Proactive.{Proactive}
+use Rattle.uicc_types.specs.Counts.{raised_by}
+use Rattle.store_form.specs.declared.store.StoreFault.{StoreFault}
+use Rattle.card_state.specs.Memory.{Memory, held, IsMounted, Keeps}
+use Rattle.card_state.specs.Persistent.{Registration, Persistent}
+use Rattle.card_state.specs.Standing.{Agrees}
+use Rattle.card_state.specs.States.{rows_of}
+use Rattle.card_commits.specs.Entries.{HasRowOn}
+use Rattle.card_commits.specs.Performing.{PassesOne}
+use Rattle.toolkit_commands.specs.declared.commands.Proactive.{Proactive}
+use Rattle.applet_trait.specs.declared.stimuli.Stimulus.{Stimulus}
+use Rattle.applet_trait.specs.declared.stimuli.Act.{Act}
+use Rattle.applet_trait.specs.declared.stimuli.Act.TheVariants.{Answer}
 use Rattle.toolkit_model.specs.Passing.{passed_rows}
 use Rattle.toolkit_model.specs.Running.{Works, Ran, run_on, most_acts}
 use Rattle.toolkit_model.specs.Commands.{last_answer}
-use Rattle.applet_registry.specs.Indexes.{StandsFor}
+use Rattle.event_dispatch.specs.Indexes.{StandsFor}
 use Rattle.proactive_handler.specs.declared.settings.Setting.{Setting as GivenSetting}
 use Rattle.proactive_handler.specs.declared.endings.RunEnd.{RunEnd}
 use Rattle.proactive_handler.specs.Acts.{setting_of, Stage, works_at, with_these_rows, command_of}

@@ -1,12 +1,12 @@
 -- What a step of the toolkit needs of a scene, and what it keeps of it.
 use Rattle.std.specs.Prelude.{◌≡◌, ℕ, List, length, Option, None, Result, OnOk, OnErr}
-use Rattle.card_memory.specs.store_form.declared.store.StoreFault.{StoreFault}
-use Rattle.card_memory.specs.card_layout.declared.sizes.TheConstants.{ROW_COUNT}
-use Rattle.card_memory.specs.card_layout.Memory.{IsMounted, Keeps}
-use Rattle.card_memory.specs.card_layout.Standing.{Agrees}
-use Rattle.card_memory.specs.card_layout.States.{rows_of}
-use Rattle.card_memory.specs.Model.{HasRowOn}
-use Rattle.applet_registry.specs.Indexes.{StandsFor}
+use Rattle.store_form.specs.declared.store.StoreFault.{StoreFault}
+use Rattle.card_state.specs.declared.sizes.TheConstants.{ROW_COUNT}
+use Rattle.card_state.specs.Memory.{IsMounted, Keeps}
+use Rattle.card_state.specs.Standing.{Agrees}
+use Rattle.card_state.specs.States.{rows_of}
+use Rattle.card_commits.specs.Entries.{HasRowOn}
+use Rattle.event_dispatch.specs.Indexes.{StandsFor}
 use Rattle.proactive_handler.specs.Boxes.{kinds_of, LeavesOthers}
 use Rattle.proactive_handler.specs.Serving.{IsSessionServed}
 use Rattle.proactive_handler.specs.Steps.{Scene}

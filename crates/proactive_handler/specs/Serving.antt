@@ -1,8 +1,8 @@
 -- What a session has to be for its applets to run (ETSI TS 102 223, 6 and 7).
 use Rattle.std.specs.Prelude.{◌≢◌, ℕ, ◌+◌, ◌≤◌, Bool, true, false, not, List, length, filter, All, AllPairs}
-use Rattle.card_memory.specs.card_layout.declared.entries.Loaded.{Loaded}
-use Rattle.card_memory.specs.card_layout.States.{rows_of}
-use Rattle.card_memory.specs.Model.{HasRowOn}
+use Rattle.card_state.specs.declared.entries.Loaded.{Loaded}
+use Rattle.card_state.specs.States.{rows_of}
+use Rattle.card_commits.specs.Entries.{HasRowOn}
 use Rattle.toolkit_model.specs.Sessions.{SessionState}
 use Rattle.toolkit_model.specs.Orderly.{asks, IsUnderway}
 use Rattle.toolkit_model.specs.Passing.{ToolkitState, Passed}

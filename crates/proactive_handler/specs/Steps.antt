@@ -1,10 +1,10 @@
 -- A step of the toolkit over a card, and where a fault stops it.
 use Rattle.std.specs.Prelude.{◌≡◌, ℕ, List, ◌∷◌, Option, Some, option_map, Result, Ok, Err}
 use Rattle.std.specs.List.{last_or}
-use Rattle.card_memory.specs.store_form.declared.store.StoreFault.{StoreFault}
-use Rattle.card_memory.specs.card_layout.Memory.{Memory, held}
-use Rattle.card_memory.specs.card_layout.States.{rows_of}
-use Rattle.toolkit_model.specs.applet_trait.Minds.{AppletState}
+use Rattle.store_form.specs.declared.store.StoreFault.{StoreFault}
+use Rattle.card_state.specs.Memory.{Memory, held}
+use Rattle.card_state.specs.States.{rows_of}
+use Rattle.applet_trait.specs.Minds.{AppletState}
 use Rattle.toolkit_model.specs.Sessions.{SessionState}
 use Rattle.toolkit_model.specs.Passing.{ToolkitState, Passed, passed_rows}
 use Rattle.proactive_handler.specs.Acts.{with_these_rows}

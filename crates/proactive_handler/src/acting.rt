@@ -1,21 +1,26 @@
 //! A run: act after act.
 ghost use Rattle.std.specs.Prelude.{◌≡◌, is_some, IfOk, IfSome};
-ghost use Rattle.card_memory.specs.card_layout.States.{rows_of};
-ghost use Rattle.toolkit_model.specs.applet_trait.Laws.{GivesTimer};
-ghost use Rattle.toolkit_model.specs.applet_trait.Minds.{fresh};
-ghost use Rattle.card_memory.specs.Model.{HasRowOn};
+ghost use Rattle.card_state.specs.States.{rows_of};
+ghost use Rattle.card_state.specs.Memory.{memory};
+ghost use Rattle.card_commits.specs.Entries.{HasRowOn};
+ghost use Rattle.applet_trait.specs.Laws.{GivesTimer};
+ghost use Rattle.applet_trait.specs.Minds.{fresh};
 ghost use Rattle.toolkit_model.specs.Orderly.{CanBeSent};
 ghost use Rattle.toolkit_model.specs.Running.{kept_on, run_on};
 ghost use Rattle.proactive_handler.specs.Acts.{setting_of, command_of, stage};
 ghost use Rattle.proactive_handler.specs.Runs.{answer_of, ended_by, run_of, Runs, MayRun, KeepsRows};
-ghost use Rattle.card_memory.specs.card_layout.Memory.{memory};
 
 use crate::carrying::carry_out;
 use crate::endings::{Next, RunEnd};
 use crate::settings::Setting;
-use applet_registry::Index;
-use card_memory::{Loaded, Shelf, Store, StoreFault, states_are_of_entries, tables_tell_states};
-use toolkit_model::{Act, Applet, Stimulus, Timers, lengths_of_commands};
+use applet_trait::{Act, Applet, Stimulus};
+use card_commits::tables_tell_states;
+use card_state::{Loaded, states_are_of_entries};
+use event_dispatch::Index;
+use store_form::{Store, StoreFault};
+use timer_table::Timers;
+use toolkit_commands::lengths_of_commands;
+use uicc_types::Shelf;
 
 /// How many acts a run has, at most.
 const MOST_ACTS: u8 = 32;

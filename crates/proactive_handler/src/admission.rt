@@ -1,15 +1,16 @@
 //! Which commands of an applet are admitted.
 ghost use Rattle.std.specs.Prelude.{◌≡◌, true, false};
 ghost use Rattle.std.specs.Option.{option_map_or};
-ghost use Rattle.toolkit_model.specs.Profiles.{allowed};
-ghost use Rattle.toolkit_model.specs.toolkit_commands.Table.{HasWritableTime};
-ghost use Rattle.toolkit_model.specs.toolkit_commands.Matching.{IsShort};
+ghost use Rattle.toolkit_commands.specs.Table.{HasWritableTime};
+ghost use Rattle.toolkit_commands.specs.Matching.{IsShort};
+ghost use Rattle.terminal_profile.specs.Profiles.{allowed};
 ghost use Rattle.toolkit_model.specs.Running.{is_cards_own, is_held_by, is_within_rights, is_short, is_admitted};
 ghost use Rattle.proactive_handler.specs.Acts.{setting_of};
 
 use crate::settings::Setting;
-use card_memory::Shelf;
-use toolkit_model::{Proactive, Timers, lengths_of_commands, spell};
+use timer_table::Timers;
+use toolkit_commands::{Proactive, lengths_of_commands, spell};
+use uicc_types::Shelf;
 
 /// The modes of a REFRESH that an applet may ask for: initialization of the application, and a reset of the card (ETSI TS 102
 /// 223, 8.6).

@@ -1,18 +1,21 @@
 //! An act, whichever it is.
 ghost use Rattle.std.specs.Prelude.{◌≡◌, OnErr, IfOk};
-ghost use Rattle.toolkit_model.specs.applet_trait.Laws.{IsWritableAct};
-ghost use Rattle.toolkit_model.specs.applet_trait.Minds.{AppletState};
+ghost use Rattle.card_state.specs.Memory.{memory};
+ghost use Rattle.applet_trait.specs.Laws.{IsWritableAct};
+ghost use Rattle.applet_trait.specs.Minds.{AppletState};
 ghost use Rattle.proactive_handler.specs.Acts.{setting_of, after, Carries, TellsTimer, stage};
-ghost use Rattle.card_memory.specs.card_layout.Memory.{memory};
 ghost use Rattle.proactive_handler.specs.Runs.{MayRun, KeepsRows};
 
 use crate::changes::{deregister, keep, register};
 use crate::endings::{Next, Reply};
 use crate::messages::{free_timer, send, take_timer};
 use crate::settings::Setting;
-use applet_registry::Index;
-use card_memory::{Loaded, Store, StoreFault, tables_tell_states};
-use toolkit_model::{Act, Timers};
+use applet_trait::Act;
+use card_commits::tables_tell_states;
+use card_state::Loaded;
+use event_dispatch::Index;
+use store_form::{Store, StoreFault};
+use timer_table::Timers;
 
 /// Carries out an act of the applet whose run is here, and says what comes after it. A fault stops its one commit, if it has one.
 pub(crate) fn carry_out<S: Store>(

@@ -1,24 +1,27 @@
 //! The acts that change what the memory has of a row: each is one commit, if anything changes.
 ghost use Rattle.std.specs.Prelude.{ℕ, ◌≡◌, true, List, OnOk, OnErr, Ok};
-ghost use Rattle.card_memory.specs.card_layout.States.{rows_of};
-ghost use Rattle.toolkit_model.specs.applet_trait.declared.stimuli.Act.TheVariants.{Keep, Register, Deregister};
-ghost use Rattle.toolkit_model.specs.applet_trait.Minds.{AppletState};
-ghost use Rattle.toolkit_model.specs.Timers.{Owners};
-ghost use Rattle.card_memory.specs.Model.{HasRowOn};
+ghost use Rattle.card_state.specs.States.{rows_of};
+ghost use Rattle.card_state.specs.Memory.{IsMounted, Keeps, memory};
+ghost use Rattle.card_commits.specs.Entries.{HasRowOn};
+ghost use Rattle.timer_table.specs.Timers.{Owners};
+ghost use Rattle.applet_trait.specs.declared.stimuli.Act.TheVariants.{Keep, Register, Deregister};
+ghost use Rattle.applet_trait.specs.Minds.{AppletState};
 ghost use Rattle.toolkit_model.specs.Registry.{registers, deregisters};
 ghost use Rattle.toolkit_model.specs.Running.{Setting};
-ghost use Rattle.applet_registry.specs.Indexes.{StandsFor};
+ghost use Rattle.event_dispatch.specs.Indexes.{StandsFor};
 ghost use Rattle.proactive_handler.specs.Acts.{Carries, stage};
-ghost use Rattle.card_memory.specs.card_layout.Memory.{IsMounted, Keeps, memory};
 ghost use Rattle.proactive_handler.specs.Runs.{MayRun};
 
 use crate::endings::{Next, Reply};
 use crate::laws::rows_are_listed;
-use applet_registry::{
+use applet_trait::numbers::MOST_KEPT;
+use card_commits::tables_tell_states;
+use card_state::{Loaded, states_are_of_entries};
+use event_dispatch::{
     Index, changes_are_followed, commits_are_those_of_sessions, registrations_are_followed,
 };
-use card_memory::{Loaded, Shelf, Store, StoreFault, states_are_of_entries, tables_tell_states};
-use toolkit_model::MOST_KEPT;
+use store_form::{Store, StoreFault};
+use uicc_types::Shelf;
 
 /// Keeps these bytes for the row of a shelf, which is one commit, also where they are those that it kept. More than 32 are
 /// refused.
@@ -48,7 +51,7 @@ pub(crate) fn keep<S: Store>(
     if bytes.len() > MOST_KEPT {
         return Ok(Next::Told(Reply::Refused));
     }
-    card_memory::keep_bytes(store, loaded, shelf, bytes)?;
+    card_commits::keep_bytes(store, loaded, shelf, bytes)?;
     Ok(Next::Told(Reply::Went))
 }
 
@@ -78,7 +81,7 @@ fn commit_registration<S: Store>(
     registrations_are_followed();
     rows_are_listed();
     changes_are_followed();
-    card_memory::register(store, loaded, shelf, code)?;
+    card_commits::register(store, loaded, shelf, code)?;
     index.added(loaded, shelf, code);
     Ok(Next::Told(Reply::Went))
 }
@@ -141,7 +144,7 @@ fn commit_deregistration<S: Store>(
     commits_are_those_of_sessions();
     rows_are_listed();
     changes_are_followed();
-    card_memory::deregister(store, loaded, shelf, code)?;
+    card_commits::deregister(store, loaded, shelf, code)?;
     index.removed(shelf, code);
     Ok(Next::Told(Reply::Went))
 }

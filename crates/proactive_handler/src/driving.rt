@@ -1,20 +1,21 @@
 //! What ends a command that moved the toolkit: what came late is caught up with, and a command becomes outstanding.
 ghost use Rattle.std.specs.Prelude.{ℕ};
-ghost use Rattle.proactive_handler.specs.Boxes.{IsSameBox, AreForOthers};
-ghost use Rattle.toolkit_model.specs.applet_trait.Minds.{minds_of};
+ghost use Rattle.card_state.specs.Memory.{memory};
+ghost use Rattle.applet_trait.specs.Minds.{minds_of};
 ghost use Rattle.toolkit_model.specs.Driving.{caught_up, driven};
+ghost use Rattle.proactive_handler.specs.Boxes.{IsSameBox, AreForOthers};
 ghost use Rattle.proactive_handler.specs.Steps.{scene, Moves};
-ghost use Rattle.card_memory.specs.card_layout.Memory.{memory};
 ghost use Rattle.proactive_handler.specs.Reached.{TurnsOnly};
 ghost use Rattle.proactive_handler.specs.Scenes.{IsInService, KeepsScene};
 
 use crate::laws::rows_are_listed;
 use crate::running::run_alone;
-use applet_registry::Index;
-use card_memory::{Loaded, Store, StoreFault, tables_tell_states};
-use kept_triggers::{KeptTrigger, Late};
-use toolkit_model::{Applet, Stimulus};
-use toolkit_session::Session;
+use crate::session::Session;
+use applet_trait::{Applet, Stimulus};
+use card_commits::tables_tell_states;
+use card_state::Loaded;
+use event_dispatch::{Index, KeptTrigger, Late};
+use store_form::{Store, StoreFault};
 
 // So many late triggers at most, the first whose applet is idle each time.
 fn catch_each<S: Store, B: Applet>(

@@ -2,7 +2,7 @@
 ghost use Rattle.std.specs.Prelude.{◌≡◌};
 ghost use Rattle.proactive_handler.specs.Acts.{stimulus_of};
 
-use toolkit_model::Stimulus;
+use applet_trait::Stimulus;
 
 /// What an applet is told of its act.
 #[derive(Clone, Copy, Debug)]

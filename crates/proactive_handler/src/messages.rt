@@ -1,9 +1,9 @@
 //! The acts that change nothing in the memory.
 ghost use Rattle.std.specs.Prelude.{◌≡◌, if◌then◌else◌};
-ghost use Rattle.toolkit_model.specs.toolkit_commands.Table.{HasWritableTime};
-ghost use Rattle.toolkit_model.specs.applet_trait.declared.stimuli.Stimulus.TheVariants.{Went, Refused, Timer};
-ghost use Rattle.toolkit_model.specs.applet_trait.Laws.{GivesTimer};
-ghost use Rattle.toolkit_model.specs.Timers.{smallest_free, given_to, freed};
+ghost use Rattle.toolkit_commands.specs.Table.{HasWritableTime};
+ghost use Rattle.timer_table.specs.Timers.{smallest_free, given_to, freed};
+ghost use Rattle.applet_trait.specs.declared.stimuli.Stimulus.TheVariants.{Went, Refused, Timer};
+ghost use Rattle.applet_trait.specs.Laws.{GivesTimer};
 ghost use Rattle.toolkit_model.specs.Running.{is_held_by, is_admitted};
 ghost use Rattle.proactive_handler.specs.declared.endings.Next.TheVariants.{Told, Sent};
 ghost use Rattle.proactive_handler.specs.declared.endings.Reply.TheVariants.{Refused as WasRefused};
@@ -12,8 +12,9 @@ ghost use Rattle.proactive_handler.specs.Acts.{setting_of, stimulus_of, timer_to
 use crate::admission::{is_admitted, is_held_by};
 use crate::endings::{Next, Reply};
 use crate::settings::Setting;
-use card_memory::Shelf;
-use toolkit_model::{Proactive, Timers};
+use timer_table::Timers;
+use toolkit_commands::Proactive;
+use uicc_types::Shelf;
 
 /// Sends a command to the handset, where it is admitted; where it isn't, the applet is told so. Each part of a time value is at
 /// most 99.

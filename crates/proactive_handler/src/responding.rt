@@ -1,20 +1,24 @@
 //! The response of the handset to the command that is outstanding.
 ghost use Rattle.std.specs.Prelude.{ℕ, ◌≡◌, ◌≢◌, ◌≤◌, length, true, IfSome, Some, is_some};
-ghost use Rattle.toolkit_model.specs.toolkit_commands.Replies.{replied};
-ghost use Rattle.proactive_handler.specs.Boxes.{IsSameBox, AreForOthers};
-ghost use Rattle.toolkit_model.specs.applet_trait.Minds.{minds_of};
+ghost use Rattle.card_state.specs.Memory.{memory};
+ghost use Rattle.toolkit_commands.specs.Replies.{replied};
+ghost use Rattle.applet_trait.specs.Minds.{minds_of};
 ghost use Rattle.toolkit_model.specs.Commands.{unanswered, answered, responded};
+ghost use Rattle.proactive_handler.specs.Boxes.{IsSameBox, AreForOthers};
 ghost use Rattle.proactive_handler.specs.Steps.{scene, Moves};
-ghost use Rattle.card_memory.specs.card_layout.Memory.{memory};
 ghost use Rattle.proactive_handler.specs.Reached.{TurnsOnly};
 ghost use Rattle.proactive_handler.specs.Scenes.{IsInService, KeepsScene};
 
 use crate::driving::drive;
 use crate::running::run_alone;
-use applet_registry::Index;
-use card_memory::{Loaded, Octets, Store, StoreFault, tables_tell_states};
-use toolkit_model::{Applet, ResponseRef, Stimulus};
-use toolkit_session::Session;
+use crate::session::Session;
+use applet_trait::{Applet, Stimulus};
+use card_commits::tables_tell_states;
+use card_state::Loaded;
+use event_dispatch::Index;
+use store_form::{Store, StoreFault};
+use toolkit_commands::ResponseRef;
+use uicc_types::Octets;
 
 // Nothing is outstanding any more, and the applet that sent the command goes on with the response.
 fn answer<S: Store, B: Applet>(

@@ -1,31 +1,34 @@
 //! The run of one applet, from its box, with what it leaves of the session.
 ghost use Rattle.std.specs.Prelude.{ℕ, ◌≡◌, ◌≢◌, ◌<◌, List, length, true, false, IfOk, IfSome, Option, Some, None};
-ghost use Rattle.card_memory.specs.card_layout.declared.sizes.TheConstants.{ROW_COUNT};
-ghost use Rattle.toolkit_model.specs.applet_trait.Laws.{GivesTimer};
-ghost use Rattle.toolkit_model.specs.applet_trait.Minds.{AppletState, minds_of};
-ghost use Rattle.card_memory.specs.Model.{HasRowOn};
-ghost use Rattle.kept_triggers.specs.declared.waiting.TheConstants.Waiting.{MOST};
+ghost use Rattle.card_state.specs.declared.sizes.TheConstants.{ROW_COUNT};
+ghost use Rattle.card_state.specs.Memory.{memory};
+ghost use Rattle.card_commits.specs.Entries.{HasRowOn};
+ghost use Rattle.applet_trait.specs.Laws.{GivesTimer};
+ghost use Rattle.applet_trait.specs.Minds.{AppletState, minds_of};
 ghost use Rattle.toolkit_model.specs.Commands.{last_answer};
 ghost use Rattle.toolkit_model.specs.Driving.{is_idle};
 ghost use Rattle.toolkit_model.specs.Orderly.{asks, CanBeSent};
 ghost use Rattle.toolkit_model.specs.Running.{begins_call, sending, mind_on, with_mind, run_of_row};
+ghost use Rattle.event_dispatch.specs.declared.waiting.TheConstants.Waiting.{MOST};
 ghost use Rattle.proactive_handler.specs.Acts.{command_of};
 ghost use Rattle.proactive_handler.specs.Boxes.{IsSameBox};
 ghost use Rattle.proactive_handler.specs.Serving.{IsSessionServed};
 ghost use Rattle.proactive_handler.specs.Steps.{scene, toolkit, Moves};
-ghost use Rattle.card_memory.specs.card_layout.Memory.{memory};
 ghost use Rattle.proactive_handler.specs.Reached.{Tells};
 ghost use Rattle.proactive_handler.specs.Scenes.{IsInService, KeepsScene};
 ghost use Rattle.proactive_handler.specs.Runs.{ended_by, MayRun, KeepsRows};
 
 use crate::acting::run_row;
 use crate::endings::RunEnd;
+use crate::session::Session;
 use crate::settings::Setting;
-use applet_registry::Index;
-use card_memory::{Loaded, Shelf, Store, StoreFault, tables_tell_states};
-use toolkit_model::events::CALL_CONTROL;
-use toolkit_model::{Act, Applet, Stimulus};
-use toolkit_session::Session;
+use applet_trait::{Act, Applet, Stimulus};
+use card_commits::tables_tell_states;
+use card_state::Loaded;
+use event_dispatch::Index;
+use store_form::{Store, StoreFault};
+use uicc_types::Shelf;
+use uicc_types::events::CALL_CONTROL;
 
 // Whether call control begins the run.
 fn begins_call(stimulus: &Stimulus) -> bool

@@ -1,7 +1,7 @@
 //! Where a run goes on.
 
-use card_memory::Shelf;
-use toolkit_model::Profile;
+use terminal_profile::Profile;
+use uicc_types::Shelf;
 
 /// The shelf of the applet that runs, the profile that the handset sent, if it sent one, and whether call control began the run.
 #[derive(Clone, Copy, Debug)]

@@ -1,23 +1,26 @@
 //! An event, for the applets that are registered for it.
 ghost use Rattle.std.specs.Prelude.{[], ℕ, ◌≡◌, ◌≢◌, ◌≤◌, ◌<◌, List, ◌∷◌, ◌++◌, length, map, true, All, AllPairs, OnOk};
-ghost use Rattle.card_memory.specs.Model.{HasRowOn};
-ghost use Rattle.proactive_handler.specs.Boxes.{IsSameBox};
-ghost use Rattle.toolkit_model.specs.applet_trait.Minds.{minds_of};
-ghost use Rattle.toolkit_model.specs.applet_trait.declared.stimuli.Stimulus.TheVariants.{Event};
+ghost use Rattle.card_state.specs.Memory.{memory};
+ghost use Rattle.card_commits.specs.Entries.{HasRowOn};
+ghost use Rattle.applet_trait.specs.Minds.{minds_of};
+ghost use Rattle.applet_trait.specs.declared.stimuli.Stimulus.TheVariants.{Event};
 ghost use Rattle.toolkit_model.specs.Commands.{late_places};
 ghost use Rattle.toolkit_model.specs.Driving.{trigger_for};
 ghost use Rattle.toolkit_model.specs.Passing.{in_turn};
+ghost use Rattle.proactive_handler.specs.Boxes.{IsSameBox};
 ghost use Rattle.proactive_handler.specs.Serving.{HasPlaces, triggered_one};
 ghost use Rattle.proactive_handler.specs.Steps.{scene};
-ghost use Rattle.card_memory.specs.card_layout.Memory.{memory};
 ghost use Rattle.proactive_handler.specs.Reached.{Tells};
 ghost use Rattle.proactive_handler.specs.Scenes.{IsInService, KeepsScene};
 
 use crate::running::run_one;
-use applet_registry::{Index, Shelves};
-use card_memory::{Loaded, Octets, Shelf, Store, StoreFault, tables_tell_states};
-use toolkit_model::{Act, Applet, Stimulus};
-use toolkit_session::Session;
+use crate::session::Session;
+use applet_trait::{Act, Applet, Stimulus};
+use card_commits::tables_tell_states;
+use card_state::Loaded;
+use event_dispatch::{Index, Shelves};
+use store_form::{Store, StoreFault};
+use uicc_types::{Octets, Shelf};
 
 // Keeps an event for an applet that waits for an answer. It seldom does, so the place for the bytes is made in here alone.
 #[inline(never)]

@@ -1,7 +1,7 @@
-mod Fullness
-mod Living
-mod Looking
-mod Numbers
-mod Stopping
-mod Sums
-mod Targeting
+mod HasWithinLemmas
+mod HaveRecordsLemmas
+mod IsTargetLemmas
+mod KeepsSelectionsLemmas
+mod NumbersLeftLemmas
+mod SettledFileLemmas
+mod SumOfLemmas

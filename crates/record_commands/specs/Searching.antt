@@ -1,7 +1,7 @@
 -- The records of a search.
 use Rattle.std.specs.Prelude.{ℕ, ◌≤◌, ◌+◌, ◌-◌, Bool, true, false, List, [], reverse, slice_index_or}
 use Rattle.std.specs.List.{range_with_len}
-use Rattle.file_model.specs.card_layout.Persistent.{Persistent}
+use Rattle.card_state.specs.Persistent.{Persistent}
 use Rattle.file_model.specs.declared.descriptors.Descriptor.{Descriptor}
 use Rattle.file_model.specs.Holdings.{records_in}
 use Rattle.file_model.specs.Records.{has_within}

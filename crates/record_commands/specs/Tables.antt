@@ -1,7 +1,7 @@
 -- What becomes of the table of a card.
 use Rattle.std.specs.Prelude.{◌≡◌, ◌≤◌, List, All, IsTrue}
-use Rattle.file_model.specs.card_layout.declared.entries.Loaded.{Loaded}
-use Rattle.file_model.specs.card_layout.Kinds.{has_records}
+use Rattle.card_state.specs.declared.entries.Loaded.{Loaded}
+use Rattle.card_state.specs.Kinds.{has_records}
 use Rattle.file_model.specs.declared.descriptors.Descriptor.{Descriptor}
 use Rattle.file_model.specs.declared.selections.Selection.{Selection}
 use Rattle.file_model.specs.Files.{descriptors_of}

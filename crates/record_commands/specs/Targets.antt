@@ -1,6 +1,6 @@
 -- The file that a command on records works on, and the record.
 use Rattle.std.specs.Prelude.{◌≡◌, ◌≤◌, ℕ, true, not, ◌&&◌, ◌||◌, Bool, IsTrue, List, Option, IfSome}
-use Rattle.file_model.specs.card_layout.Kinds.{has_records}
+use Rattle.card_state.specs.Kinds.{has_records}
 use Rattle.file_model.specs.declared.descriptors.Descriptor.{Descriptor}
 use Rattle.file_model.specs.declared.selections.Selection.{Selection}
 use Rattle.file_model.specs.Selections.{IsSelection}

@@ -1,7 +1,7 @@
 -- What UPDATE RECORD writes.
 use Rattle.std.specs.Prelude.{ℕ, ◌-◌, if◌then◌else◌, List}
-use Rattle.file_model.specs.card_layout.Persistent.{Persistent}
-use Rattle.file_model.specs.card_layout.Changing.{with_record, with_newest_record}
+use Rattle.card_state.specs.Persistent.{Persistent}
+use Rattle.card_state.specs.Changing.{with_record, with_newest_record}
 use Rattle.file_model.specs.declared.descriptors.Descriptor.{Descriptor}
 use Rattle.file_model.specs.Records.{is_cyclic}
 

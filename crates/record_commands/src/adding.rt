@@ -2,7 +2,7 @@
 ghost use Rattle.std.specs.Prelude.{◌≡◌, ◌+◌, ◌-◌, ◌^◌, ◌<◌, ◌≤◌, if◌then◌else◌, IfSome, None, Some, length, nat_le, nat_lt, slice_index_or};
 ghost use Rattle.file_model.specs.Records.{number_of, bytes_of};
 
-use file_model::AnswerData;
+use uicc_types::AnswerData;
 
 // The byte at this place of a number with so many bytes before it, which are 0.
 fn byte_at(number: &[u8], skipped: usize, at: usize) -> u8

@@ -1,7 +1,7 @@
 //! The data of answers.
 ghost use Rattle.std.specs.Prelude.{◌≡◌, ◌+◌, ◌≤◌, ◌++◌, length};
 
-use file_model::{AnswerData, Full};
+use uicc_types::{AnswerData, Full};
 
 /// Puts bytes behind others.
 pub fn append(out: &mut AnswerData, part: &[u8])

@@ -1,13 +1,15 @@
 //! The records of a file.
 ghost use Rattle.std.specs.Prelude.{◌≡◌, ◌-◌, [], IfOk, IfSome, OnOk, length, slice_index_or};
+ghost use Rattle.card_state.specs.Memory.{IsMounted, Reads, held_by, memory};
 ghost use Rattle.file_model.specs.Files.{descriptors_of};
 ghost use Rattle.file_model.specs.Holdings.{records_in};
 ghost use Rattle.record_commands.specs.Targets.{IsRecordOf};
-ghost use Rattle.file_model.specs.card_layout.Memory.{IsMounted, Reads, held_by, memory};
 
-use card_memory::read_record;
-use file_model::{AnswerData, Loaded, Store, StoreFault};
-use file_tree::Descriptor;
+use card_commits::read_record;
+use card_state::Loaded;
+use file_model::Descriptor;
+use store_form::{Store, StoreFault};
+use uicc_types::AnswerData;
 
 /// Reads the record with this number into the whole of `out`. After a fault `out` holds any bytes.
 pub fn read_into<S: Store>(

@@ -1,29 +1,31 @@
 //! INCREASE.
 ghost use Rattle.std.specs.Prelude.{◌≡◌, ◌≢◌, ◌≤◌, [], true, IfOk, IfErr, IfSome, IsOk, OnErr, Err, length};
-ghost use Rattle.file_model.specs.card_layout.Changing.{with_newest_record};
+ghost use Rattle.card_state.specs.Changing.{with_newest_record};
+ghost use Rattle.card_state.specs.Memory.{Committed, IsMounted, Reads, held_by, memory};
 ghost use Rattle.file_model.specs.Files.{descriptors_of};
 ghost use Rattle.file_model.specs.Selections.{IsSelection};
 ghost use Rattle.file_model.specs.Records.{has_increase_parameters, has_increase_length, short_to_increase, may_be_increased, file_to_increase, sum_to_write, increase_in, increased};
 ghost use Rattle.file_model.specs.Outcomes.{settled_file};
-ghost use Rattle.card_memory.specs.Model.{Performs, StaysStill};
+ghost use Rattle.card_commits.specs.Performing.{Performs, StaysStill};
 ghost use Rattle.file_tree.specs.Tables.{IsCardTable};
-ghost use Rattle.file_commands.specs.Commands.{IsInPlace};
-ghost use Rattle.file_commands.specs.Ends.{EndsTry, EndsWell, GivesTried, Passes};
-ghost use Rattle.file_commands.specs.Targets.{IsRefused};
+ghost use Rattle.binary_commands.specs.Commands.{IsInPlace};
+ghost use Rattle.binary_commands.specs.Ends.{EndsTry, EndsWell, GivesTried, Passes};
+ghost use Rattle.binary_commands.specs.Targets.{IsRefused};
 ghost use Rattle.record_commands.specs.Tables.{KeepsDescriptors};
 ghost use Rattle.record_commands.specs.Targets.{IsRing, IsTarget};
-ghost use Rattle.file_model.specs.card_layout.Memory.{Committed, IsMounted, Reads, held_by, memory};
 
 use crate::adding::sum_of;
 use crate::answers::append;
 use crate::holding::record_of;
 use crate::targets::{Demand, LONGEST_INCREASED, Structure, record_file};
-use card_memory::{tables_tell_states, write_newest_record};
-use file_commands::{is_allowed, is_card_table, settle, worked_on};
-use file_model::{
-    Answer, AnswerData, Command, Loaded, Op, StatusWord, Store, StoreFault, Verified,
-};
-use file_tree::{Descriptor, Selection};
+use access_rules::{Op, Verified};
+use apdu_form::Command;
+use binary_commands::{is_allowed, is_card_table, settle, worked_on};
+use card_commits::{tables_tell_states, write_newest_record};
+use card_state::Loaded;
+use file_model::{Descriptor, Selection};
+use store_form::{Store, StoreFault};
+use uicc_types::{Answer, AnswerData, StatusWord};
 
 // P1 is 0, or has b8 set and a short file identifier behind it.
 fn has_parameters(command: &Command<'_>) -> bool

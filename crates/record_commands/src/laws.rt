@@ -3,8 +3,8 @@ ghost use Rattle.file_model.specs.Files.{descriptors_of};
 ghost use Rattle.file_tree.specs.Tables.{IsCardTable};
 ghost use Rattle.record_commands.specs.Tables.{HaveRecords};
 
-use file_model::{Loaded, files_are_found};
-use layout_standing::standing_is_sound;
+use card_state::{Loaded, standing_is_sound};
+use file_model::files_are_found;
 
 /// A file with records has at least one.
 pub fn records_are_there(loaded: &Loaded)

@@ -1,26 +1,28 @@
 //! DEACTIVATE FILE and ACTIVATE FILE.
 ghost use Rattle.std.specs.Prelude.{◌≡◌, ◌≢◌, ◌⊎◌, [], IfOk, IfErr, IsOk};
-ghost use Rattle.file_model.specs.card_layout.Kinds.{activated, deactivated};
+ghost use Rattle.card_state.specs.Kinds.{activated, deactivated};
+ghost use Rattle.card_state.specs.Memory.{memory};
 ghost use Rattle.file_model.specs.Files.{descriptors_of};
 ghost use Rattle.file_model.specs.Selections.{IsSelection};
 ghost use Rattle.file_model.specs.Outcomes.{settled_file};
 ghost use Rattle.file_model.specs.LifeCycles.{life_file, life_in, life_changed, file_deactivated, file_activated};
-ghost use Rattle.card_memory.specs.Model.{Performs, StaysStill, HasEf};
+ghost use Rattle.card_commits.specs.Performing.{Performs, StaysStill};
+ghost use Rattle.card_commits.specs.Entries.{HasEf};
 ghost use Rattle.file_tree.specs.Tables.{IsCardTable};
-ghost use Rattle.file_commands.specs.Commands.{IsInPlace};
-ghost use Rattle.file_commands.specs.Ends.{EndsTry, EndsWell, GivesTried, Passes};
-ghost use Rattle.file_commands.specs.Targets.{IsRefused};
+ghost use Rattle.binary_commands.specs.Commands.{IsInPlace};
+ghost use Rattle.binary_commands.specs.Ends.{EndsTry, EndsWell, GivesTried, Passes};
+ghost use Rattle.binary_commands.specs.Targets.{IsRefused};
 ghost use Rattle.record_commands.specs.Tables.{KeepsOtherFiles};
-ghost use Rattle.file_model.specs.card_layout.Memory.{memory};
 
-use card_memory::{tables_tell_states, write_life};
-use file_commands::{addressed, is_allowed, is_card_table, settle};
-use file_model::kinds::{ACTIVATED, DEACTIVATED};
-use file_model::{
-    Answer, Command, Loaded, Op, StatusWord, Store, StoreFault, Verified, has_no_data,
-    has_no_parameters,
-};
-use file_tree::{Descriptor, Selection};
+use access_rules::{Op, Verified};
+use apdu_form::Command;
+use binary_commands::{addressed, is_allowed, is_card_table, settle};
+use card_commits::{tables_tell_states, write_life};
+use card_state::Loaded;
+use card_state::kinds::{ACTIVATED, DEACTIVATED};
+use file_model::{Descriptor, Selection, has_no_data, has_no_parameters};
+use store_form::{Store, StoreFault};
+use uicc_types::{Answer, StatusWord};
 
 /// A change of the life cycle, with the operation that has to be allowed for it.
 #[derive(Clone, Copy)]

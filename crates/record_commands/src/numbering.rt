@@ -5,8 +5,9 @@ ghost use Rattle.file_model.specs.Outcomes.{pointer_before};
 ghost use Rattle.record_commands.specs.Targets.{IsPointer};
 
 use crate::targets::{NEXT, PREVIOUS, is_cyclic, mode_in, pointer_before, short_in};
-use file_model::{Command, StatusWord};
-use file_tree::{Descriptor, Selection};
+use apdu_form::Command;
+use file_model::{Descriptor, Selection};
+use uicc_types::StatusWord;
 
 // Behind the last record of a cyclic file comes the first.
 fn next_record(file: &Descriptor, pointer: Option<u8>) -> Option<u8>

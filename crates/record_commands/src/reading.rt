@@ -1,26 +1,28 @@
 //! READ RECORD.
 ghost use Rattle.std.specs.Prelude.{◌≡◌, ◌≢◌, IfOk, IfErr, IsOk, Err};
+ghost use Rattle.card_state.specs.Memory.{IsMounted, Reads, memory};
 ghost use Rattle.file_model.specs.Files.{descriptors_of};
 ghost use Rattle.file_model.specs.Selections.{IsSelection};
 ghost use Rattle.file_model.specs.Records.{file_to_read, record_read, record_read_from, short_in_p2};
 ghost use Rattle.file_model.specs.Outcomes.{settled_file};
-ghost use Rattle.card_memory.specs.Model.{Performs};
+ghost use Rattle.card_commits.specs.Performing.{Performs};
 ghost use Rattle.file_tree.specs.Tables.{IsCardTable};
-ghost use Rattle.file_commands.specs.Commands.{IsInPlace};
-ghost use Rattle.file_commands.specs.Ends.{EndsTry, EndsWell, GivesTried};
-ghost use Rattle.file_commands.specs.Targets.{IsRefused};
+ghost use Rattle.binary_commands.specs.Commands.{IsInPlace};
+ghost use Rattle.binary_commands.specs.Ends.{EndsTry, EndsWell, GivesTried};
+ghost use Rattle.binary_commands.specs.Targets.{IsRefused};
 ghost use Rattle.record_commands.specs.Targets.{IsTarget};
-ghost use Rattle.file_model.specs.card_layout.Memory.{IsMounted, Reads, memory};
 
 use crate::holding::record_of;
 use crate::numbering::number_to_read;
 use crate::targets::{Demand, Structure, has_parameters, record_file, selection_after, short_in};
-use card_memory::tables_tell_states;
-use file_commands::{is_allowed, is_card_table, settle};
-use file_model::{
-    Answer, Command, Loaded, Op, StatusWord, Store, StoreFault, Verified, has_le_alone,
-};
-use file_tree::{Descriptor, Selection};
+use access_rules::{Op, Verified};
+use apdu_form::Command;
+use binary_commands::{is_allowed, is_card_table, settle};
+use card_commits::tables_tell_states;
+use card_state::Loaded;
+use file_model::{Descriptor, Selection, has_le_alone};
+use store_form::{Store, StoreFault};
+use uicc_types::{Answer, StatusWord};
 
 // The EF that the command works on.
 fn file_to_read(

@@ -1,30 +1,31 @@
 //! SEARCH RECORD.
 ghost use Rattle.std.specs.Prelude.{◌≡◌, ◌≢◌, ◌≤◌, ◌<◌, ◌+◌, [], ◌∷◌, ◌++◌, ◌==◌, All, if◌then◌else◌, IsTrue, IfOk, IfErr, IfSome, IsOk, OnOk, Some, Err, filter, length, take};
-ghost use Rattle.file_model.specs.card_layout.Kinds.{has_records};
+ghost use Rattle.card_state.specs.Kinds.{has_records};
+ghost use Rattle.card_state.specs.Memory.{IsMounted, Reads, held_by, memory};
 ghost use Rattle.file_model.specs.Files.{descriptors_of};
 ghost use Rattle.file_model.specs.Selections.{IsSelection};
 ghost use Rattle.file_model.specs.Records.{file_to_search, has_within, has_search_parameters, match_pointer, number_to_search, numbers_matched, search_in, searched, short_in_p2};
 ghost use Rattle.file_model.specs.Outcomes.{pointer_before, settled_file, worked_on};
-ghost use Rattle.card_memory.specs.Model.{Performs};
+ghost use Rattle.card_commits.specs.Performing.{Performs};
 ghost use Rattle.file_tree.specs.Tables.{IsCardTable, IsNumbered};
-ghost use Rattle.file_commands.specs.Commands.{IsInPlace};
-ghost use Rattle.file_commands.specs.Ends.{EndsTry, EndsWell, GivesTried};
-ghost use Rattle.file_commands.specs.Targets.{IsRefused};
+ghost use Rattle.binary_commands.specs.Commands.{IsInPlace};
+ghost use Rattle.binary_commands.specs.Ends.{EndsTry, EndsWell, GivesTried};
+ghost use Rattle.binary_commands.specs.Targets.{IsRefused};
 ghost use Rattle.record_commands.specs.Targets.{IsPointer, IsRecordOf, IsTarget};
 ghost use Rattle.record_commands.specs.Searching.{is_match, left_from, number_left, numbers_left, IsRecord};
-ghost use Rattle.file_model.specs.card_layout.Memory.{IsMounted, Reads, held_by, memory};
 
 use crate::holding::read_into;
 use crate::numbering::absolute_record;
 use crate::targets::{Demand, Structure, mode_in, pointer_before, record_file, short_in};
-use card_memory::tables_tell_states;
-use file_commands::{is_allowed, is_card_table, settle, worked_on};
-use file_model::{
-    Answer, AnswerData, Command, Full, Loaded, Op, StatusWord, Store, StoreFault, Verified,
-    has_data,
-};
-use file_tree::{Descriptor, Selection};
+use access_rules::{Op, Verified};
+use apdu_form::Command;
+use binary_commands::{is_allowed, is_card_table, settle, worked_on};
+use card_commits::tables_tell_states;
+use card_state::Loaded;
+use file_model::{Descriptor, Selection, has_data};
 use memchr::memchr;
+use store_form::{Store, StoreFault};
+use uicc_types::{Answer, AnswerData, Full, StatusWord};
 
 const FORWARD: u8 = 4;
 

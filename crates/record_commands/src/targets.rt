@@ -1,6 +1,6 @@
 //! Which file a command on records works on, and what refuses it before the access to that file is tested.
 ghost use Rattle.std.specs.Prelude.{◌≡◌, ◌≢◌, ◌==◌, true, IfOk, IfErr};
-ghost use Rattle.file_model.specs.card_layout.Kinds.{has_records};
+ghost use Rattle.card_state.specs.Kinds.{has_records};
 ghost use Rattle.file_model.specs.Files.{descriptors_of};
 ghost use Rattle.file_model.specs.Selections.{IsSelection};
 ghost use Rattle.file_model.specs.Outcomes.{pointer_before, worked_on};
@@ -9,10 +9,12 @@ ghost use Rattle.file_tree.specs.Tables.{IsCardTable};
 ghost use Rattle.record_commands.specs.Targets.{fits, IsTarget};
 
 use crate::laws::records_are_there;
-use file_commands::{addressed, is_deactivated, worked_on};
-use file_model::kinds::{self, CYCLIC};
-use file_model::{Command, Loaded, StatusWord};
-use file_tree::{Descriptor, Selection};
+use apdu_form::Command;
+use binary_commands::{addressed, is_deactivated, worked_on};
+use card_state::Loaded;
+use card_state::kinds::{self, CYCLIC};
+use file_model::{Descriptor, Selection};
+use uicc_types::StatusWord;
 
 /// P2 says in b3 to b1 that the next record is meant.
 pub const NEXT: u8 = 2;

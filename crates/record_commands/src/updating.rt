@@ -1,28 +1,32 @@
 //! UPDATE RECORD.
 ghost use Rattle.std.specs.Prelude.{◌≡◌, ◌≢◌, [], IfOk, IfErr, IsOk, OnErr, Err, length};
+ghost use Rattle.card_state.specs.Memory.{Committed, IsMounted, memory};
 ghost use Rattle.file_model.specs.Files.{descriptors_of};
 ghost use Rattle.file_model.specs.Selections.{IsSelection};
 ghost use Rattle.file_model.specs.Records.{file_to_update, record_update_in, record_updated, short_in_p2};
 ghost use Rattle.file_model.specs.Outcomes.{settled_file};
-ghost use Rattle.card_memory.specs.Model.{Performs, StaysStill};
+ghost use Rattle.card_commits.specs.Performing.{Performs, StaysStill};
 ghost use Rattle.file_tree.specs.Tables.{IsCardTable};
-ghost use Rattle.file_commands.specs.Commands.{IsInPlace};
-ghost use Rattle.file_commands.specs.Ends.{EndsTry, EndsWell, GivesTried, Passes};
-ghost use Rattle.file_commands.specs.Targets.{IsRefused};
+ghost use Rattle.binary_commands.specs.Commands.{IsInPlace};
+ghost use Rattle.binary_commands.specs.Ends.{EndsTry, EndsWell, GivesTried, Passes};
+ghost use Rattle.binary_commands.specs.Targets.{IsRefused};
 ghost use Rattle.record_commands.specs.Tables.{KeepsDescriptors};
 ghost use Rattle.record_commands.specs.Targets.{IsRecordOf, IsTarget};
 ghost use Rattle.record_commands.specs.Updating.{record_written};
-ghost use Rattle.file_model.specs.card_layout.Memory.{Committed, IsMounted, memory};
 
 use crate::numbering::number_to_update;
 use crate::targets::{
     Demand, PREVIOUS, Structure, has_parameters, is_cyclic, mode_in, record_file, selection_after,
     short_in,
 };
-use card_memory::{tables_tell_states, write_newest_record, write_record};
-use file_commands::{is_allowed, is_card_table, settle};
-use file_model::{Answer, Command, Loaded, Op, StatusWord, Store, StoreFault, Verified, has_data};
-use file_tree::{Descriptor, Selection};
+use access_rules::{Op, Verified};
+use apdu_form::Command;
+use binary_commands::{is_allowed, is_card_table, settle};
+use card_commits::{tables_tell_states, write_newest_record, write_record};
+use card_state::Loaded;
+use file_model::{Descriptor, Selection, has_data};
+use store_form::{Store, StoreFault};
+use uicc_types::{Answer, StatusWord};
 
 // The EF that the command works on.
 fn file_to_update(

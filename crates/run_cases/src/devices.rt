@@ -2,8 +2,9 @@
 
 use crate::cases::{Patch, Setup};
 use crate::plans::plan_of;
+use eeprom_model::{BenchEeprom, Eeprom};
 use std::alloc::{AllocError, Global};
-use uicc_run::{BenchEeprom, CutAt, Eeprom, Plan};
+use uicc_types::{CutAt, Plan};
 
 /// A device of so many bytes that holds nothing.
 pub fn blank(alloc: Global, size: usize) -> Result<BenchEeprom, AllocError> {

@@ -1,7 +1,8 @@
 //! Plans of faults that are tried at one call of the memory after the other.
 
+use script_form::{ScriptLine, read_line};
 use std::alloc::{AllocError, Global};
-use uicc_run::{Plan, ScriptLine, read_line};
+use uicc_types::Plan;
 
 /// The line of a plan, but for the number of its call.
 #[derive(Drop)]

@@ -6,10 +6,13 @@ use crate::cases::{Boxes, Calls, Case, ScriptRun};
 use crate::devices::{blank, has_all, prepared, revive};
 use crate::judging::Left;
 use boxed_applets::{ProgramApplet, applet_of, make_applets};
+use byte_streams::{ListSink, SliceSource};
+use card_state::places::MEMORY_SIZE;
+use card_state::sizes::ROW_COUNT;
+use command_line::devices;
+use eeprom_model::{BenchEeprom, Eeprom};
 use std::alloc::{AllocError, Global};
-use uicc_run::{
-    BenchEeprom, Eeprom, ListSink, MEMORY_SIZE, ROW_COUNT, SliceSource, device_size, devices, run,
-};
+use uicc_run::{device_size, run};
 
 /// The longest trace that a run may have.
 const LONGEST_TRACE: usize = 1_048_576;

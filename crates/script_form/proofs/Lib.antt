@@ -1,11 +1,9 @@
-mod BoundLemmas
-pub mod Commands
-pub mod Digits
-pub mod Hexadecimal
-pub mod Numbers
+pub mod EncodeWithLemmas
+mod IsBoundedLemmas
+pub mod IsCommandLineLemmas
+pub mod IsHexLemmas
+pub mod IsNumberLemmas
+pub mod IsRuleLemmas
 pub mod PathLemmas
-pub mod Rules
-pub mod Spaces
-mod WorkedForms
-pub use Rattle.byte_streams.proofs as byte_streams
-pub use Rattle.uicc_types.proofs as uicc_types
+pub mod WordsLemmas
+mod worked

@@ -4,10 +4,10 @@ use Rattle.std.specs.Char.{is_ascii_digit}
 use Rattle.std.specs.List.{list_all}
 use Rattle.uicc_types.specs.declared.byte_lists.TheConstants.{LONGEST_COMMAND}
 use Rattle.uicc_types.specs.declared.identifiers.FileId.{FileId}
+use Rattle.uicc_types.specs.declared.keys.TheConstants.{ADM_1}
 use Rattle.script_form.specs.declared.handset.HandsetLine.{HandsetLine}
 use Rattle.script_form.specs.declared.handset.HandsetLine.TheVariants as handset
 use Rattle.script_form.specs.declared.handset.HandsetLine.TheVariants.{UserType, UserPick, UserDial, NetPlace, Time}
-use Rattle.uicc_types.specs.declared.keys.TheConstants.{ADM_1}
 use Rattle.script_form.specs.declared.lines.TheConstants.{DEEPEST}
 use Rattle.script_form.specs.declared.lines.ScriptLine.{ScriptLine}
 use Rattle.script_form.specs.declared.lines.ScriptLine.TheVariants.{Passed, Start, Reset, Df, Transparent, Linear, Cyclic, Fill, Rec, Pin, Row, Apdu, Tpdu, Cut, Fail, ReadFail, Handset, Cmd, Echo, Lose}

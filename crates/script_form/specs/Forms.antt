@@ -1,8 +1,8 @@
 -- The forms of script lines.
 use Rattle.std.specs.Prelude.{◌≡◌, ℕ, ◌≤◌, ◌==◌, Bool, true, List, [], ◌∷◌, length, Option, MatchBool}
-use Rattle.byte_streams.specs.declared.limits.TheConstants.{LONGEST_LINE}
 use Rattle.uicc_types.specs.declared.byte_lists.TheConstants.{LONGEST_COMMAND}
 use Rattle.uicc_types.specs.declared.identifiers.FileId.{FileId}
+use Rattle.byte_streams.specs.declared.limits.TheConstants.{LONGEST_LINE}
 use Rattle.script_form.specs.declared.keywords.Keyword.{Keyword}
 use Rattle.script_form.specs.declared.keywords.Keyword.TheVariants as keyword
 use Rattle.script_form.specs.declared.keywords.Structure.{Structure}

@@ -1,11 +1,11 @@
 -- The text of a trace.
 use Rattle.std.specs.Io.KnownBytes.{append_known}
 use Rattle.std.specs.Prelude.{◌≡◌, ℕ, List, [], ◌∷◌, ◌++◌, codes, cond, decimal, map, Option, Result, OnOk, OnErr}
-use Rattle.byte_streams.specs.Streams.{TakesFront}
-use Rattle.byte_streams.specs.declared.streams.Failed.{Failed}
 use Rattle.hex.specs.Hex.{encode_upper}
 use Rattle.uicc_types.specs.Answers.{answer_bytes}
 use Rattle.uicc_types.specs.Told.{Becomes}
+use Rattle.byte_streams.specs.Streams.{TakesFront}
+use Rattle.byte_streams.specs.declared.streams.Failed.{Failed}
 use Rattle.script_form.specs.Values.{is_printable}
 use Rattle.script_form.specs.declared.handset.Note.{Note as ANote}
 use Rattle.script_form.specs.declared.handset.Note.TheVariants as note

@@ -1,11 +1,10 @@
 //! How a script line names a file and describes it, each value in one word.
 ghost use Rattle.std.specs.Prelude.{◌≡◌, ◌+◌, ◌<◌, ◌≤◌, ◌++◌, ◌∷◌, List, ℕ, length, IfSome, IsSomeAnd};
+ghost use Rattle.uicc_types.specs.declared.identifiers.FileId.{FileId as AnIdentifier};
 ghost use Rattle.script_form.specs.Reads.{Reads};
 ghost use Rattle.script_form.specs.Values.{IsFourDigits, IsFree, IsNamedRule, IsPath, IsRule, IsShort, SpellsPath, identifier_bytes};
-ghost use Rattle.uicc_types.specs.declared.identifiers.FileId.{FileId as AnIdentifier};
 
-use crate::Path;
-use crate::lines::LONGEST_PATH;
+use crate::lines::{LONGEST_PATH, Path};
 use crate::values::{bytes_of, number_of, sized_of};
 use uicc_types::FileId;
 

@@ -5,10 +5,11 @@ ghost use Rattle.script_form.specs.Reads.{Reads, ReadsInto};
 ghost use Rattle.script_form.specs.Values.{IsHex};
 
 use crate::cursor::Words;
+use crate::handset::HandsetLine;
 use crate::keywords::{Keyword, NetworkAct, UserAct, network_act_of, user_act_of};
+use crate::lines::ScriptLine;
 use crate::reading::last;
 use crate::values::{bytes_of, dialled_of, number_of, typed_of};
-use crate::{HandsetLine, ScriptLine};
 use uicc_types::Octets;
 
 /// The most bytes of a location.

@@ -1,7 +1,7 @@
 //! What a line of a script says.
 ghost use Rattle.std.specs.Prelude.{◌≡◌, ◌≤◌, ◌<◌, ◌++◌, ◌∷◌, [], length};
 
-use crate::HandsetLine;
+use crate::handset::HandsetLine;
 use std::marker::Model;
 use uicc_types::{ApduBytes, CutAt, FailAt, FileId, Octets, Pin8};
 

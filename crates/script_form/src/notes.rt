@@ -3,7 +3,7 @@ ghost use Rattle.std.specs.Prelude.{◌≡◌, ◌+◌, ◌≤◌, ◌++◌, ◌
 ghost use Rattle.script_form.specs.Traces.{shown, trace_text};
 ghost use Rattle.script_form.specs.declared.trace.TraceLine.TheVariants as line;
 
-use crate::Note;
+use crate::handset::Note;
 use crate::trace::{put_hex, put_numbered, put_text};
 use crate::values::is_printable;
 use arrayvec::ArrayVec;
@@ -13,7 +13,7 @@ use itoa::Buffer;
 pub const LONGEST_NOTE: usize = 7 + 255 + 1;
 
 /// Puts the text of a note's line into an empty buffer.
-#[tactic(auto, using(crate::proofs::Digits::joined_digits), unfolding(crate::specs::Traces::trace_text))]
+#[tactic(auto, using(crate::proofs::EncodeWithLemmas::joined_digits), unfolding(crate::specs::Traces::trace_text))]
 pub fn put_note<const N: usize>(text: &mut ArrayVec<u8, N>, note: &Note)
     requires empty { text.old.items ≡ [] }
     requires fits { LONGEST_NOTE ≤ N }

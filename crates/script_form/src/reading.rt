@@ -9,9 +9,9 @@ use crate::cursor::Words;
 use crate::files::{path_of, rule_of, short_of};
 use crate::handset_reading::{network, proactive, time, user};
 use crate::keywords::{Keyword, Structure, keyword_of, structure_of};
+use crate::lines::{LineFault, Path, ScriptLine};
 use crate::pins::{key_of, pin_of, switch_of};
 use crate::values::{byte_of, bytes_of, number_of, read_bytes};
-use crate::{LineFault, Path, ScriptLine};
 use byte_streams::LONGEST_LINE;
 use uicc_types::{ApduBytes, CutAt, FailAt};
 
@@ -38,7 +38,7 @@ pub fn read_line(bytes: &[u8], number: u32) -> Result<ScriptLine, LineFault>
 
 /// Reads a line as `read_line` does, into a place of the caller's. What a line says is large, and is written into its place
 /// once. After a fault the place holds any line.
-#[tactic(auto, using(crate::proofs::BoundLemmas::bounded))]
+#[tactic(auto, using(crate::proofs::IsBoundedLemmas::bounded))]
 pub fn read_line_into(bytes: &[u8], number: u32, line: &mut ScriptLine) -> Result<(), LineFault>
     ensures read { OnOk result (IsOnly (IsLine bytes.now) line.new) }
     ensures within { OnOk result (IsBounded line.new) }
@@ -297,7 +297,7 @@ fn row(words: &mut Words<'_>, line: &mut ScriptLine) -> Option<()>
 }
 
 /// A command, which is the last word: all that is left of the line.
-#[tactic(auto, using(crate::proofs::Commands::reads_form))]
+#[tactic(auto, using(crate::proofs::IsCommandLineLemmas::reads_form))]
 fn apdu(words: &Words<'_>, line: &mut ScriptLine) -> Option<()>
     ensures { ReadsInto (form_of Keyword.Apdu words.now) result line.new }
 {
@@ -310,7 +310,7 @@ fn apdu(words: &Words<'_>, line: &mut ScriptLine) -> Option<()>
 /// Reads a command where the last one was, if the line was one too. It is most lines' way, and keeps its loop in registers in a
 /// function of its own.
 #[inline(never)]
-#[tactic(auto, using(crate::proofs::Commands::reads_command))]
+#[tactic(auto, using(crate::proofs::IsCommandLineLemmas::reads_command))]
 fn command(digits: &[u8], line: &mut ScriptLine) -> Option<()>
     ensures { ReadsInto (IsCommandLine digits.now) result line.new }
 {
@@ -324,7 +324,7 @@ fn command(digits: &[u8], line: &mut ScriptLine) -> Option<()>
 }
 
 #[inline(never)]
-#[tactic(auto, using(crate::proofs::Commands::reads_command))]
+#[tactic(auto, using(crate::proofs::IsCommandLineLemmas::reads_command))]
 fn first_command(digits: &[u8], line: &mut ScriptLine) -> Option<()>
     ensures { ReadsInto (IsCommandLine digits.now) result line.new }
 {

@@ -1,14 +1,14 @@
 //! Trace lines, written.
 ghost use Rattle.std.specs.Prelude.{◌≡◌, ◌+◌, ◌*◌, ◌/◌, ◌%◌, ◌≤◌, ◌++◌, ◌∷◌, [], decimal, length, IsErr, OnErr, OnOk};
 ghost use Rattle.std.specs.Io.KnownBytes.{append_known};
-ghost use Rattle.byte_streams.specs.Streams.{TakesFront};
 ghost use Rattle.hex.specs.Hex.{encode_upper};
-ghost use Rattle.script_form.specs.Traces.{IsPut, trace_text};
-ghost use Rattle.script_form.specs.declared.trace.TraceLine.TheVariants as line;
 ghost use Rattle.uicc_types.specs.Counts.{CountsFailure};
 ghost use Rattle.uicc_types.specs.Told.{Becomes};
+ghost use Rattle.byte_streams.specs.Streams.{TakesFront};
+ghost use Rattle.script_form.specs.Traces.{IsPut, trace_text};
+ghost use Rattle.script_form.specs.declared.trace.TraceLine.TheVariants as line;
 
-use crate::Note;
+use crate::handset::Note;
 use crate::notes::{LONGEST_NOTE, put_note};
 use arrayvec::ArrayVec;
 use byte_streams::{Failed, Sink};
@@ -183,7 +183,7 @@ E0E1E2E3E4E5E6E7E8E9EAEBECEDEEEF\
 F0F1F2F3F4F5F6F7F8F9FAFBFCFDFEFF";
 
 /// Puts the text of the line, with its end, into an empty buffer.
-#[tactic(auto, using(crate::proofs::Digits::joined_digits), unfolding(crate::specs::Traces::trace_text))]
+#[tactic(auto, using(crate::proofs::EncodeWithLemmas::joined_digits), unfolding(crate::specs::Traces::trace_text))]
 fn put_line(text: &mut ArrayVec<u8, LONGEST>, line: &TraceLine)
     requires { text.old.items ≡ [] }
     ensures { text.new.items ≡ trace_text line.now }
@@ -234,7 +234,7 @@ fn put_line(text: &mut ArrayVec<u8, LONGEST>, line: &TraceLine)
 }
 
 /// Puts the text of a command's line into an empty buffer.
-#[tactic(auto, using(crate::proofs::Digits::joined_digits), unfolding(crate::specs::Traces::trace_text))]
+#[tactic(auto, using(crate::proofs::EncodeWithLemmas::joined_digits), unfolding(crate::specs::Traces::trace_text))]
 fn put_command<const N: usize>(text: &mut ArrayVec<u8, N>, apdu: &[u8])
     requires empty { text.old.items ≡ [] }
     requires fits { 2 * length apdu.now + 3 ≤ N }
@@ -246,7 +246,7 @@ fn put_command<const N: usize>(text: &mut ArrayVec<u8, N>, apdu: &[u8])
 }
 
 /// Puts the text of an answer's line into an empty buffer.
-#[tactic(auto, using(crate::proofs::Digits::joined_digits), unfolding(crate::specs::Traces::trace_text))]
+#[tactic(auto, using(crate::proofs::EncodeWithLemmas::joined_digits), unfolding(crate::specs::Traces::trace_text))]
 fn put_answer<const N: usize>(text: &mut ArrayVec<u8, N>, body: &[u8], status: StatusWord)
     requires empty { text.old.items ≡ [] }
     requires fits { 2 * length body.now + 7 ≤ N }

@@ -1,3 +1,3 @@
-pub mod CauseLemmas
+pub mod HasCauseLemmas
 mod SpanLemmas
 pub mod SparedLemmas

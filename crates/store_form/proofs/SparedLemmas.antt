@@ -5,8 +5,8 @@ use Rattle.std.proofs.lemmas.Bool.{cases_lt}
 use Rattle.std.proofs.lemmas.Option.{same_Some}
 use Rattle.std.proofs.lemmas.List.Elements.{All-head, All-tail}
 use Rattle.std.proofs.lemmas.Grind.{same_number_lists}
-use Rattle.uicc_types.specs.Patches.{patched, Torn}
-use Rattle.uicc_types.proofs.PatchLemmas.{All-patched, patched_before, patched_inside, patched_after, length-patched}
+use Rattle.list_laws.specs.Patches.{patched, Torn}
+use Rattle.list_laws.proofs.PatchesLemmas.{All-patched, patched_before, patched_inside, patched_after, length-patched}
 use Rattle.store_form.specs.declared.store.TheConstants.{OWN_START, OWN_END}
 use Rattle.store_form.specs.Pieces.{Piece, applied, IsUsablePiece}
 use Rattle.store_form.specs.Spared.{AreUsable, Spare, Rewritten}

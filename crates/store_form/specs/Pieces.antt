@@ -1,6 +1,6 @@
 -- Pieces of bytes to be written, and what a store holds once they are.
 use Rattle.std.specs.Prelude.{ℕ, ◌+◌, ◌≤◌, ◌<◌, ◌^◌, List, [], ◌∷◌, length, sum_by, All}
-use Rattle.uicc_types.specs.Patches.{patched}
+use Rattle.list_laws.specs.Patches.{patched}
 use Rattle.store_form.specs.declared.store.TheConstants.{OWN_START, OWN_END}
 use Rattle.store_form.specs.declared.writes.TheConstants.{MOST_PIECES, MOST_BYTES}
 

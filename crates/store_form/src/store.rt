@@ -6,7 +6,7 @@ ghost use Rattle.store_form.specs.Faults.{HasCause};
 ghost use Rattle.store_form.specs.Pieces.{IsUsable, IsUsablePiece};
 ghost use Rattle.store_form.specs.StoreCalls.{CommitsPieces, HoldsTheSame, PreparesBytes, StaysItself};
 
-use crate::Writes;
+use crate::writes::Writes;
 use uicc_types::Plan;
 
 /// The first of a store's own bytes.

@@ -1,3 +1,3 @@
-pub mod Passed
-pub mod Courses
-pub mod Worked
+pub mod CommandAnswerLemmas
+pub mod CourseLemmas
+mod worked

@@ -2,8 +2,8 @@
 ghost use Rattle.std.specs.Prelude.{◌≡◌, ◌≤◌, length};
 ghost use Rattle.t0_link.specs.Carrying.{carried, is_carried_by, p3_for, tpdu_of};
 
-use crate::Transfer;
 use crate::instructions::STATUS;
+use crate::tpdus::Transfer;
 use apdu_form::{Command, WrongLength, read_command};
 use uicc_types::{ApduBytes, Full};
 

@@ -1,15 +1,15 @@
 //! The link.
 ghost use Rattle.std.specs.Prelude.{◌≡◌, ◌↔◌, false, [], None, IsErrOf, IsTrue, IfSome, OnErr, length, ◌≤◌};
-ghost use Rattle.apdu_form.specs.Model.{command_in};
 ghost use Rattle.uicc_types.specs.Counts.{CountsFailure};
+ghost use Rattle.apdu_form.specs.Model.{command_in};
 ghost use Rattle.t0_link.specs.Carrying.{carried, command_answer, cut_answer_to, is_carried, received};
 ghost use Rattle.t0_link.specs.Exchanging.{Exchanges, IsPassed};
 ghost use Rattle.t0_link.specs.Linking.{Passes, fetched, kept_back, link_answer};
 
 use crate::answers::{MORE_DATA, announce, answer_status, cut, fetch};
 use crate::commands::tpdu_of;
+use crate::endpoint::{Endpoint, LinkFault};
 use crate::tpdus::{Transfer, apdu_of, read_transfer};
-use crate::{Endpoint, LinkFault};
 use apdu_form::{Command, WrongLength, read_command};
 use std::marker::Model;
 use uicc_types::{Answer, StatusWord};

@@ -1,8 +1,8 @@
 -- What a handset keeps, and how each call moves it. It keeps what is known by looking back at what happened, and what is
 -- asked next.
 use Rattle.std.specs.Prelude.{ℕ, suc, ◌+◌, ◌-◌, ◌<◌, ◌^◌, min, true, false, ◌||◌, List, [], ◌∷◌, replicate, slice_set, Option, Some, None, Bool, Result as Outcome, ◌==◌, if◌then◌else◌}
-use Rattle.toolkit_commands.specs.uicc_types.declared.answers.Answer.{Answer}
-use Rattle.handset_model.specs.script_form.declared.handset.HandsetLine.{HandsetLine}
+use Rattle.uicc_types.specs.declared.answers.Answer.{Answer}
+use Rattle.script_form.specs.declared.handset.HandsetLine.{HandsetLine}
 use Rattle.toolkit_commands.specs.declared.commands.Details.{Details}
 use Rattle.toolkit_commands.specs.declared.commands.Proactive.{Proactive}
 use Rattle.toolkit_commands.specs.declared.faults.ProactiveFault.{ProactiveFault}

@@ -1,5 +1,9 @@
 -- What is asked of a handset, by its stage, the duty that it keeps and the command that it holds; and what it says is to be done next.
 use Rattle.std.specs.Prelude.{◌≡◌, ℕ, Bool, true, false, List, Option, Some, None}
+use Rattle.script_form.specs.declared.handset.Note.{Note}
+use Rattle.script_form.specs.declared.handset.Note.TheVariants.{Ask, Idle, Text}
+use Rattle.toolkit_commands.specs.declared.commands.Proactive.{Proactive}
+use Rattle.toolkit_commands.specs.declared.commands.Proactive.TheVariants.{DisplayText, GetInkey, GetInput, IdleText}
 use Rattle.handset_model.specs.declared.commands.Command.TheVariants.{AskStatus, Fetch, Respond}
 use Rattle.handset_model.specs.declared.commands.Reply.TheVariants.{Result}
 use Rattle.handset_model.specs.declared.known.Duty.{Duty}
@@ -7,14 +11,10 @@ use Rattle.handset_model.specs.declared.known.Duty.TheVariants.{Rest, Await, Sho
 use Rattle.handset_model.specs.declared.known.Held.{Held}
 use Rattle.handset_model.specs.declared.steps.PhoneStep.{PhoneStep}
 use Rattle.handset_model.specs.declared.steps.PhoneStep.TheVariants as step
-use Rattle.handset_model.specs.script_form.declared.handset.Note.{Note}
-use Rattle.handset_model.specs.script_form.declared.handset.Note.TheVariants.{Ask, Idle, Text}
 use Rattle.terminal_side.specs.declared.phone.Next.{Next}
 use Rattle.terminal_side.specs.declared.phone.Next.TheVariants as next
 use Rattle.terminal_side.specs.declared.stages.Stage.{Stage}
 use Rattle.terminal_side.specs.declared.stages.Stage.TheVariants.{Resting, Awaiting, Asked, Fetching, Polling, Responding, Showing}
-use Rattle.toolkit_commands.specs.declared.commands.Proactive.{Proactive}
-use Rattle.toolkit_commands.specs.declared.commands.Proactive.TheVariants.{DisplayText, GetInkey, GetInput, IdleText}
 
 -- to show the text of a command, if it is one that has a text to be shown
 abbrev pub text_shown : Proactive → Duty

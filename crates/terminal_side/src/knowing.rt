@@ -6,11 +6,13 @@ ghost use Rattle.terminal_side.specs.Kept.{timers_after, timers_by, with_found, 
 
 use crate::timers::{seconds_of, set_timer};
 use handset_model::{
-    Command, HandsetLine, Held, Known, LastSent, Listed, MOST_COMMANDS, Place, Report, Running,
+    Command, Held, Known, LastSent, Listed, MOST_COMMANDS, Place, Report, Running,
 };
-use toolkit_commands::events::{IDLE_SCREEN, LOCATION_STATUS, USER_ACTIVITY};
+use script_form::HandsetLine;
 use toolkit_commands::qualifiers::{CARD_RESET, DEACTIVATE, START};
-use toolkit_commands::{Answer, Items, Proactive, StatusWord};
+use toolkit_commands::{Items, Proactive};
+use uicc_types::events::{IDLE_SCREEN, LOCATION_STATUS, USER_ACTIVITY};
+use uicc_types::{Answer, StatusWord};
 
 /// The card listed no events.
 pub const NONE_LISTED: Listed = Listed {

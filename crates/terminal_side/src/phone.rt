@@ -1,27 +1,27 @@
 //! The handset, step by step.
 ghost use Rattle.std.specs.Prelude.{◌≡◌, ◌∷◌, ◌+◌, ◌<◌, ◌≤◌, ◌^◌, List, [], length, true, ℕ};
+ghost use Rattle.script_form.specs.declared.handset.Note.TheVariants.{Text};
+ghost use Rattle.toolkit_commands.specs.Reading.{details_found, proactive_of};
 ghost use Rattle.handset_model.specs.History.{Happened, Said, Answered, Restarted, PowerCut, FoundOff, span_of};
 ghost use Rattle.handset_model.specs.Legal.{IsBounded, item_of, next_item};
-ghost use Rattle.terminal_side.specs.Kept.{after_note, doing, hearing, hearing_answer, kept, losing_power, shows, starting, taking, taking_fetched, unstarted, with_next};
-ghost use Rattle.terminal_side.specs.Stages.{Asks, shown_if, step_of, text_of_held, text_shown};
 ghost use Rattle.handset_model.specs.Sending.{apdu_of};
 ghost use Rattle.handset_model.specs.declared.commands.Command.TheVariants.{AskStatus, Fetch, Respond};
 ghost use Rattle.handset_model.specs.declared.commands.Reply.TheVariants.{Result};
 ghost use Rattle.handset_model.specs.declared.known.Duty.TheVariants.{Transmit};
-ghost use Rattle.handset_model.specs.script_form.declared.handset.Note.TheVariants.{Text};
-ghost use Rattle.toolkit_commands.specs.Reading.{details_found, proactive_of};
+ghost use Rattle.terminal_side.specs.Kept.{after_note, doing, hearing, hearing_answer, kept, losing_power, shows, starting, taking, taking_fetched, unstarted, with_next};
+ghost use Rattle.terminal_side.specs.Stages.{Asks, shown_if, step_of, text_of_held, text_shown};
 
 use crate::knowing::{NONE_LISTED, count, forget, hear, hold, send, take_status};
 use crate::reactions::said_at;
 use crate::sessions::{after_call, carried_out, followed, noted, refused};
 use crate::spelling::{spell_command, spell_fetch, spell_result, spell_status};
 use crate::stages::Stage;
-use handset_model::{Command, Duty, HandsetLine, Held, Known, LastSent, Note};
+use handset_model::{Command, Duty, Held, Known, LastSent};
+use script_form::{HandsetLine, Note};
 use std::marker::Model;
 use std::mem;
-use toolkit_commands::{
-    Answer, ApduBytes, Details, Full, Items, Octets, Proactive, StatusWord, read_command,
-};
+use toolkit_commands::{Details, Items, Proactive, read_command};
+use uicc_types::{Answer, ApduBytes, Full, Octets, StatusWord};
 
 /// The details of a command that wasn't read yet.
 const NO_DETAILS: Details = Details {

@@ -10,9 +10,11 @@ ghost use Rattle.terminal_side.specs.Stages.{Asks};
 
 use crate::sessions::{reset_card, respond, respond_with, settled, tell};
 use crate::stages::Stage;
-use handset_model::{Digits, Duty, HandsetLine, Held, Known, Place, Reply, Report, Typed};
+use handset_model::{Digits, Duty, Held, Known, Place, Reply, Report, Typed};
+use script_form::HandsetLine;
 use toolkit_commands::results::{BACKWARD_MOVE, NO_RESPONSE, PERFORMED, SESSION_ENDED};
-use toolkit_commands::{Items, Octets, Proactive};
+use toolkit_commands::{Items, Proactive};
+use uicc_types::Octets;
 
 /// The held text was read.
 fn confirm(held: &Held) -> Stage

@@ -1,22 +1,24 @@
 //! What the handset does with what the card answers.
 ghost use Rattle.std.specs.Prelude.{◌≡◌, Some, length};
+ghost use Rattle.toolkit_commands.specs.Reading.{details_found};
 ghost use Rattle.handset_model.specs.declared.known.Duty.{Duty as ADuty};
 ghost use Rattle.handset_model.specs.Rules.{after_call, carried_out, fault_result, fetch_or_settle, followed, left_of, local_information, located, noted, refresh, respond, respond_done, ripe, settled, tell, timer_reply};
 ghost use Rattle.handset_model.specs.declared.known.Duty.TheVariants.{ResetCard, Show, Transmit};
 ghost use Rattle.handset_model.specs.declared.commands.Command.TheVariants.{Fetch, Respond};
 ghost use Rattle.handset_model.specs.declared.commands.Reply.TheVariants.{Result};
-ghost use Rattle.toolkit_commands.specs.Reading.{details_found};
 ghost use Rattle.terminal_side.specs.Stages.{Asks, asked_at};
 
 use crate::knowing::announced_by;
 use crate::stages::Stage;
 use crate::timers::{soonest, time_of, timer_in};
-use handset_model::{Command, Due, Duty, Held, Known, Note, Place, Reply, Report, Running};
+use handset_model::{Command, Due, Duty, Held, Known, Place, Reply, Report, Running};
+use script_form::Note;
 use toolkit_commands::qualifiers::{CARD_RESET, LOCATION, START};
 use toolkit_commands::results::{
     BEYOND_CAPABILITIES, DATA_NOT_UNDERSTOOD, PERFORMED, TYPE_NOT_UNDERSTOOD, VALUES_MISSING,
 };
-use toolkit_commands::{Answer, Items, Proactive, ProactiveFault, found_details};
+use toolkit_commands::{Items, Proactive, ProactiveFault, found_details};
+use uicc_types::Answer;
 
 pub fn tell(report: Report, duty: &mut Duty) -> Stage
     ensures { Asks result duty.new (tell report) }

@@ -10,7 +10,6 @@ ghost use Rattle.handset_model.specs.declared.commands.Report.TheVariants.{CallC
 use comprehension_tlv::TlvWriter;
 use handset_model::{Command, Digits, Place, Reply, Report};
 use toolkit_commands::devices::{CARD, DISPLAY, KEYPAD, TERMINAL};
-use toolkit_commands::events::{IDLE_SCREEN, LOCATION_STATUS as LOCATION_EVENT, USER_ACTIVITY};
 use toolkit_commands::qualifiers::{EIGHT_BITS, IN_SECONDS};
 use toolkit_commands::results::{AGAINST_TIMER_STATE, PERFORMED, UNABLE_TO_PROCESS};
 use toolkit_commands::tags::{
@@ -18,10 +17,12 @@ use toolkit_commands::tags::{
     ITEM_IDENTIFIER, LOCATION_INFORMATION, MENU_SELECTION, RESULT, TEXT_STRING, TIMER_EXPIRATION,
     TIMER_IDENTIFIER, TIMER_VALUE,
 };
-use toolkit_commands::{ApduBytes, Details, Full, Octets, TimeValue};
+use toolkit_commands::{Details, TimeValue};
+use uicc_types::events::{IDLE_SCREEN, LOCATION_STATUS as LOCATION_EVENT, USER_ACTIVITY};
+use uicc_types::{ApduBytes, Full, Octets};
 
 /// Adds an object of less than 128 bytes, with the comprehension flag.
-#[tactic(auto, using(toolkit_commands::proofs::Sizes::short_tagged))]
+#[tactic(auto, using(toolkit_commands::proofs::LengthsOfCommandsLemmas::short_tagged))]
 fn put(objects: &mut TlvWriter, tag: u16, value: &[u8])
     requires low { 1 ≤ tag }
     requires high { tag ≤ 126 }
@@ -217,7 +218,7 @@ fn spell_long_response(apdu: &mut ApduBytes, details: &Details, reply: &Reply)
 }
 
 /// ENVELOPE with a template that holds the objects.
-#[tactic(auto, using(crate::proofs::Spelled::enveloped))]
+#[tactic(auto, using(crate::proofs::ToolkitApduLemmas::enveloped))]
 fn spell_enveloped(apdu: &mut ApduBytes, template: u8, objects: &[u8])
     requires { length objects.now ≤ 100 }
     ensures { apdu.new ≡ toolkit_apdu 0xC2 (tagged template objects.now) }
@@ -302,7 +303,7 @@ fn put_number(objects: &mut TlvWriter, digits: &Digits)
 }
 
 /// ENVELOPE with a location.
-#[tactic(auto, using(crate::proofs::Spelled::located))]
+#[tactic(auto, using(crate::proofs::ToolkitApduLemmas::located))]
 fn spell_location(apdu: &mut ApduBytes, place: &Place)
     ensures { apdu.new ≡ toolkit_apdu 0xC2 (envelope (Location place.now)) }
 {

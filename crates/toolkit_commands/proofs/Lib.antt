@@ -1,16 +1,15 @@
-pub mod Lengths
-pub mod Sizes
-pub mod Joined
-pub mod Needs
-pub mod Again
-pub mod RoundTrip
-pub mod Found
-pub mod FourFaults
-pub mod Reports
-pub mod OneWalk
-pub mod Saying
-pub mod Table
-pub mod Proper
-pub mod WorkedCommands
-pub mod Numbered
-pub use Rattle.uicc_types.proofs as uicc_types
+pub mod FourFaultsLemmas
+pub mod IsCommandLemmas
+pub mod IsEnvelopeLemmas
+pub mod IsProperLemmas
+pub mod ItemsOfLemmas
+pub mod LengthsOfCommandsLemmas
+pub mod NeededLemmas
+pub mod ProactiveOfLemmas
+pub mod ProactiveReadLemmas
+pub mod RenumberedLemmas
+pub mod RepliesLemmas
+pub mod SpelledLemmas
+pub mod SpellingsLemmas
+pub mod ValuesLemmas
+mod worked

@@ -11,5 +11,3 @@ pub mod Responses
 pub mod Steps
 pub mod Table
 pub mod Values
-pub use Rattle.comprehension_tlv.specs as comprehension_tlv
-pub use Rattle.uicc_types.specs as uicc_types

@@ -5,9 +5,10 @@ ghost use Rattle.toolkit_commands.specs.Values.{choice_of, menu_read};
 ghost use Rattle.toolkit_commands.specs.Steps.{items_in};
 ghost use Rattle.toolkit_commands.specs.Counting.{counted, IsFirst};
 
+use crate::faults::ProactiveFault;
+use crate::items::Items;
 use crate::tags::ITEM;
 use crate::values::item_of;
-use crate::{Items, ProactiveFault};
 use comprehension_tlv::walk;
 
 /// All items of the list, at most 16.

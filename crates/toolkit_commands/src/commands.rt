@@ -1,7 +1,7 @@
 //! What the card can ask of the handset.
 ghost use Rattle.std.specs.Prelude.{◌≡◌, ◌↔◌, IsTrue};
 
-use crate::Items;
+use crate::items::Items;
 use uicc_types::{Octets, ShortText};
 
 /// A span of time, as a timer is given it.

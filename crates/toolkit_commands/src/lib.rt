@@ -1,7 +1,5 @@
 //! The vocabulary of the card toolkit (ETSI TS 102 223): proactive commands, terminal responses and envelopes, each
 //! with the one spelling that is written and the reader that takes any.
-//!
-//! It passes on words of the crates below, for those who stand on it.
 #![tactic(auto)]
 
 mod choices;
@@ -23,7 +21,6 @@ pub mod tones;
 mod values;
 
 pub use commands::{Details, Proactive, TimeValue};
-pub use comprehension_tlv::{TlvWriter, exact_reading, find, read_template};
 pub use envelopes::{BadEnvelope, Envelope, EnvelopeRef, read_envelope, read_envelope_in_place};
 pub use faults::ProactiveFault;
 pub use items::{Item, Items};
@@ -34,6 +31,3 @@ pub use numbering::renumber;
 pub use reading::{found_details, read_command, read_proactive};
 pub use responses::{Mismatch, Response, ResponseRef, read_response, read_response_in_place};
 pub use spelling::{TooLong, details_of, spell};
-pub use uicc_types::{
-    Answer, ApduBytes, ByteList, Full, Kept, Octets, OutOfMemory, Shelf, StatusWord, events,
-};

@@ -5,7 +5,7 @@ ghost use Rattle.toolkit_commands.specs.Reading.{proactive_of};
 ghost use Rattle.toolkit_commands.specs.Numbering.{place_of_number};
 ghost use Rattle.toolkit_commands.specs.declared.commands.Proactive.{Proactive as ACommand};
 
-use crate::Details;
+use crate::commands::Details;
 use uicc_types::{Full, Octets};
 
 /// What comes before a length of one byte that is no length by itself.

@@ -11,6 +11,8 @@ ghost use Rattle.toolkit_commands.specs.declared.commands.Details.{Details as AD
 ghost use Rattle.toolkit_commands.specs.declared.commands.Proactive.{Proactive as ACommand};
 
 use crate::choices::{choice_of, menu_of};
+use crate::commands::{Details, Proactive, TimeValue};
+use crate::faults::ProactiveFault;
 use crate::kinds::{
     DISPLAY_TEXT, GET_INKEY, GET_INPUT, IDLE_TEXT, LOCAL_INFORMATION, MORE_TIME, PLAY_TONE,
     POLL_INTERVAL, REFRESH, SELECT_ITEM, SET_UP_EVENT_LIST, SET_UP_MENU, TIMER_MANAGEMENT,
@@ -25,7 +27,6 @@ use crate::values::{
     is_sent_to, one_byte, seconds_of, short_text_of, text_of, three_bytes, time_of, timer_of,
     two_bytes,
 };
-use crate::{Details, Proactive, ProactiveFault, TimeValue};
 use comprehension_tlv::{find, read_template};
 use uicc_types::{Octets, ShortText};
 
@@ -299,7 +300,7 @@ fn details_and(content: &[u8], command: &mut Proactive) -> Result<Details, Proac
 
 /// Writes the command that the bytes are, and answers its details: the first object with each tag and all items count,
 /// whichever flags they have, and other objects are passed over. After a fault the command is any.
-#[tactic(auto, using(crate::proofs::Table::faulty_by_table))]
+#[tactic(auto, using(crate::proofs::ProactiveOfLemmas::faulty_by_table))]
 pub fn read_command(bytes: &[u8], command: &mut Proactive) -> Result<Details, ProactiveFault>
     requires { length bytes.now ≤ 256 }
     ensures exact { Tells result command.new (proactive_of bytes.now) }

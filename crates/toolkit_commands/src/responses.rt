@@ -6,7 +6,7 @@ ghost use Rattle.comprehension_tlv.specs.Seen.{object_of};
 ghost use Rattle.toolkit_commands.specs.Responses.{details_match, response_of, text_after};
 ghost use Rattle.toolkit_commands.specs.Replies.{replied, first_of, item_first_found, with_object, values_of, values_in, response_from};
 
-use crate::Details;
+use crate::commands::Details;
 use crate::tags::{COMMAND_DETAILS, ITEM_IDENTIFIER, RESULT, TEXT_STRING};
 use comprehension_tlv::{Part, TlvFault, walk};
 use uicc_types::Octets;

@@ -5,7 +5,9 @@ ghost use Rattle.toolkit_commands.specs.Reading.{proactive_of};
 ghost use Rattle.toolkit_commands.specs.Matching.{IsBounded};
 ghost use Rattle.toolkit_commands.specs.Putting.{Puts};
 
+use crate::commands::{Details, Proactive, TimeValue};
 use crate::devices::{CARD, DISPLAY, EARPIECE, TERMINAL};
+use crate::items::Item;
 use crate::kinds::{
     DISPLAY_TEXT, GET_INKEY, GET_INPUT, IDLE_TEXT, LOCAL_INFORMATION, MORE_TIME, PLAY_TONE,
     POLL_INTERVAL, REFRESH, SELECT_ITEM, SET_UP_EVENT_LIST, SET_UP_MENU, TIMER_MANAGEMENT,
@@ -15,7 +17,6 @@ use crate::tags::{
     ALPHA_IDENTIFIER, COMMAND_DETAILS, DEVICE_IDENTITIES, DURATION, EVENT_LIST, ITEM,
     PROACTIVE_COMMAND, RESPONSE_LENGTH, TEXT_STRING, TIMER_IDENTIFIER, TIMER_VALUE, TONE,
 };
-use crate::{Details, Item, Proactive, TimeValue};
 use comprehension_tlv::TlvWriter;
 use uicc_types::{Full, Octets};
 

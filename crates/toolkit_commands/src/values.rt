@@ -4,9 +4,11 @@ ghost use Rattle.toolkit_commands.specs.Values.{one_byte, two_bytes, three_bytes
 ghost use Rattle.toolkit_commands.specs.Steps.{Gives};
 ghost use Rattle.toolkit_commands.specs.Table.{IsWritable};
 
+use crate::commands::TimeValue;
 use crate::devices::CARD;
+use crate::faults::ProactiveFault;
+use crate::items::Item;
 use crate::qualifiers::{EIGHT_BITS, IN_SECONDS};
-use crate::{Item, ProactiveFault, TimeValue};
 use uicc_types::ShortText;
 
 pub fn one_byte(value: &[u8]) -> Result<u8, ProactiveFault>

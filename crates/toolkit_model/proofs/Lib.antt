@@ -1,28 +1,21 @@
-pub mod Asks
-pub mod Begins
-pub mod Consulted
-pub mod Ends
-pub mod EventLaws
-pub mod Fetches
-pub mod FreeTimers
-pub mod Inserted
-pub mod Kinded
-pub mod Late
-pub mod Logs
-pub mod Moving
-pub mod Ordered
-pub mod Orderlies
-pub mod Others
-pub mod Ready
-pub mod Replies
-pub mod Runs
-pub mod Settled
-pub mod Sounds
-pub mod Stepping
-pub mod StepsLemmas
-mod Worked
-pub mod WorkedProfiles
-mod WorkedRuns
-pub mod WorkedTimers
-pub use Rattle.card_layout.proofs as card_layout
-pub use Rattle.card_layout.proofs.uicc_types
+pub mod AreRowsLemmas
+pub mod AsksLemmas
+pub mod BegunLemmas
+pub mod CarriedLemmas
+pub mod CommandsLemmas
+pub mod DrivenLemmas
+pub mod DrivingLemmas
+pub mod FetchingLemmas
+pub mod FilledLemmas
+pub mod InstallationsAreAcceptedLemmas
+pub mod IsInOrderLemmas
+pub mod KindsLemmas
+pub mod LateTriggerLemmas
+pub mod LosesNothingLemmas
+pub mod MovedByLemmas
+pub mod ReachesWhoAskedLemmas
+pub mod RunOfRowLemmas
+pub mod RunOnLemmas
+pub mod SoundLemmas
+pub mod TriggerOrderLemmas
+mod worked

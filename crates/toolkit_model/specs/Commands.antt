@@ -2,20 +2,20 @@
 use Rattle.std.specs.Prelude.{ℕ, ◌-◌, Bool, true, false, not, ◌&&◌, ◌||◌, nat_lt, ◌==◌, if◌then◌else◌, List, [], ◌∷◌, length, map, filter, Option, Some, None}
 use Rattle.std.specs.Option.{option_map, option_to_list}
 use Rattle.std.specs.List.{filter_map, last_or, enumerate_from}
-use Rattle.card_layout.specs.uicc_types.declared.events.TheConstants.{USER_ACTIVITY, IDLE_SCREEN, PROFILE_DOWNLOAD, STATUS_COMMAND, MENU_SELECTION, TIMER_EXPIRATION, CALL_CONTROL}
-use Rattle.card_layout.specs.Persistent.{Registration}
-use Rattle.card_layout.specs.Sections.{has_text, with_row}
+use Rattle.uicc_types.specs.declared.events.TheConstants.{USER_ACTIVITY, IDLE_SCREEN, PROFILE_DOWNLOAD, STATUS_COMMAND, MENU_SELECTION, TIMER_EXPIRATION, CALL_CONTROL}
+use Rattle.card_state.specs.Persistent.{Registration}
+use Rattle.card_state.specs.Sections.{has_text, with_row}
 use Rattle.toolkit_commands.specs.Table.{details_of, spelled}
 use Rattle.toolkit_commands.specs.Responses.{response_of}
 use Rattle.toolkit_commands.specs.declared.envelopes.Envelope.{Envelope}
 use Rattle.toolkit_commands.specs.declared.envelopes.Envelope.TheVariants as Envelopes
 use Rattle.toolkit_commands.specs.declared.responses.Response.{Response as Reply}
-use Rattle.toolkit_model.specs.Profiles.{consulted}
+use Rattle.timer_table.specs.Timers.{Owners, owner_of, without}
+use Rattle.terminal_profile.specs.Profiles.{consulted}
 use Rattle.applet_trait.specs.declared.stimuli.Stimulus.TheVariants.{Response}
 use Rattle.applet_trait.specs.declared.stimuli.Act.{Act}
 use Rattle.applet_trait.specs.declared.stimuli.Act.TheVariants.{Answer}
 use Rattle.applet_trait.specs.Minds.{AppletState, fresh}
-use Rattle.toolkit_model.specs.Timers.{Owners, owner_of, without}
 use Rattle.toolkit_model.specs.Sessions.{Outstanding, SessionState, fresh_session}
 use Rattle.toolkit_model.specs.Orderly.{asks}
 use Rattle.toolkit_model.specs.Order.{targets}

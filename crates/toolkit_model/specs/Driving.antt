@@ -2,12 +2,12 @@
 use Rattle.std.specs.Prelude.{ℕ, zero, suc, Bool, true, false, not, ◌&&◌, nat_eq, ◌==◌, if◌then◌else◌, List, [], ◌∷◌, ◌++◌, length, codes, filter, Option, Some, None, option_map}
 use Rattle.std.specs.List.{list_any}
 use lib.Pointwise.{pointwise}
-use Rattle.card_layout.specs.uicc_types.declared.events.TheConstants.{MT_CALL, CALL_CONNECTED, CALL_DISCONNECTED, LOCATION_STATUS, USER_ACTIVITY, IDLE_SCREEN, LANGUAGE_SELECTION, DATA_AVAILABLE, CHANNEL_STATUS, STATUS_COMMAND}
-use Rattle.card_layout.specs.Persistent.{Registration}
+use Rattle.uicc_types.specs.declared.events.TheConstants.{MT_CALL, CALL_CONNECTED, CALL_DISCONNECTED, LOCATION_STATUS, USER_ACTIVITY, IDLE_SCREEN, LANGUAGE_SELECTION, DATA_AVAILABLE, CHANNEL_STATUS, STATUS_COMMAND}
+use Rattle.card_state.specs.Persistent.{Registration}
 use Rattle.toolkit_commands.specs.declared.items.Item.{Item}
 use Rattle.toolkit_commands.specs.declared.commands.Proactive.{Proactive}
 use Rattle.toolkit_commands.specs.declared.commands.Proactive.TheVariants.{PollInterval, SetUpEventList, SetUpMenu}
-use Rattle.toolkit_model.specs.Profiles.{allowed, allowed_event}
+use Rattle.terminal_profile.specs.Profiles.{allowed, allowed_event}
 use Rattle.applet_trait.specs.declared.stimuli.Stimulus.TheVariants.{Event}
 use Rattle.toolkit_model.specs.Sessions.{Outstanding, Sent, LateTrigger, Announced, SessionState}
 use Rattle.toolkit_model.specs.Orderly.{asks}

@@ -1,6 +1,6 @@
 -- What an INSTALL command that is not refused is to the toolkit.
 use Rattle.std.specs.Prelude.{◌≡◌, ℕ, ◌<◌, List, All, Option, Ok, option_map}
-use Rattle.card_layout.specs.Persistent.{Registration, Persistent}
+use Rattle.card_state.specs.Persistent.{Registration, Persistent}
 use Rattle.applet_trait.specs.Minds.{AppletState}
 use Rattle.toolkit_model.specs.Passing.{ToolkitState}
 use Rattle.toolkit_model.specs.Registry.{installed_row}

@@ -1,7 +1,7 @@
 -- The applet of each row is of the kind that the row says.
 use Rattle.std.specs.Prelude.{◌≡◌, false, List, All, Option, IfSome}
 use Rattle.std.specs.List.{list_any}
-use Rattle.card_layout.specs.Persistent.{Registration}
+use Rattle.card_state.specs.Persistent.{Registration}
 use Rattle.applet_trait.specs.Minds.{AppletState}
 use Rattle.toolkit_model.specs.Passing.{ToolkitState}
 use Rattle.toolkit_model.specs.Running.{mind_on}

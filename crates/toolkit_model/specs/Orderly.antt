@@ -1,6 +1,6 @@
 -- Which sessions a card may have, over the applets that are registered: between two commands, and within one.
 use Rattle.std.specs.Prelude.{◌≡◌, ◌≢◌, ℕ, ◌≤◌, List, [], ◌∷◌, ◌++◌, length, map, All, AllPairs, Contains, Option, Some, None, IfSome}
-use Rattle.card_layout.specs.Persistent.{Registration}
+use Rattle.card_state.specs.Persistent.{Registration}
 use Rattle.toolkit_commands.specs.declared.commands.Proactive.{Proactive}
 use Rattle.toolkit_commands.specs.Table.{IsProper, spelled}
 use Rattle.toolkit_model.specs.Sessions.{Outstanding, Sent, SessionState}

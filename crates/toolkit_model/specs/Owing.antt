@@ -1,7 +1,7 @@
 -- No event is lost: what envelopes gave an applet, what it was told of, and what is late for it.
 use Rattle.std.specs.Prelude.{◌≡◌, ℕ, Bool, true, false, not, ◌&&◌, ◌==◌, List, ◌++◌, filter, Option, Some, None}
 use Rattle.std.specs.List.{filter_map, list_any}
-use Rattle.card_layout.specs.uicc_types.declared.events.TheConstants.{PROFILE_DOWNLOAD, STATUS_COMMAND}
+use Rattle.uicc_types.specs.declared.events.TheConstants.{PROFILE_DOWNLOAD, STATUS_COMMAND}
 use Rattle.applet_trait.specs.declared.stimuli.Stimulus.{Stimulus}
 use Rattle.applet_trait.specs.declared.stimuli.Stimulus.TheVariants.{Event}
 use Rattle.toolkit_model.specs.Sessions.{LateTrigger}

@@ -1,7 +1,7 @@
 -- The toolkit of a card, and what is noted of it from one state to the next.
 use Rattle.std.specs.Prelude.{ℕ, Bool, List, [], ◌∷◌, ◌++◌, Option, Some, None}
 use Rattle.std.specs.List.{filter_map}
-use Rattle.card_layout.specs.Persistent.{Registration}
+use Rattle.card_state.specs.Persistent.{Registration}
 use Rattle.toolkit_commands.specs.declared.responses.Response.{Response}
 use Rattle.applet_trait.specs.declared.stimuli.Stimulus.{Stimulus}
 use Rattle.applet_trait.specs.declared.stimuli.Act.{Act}

@@ -2,9 +2,9 @@
 use Rattle.std.specs.Prelude.{ℕ, ◌+◌, Bool, true, false, not, ◌&&◌, ◌||◌, nat_le, ◌==◌, if◌then◌else◌, List, ◌∷◌, map, filter, find, count_by, Option, Some, None, Result, Ok, Err}
 use Rattle.std.specs.Option.{option_map_or}
 use Rattle.std.specs.List.{list_any}
-use Rattle.card_layout.specs.uicc_types.declared.events.TheConstants.{CALL_CONTROL}
-use Rattle.card_layout.specs.Persistent.{Registration, Persistent}
-use Rattle.card_layout.specs.Sections.{is_code, installation_of, needs_wide, has_text, is_call_control, sorted_codes, new_row}
+use Rattle.uicc_types.specs.declared.events.TheConstants.{CALL_CONTROL}
+use Rattle.card_state.specs.Persistent.{Registration, Persistent}
+use Rattle.card_state.specs.Sections.{is_code, installation_of, needs_wide, has_text, is_call_control, sorted_codes, new_row}
 use Rattle.toolkit_commands.specs.declared.items.Item.{Item}
 use Rattle.toolkit_model.specs.declared.faults.RowFault.{RowFault}
 use Rattle.toolkit_model.specs.declared.faults.RowFault.TheVariants.{BadData, NoBox, Narrow, Taken, MenuFull, Spent, NoRow, NotIdle}

@@ -1,12 +1,13 @@
 -- The run of an applet: it does act after act until it is done, sends a command, or did 32 of them.
 use Rattle.std.specs.Prelude.{ℕ, zero, suc, Bool, true, false, not, ◌&&◌, ◌||◌, nat_le, nat_lt, ◌+◌, ◌==◌, if◌then◌else◌, List, [], ◌∷◌, ◌++◌, length, slice_index_or, slice_set, Option, Some, None, is_some, Result, Ok, Err}
 use Rattle.std.specs.Option.{option_map_or}
-use Rattle.card_layout.specs.uicc_types.declared.events.TheConstants.{CALL_CONTROL}
-use Rattle.card_layout.specs.Persistent.{Registration}
+use Rattle.uicc_types.specs.declared.events.TheConstants.{CALL_CONTROL}
+use Rattle.card_state.specs.Persistent.{Registration}
 use Rattle.toolkit_commands.specs.declared.commands.Proactive.{Proactive}
 use Rattle.toolkit_commands.specs.declared.commands.Proactive.TheVariants.{Refresh, PollInterval, SetUpEventList, SetUpMenu, TimerManagement}
 use Rattle.toolkit_commands.specs.Table.{spelled}
-use Rattle.toolkit_model.specs.Profiles.{allowed}
+use Rattle.timer_table.specs.Timers.{Owners, owner_of, smallest_free, given_to, freed}
+use Rattle.terminal_profile.specs.Profiles.{allowed}
 use Rattle.applet_trait.specs.declared.numbers.TheConstants.{MOST_KEPT}
 use Rattle.applet_trait.specs.declared.stimuli.Stimulus.{Stimulus}
 use Rattle.applet_trait.specs.declared.stimuli.Stimulus.TheVariants.{Event, Went, Refused, Timer}
@@ -14,7 +15,6 @@ use Rattle.applet_trait.specs.declared.stimuli.Act.{Act}
 use Rattle.applet_trait.specs.declared.stimuli.Act.TheVariants.{Done, Send, Keep, Register, Deregister, TakeTimer, FreeTimer, Answer}
 use Rattle.applet_trait.specs.Minds.{AppletState, fresh}
 use Rattle.applet_trait.specs.Turns.{act}
-use Rattle.toolkit_model.specs.Timers.{Owners, owner_of, smallest_free, given_to, freed}
 use Rattle.toolkit_model.specs.declared.faults.RowFault.{RowFault}
 use Rattle.toolkit_model.specs.Sessions.{SessionState}
 use Rattle.toolkit_model.specs.Registry.{row_on, registers, deregisters, with_code, without_code, with_kept}

@@ -2,7 +2,7 @@
 use Rattle.std.specs.Prelude.{◌≡◌, ℕ, Bool, false, List, [], replicate, Option, None}
 use Rattle.toolkit_commands.specs.declared.commands.Proactive.{Proactive}
 use Rattle.toolkit_commands.specs.declared.items.Item.{Item}
-use Rattle.toolkit_model.specs.Timers.{Owners}
+use Rattle.timer_table.specs.Timers.{Owners}
 
 -- A command that the handset was told of and has not answered yet. Its owner is the shelf of the applet that sent it, or
 -- None where the card itself sent it. It is fetched once the handset took its bytes.

@@ -1,9 +1,9 @@
 -- What a card keeps of its toolkit, and what a step leaves of it.
 use Rattle.std.specs.Prelude.{◌≡◌, ℕ, ◌+◌, ◌≤◌, ◌<◌, Bool, List, length, All, AllPairs, count_by, Option, Ok, IfSome, IsSomeAnd}
-use Rattle.card_layout.specs.declared.sizes.TheConstants.{MENU_LIMIT}
-use Rattle.card_layout.specs.Persistent.{Registration, Persistent}
-use Rattle.card_layout.specs.Sections.{has_text}
-use Rattle.card_layout.specs.Soundness.{IsSoundRow, AreDifferent}
+use Rattle.card_state.specs.declared.sizes.TheConstants.{MENU_LIMIT}
+use Rattle.card_state.specs.Persistent.{Registration, Persistent}
+use Rattle.card_state.specs.Sections.{has_text}
+use Rattle.card_state.specs.Soundness.{IsSoundRow, AreDifferent}
 use Rattle.applet_trait.specs.Minds.{AppletState}
 use Rattle.toolkit_model.specs.Orderly.{IsOrderly}
 use Rattle.toolkit_model.specs.Passing.{ToolkitState, Passed, passed_rows}

@@ -1,7 +1,7 @@
 -- The commands that move a card's toolkit, and when each is accepted.
 use Rattle.std.specs.Prelude.{◌≡◌, ◌≢◌, ℕ, ◌≤◌, ◌<◌, true, false, List, [], ◌∷◌, length, All, AllPairs, count_by, Option, Some, is_some}
-use Rattle.card_layout.specs.Persistent.{Registration}
-use Rattle.card_layout.specs.Sections.{with_row, has_text}
+use Rattle.card_state.specs.Persistent.{Registration}
+use Rattle.card_state.specs.Sections.{with_row, has_text}
 use Rattle.toolkit_commands.specs.declared.envelopes.Envelope.{Envelope}
 use Rattle.toolkit_commands.specs.declared.responses.Response.{Response as Reply}
 use Rattle.applet_trait.specs.Minds.{AppletState}

@@ -1,6 +1,6 @@
 //! In which order applets are triggered.
 ghost use Rattle.std.specs.Prelude.{◌≡◌, ℕ, List, filter};
-ghost use Rattle.card_layout.specs.Persistent.{Registration};
+ghost use Rattle.card_state.specs.Persistent.{Registration};
 ghost use Rattle.toolkit_commands.specs.declared.envelopes.Envelope.{Envelope};
 ghost use Rattle.toolkit_model.specs.Orderly.{asks};
 ghost use Rattle.toolkit_model.specs.Order.{trigger_order, targets};

@@ -3,19 +3,21 @@
 #![tactic(auto)]
 
 ghost use Rattle.std.specs.Prelude.{◌≡◌, ◌≤◌, ◌↔◌, [], length, map, option_map};
+ghost use Rattle.card_state.specs.declared.sizes.TheConstants.{ROW_COUNT};
 ghost use Rattle.boxed_applets.specs.Casts.{program_boxes};
-ghost use Rattle.uicc_run.specs.card_layout.declared.sizes.TheConstants.{ROW_COUNT};
 ghost use Rattle.uicc_run.specs.Answering.{HasLoadedOnBench, HasRunOnBench, HasServed, KeepsToScripts, NameNoImage};
 ghost use Rattle.uicc_run.specs.Pages.{AsksForNone, words_of};
 ghost use Rattle.uicc_run.specs.Worlds.{outside};
 
+use applet_trait::Applet;
 use boxed_applets::{ProgramApplet, make_applets};
+use byte_streams::{InputSource, OutputSink, Sink, Source};
 use std::fs::File;
 use std::io::ErrorKind;
 use std::process::ExitCode;
 use std::rt::{Env, Files};
 use std::{env, io};
-use uicc_run::{Applet, Ending, InputSource, OutputSink, Sink, Source, answer, close};
+use uicc_run::{Ending, answer, close};
 
 /// The words of the command line could not be had.
 #[derive(Drop)]

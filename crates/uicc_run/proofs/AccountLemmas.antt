@@ -1,15 +1,15 @@
 -- What is told of lines behind others, and the run of the card that it is.
 use Rattle.std.proofs.Common.{◌≡◌, List, [], ◌∷◌, ◌++◌, Option, refl, sym, ap, ◌∙◌, append_assoc, subst, append-nil}
-use Rattle.card_core.specs.card_model.States.{Machine}
-use Rattle.card_steps.proofs.RunLaws.{run_one, run_then}
-use Rattle.card_steps.specs.Runs.{GoesOn}
-use Rattle.card_steps.specs.Tpdus.{CourseGives, steps_of}
-use Rattle.card_steps.specs.t0_link.Linking.{Answers, Course, Passes, link_answer}
+use Rattle.uicc_types.specs.declared.answers.Answer.{Answer}
+use Rattle.uicc_types.specs.declared.runs.Step.{Step}
+use Rattle.uicc_types.specs.declared.runs.Step.TheVariants as step
+use Rattle.uicc_types.specs.declared.runs.TraceItem.{TraceItem}
+use Rattle.t0_link.specs.Linking.{Answers, Course, Passes, link_answer}
+use Rattle.card_model.specs.States.{Machine}
+use Rattle.run_steps.proofs.GoesOnLemmas.{run_one, run_then}
+use Rattle.run_steps.specs.Runs.{GoesOn}
+use Rattle.run_steps.specs.Tpdus.{CourseGives, steps_of}
 use Rattle.uicc_run.specs.Accounts.{Account, AreTold, Deed, IsTold, Takes, Transfers, joined, nothing}
-use Rattle.update_journal.specs.uicc_types.declared.answers.Answer.{Answer}
-use Rattle.update_journal.specs.uicc_types.declared.runs.Step.{Step}
-use Rattle.update_journal.specs.uicc_types.declared.runs.Step.TheVariants as step
-use Rattle.update_journal.specs.uicc_types.declared.runs.TraceItem.{TraceItem}
 
 -- ---- accounts behind accounts
 

@@ -1,11 +1,11 @@
 -- What a run begins with by its mode.
 use Rattle.std.proofs.Common.{◌≡◌, ℕ, Some, sym, ap, ◌∙◌, subst, inl, inr, ◌⊎◌}
-use Rattle.card_core.specs.card_layout.Sections.{bare_card}
-use Rattle.run_words.specs.declared.requests.Mode.{Mode}
-use Rattle.run_words.specs.declared.requests.Mode.TheVariants.{Play, Open, Phone, Load, Bip}
-use Rattle.run_words.specs.declared.requests.Devices.{Devices}
-use Rattle.run_words.specs.declared.requests.Request.{Request}
-use Rattle.run_words.specs.declared.requests.Transport.{Transport}
+use Rattle.card_state.specs.Sections.{bare_card}
+use Rattle.command_line.specs.declared.requests.Mode.{Mode}
+use Rattle.command_line.specs.declared.requests.Mode.TheVariants.{Play, Open, Phone, Load, Bip}
+use Rattle.command_line.specs.declared.requests.Devices.{Devices}
+use Rattle.command_line.specs.declared.requests.Request.{Request}
+use Rattle.command_line.specs.declared.requests.Transport.{Transport}
 use Rattle.uicc_run.specs.Headline.{ReadsForCard, first_of}
 use Rattle.uicc_run.specs.Loading.{ComesToLoad}
 use Rattle.uicc_run.specs.Playing.{Given, Leaves}

@@ -1,20 +1,21 @@
 -- From the lines that are read behind `start` to what a run reads of its script.
 use Rattle.std.proofs.Common.{◌≡◌, ℕ, Bool, true, List, [], ◌∷◌, Option, Ok, sym, append_assoc, subst}
 use Rattle.std.proofs.lemmas.List.Elements.{All-nil}
-use Rattle.card_steps.specs.byte_streams.Lines.{lines_within}
-use Rattle.card_steps.specs.byte_streams.Reading.{pending}
-use Rattle.card_core.specs.card_layout.Persistent.{Persistent}
-use Rattle.card_core.specs.card_opening.declared.faults.OpenFault.{OpenFault}
-use Rattle.card_core.specs.card_opening.declared.faults.OpenFault.TheVariants as fault
-use Rattle.phone_runs.specs.card_sections.Behind.{EndsReading, IsReading, LinesReadTo}
-use Rattle.phone_runs.proofs.card_sections.BehindLemmas.{reads_first}
-use Rattle.phone_runs.specs.card_sections.Reading.{AtStart}
-use Rattle.phone_runs.specs.card_sections.Script.{AreRead, with_lines}
-use Rattle.phone_runs.specs.card_sections.declared.behind.PlayEnd.{PlayEnd}
-use Rattle.phone_runs.specs.card_sections.declared.behind.PlayEnd.TheVariants.{Finished, BadLine, ReadFailed, SinkFailed, ResetFailed}
-use Rattle.phone_runs.specs.card_sections.declared.script_reader.ScriptReader.{ScriptReader}
-use Rattle.card_steps.specs.script_form.declared.lines.ScriptLine.{ScriptLine}
-use Rattle.card_steps.specs.script_form.declared.lines.ScriptLine.TheVariants.{Start}
+use Rattle.byte_streams.specs.Lines.{lines_within}
+use Rattle.byte_streams.specs.Reading.{pending}
+use Rattle.script_form.specs.declared.lines.ScriptLine.{ScriptLine}
+use Rattle.script_form.specs.declared.lines.ScriptLine.TheVariants.{Start}
+use Rattle.script_reader.specs.Behind.{EndsReading, IsReading, LinesReadTo}
+use Rattle.script_reader.proofs.BehindLemmas.{reads_first}
+use Rattle.script_reader.specs.Said.{AreRead}
+use Rattle.script_reader.specs.declared.behind.PlayEnd.{PlayEnd}
+use Rattle.script_reader.specs.declared.behind.PlayEnd.TheVariants.{Finished, BadLine, ReadFailed, SinkFailed, ResetFailed}
+use Rattle.script_reader.specs.declared.reader.ScriptReader.{ScriptReader}
+use Rattle.card_state.specs.Persistent.{Persistent}
+use Rattle.card_core.specs.declared.opening_faults.OpenFault.{OpenFault}
+use Rattle.card_core.specs.declared.opening_faults.OpenFault.TheVariants as fault
+use Rattle.section_lines.specs.SectionReading.{AtStart}
+use Rattle.section_lines.specs.Script.{with_lines}
 use Rattle.uicc_run.specs.Opening.{ending_for}
 use Rattle.uicc_run.specs.Playing.{Given}
 use Rattle.uicc_run.specs.Reading.{EndsBehind, HasStarted, ReadsBehind, ReadsTo}

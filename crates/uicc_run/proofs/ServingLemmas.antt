@@ -2,22 +2,22 @@
 use Rattle.std.proofs.Common.{◌≡◌, ℕ, true, false, List, [], ◌∷◌, ◌++◌, reverse, Option, Some, None, refl, sym, ap, ◌∙◌, subst, append_assoc}
 use Rattle.std.proofs.lemmas.List.{append-nil, reverse-reverse}
 use Rattle.std.specs.List.{AllPass}
-use Rattle.card_steps.specs.byte_streams.Lines.{LineList}
-use Rattle.phone_runs.specs.card_sections.Behind.{StopsReading}
-use Rattle.phone_runs.specs.card_sections.Script.{AreRead}
-use Rattle.phone_runs.specs.card_sections.declared.behind.PlayEnd.{PlayEnd}
-use Rattle.phone_runs.specs.card_sections.declared.behind.PlayEnd.TheVariants.{Finished, BadLine, ReadFailed, SinkFailed, ResetFailed}
-use Rattle.phone_runs.specs.card_sections.declared.script_reader.ScriptReader.{ScriptReader}
-use Rattle.card_steps.specs.Stepping.{Moment}
-use Rattle.card_steps.specs.declared.steps.StepEnd.{StepEnd}
-use Rattle.card_steps.specs.declared.steps.StepEnd.TheVariants as step_end
-use Rattle.phone_runs.specs.handset_model.Legal.{IsLegal}
+use Rattle.byte_streams.specs.Lines.{LineList}
+use Rattle.script_form.specs.declared.lines.ScriptLine.{ScriptLine}
+use Rattle.script_form.specs.declared.lines.ScriptLine.TheVariants.{Start}
+use Rattle.script_reader.specs.Behind.{StopsReading}
+use Rattle.script_reader.specs.Said.{AreRead}
+use Rattle.script_reader.specs.declared.behind.PlayEnd.{PlayEnd}
+use Rattle.script_reader.specs.declared.behind.PlayEnd.TheVariants.{Finished, BadLine, ReadFailed, SinkFailed, ResetFailed}
+use Rattle.script_reader.specs.declared.reader.ScriptReader.{ScriptReader}
+use Rattle.handset_model.specs.Legal.{IsLegal}
+use Rattle.run_steps.specs.Stepping.{Moment}
+use Rattle.run_steps.specs.declared.steps.StepEnd.{StepEnd}
+use Rattle.run_steps.specs.declared.steps.StepEnd.TheVariants as step_end
 use Rattle.phone_runs.specs.Lines.{AreServed, PhoneComesTo, PhoneEnds, StandsAtStart, StopsAmid}
 use Rattle.phone_runs.specs.Effects.{phone_lines}
 use Rattle.phone_runs.specs.Laws.{EndsAreBegun, EndsAreOfTheCard, RunsAreLegal, RunsAreOfTheCard}
 use Rattle.phone_runs.specs.Logs.{PhoneLine, heard, trace}
-use Rattle.card_steps.specs.script_form.declared.lines.ScriptLine.{ScriptLine}
-use Rattle.card_steps.specs.script_form.declared.lines.ScriptLine.TheVariants.{Start}
 use Rattle.uicc_run.specs.Accounts.{nothing}
 use Rattle.uicc_run.specs.Opening.{IsStarted}
 use Rattle.uicc_run.specs.Playing.{Given, IsPlayed, IsPlaying, left_at}

@@ -1,25 +1,25 @@
 -- The numbers that the code and its definitions share by name, as the standards and the layout have them: a constant that becomes another
 -- number breaks a line here.
 use Rattle.std.proofs.Common.{◌≡◌, [], ◌∷◌, refl}
-use Rattle.update_journal.specs.uicc_types.declared.answers.TheConstants.StatusWord as status
-use Rattle.update_journal.specs.uicc_types.declared.identifiers.TheConstants.FileId as reserved
-use Rattle.update_journal.specs.uicc_types.declared.keys.TheConstants as key
-use Rattle.update_journal.specs.uicc_types.declared.events.TheConstants as event
-use Rattle.card_core.specs.card_layout.declared.kinds.TheConstants as file
-use Rattle.card_core.specs.card_layout.declared.sizes.TheConstants as bound
-use Rattle.card_core.specs.card_layout.declared.places.TheConstants as place
-use Rattle.card_core.specs.toolkit_commands.declared.tags.TheConstants as tag
-use Rattle.card_core.specs.toolkit_commands.declared.kinds.TheConstants as command
-use Rattle.card_core.specs.toolkit_commands.declared.results.TheConstants as general
-use Rattle.card_core.specs.toolkit_commands.declared.devices.TheConstants as device
-use Rattle.card_core.specs.toolkit_commands.declared.qualifiers.TheConstants as qualifier
-use Rattle.bip_runs.specs.bip_channels.declared.codes.TheConstants as channel
-use Rattle.card_steps.specs.t0_link.declared.instructions.TheConstants as fetched_by
-use Rattle.card_steps.specs.t0_link.declared.answers.TheConstants as over_t0
-use Rattle.update_journal.specs.store_form.declared.store.TheConstants as own
-use Rattle.update_journal.specs.store_form.declared.writes.TheConstants as most
+use Rattle.uicc_types.specs.declared.answers.TheConstants.StatusWord as status
+use Rattle.uicc_types.specs.declared.identifiers.TheConstants.FileId as reserved
+use Rattle.uicc_types.specs.declared.keys.TheConstants as key
+use Rattle.uicc_types.specs.declared.events.TheConstants as event
+use Rattle.t0_link.specs.declared.instructions.TheConstants as fetched_by
+use Rattle.t0_link.specs.declared.answers.TheConstants as over_t0
+use Rattle.store_form.specs.declared.store.TheConstants as own
+use Rattle.store_form.specs.declared.writes.TheConstants as most
 use Rattle.update_journal.specs.declared.steps.TheConstants as journal_at
 use Rattle.page_store.specs.declared.places.TheConstants as page
+use Rattle.card_state.specs.declared.kinds.TheConstants as file
+use Rattle.card_state.specs.declared.sizes.TheConstants as bound
+use Rattle.card_state.specs.declared.places.TheConstants as place
+use Rattle.toolkit_commands.specs.declared.tags.TheConstants as tag
+use Rattle.toolkit_commands.specs.declared.kinds.TheConstants as command
+use Rattle.toolkit_commands.specs.declared.results.TheConstants as general
+use Rattle.toolkit_commands.specs.declared.devices.TheConstants as device
+use Rattle.toolkit_commands.specs.declared.qualifiers.TheConstants as qualifier
+use Rattle.bip_channels.specs.declared.codes.TheConstants as channel
 
 -- status words (ISO 7816-4, 5.1.3; ETSI TS 102 221, 10.2.1)
 status_words : status.DONE.0 ∷ status.END_OF_FILE.0 ∷ status.FILE_DEACTIVATED.0 ∷ status.MEMORY_PROBLEM.0 ∷ status.WRONG_LENGTH.0 ∷ status.NO_SUCH_CHANNEL.0 ∷ status.NO_SECURE_MESSAGING.0 ∷ status.WRONG_STRUCTURE.0 ∷ status.SECURITY_NOT_SATISFIED.0 ∷ status.PIN_BLOCKED.0 ∷ status.PIN_DISABLED.0 ∷ status.CONDITIONS_NOT_SATISFIED.0 ∷ status.NO_CURRENT_FILE.0 ∷ status.WRONG_DATA.0 ∷ status.NO_FREE_CHANNEL.0 ∷ status.FILE_NOT_FOUND.0 ∷ status.RECORD_NOT_FOUND.0 ∷ status.NO_ROOM.0 ∷ status.WRONG_PARAMETERS.0 ∷ status.REFERENCE_NOT_FOUND.0 ∷ status.FILE_ALREADY_THERE.0 ∷ status.WRONG_OFFSET.0 ∷ status.NO_SUCH_INSTRUCTION.0 ∷ status.NO_SUCH_CLASS.0 ∷ status.TOOLKIT_BUSY.0 ∷ status.OVERFLOW.0 ∷ []

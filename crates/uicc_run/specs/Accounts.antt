@@ -1,18 +1,18 @@
 -- What the lines after `start` come to where they go to the card, with a T=0 link before it for those that are TPDUs: the steps that the
 -- card took, what it showed of its own, and what the trace shows.
 use Rattle.std.specs.Prelude.{◌≡◌, ℕ, List, [], ◌∷◌, ◌++◌, Option, None, count_by}
-use Rattle.card_core.specs.card_model.Counts.{is_cut, is_failure}
-use Rattle.card_core.specs.card_model.Runs.{StepGives, armed_after}
-use Rattle.card_core.specs.card_model.States.{Machine}
-use Rattle.card_steps.specs.Stepping.{BreaksOff}
-use Rattle.card_steps.specs.Tpdus.{BreaksOffTpdu, CourseGives, steps_of}
-use Rattle.card_steps.specs.Shown.{shown_for}
-use Rattle.card_steps.specs.t0_link.Linking.{link_answer}
-use Rattle.update_journal.specs.uicc_types.declared.answers.Answer.{Answer}
-use Rattle.update_journal.specs.uicc_types.declared.plans.Plan.{Plan}
-use Rattle.update_journal.specs.uicc_types.declared.runs.Step.{Step}
-use Rattle.update_journal.specs.uicc_types.declared.runs.Step.TheVariants as step
-use Rattle.update_journal.specs.uicc_types.declared.runs.TraceItem.{TraceItem}
+use Rattle.uicc_types.specs.declared.answers.Answer.{Answer}
+use Rattle.uicc_types.specs.declared.plans.Plan.{Plan}
+use Rattle.uicc_types.specs.declared.runs.Step.{Step}
+use Rattle.uicc_types.specs.declared.runs.Step.TheVariants as step
+use Rattle.uicc_types.specs.declared.runs.TraceItem.{TraceItem}
+use Rattle.t0_link.specs.Linking.{link_answer}
+use Rattle.card_model.specs.Counts.{is_cut, is_failure}
+use Rattle.card_model.specs.Runs.{StepGives, armed_after}
+use Rattle.card_model.specs.States.{Machine}
+use Rattle.run_steps.specs.Stepping.{BreaksOff}
+use Rattle.run_steps.specs.Tpdus.{BreaksOffTpdu, CourseGives, steps_of}
+use Rattle.run_steps.specs.Shown.{shown_for}
 
 -- what a line after `start` is for: a step of the card, or a TPDU for the link
 pub data Deed : Type 0 where

@@ -1,12 +1,13 @@
 -- What the program answers where its words ask for no page: what `run` says, over a device and boxes that are gone at the end.
 use Rattle.std.specs.Prelude.{◌≡◌, ◌≢◌, ◌⊎◌, ◌+◌, ◌≤◌, ℕ, List, [], Option, Some, None}
-use Rattle.card_core.specs.applet_trait.Minds.{AppletState}
-use Rattle.card_steps.specs.byte_streams.Lines.{LineList}
-use Rattle.card_steps.specs.byte_streams.Reading.{IsTaken}
-use Rattle.card_steps.specs.byte_streams.declared.limits.TheConstants.{MOST_BYTES}
-use Rattle.card_core.specs.card_layout.Persistent.{Persistent}
-use Rattle.run_words.specs.Model.{AskForRun, IsRequest}
-use Rattle.run_words.specs.declared.requests.Request.{Request}
+use Rattle.uicc_types.specs.Counts.{CountsFailure, Meter}
+use Rattle.byte_streams.specs.Lines.{LineList}
+use Rattle.byte_streams.specs.Reading.{IsTaken}
+use Rattle.byte_streams.specs.declared.limits.TheConstants.{MOST_BYTES}
+use Rattle.card_state.specs.Persistent.{Persistent}
+use Rattle.applet_trait.specs.Minds.{AppletState}
+use Rattle.command_line.specs.Model.{AskForRun, IsRequest}
+use Rattle.command_line.specs.declared.requests.Request.{Request}
 use Rattle.uicc_run.specs.Causes.{IsSeenCause}
 use Rattle.uicc_run.specs.Endings.{HasFailed, IsUnopened, status_for}
 use Rattle.uicc_run.specs.Headline.{Closes, Traces}
@@ -22,7 +23,6 @@ use Rattle.uicc_run.specs.Terminals.{AskForBip, TracesBip}
 use Rattle.uicc_run.specs.declared.endings.Ending.{Ending}
 use Rattle.uicc_run.specs.declared.endings.Ending.TheVariants.{Usage}
 use Rattle.uicc_run.specs.declared.pages.Page.{Page}
-use Rattle.update_journal.specs.uicc_types.Counts.{CountsFailure, Meter}
 
 -- the memory is that of the bench, which is gone at the end
 abbrev pub NameNoImage : List (List ℕ) → Type 0

@@ -1,15 +1,17 @@
 -- Why a run ends as it does, and what it leaves alone.
 use Rattle.std.specs.Prelude.{◌≡◌, ◌≢◌, ◌⊎◌, ◌≤◌, ◌+◌, ℕ, true, List, Option, Some, None, Ok, IfSome, is_some, length}
-use Rattle.card_steps.specs.byte_streams.Reading.{IsTaken}
-use Rattle.card_steps.specs.byte_streams.declared.limits.TheConstants.{MOST_BYTES}
-use Rattle.card_core.specs.card_layout.Persistent.{Persistent}
-use Rattle.card_core.specs.card_layout.Standing.{standing, stands_for}
-use Rattle.card_core.specs.card_layout.declared.sizes.TheConstants.{ROW_COUNT}
-use Rattle.phone_runs.specs.card_sections.declared.behind.PlayEnd.{PlayEnd}
-use Rattle.phone_runs.specs.card_sections.declared.behind.PlayEnd.TheVariants as play
-use Rattle.phone_runs.specs.layout_section.Laying.{KeepsFirstOr}
-use Rattle.run_words.specs.Model.{AskForRun}
-use Rattle.update_journal.specs.store_form.declared.store.Store.{Ghosts as StoreWords}
+use Rattle.uicc_types.specs.Counts.{Caused, CountsFailure, Meter, Rose}
+use Rattle.uicc_types.specs.Told.{Becomes}
+use Rattle.byte_streams.specs.Reading.{IsTaken}
+use Rattle.byte_streams.specs.declared.limits.TheConstants.{MOST_BYTES}
+use Rattle.script_reader.specs.declared.behind.PlayEnd.{PlayEnd}
+use Rattle.script_reader.specs.declared.behind.PlayEnd.TheVariants as play
+use Rattle.store_form.specs.declared.store.Store.{Ghosts as StoreWords}
+use Rattle.card_state.specs.Persistent.{Persistent}
+use Rattle.card_state.specs.Standing.{standing, stands_for}
+use Rattle.card_state.specs.declared.sizes.TheConstants.{ROW_COUNT}
+use Rattle.layout_section.specs.Laying.{KeepsFirstOr}
+use Rattle.command_line.specs.Model.{AskForRun}
 use Rattle.uicc_run.specs.Endings.{HasFailed, IsEarly, IsUnopened, IsUnshown, KeepsBytes, status_for}
 use Rattle.uicc_run.specs.Loading.{AskToLoad, ComesToLoad, HoldsFixed, LoadsFrom}
 use Rattle.uicc_run.specs.Playing.{Given}
@@ -21,8 +23,6 @@ use Rattle.uicc_run.specs.Stores.{IsSizeFor, content_in, held_in}
 use Rattle.uicc_run.specs.Unplanned.{IsQuiet}
 use Rattle.uicc_run.specs.declared.endings.Ending.{Ending}
 use Rattle.uicc_run.specs.declared.endings.Ending.TheVariants.{Usage, NoMemory, FormatFailed, Played}
-use Rattle.update_journal.specs.uicc_types.Counts.{Caused, CountsFailure, Meter, Rose}
-use Rattle.update_journal.specs.uicc_types.Told.{Becomes}
 
 -- A run with these words can be made over a device of so many bytes, if they are those of a run, and there is a shelf for each box.
 pub record FitsRun {B : Type 0} (words : List (List ℕ)) (byte_count : ℕ) (cast : List B) : Type 0 where

@@ -1,9 +1,9 @@
 -- What a section and the lines behind it determine: the trace, where nothing fails and no power is lost.
 use Rattle.std.specs.Prelude.{◌≡◌, ℕ, List, Option}
-use Rattle.phone_runs.specs.card_sections.declared.behind.PlayEnd.{PlayEnd}
-use Rattle.card_core.specs.card_laws.Faults.{ShowsNoCut, ShowsNoFailure}
+use Rattle.script_reader.specs.declared.behind.PlayEnd.{PlayEnd}
+use Rattle.card_laws.specs.Faults.{ShowsNoCut, ShowsNoFailure}
+use Rattle.long_runs.specs.declared.counts.Counts.{Counts}
 use Rattle.phone_runs.specs.Logs.{shown}
-use Rattle.phone_runs.specs.declared.counts.Counts.{Counts}
 use Rattle.uicc_run.specs.Loading.{Loads}
 use Rattle.uicc_run.specs.Playing.{EndsSo, Given, Leaves}
 use Rattle.uicc_run.specs.Serving.{EndsServing}

@@ -1,14 +1,14 @@
 -- The status and the last line of each end of a run.
 use Rattle.std.specs.Prelude.{◌≡◌, ◌⊎◌, ℕ, false, List, [], ◌∷◌, Option, Some, None}
-use Rattle.card_core.specs.card_layout.Persistent.{Persistent}
-use Rattle.phone_runs.specs.card_sections.declared.behind.PlayEnd.TheVariants as play
-use Rattle.phone_runs.specs.card_sections.declared.faults.ScriptFault.TheVariants as script
-use Rattle.card_steps.specs.script_form.declared.trace.TraceLine.{TraceLine}
-use Rattle.card_steps.specs.script_form.declared.trace.TraceLine.TheVariants as line
+use Rattle.uicc_types.specs.Counts.{Meter, Rose}
+use Rattle.script_form.specs.declared.trace.TraceLine.{TraceLine}
+use Rattle.script_form.specs.declared.trace.TraceLine.TheVariants as line
+use Rattle.script_reader.specs.declared.behind.PlayEnd.TheVariants as play
+use Rattle.script_reader.specs.declared.faults.ScriptFault.TheVariants as script
+use Rattle.card_state.specs.Persistent.{Persistent}
+use Rattle.long_runs.specs.declared.counts.Counts.{Counts}
 use Rattle.uicc_run.specs.declared.endings.Ending.{Ending}
 use Rattle.uicc_run.specs.declared.endings.Ending.TheVariants.{Usage, NoMemory, Section, FormatFailed, EepromFailed, NotACard, NoApplet, Played, Counted, LoadFailed}
-use Rattle.phone_runs.specs.declared.counts.Counts.{Counts}
-use Rattle.update_journal.specs.uicc_types.Counts.{Meter, Rose}
 
 -- the status that the program ends with
 abbrev pub status_for : Ending → ℕ

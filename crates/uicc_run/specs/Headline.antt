@@ -4,21 +4,23 @@ use Rattle.std.specs.List.{flat_map}
 use Rattle.std.specs.Io.KnownBytes.{append_known}
 use Rattle.std.specs.Result.{result_ok}
 use Rattle.std.specs.Prelude.{◌≡◌, ◌⊎◌, ℕ, Bool, List, [], ◌∷◌, ◌++◌, Option, Some, None, Result, Ok, Err}
-use Rattle.card_steps.specs.byte_streams.Streams.{TakesFront}
+use Rattle.uicc_types.specs.Told.{Becomes}
+use Rattle.byte_streams.specs.Streams.{TakesFront}
+use Rattle.byte_streams.specs.Lines.{LineList, lines}
+use Rattle.script_form.specs.Traces.{trace_text}
+use Rattle.script_form.specs.declared.lines.ScriptLine.{ScriptLine}
+use Rattle.script_form.specs.declared.lines.ScriptLine.TheVariants.{Start}
+use Rattle.script_reader.specs.Said.{AreRead}
+use Rattle.card_state.specs.Migration.{migrated}
+use Rattle.card_state.specs.Persistent.{Persistent}
+use Rattle.card_state.specs.Sections.{bare_card}
+use Rattle.card_model.specs.Counts.{IsCounted}
 use Rattle.card_core.specs.Openings.{with_all_shelves}
-use Rattle.card_core.specs.card_layout.Migration.{migrated}
-use Rattle.card_core.specs.card_layout.Persistent.{Persistent}
-use Rattle.card_core.specs.card_layout.Sections.{bare_card}
-use Rattle.card_core.specs.card_model.Counts.{IsCounted}
-use Rattle.card_core.specs.card_opening.Boxes.{IsFirstWithoutBox}
-use Rattle.phone_runs.specs.card_sections.Reading.{EndsInSection, IsTakenForLast}
-use Rattle.phone_runs.specs.card_sections.Script.{AreRead, with_lines}
-use Rattle.card_steps.specs.byte_streams.Lines.{LineList, lines}
-use Rattle.run_words.specs.declared.requests.Mode.{Mode}
-use Rattle.run_words.specs.declared.requests.Mode.TheVariants as mode
-use Rattle.card_steps.specs.script_form.Traces.{trace_text}
-use Rattle.card_steps.specs.script_form.declared.lines.ScriptLine.{ScriptLine}
-use Rattle.card_steps.specs.script_form.declared.lines.ScriptLine.TheVariants.{Start}
+use Rattle.card_core.specs.Boxes.{IsFirstWithoutBox}
+use Rattle.command_line.specs.declared.requests.Mode.{Mode}
+use Rattle.command_line.specs.declared.requests.Mode.TheVariants as mode
+use Rattle.section_lines.specs.SectionReading.{EndsInSection, IsTakenForLast}
+use Rattle.section_lines.specs.Script.{with_lines}
 use Rattle.uicc_run.specs.Endings.{line_for, status_for}
 use Rattle.uicc_run.specs.Listeners.{is_handset, listener_of}
 use Rattle.uicc_run.specs.Serving.{ComesTo}
@@ -26,7 +28,6 @@ use Rattle.uicc_run.specs.Playing.{Given, IsOpened, Leaves}
 use Rattle.uicc_run.specs.Unplanned.{IsUnplanned}
 use Rattle.uicc_run.specs.declared.endings.Ending.{Ending}
 use Rattle.uicc_run.specs.declared.endings.Ending.TheVariants.{Usage, NoMemory, Section, FormatFailed, EepromFailed, NotACard, NoApplet, Played, Counted, LoadFailed}
-use Rattle.update_journal.specs.uicc_types.Told.{Becomes}
 
 -- the card that the lines before `start` are added to: that with the MF alone, or none where a card is opened
 abbrev pub first_of : Mode → Option Persistent

@@ -20,6 +20,3 @@ pub mod Stores
 pub mod Terminals
 pub mod Unplanned
 pub mod Worlds
-pub use Rattle.card_core.specs.applet_trait
-pub use Rattle.card_core.specs.card_layout
-pub use Rattle.phone_runs.specs.handset_model

@@ -1,11 +1,11 @@
 -- To whom the lines after `start` go, and how a handset's commands come to the card.
 use Rattle.std.specs.Prelude.{◌≡◌, Bool, true, false, None}
-use Rattle.card_steps.specs.declared.carriers.Carrier.{Carrier}
-use Rattle.card_steps.specs.declared.carriers.Carrier.TheVariants as carrier
-use Rattle.run_words.specs.declared.requests.Mode.{Mode}
-use Rattle.run_words.specs.declared.requests.Mode.TheVariants as mode
-use Rattle.run_words.specs.declared.requests.Transport.{Transport}
-use Rattle.run_words.specs.declared.requests.Transport.TheVariants as transport
+use Rattle.command_line.specs.declared.requests.Mode.{Mode}
+use Rattle.command_line.specs.declared.requests.Mode.TheVariants as mode
+use Rattle.command_line.specs.declared.requests.Transport.{Transport}
+use Rattle.command_line.specs.declared.requests.Transport.TheVariants as transport
+use Rattle.run_steps.specs.declared.carriers.Carrier.{Carrier}
+use Rattle.run_steps.specs.declared.carriers.Carrier.TheVariants as carrier
 use Rattle.uicc_run.specs.declared.listeners.Listener.{Listener}
 use Rattle.uicc_run.specs.declared.listeners.Listener.TheVariants.{Card, Handset}
 

@@ -1,26 +1,26 @@
 -- A long run, in which a handset carries out lines that are made from a number: what it is given, and what it comes to.
 use Rattle.std.specs.Prelude.{◌≡◌, ℕ, List, [], Option, Some, Result, Ok, Err, IfSome}
-use Rattle.card_core.specs.applet_trait.Minds.{AppletState}
-use Rattle.card_core.specs.card_layout.Persistent.{Persistent}
-use Rattle.card_core.specs.card_layout.Sections.{bare_card}
-use Rattle.card_core.specs.card_layout.Standing.{stands_for}
-use Rattle.card_core.specs.card_model.Counts.{IsCounted}
-use Rattle.card_core.specs.card_model.Runs.{IsRun}
-use Rattle.phone_runs.specs.card_sections.Script.{with_lines}
-use Rattle.phone_runs.specs.card_sections.declared.faults.ScriptFault.TheVariants as script
-use Rattle.card_steps.specs.Stepping.{Moment}
-use Rattle.phone_runs.specs.handset_model.Legal.{IsLegal}
-use Rattle.phone_runs.specs.LoadLines.{made_lines}
-use Rattle.phone_runs.specs.FixedRows.{fixed_rows}
-use Rattle.phone_runs.specs.Rows.{IsFirstRefused}
+use Rattle.script_reader.specs.declared.faults.ScriptFault.TheVariants as script
+use Rattle.card_state.specs.Persistent.{Persistent}
+use Rattle.card_state.specs.Sections.{bare_card}
+use Rattle.card_state.specs.Standing.{stands_for}
+use Rattle.applet_trait.specs.Minds.{AppletState}
+use Rattle.card_model.specs.Counts.{IsCounted}
+use Rattle.card_model.specs.Runs.{IsRun}
+use Rattle.handset_model.specs.Legal.{IsLegal}
+use Rattle.command_line.specs.Model.{IsRequest}
+use Rattle.command_line.specs.declared.requests.Devices.{Devices}
+use Rattle.command_line.specs.declared.requests.Mode.TheVariants.{Load}
+use Rattle.section_lines.specs.Script.{with_lines}
+use Rattle.run_steps.specs.Stepping.{Moment}
+use Rattle.long_runs.specs.LoadLines.{made_lines}
+use Rattle.long_runs.specs.FixedRows.{fixed_rows}
+use Rattle.long_runs.specs.Rows.{IsFirstRefused}
+use Rattle.long_runs.specs.declared.counts.Counts.{Counts}
 use Rattle.phone_runs.specs.LoadRuns.{FailsAmid, IsCountedRun}
 use Rattle.phone_runs.specs.declared.counting.MemoryFailed.{MemoryFailed}
 use Rattle.phone_runs.specs.Logs.{shown, steps, trace}
 use Rattle.phone_runs.specs.Runs.{Beginning}
-use Rattle.run_words.specs.Model.{IsRequest}
-use Rattle.run_words.specs.declared.requests.Devices.{Devices}
-use Rattle.run_words.specs.declared.requests.Mode.TheVariants.{Load}
-use Rattle.phone_runs.specs.declared.counts.Counts.{Counts}
 use Rattle.uicc_run.specs.Headline.{Closes, IsMigratedAtMost}
 use Rattle.uicc_run.specs.Opening.{IsGiven}
 use Rattle.uicc_run.specs.Playing.{Given, Leaves}

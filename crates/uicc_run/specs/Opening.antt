@@ -1,19 +1,21 @@
 -- Where a run stands when `start` was read and the card is still to be opened.
 use Rattle.std.specs.Prelude.{◌≡◌, ℕ, Bool, List, [], Option, Some, None, Result, Ok, Err, IfSome}
-use Rattle.card_core.specs.applet_trait.Minds.{AppletState}
-use Rattle.card_core.specs.card_layout.Persistent.{Persistent}
-use Rattle.card_core.specs.card_layout.Standing.{stands_for}
-use Rattle.card_core.specs.card_model.Counts.{IsCounted}
-use Rattle.card_core.specs.card_opening.declared.faults.OpenFault.{OpenFault}
-use Rattle.card_core.specs.card_opening.declared.faults.OpenFault.TheVariants as fault
-use Rattle.card_steps.specs.byte_streams.Lines.{LineList}
-use Rattle.phone_runs.specs.card_sections.Reading.{AtStart, Follows}
-use Rattle.phone_runs.specs.card_sections.declared.script_reader.ScriptReader.{ScriptReader}
-use Rattle.card_steps.specs.Stepping.{Moment}
+use Rattle.uicc_types.specs.Counts.{Meter}
+use Rattle.byte_streams.specs.Lines.{LineList}
+use Rattle.script_form.specs.declared.lines.ScriptLine.{ScriptLine}
+use Rattle.script_reader.specs.Reading.{Follows}
+use Rattle.script_reader.specs.declared.reader.ScriptReader.{ScriptReader}
+use Rattle.card_state.specs.Persistent.{Persistent}
+use Rattle.card_state.specs.Standing.{stands_for}
+use Rattle.applet_trait.specs.Minds.{AppletState}
+use Rattle.card_model.specs.Counts.{IsCounted}
+use Rattle.card_core.specs.declared.opening_faults.OpenFault.{OpenFault}
+use Rattle.card_core.specs.declared.opening_faults.OpenFault.TheVariants as fault
+use Rattle.command_line.specs.Model.{IsRequest}
+use Rattle.command_line.specs.declared.requests.Request.{Request}
+use Rattle.section_lines.specs.SectionReading.{AtStart}
+use Rattle.run_steps.specs.Stepping.{Moment}
 use Rattle.phone_runs.specs.Playing.{Begins}
-use Rattle.run_words.specs.Model.{IsRequest}
-use Rattle.card_steps.specs.script_form.declared.lines.ScriptLine.{ScriptLine}
-use Rattle.run_words.specs.declared.requests.Request.{Request}
 use Rattle.uicc_run.specs.Headline.{ReadsForCard, first_of, is_served_by}
 use Rattle.uicc_run.specs.Listeners.{is_handset}
 use Rattle.uicc_run.specs.Playing.{Given, IsOpened, IsPlayed}
@@ -23,7 +25,6 @@ use Rattle.uicc_run.specs.Stores.{memory_in}
 use Rattle.uicc_run.specs.declared.endings.Ending.{Ending}
 use Rattle.uicc_run.specs.declared.endings.Ending.TheVariants.{NoMemory, EepromFailed, NotACard, NoApplet}
 use Rattle.uicc_run.specs.declared.listeners.Listener.{Listener}
-use Rattle.update_journal.specs.uicc_types.Counts.{Meter}
 
 -- What a run is given beside the script, read off the sink, the memory, its device and the boxes; the memory tells its bytes.
 pub record IsGiven (given : Given) (taken : Option (List ℕ)) (memory : Option (Result Persistent ℕ)) (meter : Meter) (boxes : List (Option AppletState)) : Type 0 where

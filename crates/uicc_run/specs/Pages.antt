@@ -1,12 +1,12 @@
 -- The pages that the program prints about itself in place of a run.
 use Rattle.std.specs.Prelude.{◌≡◌, ℕ, ◌⊎◌, List, [], ◌∷◌, Option, String, codes, drop, map, string_bytes}
 use Rattle.std.specs.Io.KnownBytes.{append_known}
-use Rattle.card_steps.specs.byte_streams.Streams.{TakesFront}
-use Rattle.run_words.specs.Model.{AskForRun}
+use Rattle.uicc_types.specs.Told.{Becomes}
+use Rattle.byte_streams.specs.Streams.{TakesFront}
+use Rattle.command_line.specs.Model.{AskForRun}
 use Rattle.uicc_run.specs.declared.pages.Page.{Page}
 use Rattle.uicc_run.specs.declared.pages.Page.TheVariants.{Help, Version}
 use Rattle.uicc_run.specs.declared.pages.TheConstants.{HELP, VERSION}
-use Rattle.update_journal.specs.uicc_types.Told.{Becomes}
 
 -- the words of a command line: all arguments but the first, which is the program's name
 abbrev pub words_of : {Z : Type 0} → List (String Z) → List (List ℕ)

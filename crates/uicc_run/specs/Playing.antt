@@ -1,33 +1,34 @@
 -- Where a run whose lines go to the card stands between two lines after `start`, and how it ends there.
 use Rattle.std.specs.List.{AllPass}
 use Rattle.std.specs.Prelude.{◌≡◌, ℕ, Bool, true, false, List, [], ◌∷◌, ◌++◌, Option, Some, None, Result, Ok, Err}
-use Rattle.card_core.specs.applet_trait.Minds.{AppletState}
-use Rattle.card_steps.specs.byte_streams.Lines.{LineList, lines}
-use Rattle.card_core.specs.card_layout.Persistent.{Persistent}
-use Rattle.card_core.specs.card_model.Counts.{IsCounted}
-use Rattle.card_core.specs.card_model.Runs.{IsRun, StepEnds, plan_given, armed_after, waiting_after}
-use Rattle.card_core.specs.card_model.States.{IsGood, Machine}
-use Rattle.phone_runs.specs.card_sections.Behind.{StopsReading}
-use Rattle.phone_runs.specs.card_sections.Reading.{Follows}
-use Rattle.phone_runs.specs.card_sections.Script.{AreRead, with_lines}
-use Rattle.phone_runs.specs.card_sections.declared.behind.PlayEnd.{PlayEnd}
-use Rattle.phone_runs.specs.card_sections.declared.behind.PlayEnd.TheVariants.{Finished, BadLine, ReadFailed, SinkFailed, ResetFailed}
-use Rattle.phone_runs.specs.card_sections.declared.script_reader.ScriptReader.{ScriptReader}
-use Rattle.card_steps.specs.script_form.Forms.{IsLine}
-use Rattle.card_steps.specs.script_form.Reads.{IsOnly}
-use Rattle.card_steps.specs.script_form.declared.lines.ScriptLine.{ScriptLine}
-use Rattle.card_steps.specs.script_form.declared.lines.ScriptLine.TheVariants.{Start}
-use Rattle.card_steps.specs.Runs.{ends_calm, text_of}
-use Rattle.card_steps.specs.Stepping.{IsCutOff, Moment}
+use Rattle.uicc_types.specs.Counts.{Meter}
+use Rattle.uicc_types.specs.declared.answers.Answer.{Answer}
+use Rattle.uicc_types.specs.declared.plans.Plan.{Plan}
+use Rattle.uicc_types.specs.declared.plans.TheConstants.Plan.{NONE}
+use Rattle.uicc_types.specs.declared.runs.Step.TheVariants as step
+use Rattle.uicc_types.specs.declared.runs.TraceItem.{TraceItem}
+use Rattle.byte_streams.specs.Lines.{LineList, lines}
+use Rattle.script_form.specs.Forms.{IsLine}
+use Rattle.script_form.specs.Reads.{IsOnly}
+use Rattle.script_form.specs.declared.lines.ScriptLine.{ScriptLine}
+use Rattle.script_form.specs.declared.lines.ScriptLine.TheVariants.{Start}
+use Rattle.script_reader.specs.Behind.{StopsReading}
+use Rattle.script_reader.specs.Reading.{Follows}
+use Rattle.script_reader.specs.Said.{AreRead}
+use Rattle.script_reader.specs.declared.behind.PlayEnd.{PlayEnd}
+use Rattle.script_reader.specs.declared.behind.PlayEnd.TheVariants.{Finished, BadLine, ReadFailed, SinkFailed, ResetFailed}
+use Rattle.script_reader.specs.declared.reader.ScriptReader.{ScriptReader}
+use Rattle.card_state.specs.Persistent.{Persistent}
+use Rattle.applet_trait.specs.Minds.{AppletState}
+use Rattle.card_model.specs.Counts.{IsCounted}
+use Rattle.card_model.specs.Runs.{IsRun, StepEnds, plan_given, armed_after, waiting_after}
+use Rattle.card_model.specs.States.{IsGood, Machine}
+use Rattle.section_lines.specs.Script.{with_lines}
+use Rattle.run_steps.specs.Runs.{ends_calm, text_of}
+use Rattle.run_steps.specs.Stepping.{IsCutOff, Moment}
 use Rattle.uicc_run.specs.Accounts.{Account, AreTold, BreaksOffDeed, Deed, ShowsAsMany, Takes}
 use Rattle.uicc_run.specs.Runs.{HasKindsOf, first_machine}
 use Rattle.uicc_run.specs.Steps.{deeds, deeds_of, may_stand}
-use Rattle.update_journal.specs.uicc_types.Counts.{Meter}
-use Rattle.update_journal.specs.uicc_types.declared.answers.Answer.{Answer}
-use Rattle.update_journal.specs.uicc_types.declared.plans.Plan.{Plan}
-use Rattle.update_journal.specs.uicc_types.declared.plans.TheConstants.Plan.{NONE}
-use Rattle.update_journal.specs.uicc_types.declared.runs.Step.TheVariants as step
-use Rattle.update_journal.specs.uicc_types.declared.runs.TraceItem.{TraceItem}
 
 -- What a run is given: the text of the script, what the sink has taken already, whether its store is the one whose pages move,
 -- the counts of the memory's device, what the memory stands for or the place of the first check that fails in it, the minds in

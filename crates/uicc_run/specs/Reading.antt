@@ -1,14 +1,15 @@
 -- Which lines of its script a run reads, and why no more of them, whatever its memory holds or tells.
 use Rattle.std.specs.List.{AllPass}
 use Rattle.std.specs.Prelude.{◌≡◌, ℕ, List, [], ◌∷◌, ◌++◌, Option, Ok}
-use Rattle.card_steps.specs.byte_streams.Lines.{LineList, lines}
-use Rattle.card_core.specs.card_layout.Persistent.{Persistent}
-use Rattle.phone_runs.specs.card_sections.Reading.{EndsInSection}
-use Rattle.phone_runs.specs.card_sections.Script.{AreRead, with_lines}
-use Rattle.phone_runs.specs.card_sections.declared.behind.PlayEnd.{PlayEnd}
-use Rattle.phone_runs.specs.card_sections.declared.behind.PlayEnd.TheVariants.{Finished, BadLine, ReadFailed, SinkFailed, ResetFailed}
-use Rattle.card_steps.specs.script_form.declared.lines.ScriptLine.{ScriptLine}
-use Rattle.card_steps.specs.script_form.declared.lines.ScriptLine.TheVariants.{Start}
+use Rattle.byte_streams.specs.Lines.{LineList, lines}
+use Rattle.script_form.specs.declared.lines.ScriptLine.{ScriptLine}
+use Rattle.script_form.specs.declared.lines.ScriptLine.TheVariants.{Start}
+use Rattle.script_reader.specs.Said.{AreRead}
+use Rattle.script_reader.specs.declared.behind.PlayEnd.{PlayEnd}
+use Rattle.script_reader.specs.declared.behind.PlayEnd.TheVariants.{Finished, BadLine, ReadFailed, SinkFailed, ResetFailed}
+use Rattle.card_state.specs.Persistent.{Persistent}
+use Rattle.section_lines.specs.SectionReading.{EndsInSection}
+use Rattle.section_lines.specs.Script.{with_lines}
 use Rattle.uicc_run.specs.Playing.{Given, StopsPlaying}
 use Rattle.uicc_run.specs.Steps.{may_stand}
 use Rattle.uicc_run.specs.declared.endings.Ending.{Ending}

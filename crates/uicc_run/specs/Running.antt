@@ -1,12 +1,13 @@
 -- What a run owes its caller, by its words, its status and what is seen of it before and behind it. Each field is a fact of its own.
 use Rattle.std.specs.Prelude.{◌≡◌, ◌⊎◌, ◌+◌, ◌≤◌, ℕ, List, [], Option, Some, true, is_some}
 use Rattle.std.specs.Io.KnownBytes.{append_known}
+use Rattle.uicc_types.specs.Counts.{CountsFailure, Rose}
+use Rattle.byte_streams.specs.Lines.{LineList}
+use Rattle.byte_streams.specs.Reading.{IsTaken}
+use Rattle.byte_streams.specs.declared.limits.TheConstants.{MOST_BYTES}
+use Rattle.card_state.specs.Persistent.{Persistent}
+use Rattle.command_line.specs.Model.{AskForRun}
 use Rattle.bip_runs.specs.Scripts.{IsFirstBadBip, IsGoodBip}
-use Rattle.card_steps.specs.byte_streams.Lines.{LineList}
-use Rattle.card_steps.specs.byte_streams.Reading.{IsTaken}
-use Rattle.card_steps.specs.byte_streams.declared.limits.TheConstants.{MOST_BYTES}
-use Rattle.card_core.specs.card_layout.Persistent.{Persistent}
-use Rattle.run_words.specs.Model.{AskForRun}
 use Rattle.uicc_run.specs.Causes.{IsCaused, IsLoadCaused}
 use Rattle.uicc_run.specs.Endings.{HasFailed, IsEarly, IsUnopened}
 use Rattle.uicc_run.specs.Headline.{Closes, Traces, last_text}
@@ -22,7 +23,6 @@ use Rattle.uicc_run.specs.Terminals.{AskForBip, IsUnbroken, TracesBip}
 use Rattle.uicc_run.specs.Unplanned.{IsUnplanned}
 use Rattle.uicc_run.specs.declared.endings.Ending.{Ending}
 use Rattle.uicc_run.specs.declared.endings.Ending.TheVariants.{Usage, EepromFailed}
-use Rattle.update_journal.specs.uicc_types.Counts.{CountsFailure, Rose}
 
 -- Over a memory that tells its bytes the trace is that of the abstract card, and the memory holds at the end what that card does.
 abbrev pub IsTraced : List (List ℕ) → ℕ → World → World → Type 0 → Type 0 → Type 0

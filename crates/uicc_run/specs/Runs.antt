@@ -1,11 +1,11 @@
 -- The card that a run begins with, and the boxes that are handed back.
 use Rattle.std.specs.Prelude.{◌≡◌, ℕ, List, Option, Some}
-use Rattle.card_core.specs.applet_trait.Minds.{AppletState}
+use Rattle.card_state.specs.Migration.{migrated}
+use Rattle.card_state.specs.Persistent.{Persistent}
+use Rattle.applet_trait.specs.Minds.{AppletState}
+use Rattle.card_model.specs.States.{Machine, powered, woken}
 use Rattle.card_core.specs.Openings.{with_all_shelves}
-use Rattle.card_core.specs.card_layout.Migration.{migrated}
-use Rattle.card_core.specs.card_layout.Persistent.{Persistent}
-use Rattle.card_core.specs.card_model.States.{Machine, powered, woken}
-use Rattle.phone_runs.specs.card_sections.Cast.{kind_of_box}
+use Rattle.section_lines.specs.Cast.{kind_of_box}
 
 -- The card that is opened over a store that stands for this, with these boxes: with power, as a reset leaves it. Where its files
 -- leave room for the rows of a wide card it has become one.

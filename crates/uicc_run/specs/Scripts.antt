@@ -1,28 +1,29 @@
 -- Which scripts are carried out to their end, and behind which lines the others stop.
 use Rattle.std.specs.List.{AllPass}
 use Rattle.std.specs.Prelude.{◌≡◌, ◌⊎◌, ℕ, ◌+◌, List, [], ◌∷◌, ◌++◌, All, length, Option, Some, None, IfSome, Ok, Err}
-use Rattle.card_steps.specs.byte_streams.Lines.{LineList, lines}
-use Rattle.card_steps.specs.byte_streams.Reading.{IsTakenFor}
+use Rattle.uicc_types.specs.Counts.{Rose}
+use Rattle.uicc_types.specs.Told.{Becomes}
+use Rattle.byte_streams.specs.Lines.{LineList, lines}
+use Rattle.byte_streams.specs.Reading.{IsTakenFor}
+use Rattle.script_form.specs.Traces.{trace_text}
+use Rattle.script_form.specs.declared.lines.ScriptLine.{ScriptLine}
+use Rattle.script_form.specs.declared.lines.ScriptLine.TheVariants.{Start}
+use Rattle.script_form.specs.declared.trace.TraceLine.{TraceLine}
+use Rattle.script_form.specs.declared.trace.TraceLine.TheVariants as line
+use Rattle.script_reader.specs.Behind.{IsBadBehind}
+use Rattle.script_reader.specs.Said.{Say}
+use Rattle.card_state.specs.Persistent.{Persistent}
+use Rattle.card_state.specs.Standing.{stands_for}
+use Rattle.layout_section.specs.Laying.{KeepsFirstOr}
+use Rattle.card_model.specs.States.{HasBox}
 use Rattle.card_core.specs.Openings.{with_all_shelves}
-use Rattle.card_core.specs.card_layout.Persistent.{Persistent}
-use Rattle.card_core.specs.card_layout.Standing.{stands_for}
-use Rattle.card_core.specs.card_model.States.{HasBox}
-use Rattle.card_core.specs.card_opening.Boxes.{IsFirstWithoutBox}
-use Rattle.phone_runs.specs.card_sections.Behind.{IsBadBehind}
-use Rattle.phone_runs.specs.card_sections.Reading.{IsBadHere, IsTooMuchHere}
-use Rattle.phone_runs.specs.card_sections.Script.{Say, with_lines}
-use Rattle.phone_runs.specs.layout_section.Laying.{KeepsFirstOr}
-use Rattle.card_steps.specs.script_form.Traces.{trace_text}
-use Rattle.card_steps.specs.script_form.declared.lines.ScriptLine.{ScriptLine}
-use Rattle.card_steps.specs.script_form.declared.lines.ScriptLine.TheVariants.{Start}
-use Rattle.card_steps.specs.script_form.declared.trace.TraceLine.{TraceLine}
-use Rattle.card_steps.specs.script_form.declared.trace.TraceLine.TheVariants as line
+use Rattle.card_core.specs.Boxes.{IsFirstWithoutBox}
+use Rattle.section_lines.specs.SectionReading.{IsBadHere, IsTooMuchHere}
+use Rattle.section_lines.specs.Script.{with_lines}
 use Rattle.uicc_run.specs.Playing.{Given}
 use Rattle.uicc_run.specs.Worlds.{Seen}
 use Rattle.uicc_run.specs.Steps.{may_stand}
 use Rattle.uicc_run.specs.Stores.{mark_of}
-use Rattle.update_journal.specs.uicc_types.Counts.{Rose}
-use Rattle.update_journal.specs.uicc_types.Told.{Becomes}
 
 -- These lines say what stands before `start` and behind it, each in its place; those before it describe this card, over the one
 -- that the run begins with.

@@ -1,26 +1,26 @@
 -- How a run ends whose lines after `start` go to a handset that serves the card.
 use Rattle.std.specs.Prelude.{◌≡◌, ◌⊎◌, ℕ, true, false, List, ◌++◌, Option, Some}
-use Rattle.card_steps.specs.byte_streams.Lines.{LineList, lines}
-use Rattle.card_core.specs.card_layout.Persistent.{Persistent}
-use Rattle.card_core.specs.card_model.Counts.{IsCounted}
-use Rattle.card_core.specs.card_model.Runs.{IsRun, plan_given}
-use Rattle.card_core.specs.card_model.States.{Machine}
-use Rattle.phone_runs.specs.card_sections.declared.behind.PlayEnd.{PlayEnd}
-use Rattle.phone_runs.specs.card_sections.declared.behind.PlayEnd.TheVariants.{Finished, BadLine, ReadFailed, SinkFailed, ResetFailed}
-use Rattle.card_steps.specs.Runs.{ends_calm}
-use Rattle.card_steps.specs.Stepping.{Moment}
-use Rattle.card_steps.specs.declared.steps.StepEnd.{StepEnd}
-use Rattle.card_steps.specs.declared.steps.StepEnd.TheVariants as step_end
-use Rattle.phone_runs.specs.handset_model.Legal.{IsLegal}
+use Rattle.byte_streams.specs.Lines.{LineList, lines}
+use Rattle.script_form.specs.declared.lines.ScriptLine.{ScriptLine}
+use Rattle.script_reader.specs.declared.behind.PlayEnd.{PlayEnd}
+use Rattle.script_reader.specs.declared.behind.PlayEnd.TheVariants.{Finished, BadLine, ReadFailed, SinkFailed, ResetFailed}
+use Rattle.card_state.specs.Persistent.{Persistent}
+use Rattle.card_model.specs.Counts.{IsCounted}
+use Rattle.card_model.specs.Runs.{IsRun, plan_given}
+use Rattle.card_model.specs.States.{Machine}
+use Rattle.handset_model.specs.Legal.{IsLegal}
+use Rattle.handset_model.specs.Rules.{asked}
+use Rattle.handset_model.specs.declared.known.Duty.TheVariants.{Rest}
+use Rattle.run_steps.specs.Runs.{ends_calm}
+use Rattle.run_steps.specs.Stepping.{Moment}
+use Rattle.run_steps.specs.declared.steps.StepEnd.{StepEnd}
+use Rattle.run_steps.specs.declared.steps.StepEnd.TheVariants as step_end
 use Rattle.phone_runs.specs.Lines.{told_back}
 use Rattle.phone_runs.specs.Effects.{phone_lines}
 use Rattle.phone_runs.specs.Laws.{EndIsOfTheCard, ShowsBegun}
-use Rattle.phone_runs.specs.handset_model.Rules.{asked}
-use Rattle.phone_runs.specs.handset_model.declared.known.Duty.TheVariants.{Rest}
 use Rattle.phone_runs.specs.Logs.{Event, heard, history, log_lines, shown, steps, trace}
 use Rattle.phone_runs.specs.Runs.{Beginning, RunEnds, IsPhoneRun}
 use Rattle.phone_runs.specs.Traces.{entries_text}
-use Rattle.card_steps.specs.script_form.declared.lines.ScriptLine.{ScriptLine}
 use Rattle.uicc_run.specs.Playing.{CardComesTo, Given, IsPlayed, Leaves, StopsPlaying, left_at}
 use Rattle.uicc_run.specs.Runs.{first_machine}
 

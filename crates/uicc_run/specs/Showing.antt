@@ -1,40 +1,40 @@
 -- What the lines after `start` show, whatever the card's memory tells: as in `Accounts` and `Playing`, with nothing said of
 -- the card itself but its power.
 use Rattle.std.specs.Prelude.{◌≡◌, ℕ, Bool, true, false, List, [], ◌∷◌, ◌++◌, Option, Some, None, Result, Ok, Err}
-use Rattle.card_steps.specs.byte_streams.Lines.{LineList, lines}
-use Rattle.card_core.specs.card_layout.Persistent.{Persistent}
-use Rattle.card_core.specs.card_model.Counts.{IsCounted}
-use Rattle.card_core.specs.card_model.Runs.{armed_after, plan_given, waiting_after}
-use Rattle.phone_runs.specs.card_sections.Reading.{Follows}
-use Rattle.phone_runs.specs.card_sections.Script.{with_lines}
-use Rattle.phone_runs.specs.card_sections.declared.behind.PlayEnd.{PlayEnd}
-use Rattle.phone_runs.specs.card_sections.declared.behind.PlayEnd.TheVariants.{Finished, BadLine, ReadFailed, SinkFailed, ResetFailed}
-use Rattle.phone_runs.specs.card_sections.declared.script_reader.ScriptReader.{ScriptReader}
-use Rattle.card_steps.specs.Runs.{text_of}
-use Rattle.card_steps.specs.Showing.{CourseShows, MayBreakOff, MayBreakOffTpdu, MayShowAll}
-use Rattle.card_steps.specs.Stepping.{IsCutOff, Moment}
-use Rattle.card_steps.specs.Tpdus.{steps_of}
-use Rattle.card_steps.specs.Shown.{shown_for}
+use Rattle.uicc_types.specs.Counts.{Meter}
+use Rattle.uicc_types.specs.declared.answers.Answer.{Answer}
+use Rattle.uicc_types.specs.declared.plans.Plan.{Plan}
+use Rattle.uicc_types.specs.declared.plans.TheConstants.Plan.{NONE}
+use Rattle.uicc_types.specs.declared.runs.Step.{Step}
+use Rattle.uicc_types.specs.declared.runs.Step.TheVariants as step
+use Rattle.uicc_types.specs.declared.runs.TraceItem.{TraceItem}
+use Rattle.uicc_types.specs.declared.runs.TraceItem.TheVariants as item
+use Rattle.t0_link.specs.Linking.{link_answer}
+use Rattle.byte_streams.specs.Lines.{LineList, lines}
+use Rattle.script_form.specs.Forms.{IsLine}
+use Rattle.script_form.specs.Reads.{IsOnly}
+use Rattle.script_form.specs.declared.lines.ScriptLine.{ScriptLine}
+use Rattle.script_form.specs.declared.lines.ScriptLine.TheVariants.{Start}
+use Rattle.script_reader.specs.Reading.{Follows}
+use Rattle.script_reader.specs.declared.behind.PlayEnd.{PlayEnd}
+use Rattle.script_reader.specs.declared.behind.PlayEnd.TheVariants.{Finished, BadLine, ReadFailed, SinkFailed, ResetFailed}
+use Rattle.script_reader.specs.declared.reader.ScriptReader.{ScriptReader}
+use Rattle.card_state.specs.Persistent.{Persistent}
+use Rattle.card_model.specs.Counts.{IsCounted}
+use Rattle.card_model.specs.Runs.{armed_after, plan_given, waiting_after}
+use Rattle.section_lines.specs.Script.{with_lines}
+use Rattle.run_steps.specs.Runs.{text_of}
+use Rattle.run_steps.specs.Showing.{CourseShows, MayBreakOff, MayBreakOffTpdu, MayShowAll}
+use Rattle.run_steps.specs.Stepping.{IsCutOff, Moment}
+use Rattle.run_steps.specs.Tpdus.{steps_of}
+use Rattle.run_steps.specs.Shown.{shown_for}
 use Rattle.phone_runs.specs.Showing.{PhoneShowsTo}
-use Rattle.card_steps.specs.script_form.Forms.{IsLine}
-use Rattle.card_steps.specs.script_form.Reads.{IsOnly}
-use Rattle.card_steps.specs.script_form.declared.lines.ScriptLine.{ScriptLine}
-use Rattle.card_steps.specs.script_form.declared.lines.ScriptLine.TheVariants.{Start}
-use Rattle.card_steps.specs.t0_link.Linking.{link_answer}
 use Rattle.uicc_run.specs.Accounts.{Account, Deed, ShowsAsMany, Takes, Transfers, joined, kept_behind, nothing}
 use Rattle.uicc_run.specs.Playing.{Given, StopsPlaying}
 use Rattle.uicc_run.specs.Reading.{AreReadInPlace}
 use Rattle.uicc_run.specs.Steps.{deeds, deeds_of}
 use Rattle.uicc_run.specs.declared.endings.Ending.{Ending}
 use Rattle.uicc_run.specs.declared.endings.Ending.TheVariants.{Usage, NoMemory, Section, FormatFailed, EepromFailed, NotACard, NoApplet, Played, Counted, LoadFailed}
-use Rattle.update_journal.specs.uicc_types.Counts.{Meter}
-use Rattle.update_journal.specs.uicc_types.declared.answers.Answer.{Answer}
-use Rattle.update_journal.specs.uicc_types.declared.plans.Plan.{Plan}
-use Rattle.update_journal.specs.uicc_types.declared.plans.TheConstants.Plan.{NONE}
-use Rattle.update_journal.specs.uicc_types.declared.runs.Step.{Step}
-use Rattle.update_journal.specs.uicc_types.declared.runs.Step.TheVariants as step
-use Rattle.update_journal.specs.uicc_types.declared.runs.TraceItem.{TraceItem}
-use Rattle.update_journal.specs.uicc_types.declared.runs.TraceItem.TheVariants as item
 
 -- ---- one line after the other
 

@@ -1,16 +1,16 @@
 -- What the lines after `start` are for the card and the link before it.
 use Rattle.std.specs.List.{flat_map}
 use Rattle.std.specs.Prelude.{◌≡◌, ◌≤◌, Bool, true, false, List, [], ◌∷◌, length, Some}
-use Rattle.card_steps.specs.Moves.{IsShort, step_of}
+use Rattle.uicc_types.specs.declared.byte_lists.TheConstants.{LONGEST_COMMAND}
+use Rattle.uicc_types.specs.declared.plans.TheConstants.Plan.{NONE}
+use Rattle.uicc_types.specs.declared.runs.Step.TheVariants as step
+use Rattle.script_form.specs.declared.lines.ScriptLine.{ScriptLine}
+use Rattle.script_form.specs.declared.lines.ScriptLine.TheVariants.{Passed, Start, Reset, Df, Transparent, Linear, Cyclic, Fill, Rec, Pin, Row, Apdu, Tpdu, Cut, Fail, ReadFail, Handset, Cmd, Echo, Lose}
+use Rattle.run_steps.specs.Moves.{IsShort, step_of}
 use Rattle.phone_runs.specs.Effects.{may_be_heard}
-use Rattle.card_steps.specs.script_form.declared.lines.ScriptLine.{ScriptLine}
-use Rattle.card_steps.specs.script_form.declared.lines.ScriptLine.TheVariants.{Passed, Start, Reset, Df, Transparent, Linear, Cyclic, Fill, Rec, Pin, Row, Apdu, Tpdu, Cut, Fail, ReadFail, Handset, Cmd, Echo, Lose}
 use Rattle.uicc_run.specs.Accounts.{Deed, Takes, Transfers}
 use Rattle.uicc_run.specs.declared.effects.Effect.{Effect}
 use Rattle.uicc_run.specs.declared.effects.Effect.TheVariants as effect
-use Rattle.update_journal.specs.uicc_types.declared.byte_lists.TheConstants.{LONGEST_COMMAND}
-use Rattle.update_journal.specs.uicc_types.declared.plans.TheConstants.Plan.{NONE}
-use Rattle.update_journal.specs.uicc_types.declared.runs.Step.TheVariants as step
 
 -- whether a line may stand after `start`
 abbrev pub may_follow : ScriptLine → Bool

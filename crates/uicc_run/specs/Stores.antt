@@ -1,13 +1,13 @@
 -- The two stores that a run can be made over: the one whose pages move, and the journal.
 use Rattle.std.specs.Prelude.{◌≡◌, ℕ, Bool, true, false, List, Option, Result, option_map}
-use Rattle.card_core.specs.card_layout.Persistent.{Persistent}
-use Rattle.card_core.specs.card_layout.Places.{memory_size}
-use Rattle.card_core.specs.card_layout.Standing.{standing, stands_for}
+use Rattle.update_journal.specs.Journal.{stable}
 use Rattle.page_store.specs.Pages.{content}
 use Rattle.page_store.specs.declared.places.TheConstants.{DEVICE_SIZE}
-use Rattle.run_words.specs.Model.{IsRequest}
-use Rattle.run_words.specs.declared.requests.Request.{Request}
-use Rattle.update_journal.specs.Journal.{stable}
+use Rattle.card_state.specs.Persistent.{Persistent}
+use Rattle.card_state.specs.Places.{memory_size}
+use Rattle.card_state.specs.Standing.{standing, stands_for}
+use Rattle.command_line.specs.Model.{IsRequest}
+use Rattle.command_line.specs.declared.requests.Request.{Request}
 
 -- how many bytes its device has
 abbrev pub size_of : Bool → ℕ

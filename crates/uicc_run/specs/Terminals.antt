@@ -1,15 +1,15 @@
 -- The run of a terminal's channels: what it comes to, and when it comes to its end. No card is made or opened for it.
 use Rattle.std.specs.Prelude.{◌≡◌, ◌≤◌, ℕ, List, Option, Some}
+use Rattle.uicc_types.specs.Counts.{Rose}
+use Rattle.command_line.specs.Model.{IsRequest}
+use Rattle.command_line.specs.declared.requests.Devices.{Devices}
+use Rattle.command_line.specs.declared.requests.Mode.TheVariants.{Bip}
 use Rattle.bip_runs.specs.Serving.{BipComesTo}
-use Rattle.run_words.specs.Model.{IsRequest}
-use Rattle.run_words.specs.declared.requests.Devices.{Devices}
-use Rattle.run_words.specs.declared.requests.Mode.TheVariants.{Bip}
 use Rattle.uicc_run.specs.Endings.{status_for}
 use Rattle.uicc_run.specs.Headline.{Closes}
 use Rattle.uicc_run.specs.Worlds.{World, Seen}
 use Rattle.uicc_run.specs.declared.endings.Ending.{Ending}
 use Rattle.uicc_run.specs.declared.endings.Ending.TheVariants.{Usage, NoMemory, Section, FormatFailed, EepromFailed, NotACard, NoApplet, Played, Counted, LoadFailed}
-use Rattle.update_journal.specs.uicc_types.Counts.{Rose}
 
 -- the words ask for it
 abbrev pub AskForBip : List (List ℕ) → Type 0

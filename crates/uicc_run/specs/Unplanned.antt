@@ -1,8 +1,8 @@
 -- What a run leaves of the counts of its memory's device where no card was opened.
 use Rattle.std.specs.Prelude.{◌≡◌, ◌≤◌}
+use Rattle.uicc_types.specs.Counts.{Meter}
+use Rattle.uicc_types.specs.declared.plans.TheConstants.Plan.{NONE}
 use Rattle.uicc_run.specs.Worlds.{World}
-use Rattle.update_journal.specs.uicc_types.Counts.{Meter}
-use Rattle.update_journal.specs.uicc_types.declared.plans.TheConstants.Plan.{NONE}
 
 -- The device was given no plan, and no count fell. Nothing is shown of a fault that was met: the end of the run tells it.
 pub record IsUnplanned (old new : Meter) : Type 0 where

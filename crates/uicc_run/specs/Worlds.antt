@@ -1,16 +1,16 @@
 -- What is seen of a run from outside, at its beginning and at its end: plain values of its source, its sink, its memory and its boxes.
 use Rattle.std.specs.Prelude.{ℕ, Bool, List, Option, Some, None}
-use Rattle.card_core.specs.applet_trait.Minds.{AppletState, minds_of}
-use Rattle.card_core.specs.applet_trait.declared.applets.Applet.{Ghosts as AppletWords}
-use Rattle.card_steps.specs.byte_streams.declared.streams.Sink.{Ghosts as SinkWords}
-use Rattle.card_steps.specs.byte_streams.declared.streams.Source.{Ghosts as SourceWords}
-use Rattle.card_core.specs.card_layout.Standing.{standing}
-use Rattle.update_journal.specs.eeprom_model.Bench.{new_bench}
-use Rattle.update_journal.specs.eeprom_model.declared.device.Eeprom.{Ghosts as EepromWords}
-use Rattle.update_journal.specs.store_form.declared.store.Store.{Ghosts as StoreWords}
+use Rattle.uicc_types.specs.Counts.{Meter}
+use Rattle.byte_streams.specs.declared.streams.Sink.{Ghosts as SinkWords}
+use Rattle.byte_streams.specs.declared.streams.Source.{Ghosts as SourceWords}
+use Rattle.eeprom_model.specs.Bench.{new_bench}
+use Rattle.eeprom_model.specs.declared.device.Eeprom.{Ghosts as EepromWords}
+use Rattle.store_form.specs.declared.store.Store.{Ghosts as StoreWords}
+use Rattle.card_state.specs.Standing.{standing}
+use Rattle.applet_trait.specs.Minds.{AppletState, minds_of}
+use Rattle.applet_trait.specs.declared.applets.Applet.{Ghosts as AppletWords}
 use Rattle.uicc_run.specs.Playing.{Leaves}
 use Rattle.uicc_run.specs.Stores.{held_in}
-use Rattle.update_journal.specs.uicc_types.Counts.{Meter}
 
 pub record World : Type 0 where
   -- what the source has left to give, where it tells, and the faults that it counted

@@ -1,9 +1,9 @@
 //! What the program answers to the words of its command line.
 ghost use Rattle.std.specs.Prelude.{◌≡◌, ◌≤◌, ℕ, [], Some, None, true, length, map, option_map, slice_get, string_bytes};
-ghost use Rattle.card_core.specs.card_layout.declared.sizes.TheConstants.{ROW_COUNT};
-ghost use Rattle.card_core.specs.applet_trait.Minds.{minds_of};
-ghost use Rattle.run_words.specs.Model.{AskForRun, IsMadeFor};
-ghost use Rattle.card_steps.specs.script_form.Reads.{IsOnly};
+ghost use Rattle.script_form.specs.Reads.{IsOnly};
+ghost use Rattle.card_state.specs.declared.sizes.TheConstants.{ROW_COUNT};
+ghost use Rattle.applet_trait.specs.Minds.{minds_of};
+ghost use Rattle.command_line.specs.Model.{AskForRun, IsMadeFor};
 ghost use Rattle.uicc_run.specs.Answering.{HasLoadedOnBench, HasLoadedOver, HasOuterCauses, HasRunOnBench, HasRunOver, HasServed, HasUsedCauses, IsUsage, KeepsToScripts, NameNoImage, RefusesUseless, ShowsPages};
 ghost use Rattle.uicc_run.specs.Causes.{FitsRun};
 ghost use Rattle.uicc_run.specs.Pages.{AsksForNone, words_of};
@@ -14,14 +14,15 @@ use crate::endings::Ending;
 use crate::images::{image_file, use_of};
 use crate::pages::{Page, page_of, show};
 use crate::running::{close, run};
-use card_core::{Applet, MEMORY_SIZE};
-use card_steps::{Sink, Source};
+use applet_trait::Applet;
+use byte_streams::{Sink, Source};
+use card_state::places::MEMORY_SIZE;
+use command_line::{Devices, devices};
+use eeprom_model::{BenchEeprom, Eeprom, FileEeprom};
 use page_store::DEVICE_SIZE;
-use run_words::{Devices, devices};
 use std::alloc::Global;
 use std::fs::File;
 use std::rt::Files;
-use update_journal::{BenchEeprom, Eeprom, FileEeprom};
 
 /// Answers `--help` and `--version`, each alone behind the program's name, with their pages, and has all other words run, with the
 /// boxes of the applets on their shelves.

@@ -1,7 +1,8 @@
 //! What a line after `start` does.
 ghost use Rattle.uicc_run.specs.Steps.{IsEffect};
 
-use card_steps::{Move, ScriptLine};
+use run_steps::Move;
+use script_form::ScriptLine;
 use uicc_types::Plan;
 
 /// What a line after `start` is for the card.

@@ -3,8 +3,9 @@ ghost use Rattle.std.specs.Prelude.{◌≡◌};
 ghost use Rattle.std.specs.Option.{option_to_list};
 ghost use Rattle.uicc_run.specs.Endings.{line_for, line_of_counts, status_for};
 
-use card_steps::TraceLine;
-use phone_runs::{Counts, PlayEnd, ScriptFault};
+use long_runs::Counts;
+use script_form::TraceLine;
+use script_reader::{PlayEnd, ScriptFault};
 
 /// Why a run ended.
 #[derive(Clone, Copy, Debug, PartialEq, Eq)]

@@ -1,9 +1,9 @@
 //! The file of an image, and what is told of it.
 
+use eeprom_model::{Image, open_image};
 use std::fs::File;
 use std::io::{Error, ErrorKind};
 use std::rt::Files;
-use update_journal::{Image, open_image};
 
 /// Whether the card is made anew or is the one that the file holds.
 #[derive(Clone, Copy, Debug, PartialEq, Eq)]

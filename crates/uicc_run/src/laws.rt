@@ -1,7 +1,7 @@
 //! Laws of whole runs. The functions do nothing: each one's contract is the law.
 ghost use Rattle.uicc_run.specs.Determined.{LoadsAreOne, ServedTracesAreOne, TracesAreOne};
 
-use card_core::runs_are_one;
+use card_laws::runs_are_one;
 use phone_runs::phone_runs_are_one;
 
 /// Two runs of the same section and the same lines behind `start`, without a handset, in which no memory fails and no power is lost,

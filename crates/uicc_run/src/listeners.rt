@@ -2,8 +2,9 @@
 ghost use Rattle.std.specs.Prelude.{◌≡◌};
 ghost use Rattle.uicc_run.specs.Listeners.{IsCarrierBy, listener_of};
 
-use card_steps::{Carrier, Link};
-use run_words::{Mode, Transport};
+use command_line::{Mode, Transport};
+use run_steps::Carrier;
+use t0_link::Link;
 
 /// To whom the lines after `start` go.
 #[derive(Clone, Copy, Debug, PartialEq, Eq)]

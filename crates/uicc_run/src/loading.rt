@@ -1,10 +1,10 @@
 //! A long run: a handset carries out lines that are made from a number, and what it did is counted.
 ghost use Rattle.std.specs.Prelude.{◌≡◌, ◌⊎◌, [], ℕ, List, Option, Some, Ok, option_map, IfSome};
-ghost use Rattle.card_core.specs.card_layout.Persistent.{Persistent};
-ghost use Rattle.card_core.specs.card_layout.Places.{memory_size};
-ghost use Rattle.card_core.specs.card_layout.Standing.{standing, stands_for};
-ghost use Rattle.card_core.specs.card_model.Counts.{IsCounted};
-ghost use Rattle.card_core.specs.applet_trait.Minds.{minds_of};
+ghost use Rattle.card_state.specs.Persistent.{Persistent};
+ghost use Rattle.card_state.specs.Places.{memory_size};
+ghost use Rattle.card_state.specs.Standing.{standing, stands_for};
+ghost use Rattle.applet_trait.specs.Minds.{minds_of};
+ghost use Rattle.card_model.specs.Counts.{IsCounted};
 ghost use Rattle.uicc_run.specs.Causes.{EndsLoad, FitsStore};
 ghost use Rattle.uicc_run.specs.Loading.{ComesToLoad, HoldsFixed, IsFixedCard, ending_for_load};
 ghost use Rattle.uicc_run.specs.Opening.{IsGiven};
@@ -13,16 +13,20 @@ ghost use Rattle.uicc_run.specs.Stores.{content_in, held_in, mark_of, memory_in,
 
 use crate::endings::Ending;
 use crate::running::ending_of;
-use card_core::{Applet, CardOver, runs_are_counted};
-use card_steps::CardEnd;
+use applet_trait::Applet;
+use card_core::CardOver;
+use card_model::runs_are_counted;
+use eeprom_model::Eeprom;
+use layout_section::{Section, format};
+use long_runs::{Counts, describe_rows};
 use page_store::PageStore;
-use phone_runs::{
-    Counts, MemoryFailed, PlayEnd, ScriptFault, Section, count_lines, describe_rows, format,
-    phone_runs_are_lawful,
-};
+use phone_runs::{MemoryFailed, count_lines, phone_runs_are_lawful};
+use run_steps::CardEnd;
+use script_reader::{PlayEnd, ScriptFault};
 use std::alloc::Global;
+use store_form::Store;
 use uicc_types::Plan;
-use update_journal::{Eeprom, Journal, Store};
+use update_journal::Journal;
 
 /// Makes the card of a long run, and has a handset carry out `count` lines that are made from the number `start`.
 pub fn load<E: Eeprom, B: Applet>(

@@ -1,10 +1,10 @@
 //! The pages that the program prints about itself.
 ghost use Rattle.std.specs.Prelude.{◌≡◌, map, string_bytes};
-ghost use Rattle.card_steps.specs.script_form.Reads.{Reads};
+ghost use Rattle.uicc_types.specs.Counts.{CountsFailure};
+ghost use Rattle.script_form.specs.Reads.{Reads};
 ghost use Rattle.uicc_run.specs.Pages.{AsksFor, IsPageWord, Shows, page_text};
-ghost use Rattle.update_journal.specs.uicc_types.Counts.{CountsFailure};
 
-use card_steps::{Failed, Sink};
+use byte_streams::{Failed, Sink};
 
 /// A page that the program prints in place of a run.
 #[derive(Clone, Copy, Debug, PartialEq, Eq)]

@@ -1,11 +1,13 @@
 //! The rest of a script: what is done to the card, line by line.
 ghost use Rattle.std.specs.Prelude.{◌≡◌, ◌<◌, List, ℕ, None, Err, OnOk, true, false};
-ghost use Rattle.card_steps.specs.byte_streams.Reading.{IsWithin};
-ghost use Rattle.phone_runs.specs.card_sections.Behind.{GivesRead, IsReading, LinesReadTo};
-ghost use Rattle.phone_runs.specs.card_sections.Reading.{reading, room_of};
-ghost use Rattle.card_steps.specs.Ends.{moment_at};
-ghost use Rattle.card_steps.specs.Moves.{step_of};
-ghost use Rattle.card_steps.specs.Tallies.{tally};
+ghost use Rattle.uicc_types.specs.Counts.{Meter, raised};
+ghost use Rattle.byte_streams.specs.Reading.{IsWithin};
+ghost use Rattle.script_form.specs.declared.lines.ScriptLine.{ScriptLine as AnyLine};
+ghost use Rattle.script_reader.specs.Behind.{GivesRead, IsReading, LinesReadTo};
+ghost use Rattle.script_reader.specs.Reading.{reading, room_of};
+ghost use Rattle.run_steps.specs.Ends.{moment_at};
+ghost use Rattle.run_steps.specs.Moves.{step_of};
+ghost use Rattle.run_steps.specs.Tallies.{tally};
 ghost use Rattle.phone_runs.specs.LineTallies.{TalliesLines};
 ghost use Rattle.phone_runs.specs.Lines.{IsBetweenLines, IsServing, PhoneComesTo};
 ghost use Rattle.phone_runs.specs.Runs.{Beginning};
@@ -15,18 +17,20 @@ ghost use Rattle.uicc_run.specs.Listeners.{is_handset};
 ghost use Rattle.uicc_run.specs.Playing.{CardComesTo, Given, GivesPlayed, IsPlaying, left_at};
 ghost use Rattle.uicc_run.specs.Showing.{GivesShown, IsShowing, LinesShow};
 ghost use Rattle.uicc_run.specs.Steps.{may_follow, may_stand};
-ghost use Rattle.card_steps.specs.script_form.declared.lines.ScriptLine.{ScriptLine as AnyLine};
-ghost use Rattle.update_journal.specs.uicc_types.Counts.{Meter, raised};
 
 use crate::effects::{Effect, effect_of};
 use crate::listeners::Listener;
-use card_core::{Applet, plans_are_set_in_order, runs_are_counted};
-use card_steps::{
-    CardEnd, Carrier, Failed, Link, Move, ScriptLine, Sink, Source, StepEnd, take_step, take_tpdu,
-};
-use phone_runs::{Phone, Places, PlayEnd, ScriptReader, read_behind, serve_line};
+use applet_trait::Applet;
+use byte_streams::{Failed, Sink, Source};
+use card_model::{plans_are_set_in_order, runs_are_counted};
+use phone_runs::{Places, serve_line};
+use run_steps::{CardEnd, Carrier, Move, StepEnd, take_step, take_tpdu};
+use script_form::ScriptLine;
+use script_reader::{PlayEnd, ScriptReader, read_behind};
+use store_form::Store;
+use t0_link::Link;
+use terminal_side::Phone;
 use uicc_types::Answer;
-use update_journal::Store;
 
 /// Carries out the lines after `start` that are left, each as soon as its end was read, and answers why the run ends. A handset does, which
 /// serves the card by the carrier and rests before the first of them, or the card itself.

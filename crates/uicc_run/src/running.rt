@@ -1,19 +1,22 @@
 //! A whole run: the words of the command line, the script, the card's memory and the trace.
 ghost use Rattle.std.specs.Prelude.{◌≡◌, ◌≢◌, ◌⊎◌, ◌≤◌, ℕ, List, [], Some, None, true, map, string_bytes, is_some, option_map, IsErrOf, OnOk, OnErr, Option};
-ghost use Rattle.card_steps.specs.byte_streams.Reading.{IsWithin};
-ghost use Rattle.card_core.specs.card_layout.Places.{memory_size};
-ghost use Rattle.card_core.specs.card_layout.Standing.{stands_for};
-ghost use Rattle.card_core.specs.card_layout.Persistent.{Persistent};
-ghost use Rattle.card_core.specs.card_model.Counts.{IsCounted};
-ghost use Rattle.card_core.specs.applet_trait.Minds.{minds_of};
-ghost use Rattle.phone_runs.specs.layout_section.Laying.{KeepsFirstOr};
-ghost use Rattle.phone_runs.specs.card_sections.Behind.{IsReading, LinesReadTo};
-ghost use Rattle.phone_runs.specs.card_sections.Reading.{AtStart, reading};
-ghost use Rattle.card_steps.specs.Ends.{moment_at};
-ghost use Rattle.card_steps.specs.Tallies.{tally};
+ghost use Rattle.uicc_types.specs.Counts.{Meter, Rose};
+ghost use Rattle.uicc_types.specs.Told.{Becomes};
+ghost use Rattle.byte_streams.specs.Reading.{IsWithin};
+ghost use Rattle.script_form.specs.declared.lines.ScriptLine.{ScriptLine as AnyLine};
+ghost use Rattle.script_reader.specs.Behind.{IsReading, LinesReadTo};
+ghost use Rattle.script_reader.specs.Reading.{reading};
+ghost use Rattle.card_state.specs.Places.{memory_size};
+ghost use Rattle.card_state.specs.Standing.{stands_for};
+ghost use Rattle.card_state.specs.Persistent.{Persistent};
+ghost use Rattle.layout_section.specs.Laying.{KeepsFirstOr};
+ghost use Rattle.applet_trait.specs.Minds.{minds_of};
+ghost use Rattle.card_model.specs.Counts.{IsCounted};
+ghost use Rattle.section_lines.specs.SectionReading.{AtStart};
+ghost use Rattle.run_steps.specs.Ends.{moment_at};
+ghost use Rattle.run_steps.specs.Tallies.{tally};
 ghost use Rattle.phone_runs.specs.LineTallies.{TalliesLines};
 ghost use Rattle.phone_runs.specs.Showing.{Outset, PhoneShowsTo, StartsShowing};
-ghost use Rattle.card_steps.specs.script_form.declared.lines.ScriptLine.{ScriptLine as AnyLine};
 ghost use Rattle.uicc_run.specs.Causes.{EndsFor, FitsRun, FitsStore, KeepsMemory, KeepsOpened, KeepsCardThere, KeepsStoreForm, LoadsUntold, ReadsUntold, RefusesAtFirst};
 ghost use Rattle.uicc_run.specs.Endings.{HasFailed, IsUnopened, status_for};
 ghost use Rattle.uicc_run.specs.Headline.{Closes, Comes};
@@ -29,25 +32,30 @@ ghost use Rattle.uicc_run.specs.Steps.{may_stand};
 ghost use Rattle.uicc_run.specs.Stores.{memory_in, size_of};
 ghost use Rattle.uicc_run.specs.Terminals.{AskForBip, ServesBip};
 ghost use Rattle.uicc_run.specs.Unplanned.{IsQuiet};
-ghost use Rattle.update_journal.specs.uicc_types.Counts.{Meter, Rose};
-ghost use Rattle.update_journal.specs.uicc_types.Told.{Becomes};
 
 use crate::endings::{Ending, last_line, status_of};
 use crate::listeners::{Listener, carrier_by, listener_for};
 use crate::loading::load;
 use crate::playing::play_lines;
 use crate::terminals::serve_channels;
-use card_core::{Applet, CardOver, OpenFault, runs_are_counted};
-use card_steps::{CardEnd, Carrier, Failed, Sink, Source, write_trace};
+use applet_trait::Applet;
+use byte_streams::{Failed, Sink, Source};
+use card_core::{CardOver, OpenFault};
+use card_model::runs_are_counted;
+use command_line::{Mode, asked_for};
+use eeprom_model::Eeprom;
+use layout_section::{Section, format};
 use page_store::PageStore;
-use phone_runs::{
-    Phone, Places, PlayEnd, ScriptReader, Section, end_of, format, phone_runs_are_lawful,
-    read_section, start_phone,
-};
-use run_words::{Mode, asked_for};
+use phone_runs::{Places, end_of, phone_runs_are_lawful, start_phone};
+use run_steps::{CardEnd, Carrier};
+use script_form::write_trace;
+use script_reader::{PlayEnd, ScriptReader};
+use section_lines::read_section;
 use std::alloc::Global;
+use store_form::{Store, StoreFault};
+use terminal_side::Phone;
 use uicc_types::Plan;
-use update_journal::{Eeprom, Journal, Store, StoreFault};
+use update_journal::Journal;
 
 /// Carries out the script under the words of the command line, over a memory that has power, of 71,680 bytes with
 /// `--store pages` and of 65,536 otherwise, with the boxes of the applets on their shelves. It answers the status of the program,

@@ -1,14 +1,14 @@
 //! The run of a terminal's channels of the bearer independent protocol, which is over no card.
 ghost use Rattle.std.specs.Prelude.{◌≡◌, ◌≢◌, ◌≤◌, ◌+◌, ℕ, List, Some, is_some};
-ghost use Rattle.card_steps.specs.byte_streams.Reading.{IsTaken};
-ghost use Rattle.card_steps.specs.byte_streams.declared.limits.TheConstants.{MOST_BYTES};
+ghost use Rattle.uicc_types.specs.Counts.{CountsFailure};
+ghost use Rattle.byte_streams.specs.Reading.{IsTaken};
+ghost use Rattle.byte_streams.specs.declared.limits.TheConstants.{MOST_BYTES};
 ghost use Rattle.uicc_run.specs.Endings.{IsUnshown, status_for};
 ghost use Rattle.uicc_run.specs.Terminals.{ComesToBip};
-ghost use Rattle.update_journal.specs.uicc_types.Counts.{CountsFailure};
 
 use crate::endings::Ending;
 use bip_runs::serve;
-use card_steps::{Sink, Source};
+use byte_streams::{Sink, Source};
 use std::alloc::Global;
 
 /// Has a new terminal carry out the script, and answers why the run ends.

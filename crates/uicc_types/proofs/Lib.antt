@@ -1,10 +1,1 @@
-pub mod CallLemmas
-pub mod ChoiceLemmas
-pub mod EditLemmas
-pub mod FindingLemmas
-pub mod MemberLemmas
-pub mod NumberedLemmas
-pub mod OptionalLemmas
-pub mod PairLemmas
-pub mod PatchLemmas
-pub mod RangeLemmas
+pub mod IsCalmLemmas

@@ -1,5 +1,4 @@
 pub mod Answers
 pub mod Calls
 pub mod Counts
-pub mod Patches
 pub mod Told

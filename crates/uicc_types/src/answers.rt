@@ -1,7 +1,7 @@
 //! The answer to a command APDU (ISO 7816-4, 5.1): data and two status bytes.
 ghost use Rattle.std.specs.Prelude.{◌≡◌, []};
 
-use crate::AnswerData;
+use crate::byte_lists::AnswerData;
 
 /// The two status bytes SW1 SW2 as one number, SW1 in its upper half.
 #[derive(Clone, Copy, Debug, PartialEq, Eq)]

@@ -1,7 +1,7 @@
 //! Lists of bytes of a bounded length, kept in place: they never take memory.
 ghost use Rattle.std.specs.Prelude.{◌≡◌, ◌+◌, ◌≤◌, ◌<◌, ◌↔◌, List, ℕ, [], ◌∷◌, ◌++◌, length, IsOk, OnOk, OnErr};
 
-use crate::Full;
+use crate::limits::Full;
 use arrayvec::ArrayVec;
 use std::default::Default;
 use std::marker::Model;

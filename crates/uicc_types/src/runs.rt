@@ -1,6 +1,8 @@
 //! What a card is given, and what is seen of it: the steps and the trace of a run.
 
-use crate::{AnswerData, ApduBytes, Plan, StatusWord};
+use crate::answers::StatusWord;
+use crate::byte_lists::{AnswerData, ApduBytes};
+use crate::plans::Plan;
 
 /// One thing that a script does to the card.
 #[derive(Debug, Drop)]

@@ -3,8 +3,8 @@ use Rattle.std.proofs.Common.{◌≡◌, ℕ, ◌+◌, ◌-◌, ◌≤◌, ◌<�
 use Rattle.std.proofs.lemmas.List.{length-take, get_or_append_left, get_or-append_right, get_or-take, get_or-drop}
 use Rattle.std.proofs.lemmas.List.Elements.{All-head, All-tail}
 use Rattle.std.proofs.lemmas.Grind.{same_number_lists}
-use Rattle.uicc_types.specs.Patches.{patched, Torn}
-use Rattle.uicc_types.proofs.PatchLemmas.{length-patched, patched_before, patched_inside, patched_after}
+use Rattle.list_laws.specs.Patches.{patched, Torn}
+use Rattle.list_laws.proofs.PatchesLemmas.{length-patched, patched_before, patched_inside, patched_after}
 use Rattle.store_form.specs.Pieces.{Piece, applied, IsUsable, IsUsablePiece}
 use Rattle.store_form.specs.Spared.{AreUsable}
 use Rattle.update_journal.specs.Journal.{hidden}

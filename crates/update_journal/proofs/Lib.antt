@@ -1,10 +1,10 @@
-mod Bytes
+mod AreBytesLemmas
+pub mod EntriesLemmas
 mod HiddenLemmas
-mod Images
-pub mod Parts
-mod Reading
-pub mod Spelling
-pub mod Told
+pub mod IsUnderWayLemmas
+mod JournalLawsLemmas
+pub mod PatchedLemmas
+mod PiecesInLemmas
+mod StableOfLemmas
 mod WellFormedLemmas
-pub use Rattle.store_form.proofs as store_form
-pub use Rattle.uicc_types.proofs as uicc_types
+mod worked

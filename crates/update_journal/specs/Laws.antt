@@ -3,10 +3,10 @@ use Rattle.std.specs.Prelude.{◌≡◌, ℕ, ◌≤◌, ◌<◌, Bool, true, fa
 use Rattle.std.proofs.Common.{refl, sym, ◌∙◌, arith}
 use Rattle.std.proofs.lemmas.List.Elements.{All-nil}
 use Rattle.store_form.specs.Pieces.{Piece, applied, IsUsablePiece}
-use Rattle.update_journal.specs.Entries.{pieces_in}
-use Rattle.update_journal.specs.Hidden.{length-hidden, hidden_own}
 use Rattle.store_form.specs.Spared.{AreUsable}
 use Rattle.store_form.proofs.SparedLemmas.{length-applied}
+use Rattle.update_journal.specs.Entries.{pieces_in}
+use Rattle.update_journal.specs.Hidden.{length-hidden, hidden_own}
 use Rattle.update_journal.specs.Journal.{is_open, pending, stable_of}
 use Rattle.update_journal.specs.WellFormed.{usable_from_area}
 

@@ -1,9 +1,9 @@
 //! Calls of the device, with the faults of a store, and writes of any length.
 ghost use Rattle.std.specs.Prelude.{◌≡◌, ◌+◌, ◌≤◌, ◌<◌, false, length, option_map, slice_range, IfSome, OnOk, OnErr};
+ghost use Rattle.list_laws.specs.Patches.{patched, Torn};
+ghost use Rattle.uicc_types.specs.Told.{Becomes};
 ghost use Rattle.eeprom_model.specs.Ranges.{IsPageWrite};
 ghost use Rattle.store_form.specs.Faults.{HasCause};
-ghost use Rattle.uicc_types.specs.Patches.{patched, Torn};
-ghost use Rattle.uicc_types.specs.Told.{Becomes};
 
 use eeprom_model::{Eeprom, EepromFault, PAGE_LENGTH};
 use store_form::StoreFault;

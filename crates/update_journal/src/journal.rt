@@ -73,7 +73,7 @@ impl<E: Eeprom> Store for Journal<E> {
         0
     }
 
-    #[tactic(auto, using(crate::proofs::Bytes::told_bytes))]
+    #[tactic(auto, using(crate::proofs::AreBytesLemmas::told_bytes))]
     fn tells_bytes(&self) {
         self.device.tells_bytes();
     }

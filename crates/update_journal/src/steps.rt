@@ -1,12 +1,12 @@
 //! The calls of the store as steps on its device.
 ghost use Rattle.std.specs.Prelude.{◌≡◌, ◌⊎◌, Some, ◌+◌, ◌≤◌, ◌<◌, true, false, length, option_map, slice_range, All, IfSome, OnOk, OnErr};
-ghost use Rattle.store_form.specs.Faults.{HasCause};
-ghost use Rattle.uicc_types.specs.Patches.{patched, Torn};
+ghost use Rattle.list_laws.specs.Patches.{patched, Torn};
 ghost use Rattle.uicc_types.specs.Told.{Becomes};
+ghost use Rattle.store_form.specs.Faults.{HasCause};
 ghost use Rattle.store_form.specs.Pieces.{applied, IsUsable, IsUsablePiece, IsWithinBounds};
+ghost use Rattle.store_form.specs.Spared.{Rewritten};
 ghost use Rattle.update_journal.specs.Entries.{entries};
 ghost use Rattle.update_journal.specs.Journal.{is_open, stable, is_settled, IsUnderWay, IsWhole};
-ghost use Rattle.store_form.specs.Spared.{Rewritten};
 
 use crate::device::{program, read, write};
 use crate::entries::{MOST_ENTRY_BYTES, read_entries, spell};

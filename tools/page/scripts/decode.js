@@ -174,7 +174,7 @@ function profileWords(data) {
     return known.map(([, text]) => text).join(", ") || "nothing";
 }
 
-function event(code) {
+export function eventWords(code) {
     return `${hexByte(code)} ${toolkitName("events", code, "unknown")}`;
 }
 
@@ -184,14 +184,14 @@ function action(code, value) {
         return `${name} \`${printable([value])}\``;
     }
     if ([7, 8].includes(code)) {
-        return `${name} ${event(value)}`;
+        return `${name} ${eventWords(value)}`;
     }
     return [3, 10].includes(code) ? name : `${name} ${hexByte(value)}`;
 }
 
 // What an applet is registered for and keeps; one that is made of a table keeps triples.
 export function appletLines(shelf, { events, text, kept }) {
-    const lines = [line(0, "events", events.map(event).join(", ") || "none")];
+    const lines = [line(0, "events", events.map(eventWords).join(", ") || "none")];
     if (text.length) {
         lines.push(line(0, "menu entry", printable(text)));
     }
@@ -199,7 +199,7 @@ export function appletLines(shelf, { events, text, kept }) {
         lines.push(line(0, "kept data", hexed(kept)));
     }
     for (let at = 0; shelf % 7 === 6 && at + 2 < kept.length; at += 3) {
-        lines.push(line(1, event(kept[at]), action(kept[at + 1], kept[at + 2])));
+        lines.push(line(1, eventWords(kept[at]), action(kept[at + 1], kept[at + 2])));
     }
     return lines;
 }
@@ -228,7 +228,7 @@ const OBJECTS = {
             : `${plmn(value.slice(0, 3)) ?? "no PLMN"}, area ${hexed(value.slice(3, 5))}, cell ${hexed(value.slice(5))}`;
     },
     0x17: textWords,
-    0x19: (value) => Array.from(value, event).join(", ") || "none",
+    0x19: (value) => Array.from(value, eventWords).join(", ") || "none",
     0x1b: ([status]) => toolkitName("location_status", status, hexByte(status)),
     0x24: ([number]) => String(number),
     0x25: (value) => Array.from(value, (byte) => `${byte & 15}${byte >> 4}`).join(":"),

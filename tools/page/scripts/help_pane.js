@@ -66,6 +66,8 @@ export class HelpPane {
     reveal() {
         const current = this.list.querySelector(".current");
         if (this.part.open && current) {
+            // what the line says, and above it its form
+            scrollWithin(this.list, current.nextElementSibling);
             scrollWithin(this.list, current);
         }
     }

@@ -2,7 +2,11 @@
 
 // The bytes that stood after a line, in a memory that held `image` before the run.
 export function memoryAfter(image, writes, line) {
-    const count = writesUpTo(writes, line);
+    return written(image, writes, writesUpTo(writes, line));
+}
+
+// An image with so many of the writes.
+function written(image, writes, count) {
     let length = image.length;
     for (let number = 0; number < count; number += 1) {
         length = Math.max(length, writes.places[number] + writes.starts[number + 1] - writes.starts[number]);
@@ -13,6 +17,12 @@ export function memoryAfter(image, writes, line) {
         memory.set(bytesOf(writes, number), writes.places[number]);
     }
     return memory;
+}
+
+// The bytes that stood when so many lines of the trace were shown.
+export function memoryAt(image, writes, shown) {
+    const next = writes.shown.findIndex((each) => each > shown);
+    return written(image, writes, next < 0 ? writes.lines.length : next);
 }
 
 // How many writes were made up to a line and in it.

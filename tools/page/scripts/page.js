@@ -11,12 +11,14 @@ import { cardIn, changesBetween, entriesOf } from "./image.js";
 import { linkOf, linked } from "./link.js";
 import { Script } from "./lint.js";
 import { NotLoaded, memoryIn, scriptIn, storeOf, traceIn, whyNotOpened } from "./loading.js";
-import { memoryAfter } from "./memory.js";
+import { memoryAfter, memoryAt } from "./memory.js";
 import { examples, madeFrom } from "./packed.js";
 import { NotRunnable, Runner, Stopped } from "./runner.js";
 import { ScriptPane } from "./script_pane.js";
+import { toolkitAfter } from "./toolkit.js";
+import { ToolkitPane } from "./toolkit_pane.js";
 import { TracePane } from "./trace_pane.js";
-import { markWords, stepsOf } from "./trace.js";
+import { RESET, markWords, stepsOf } from "./trace.js";
 
 const SHOW_PROGRESS_AFTER = 300;
 const FIRST_EXAMPLE = "day";
@@ -37,12 +39,13 @@ class Page {
     constructor() {
         this.runner = new Runner();
         this.script = new ScriptPane(() => this.play(), () => this.play(), (line) => this.visit(line));
-        this.trace = new TracePane((line) => this.chooseLine(line));
+        this.trace = new TracePane((line, number) => this.chooseStep(line, number));
         this.handset = new HandsetPane((line) => this.addLine(line));
         this.cut = new CutPane((request) => this.runner.run(request), (memory) => this.opened(memory), (outcome) => this.showCut(outcome),
             (line, plan) => this.putPlan(line, plan));
         this.files = new FilesPane();
         this.help = new HelpPane();
+        this.toolkit = new ToolkitPane();
         // the memory that a card is opened in
         this.image = NOTHING;
         this.played = null;
@@ -142,7 +145,11 @@ class Page {
         this.play();
     }
 
+    // Tells what can be taken back and done again. What was refused before is told no longer.
     tellHistory() {
+        for (const kind of ["script", "trace", "image"]) {
+            byId(`${kind}-told`).textContent = "";
+        }
         const { earlier, later } = this.history;
         for (const [id, words, list] of [["undo", "Take back", earlier], ["redo", "Do again", later]]) {
             const reason = list.at(-1)?.reason;
@@ -300,6 +307,7 @@ class Page {
         if (steps.length) {
             this.trace.chooseLine(caret || Infinity);
         } else {
+            this.toolkit.show(null);
             this.chooseLine(script.lines.length);
         }
     }
@@ -320,6 +328,7 @@ class Page {
         const steps = stepsOf(trace, script.placesOf(trace, this.mode));
         this.asked += 1;
         this.played = null;
+        this.described = script.card;
         this.tell(`a kept trace of ${plural(steps.length, "step")}`);
         this.trace.show(steps, script.card, script.lines);
         this.handset.show(this.mode === "phone" ? screenAfter(steps) : null);
@@ -333,6 +342,23 @@ class Page {
         const named = [2, 8].includes(result.status) ? Number(result.trace.at(-1).replace("line ", "")) : 0;
         const reason = script.firstBad?.line === named ? script.firstBad.reason : "the program says so";
         this.script.blame(named ? { line: named, reason } : null);
+    }
+
+    chooseStep(line, number) {
+        this.toolkit.show(this.toolkitAt(number));
+        return this.chooseLine(line);
+    }
+
+    // What the toolkit is doing after a step. A reset begins anew, with the applets that the memory holds then.
+    toolkitAt(number) {
+        const { steps } = this.trace.reader;
+        if (!this.played) {
+            return toolkitAfter(this.described.rows.values(), steps.slice(0, number + 1));
+        }
+        const reset = steps.findLastIndex((step, place) => place <= number && step.text === RESET);
+        const { request, result } = this.played;
+        const card = cardIn(memoryAt(request.image, result.writes, steps[Math.max(0, reset)].at));
+        return card ? toolkitAfter(card.rows.values(), steps.slice(reset + 1, number + 1)) : null;
     }
 
     async chooseLine(line) {

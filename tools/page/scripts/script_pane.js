@@ -16,6 +16,7 @@ export class ScriptPane {
         this.isTyping = false;
         this.lastCaretLine = 0;
         this.area.addEventListener("input", () => this.hearTyping(changed));
+        this.area.addEventListener("blur", () => { this.lastCaretLine = 0; });
         document.addEventListener("selectionchange", () => this.hearCaret(moved));
         this.area.addEventListener("scroll", () => this.place());
         this.area.addEventListener("keydown", (event) => {
@@ -51,18 +52,19 @@ export class ScriptPane {
     }
 
     hearCaret(moved) {
-        const line = this.caretLine;
-        if (!line || line === this.lastCaretLine) {
-            return;
-        }
-        this.lastCaretLine = line;
         clearTimeout(this.caretTimer);
-        this.caretTimer = setTimeout(() => {
-            // what is typed is played, and its step chosen then
-            if (!this.isTyping && this.isFocused) {
-                moved(line);
-            }
-        }, AWAIT_TYPING);
+        if (this.isFocused) {
+            this.caretTimer = setTimeout(() => this.followCaret(moved), AWAIT_TYPING);
+        }
+    }
+
+    followCaret(moved) {
+        const line = this.caretLine;
+        // what is typed is played, and its step chosen then
+        if (line && line !== this.lastCaretLine && !this.isTyping) {
+            this.lastCaretLine = line;
+            moved(line);
+        }
     }
 
     set text(text) {

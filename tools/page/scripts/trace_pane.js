@@ -19,7 +19,7 @@ function kindOf({ answer, status }) {
 }
 
 export class TracePane {
-    // `chosen` is told the script's line of the step that is chosen.
+    // `chosen` is told the script's line of the step that is chosen, and its number.
     constructor(chosen) {
         this.list = byId("trace");
         this.chosen = chosen;
@@ -74,7 +74,7 @@ export class TracePane {
         } else {
             this.turn(this.reader.pageOf(this.number));
         }
-        this.chosen(this.reader.steps[this.number].line);
+        this.chosen(this.reader.steps[this.number].line, this.number);
     }
 
     // Chooses the last step that a line of the script or one before it sends, or else the first.

@@ -1,7 +1,7 @@
 use Rattle.std.proofs.Common.{◌≡◌, sym, subst, ◌↔◌, Bool, false}
-use Rattle.toolkit_model.specs.card_layout.States.{rows_of}
+use Rattle.card_state.specs.States.{rows_of}
 use Rattle.toolkit_model.specs.Registry.{without_code}
-use Rattle.applet_registry.proofs.Changing.{deregistering_changes}
+use Rattle.applet_registry.proofs.WithChangedLemmas.{deregistering_changes}
 use Rattle.applet_registry.proofs.events.deregister.Goals as goal
 
 pub returns-then-is_event-clause-change : goal.returns-then-is_event-clause-change

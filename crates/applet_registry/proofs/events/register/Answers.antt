@@ -1,8 +1,8 @@
 use Rattle.std.proofs.Common.{◌≡◌, true, sym, subst, rules, ◌↔◌, Bool, false, not}
-use Rattle.toolkit_model.specs.card_layout.Sections.{is_code}
-use Rattle.toolkit_model.specs.card_layout.States.{rows_of}
+use Rattle.card_state.specs.Sections.{is_code}
+use Rattle.card_state.specs.States.{rows_of}
 use Rattle.toolkit_model.specs.Registry.{with_code}
-use Rattle.applet_registry.proofs.Changing.{registering_changes}
+use Rattle.applet_registry.proofs.WithChangedLemmas.{registering_changes}
 use Rattle.applet_registry.proofs.events.register.Goals as goal
 
 pub returns-else-code-eq-CALL_CONTROL-clause-change : goal.returns-else-code-eq-CALL_CONTROL-clause-change

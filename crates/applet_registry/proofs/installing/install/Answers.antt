@@ -2,7 +2,7 @@
 use Rattle.std.proofs.Common.{◌≡◌, ◌<◌, true, false, sym, ◌∙◌, arith, rules, ◌==◌}
 use Rattle.std.proofs.lemmas.Bool.Decides.{nat_tests}
 use Rattle.toolkit_model.specs.Registry.{last_sequence}
-use Rattle.applet_registry.proofs.Admitting.{too_narrow, is_taken_already, no_room, no_number, is_admitted}
+use Rattle.applet_registry.proofs.ReadsInstallationLemmas.{too_narrow, is_taken_already, no_room, no_number, is_admitted}
 use Rattle.applet_registry.proofs.installing.install.Goals as goal
 
 pub returns-then-is_too_narrow-clause-row : goal.returns-then-is_too_narrow-clause-row

@@ -1,7 +1,7 @@
 use Rattle.std.proofs.Common.{sym, ◌∙◌}
-use Rattle.toolkit_model.specs.card_layout.States.{registration_of, rows_of}
+use Rattle.card_state.specs.States.{registration_of, rows_of}
 use Rattle.applet_registry.specs.Rows.{answers_calls}
-use Rattle.applet_registry.proofs.Registered.{taken_there, taken_by_call, not_taken}
+use Rattle.applet_registry.proofs.RowsOfLemmas.{taken_there, taken_by_call, not_taken}
 use Rattle.applet_registry.proofs.installing.is_taken.Goals as goal
 
 pub returns-in-Some : goal.returns-in-Some

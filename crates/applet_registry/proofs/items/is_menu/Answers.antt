@@ -1,5 +1,5 @@
 use Rattle.std.proofs.Common.{sym, ◌∙◌}
-use Rattle.toolkit_model.specs.card_layout.States.{rows_of}
+use Rattle.card_state.specs.States.{rows_of}
 use Rattle.applet_registry.proofs.items.is_menu.Goals as goal
 
 pub loop-shelf-init : goal.loop-shelf-init

@@ -1,9 +1,9 @@
 use Rattle.std.proofs.Common.{◌≡◌, ℕ, ◌+◌, ◌<◌, ◌++◌, ◌∷◌, [], List, length, get_or, drop, sym, ap, ◌∙◌, arith, rules, length-append}
-use Rattle.toolkit_model.specs.card_layout.declared.entries.Row.{Row}
-use Rattle.toolkit_model.specs.card_layout.States.{rows_of, registration_of}
-use Rattle.toolkit_model.specs.toolkit_commands.declared.items.Item.{Item}
+use Rattle.card_state.specs.declared.entries.Row.{Row}
+use Rattle.card_state.specs.States.{rows_of, registration_of}
+use Rattle.toolkit_commands.specs.declared.items.Item.{Item}
 use Rattle.toolkit_model.specs.Registry.{item_of, menu_of}
-use Rattle.applet_registry.proofs.Registered.{items_from, with_item, item_count}
+use Rattle.applet_registry.proofs.RowsOfLemmas.{items_from, with_item, item_count}
 use Rattle.applet_registry.proofs.items.menu.Goals as goal
 
 pub loop-shelf-init : goal.loop-shelf-init

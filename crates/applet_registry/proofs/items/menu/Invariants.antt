@@ -1,7 +1,7 @@
 use Rattle.std.proofs.Common.{◌≡◌, ◌++◌, drop}
-use Rattle.toolkit_model.specs.card_layout.States.{rows_of}
+use Rattle.card_state.specs.States.{rows_of}
 use Rattle.toolkit_model.specs.Registry.{menu_of}
-use Rattle.applet_registry.proofs.Registered.{items_from}
+use Rattle.applet_registry.proofs.RowsOfLemmas.{items_from}
 use Rattle.applet_registry.proofs.items.menu.Given as goal
 
 -- the items so far and those of the rows that are left come to the whole menu

@@ -1,4 +1,4 @@
-use Rattle.applet_trait.proofs.Proper.{act_proper}
+use Rattle.applet_trait.proofs.IsProperActLemmas.{act_proper}
 use Rattle.applet_trait.proofs.laws.commands_are_proper.Goals as goal
 
 pub returns : goal.returns

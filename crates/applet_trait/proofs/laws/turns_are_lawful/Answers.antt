@@ -1,4 +1,4 @@
-use Rattle.applet_trait.proofs.Lawful.{act_lawful}
+use Rattle.applet_trait.proofs.IsLawfulLemmas.{act_lawful}
 use Rattle.applet_trait.proofs.laws.turns_are_lawful.Goals as goal
 
 pub returns : goal.returns

@@ -1,5 +1,5 @@
 use Rattle.bip_channels.specs.History.{channel_after, given, got}
-use Rattle.bip_channels.proofs.Told.{tells, is_front, closes, opens}
+use Rattle.bip_channels.proofs.TellsLemmas.{tells, is_front, closes, opens}
 use Rattle.bip_channels.proofs.laws.received_is_prefix.Goals as goal
 
 pub returns : goal.returns

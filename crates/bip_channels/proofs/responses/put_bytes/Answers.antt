@@ -1,4 +1,4 @@
-use Rattle.bip_channels.proofs.Lengths.{length_put_long}
+use Rattle.bip_channels.proofs.TaggedLemmas.{length_put_long}
 use Rattle.bip_channels.proofs.responses.put_bytes.Goals as goal
 
 pub returns-clause-size : goal.returns-clause-size

@@ -1,5 +1,5 @@
 use Rattle.std.proofs.Common.{◌∙◌}
-use Rattle.bip_runs.proofs.Putting.{tells_front, tells_put, tells_whole}
+use Rattle.bip_runs.proofs.TakesFrontLemmas.{tells_front, tells_put, tells_whole}
 use Rattle.bip_runs.proofs.happening.command.Goals as goal
 
 pub returns-in-Err-clause-tells : goal.returns-in-Err-clause-tells

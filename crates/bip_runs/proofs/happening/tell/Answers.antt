@@ -1,4 +1,4 @@
-use Rattle.bip_runs.proofs.Putting.{tells_put}
+use Rattle.bip_runs.proofs.TakesFrontLemmas.{tells_put}
 use Rattle.bip_runs.proofs.happening.tell.Goals as goal
 
 pub returns-in-Some-clause-tells : goal.returns-in-Some-clause-tells

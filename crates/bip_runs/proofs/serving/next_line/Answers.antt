@@ -1,4 +1,4 @@
-use Rattle.bip_runs.proofs.Lines.{at_end, at_last, in_script}
+use Rattle.bip_runs.proofs.IsServingLemmas.{at_end, at_last, in_script}
 use Rattle.bip_runs.proofs.serving.next_line.Goals as goal
 
 pub returns-in-Ok-true-clause-gives : goal.returns-in-Ok-true-clause-gives

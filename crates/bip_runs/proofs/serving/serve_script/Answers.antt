@@ -1,6 +1,6 @@
 use Rattle.std.proofs.Common.{refl}
-use Rattle.script_form.proofs.byte_streams.ReadingLemmas.{IsTaken-within, IsWithin-start}
-use Rattle.bip_runs.proofs.Lines.{serves_first}
+use Rattle.byte_streams.proofs.ReadingLemmas.{IsTaken-within, IsWithin-start}
+use Rattle.bip_runs.proofs.IsServingLemmas.{serves_first}
 use Rattle.bip_runs.proofs.serving.serve_script.Goals as goal
 
 pub returns-clause-comes : goal.returns-clause-comes

@@ -1,5 +1,5 @@
 use Rattle.std.proofs.Common.{arith}
-use Rattle.boxed_applets.proofs.CastLemmas.{all_made}
+use Rattle.boxed_applets.proofs.CastsLemmas.{all_made}
 use Rattle.boxed_applets.proofs.casts.make_applets.Goals as goal
 
 pub returns-clause-minds : goal.returns-clause-minds

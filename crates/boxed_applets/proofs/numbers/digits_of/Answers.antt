@@ -1,5 +1,5 @@
 use Rattle.std.proofs.Common.{arith}
-use Rattle.boxed_applets.proofs.HalfBytes.{number_ends, number_goes_on, whole_number, room_after}
+use Rattle.boxed_applets.proofs.DigitsUpToLemmas.{number_ends, number_goes_on, whole_number, room_after}
 use Rattle.boxed_applets.proofs.numbers.digits_of.Goals as goal
 
 pub returns-then-not-put_byte : goal.returns-then-not-put_byte

@@ -1,5 +1,5 @@
 use Rattle.std.proofs.Common.{sym, ◌∙◌}
-use Rattle.boxed_applets.proofs.HalfBytes.{low_half, two_halves}
+use Rattle.boxed_applets.proofs.DigitsUpToLemmas.{low_half, two_halves}
 use Rattle.boxed_applets.proofs.numbers.put_byte.Goals as goal
 
 pub returns-then-put_half-clause-after : goal.returns-then-put_half-clause-after

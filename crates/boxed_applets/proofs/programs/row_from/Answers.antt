@@ -1,7 +1,7 @@
 use Rattle.std.proofs.Common.{arith, rules, sym, ◌∙◌}
 use Rattle.applet_trait.specs.Tables.{rows}
 use Rattle.boxed_applets.specs.Programs.{row_of}
-use Rattle.boxed_applets.proofs.PlacedRows.{among_all, among_none, found_here, found_later}
+use Rattle.boxed_applets.proofs.RowFromLemmas.{among_all, among_none, found_here, found_later}
 use Rattle.boxed_applets.proofs.programs.row_from.Goals as goal
 
 pub loop-row-init : goal.loop-row-init

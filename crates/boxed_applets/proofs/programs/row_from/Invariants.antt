@@ -1,6 +1,6 @@
 use Rattle.std.proofs.Common.{◌≡◌, ◌≤◌, length, ◌+◌, ◌*◌}
 use Rattle.applet_trait.specs.Tables.{row_from, rows}
-use Rattle.boxed_applets.proofs.PlacedRows.{row_among}
+use Rattle.boxed_applets.proofs.RowFromLemmas.{row_among}
 use Rattle.boxed_applets.proofs.programs.row_from.Given as goal
 
 abbrev pub invariant-loop-row : goal.invariant-loop-row

@@ -1,4 +1,4 @@
-use Rattle.card_core.proofs.Selecting.{opened_selected}
+use Rattle.card_core.proofs.AreSelectedLemmas.{opened_selected}
 use Rattle.card_core.proofs.channels.open.Goals as goal
 
 pub returns-in-Some-clause-selected : goal.returns-in-Some-clause-selected

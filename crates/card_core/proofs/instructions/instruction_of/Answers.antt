@@ -1,6 +1,6 @@
 use Rattle.std.proofs.Common.{◌≡◌, ◌⊎◌, inl, inr, sym}
 use Rattle.card_core.specs.Commands.{row_shown}
-use Rattle.card_core.proofs.Rows.{known_alone}
+use Rattle.card_core.proofs.InstructionOfLemmas.{known_alone}
 use Rattle.card_core.proofs.instructions.instruction_of.Goals.{then-class-eq0-via-then-class-eq0, then-class-eq0-via-else-class-eq0+then-class-eq128}
 use Rattle.card_core.proofs.instructions.instruction_of.Goals as goal
 

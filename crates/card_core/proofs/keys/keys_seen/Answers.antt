@@ -1,4 +1,4 @@
-use Rattle.card_core.proofs.Conditions.{seen_of_slots}
+use Rattle.card_core.proofs.KeysSeenLemmas.{seen_of_slots}
 use Rattle.card_core.proofs.keys.keys_seen.Goals as goal
 
 pub returns : goal.returns

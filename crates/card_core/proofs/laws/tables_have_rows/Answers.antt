@@ -1,4 +1,4 @@
-use Rattle.card_core.proofs.Selecting.{have_rows}
+use Rattle.card_core.proofs.AreSelectedLemmas.{have_rows}
 use Rattle.card_core.proofs.laws.tables_have_rows.Goals as goal
 
 pub returns : goal.returns

@@ -1,4 +1,4 @@
-use Rattle.card_core.proofs.Selecting.{mf_there}
+use Rattle.card_core.proofs.AreSelectedLemmas.{mf_there}
 use Rattle.card_core.proofs.laws.the_mf_is_there.Goals as goal
 
 pub returns : goal.returns

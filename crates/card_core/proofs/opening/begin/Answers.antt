@@ -1,14 +1,14 @@
 use Rattle.std.proofs.Common.{◌≡◌, ◌++◌, ◌-◌, List, length, replicate, Option, None, ◌∙◌, ap, subst, OnOk, IfErr}
 use Rattle.std.proofs.lemmas.List.{with_items_is}
 use Rattle.std.proofs.lemmas.Result.{on_ok_weaker}
-use Rattle.toolkit_model.specs.applet_trait.Minds.{AppletState, minds_of}
-use Rattle.file_model.specs.card_layout.States.{rows_of}
-use Rattle.card_model.specs.States.{woken_boxes}
-use Rattle.card_opening.specs.Starts.{Opens, Refuses}
-use Rattle.card_opening.specs.layout_mount.Mounted.{unread}
-use Rattle.file_model.specs.card_layout.Memory.{memory}
+use Rattle.card_state.specs.States.{rows_of}
+use Rattle.card_state.specs.Memory.{memory}
+use Rattle.layout_mount.specs.Mounted.{unread}
+use Rattle.applet_trait.specs.Minds.{AppletState, minds_of}
+use Rattle.toolkit_model.specs.Commands.{woken_boxes}
+use Rattle.card_core.specs.Starts.{Opens, Refuses}
 use Rattle.card_core.specs.Openings.{with_all_shelves}
-use Rattle.card_core.proofs.Opened.{minds_filled}
+use Rattle.card_core.proofs.IsOpenedLemmas.{minds_filled}
 use Rattle.card_core.proofs.opening.begin.Goals as goal
 
 pub returns-in-Ok-clause-opens : goal.returns-in-Ok-clause-opens

@@ -1,5 +1,5 @@
 use Rattle.std.proofs.Common.{sym, ◌∙◌, arith}
-use Rattle.card_core.proofs.Keeping.{one_more, all_kept}
+use Rattle.card_core.proofs.KeepAllLemmas.{one_more, all_kept}
 use Rattle.card_core.proofs.registered.keep_all.Goals as goal
 
 pub loop-shelf-preserved : goal.loop-shelf-preserved

@@ -1,8 +1,8 @@
 use Rattle.std.proofs.Common.{List, Option, ◌∙◌, ap}
-use Rattle.toolkit_model.specs.applet_trait.Minds.{AppletState}
-use Rattle.file_model.specs.card_layout.States.{rows_of}
+use Rattle.card_state.specs.States.{rows_of}
+use Rattle.applet_trait.specs.Minds.{AppletState}
 use Rattle.card_core.specs.Cards.{boxes_kept}
-use Rattle.card_core.proofs.Boxes.{kept_woken}
+use Rattle.card_core.proofs.BoxesKeptLemmas.{kept_woken}
 use Rattle.card_core.proofs.resetting.wake_again.Goals as goal
 
 pub returns-in-Ok-clause-woke : goal.returns-in-Ok-clause-woke

@@ -1,5 +1,5 @@
 use Rattle.std.proofs.Common.{inl}
-use Rattle.file_model.proofs.uicc_types.OptionalLemmas.{on_err}
+use Rattle.list_laws.proofs.IfSomeLemmas.{on_err}
 use Rattle.card_core.proofs.toolkit.by_toolkit.Goals as goal
 
 pub keys_seen-seen-requires : goal.keys_seen-seen-requires

@@ -1,6 +1,6 @@
 use Rattle.std.proofs.Common.{ap, ◌∙◌, set, option_map}
 use Rattle.std.proofs.lemmas.List.{map-set}
-use Rattle.toolkit_model.specs.applet_trait.Minds.{minds_of}
+use Rattle.applet_trait.specs.Minds.{minds_of}
 use Rattle.card_core.proofs.toolkit.empty.Goals as goal
 
 pub returns-then-from-boxes-clause-minds : goal.returns-then-from-boxes-clause-minds

@@ -1,4 +1,4 @@
-use Rattle.card_laws.proofs.Counted.{seen}
+use Rattle.card_laws.proofs.FaultsAreSeenLemmas.{seen}
 use Rattle.card_laws.proofs.faults.faults_are_seen.Goals as goal
 
 pub returns : goal.returns

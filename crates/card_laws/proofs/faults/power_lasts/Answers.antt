@@ -1,4 +1,4 @@
-use Rattle.card_laws.proofs.Lasting.{power_lasts}
+use Rattle.card_laws.proofs.PowerLastsLemmas.{power_lasts}
 use Rattle.card_laws.proofs.faults.power_lasts.Goals as goal
 
 pub returns : goal.returns

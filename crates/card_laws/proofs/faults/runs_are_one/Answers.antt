@@ -1,4 +1,4 @@
-use Rattle.card_laws.proofs.Determined.{runs_are_one}
+use Rattle.card_laws.proofs.RunsAreOneLemmas.{runs_are_one}
 use Rattle.card_laws.proofs.faults.runs_are_one.Goals as goal
 
 pub returns : goal.returns

@@ -1,4 +1,4 @@
-use Rattle.card_laws.proofs.Counted.{undisturbed}
+use Rattle.card_laws.proofs.FaultsAreSeenLemmas.{undisturbed}
 use Rattle.card_laws.proofs.faults.undisturbed_runs_show_no_fault.Goals as goal
 
 pub returns : goal.returns

@@ -1,7 +1,7 @@
 use Rattle.card_model.specs.Instructions.{is_known}
-use Rattle.card_laws.proofs.Few.{tries_few}
-use Rattle.card_laws.proofs.WholeRuns.{run_ends, guesses_take, wrong_bounded, wrong_unmarked}
-use Rattle.card_laws.proofs.Steps.{answer_guarded}
+use Rattle.card_laws.proofs.AllTriesLemmas.{tries_few}
+use Rattle.card_laws.proofs.GuessLawsLemmas.{run_ends, guesses_take, wrong_bounded, wrong_unmarked}
+use Rattle.card_laws.proofs.PresentsByLemmas.{answer_guarded}
 use Rattle.card_laws.proofs.guesses.guesses_are_bounded.Goals as goal
 
 pub returns-clause-one : goal.returns-clause-one

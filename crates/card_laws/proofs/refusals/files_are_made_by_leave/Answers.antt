@@ -1,4 +1,4 @@
-use Rattle.card_laws.proofs.Refused.{create_by_adm, delete_by_adm, resize_by_adm}
+use Rattle.card_laws.proofs.RefusalLawsLemmas.{create_by_adm, delete_by_adm, resize_by_adm}
 use Rattle.card_laws.proofs.refusals.files_are_made_by_leave.Goals as goal
 
 pub returns-clause-create : goal.returns-clause-create

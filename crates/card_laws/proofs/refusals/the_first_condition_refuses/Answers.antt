@@ -1,4 +1,4 @@
-use Rattle.card_laws.proofs.Refused.{increase_refused, read_binary_refused, read_record_refused, search_record_refused, update_binary_refused, update_record_refused}
+use Rattle.card_laws.proofs.RefusalLawsLemmas.{increase_refused, read_binary_refused, read_record_refused, search_record_refused, update_binary_refused, update_record_refused}
 use Rattle.card_laws.proofs.refusals.the_first_condition_refuses.Goals as goal
 
 pub returns-clause-read_binary : goal.returns-clause-read_binary

@@ -1,4 +1,4 @@
-use Rattle.card_laws.proofs.Refused.{activate_refused, create_refused, deactivate_refused, delete_refused, resize_refused, select_refused, status_refused}
+use Rattle.card_laws.proofs.RefusalLawsLemmas.{activate_refused, create_refused, deactivate_refused, delete_refused, resize_refused, select_refused, status_refused}
 use Rattle.card_laws.proofs.refusals.the_first_condition_refuses_on_files.Goals as goal
 
 pub returns-clause-select : goal.returns-clause-select

@@ -1,4 +1,4 @@
-use Rattle.card_laws.proofs.Refused.{activate_by_rule, deactivate_by_rule, increase_by_leave, read_binary_by_leave, read_record_by_leave, search_record_by_leave, update_binary_by_leave, update_record_by_leave}
+use Rattle.card_laws.proofs.RefusalLawsLemmas.{activate_by_rule, deactivate_by_rule, increase_by_leave, read_binary_by_leave, read_record_by_leave, search_record_by_leave, update_binary_by_leave, update_record_by_leave}
 use Rattle.card_laws.proofs.refusals.what_is_done_was_allowed.Goals as goal
 
 pub returns-clause-read_binary : goal.returns-clause-read_binary

@@ -1,4 +1,4 @@
-use Rattle.card_laws.proofs.PutAndRead.{bytes_are_read, records_are_read}
+use Rattle.card_laws.proofs.ReadingLawsLemmas.{bytes_are_read, records_are_read}
 use Rattle.card_laws.proofs.rereading.what_is_put_is_read.Goals as goal
 
 pub returns-clause-bytes : goal.returns-clause-bytes

@@ -1,5 +1,5 @@
-use Rattle.card_laws.proofs.FcpRead.{fcp_are_not_cut, fcp_are_objects, select_answers_fcp, status_answers_fcp}
-use Rattle.card_laws.proofs.FcpTold.{fcp_tell_files}
+use Rattle.card_laws.proofs.FcpAreObjectsLemmas.{fcp_are_not_cut, fcp_are_objects, select_answers_fcp, status_answers_fcp}
+use Rattle.card_laws.proofs.FcpTellFilesLemmas.{fcp_tell_files}
 use Rattle.card_laws.proofs.rereading.what_is_told_is_read.Goals as goal
 
 pub returns-clause-objects : goal.returns-clause-objects

@@ -1,4 +1,4 @@
-use Rattle.card_laws.proofs.Numbers as numbers
+use Rattle.card_laws.proofs.NumberAfterLemmas as numbers
 use Rattle.card_laws.proofs.sending.commands_are_numbered.Goals as goal
 
 pub returns-clause-numbered : goal.returns-clause-numbered

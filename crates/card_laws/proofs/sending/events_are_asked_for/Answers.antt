@@ -1,4 +1,4 @@
-use Rattle.card_laws.proofs.Events.{event_lists_are_asked, nothing_is_asked_before}
+use Rattle.card_laws.proofs.AreEventsWantedLemmas.{event_lists_are_asked, nothing_is_asked_before}
 use Rattle.card_laws.proofs.sending.events_are_asked_for.Goals as goal
 
 pub returns-clause-lists : goal.returns-clause-lists

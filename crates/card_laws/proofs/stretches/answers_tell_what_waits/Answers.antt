@@ -1,4 +1,4 @@
-use Rattle.card_laws.proofs.Announcing.{answer_tells}
+use Rattle.card_laws.proofs.TellsWhatWaitsLemmas.{answer_tells}
 use Rattle.card_laws.proofs.stretches.answers_tell_what_waits.Goals as goal
 
 pub returns : goal.returns

@@ -1,4 +1,4 @@
-use Rattle.card_laws.proofs.Acts.{all_act, command_acts}
+use Rattle.card_laws.proofs.ActInTurnLemmas.{all_act, command_acts}
 use Rattle.card_laws.proofs.stretches.applets_act_at_each_event.Goals as goal
 
 pub returns : goal.returns

@@ -1,5 +1,5 @@
-use Rattle.card_laws.proofs.Acts.{command_acts}
-use Rattle.card_laws.proofs.Turning.{turn_tells}
+use Rattle.card_laws.proofs.ActInTurnLemmas.{command_acts}
+use Rattle.card_laws.proofs.AfterActLemmas.{turn_tells}
 use Rattle.card_laws.proofs.stretches.applets_act_in_turn.Goals as goal
 
 pub returns-clause-commands : goal.returns-clause-commands

@@ -1,5 +1,5 @@
 use Rattle.toolkit_model.specs.Steps.{Report}
-use Rattle.card_laws.proofs.Noting.{command_noted, command_gives, envelope_gives}
+use Rattle.card_laws.proofs.NotedLemmas.{command_noted, command_gives, envelope_gives}
 use Rattle.card_laws.proofs.stretches.commands_are_noted.Goals as goal
 
 pub returns-clause-envelopes : goal.returns-clause-envelopes

@@ -1,5 +1,5 @@
-use Rattle.card_laws.proofs.Noting.{command_noted, command_gives}
-use Rattle.card_laws.proofs.Stretching.{all_noted, all_gives, all_follow}
+use Rattle.card_laws.proofs.NotedLemmas.{command_noted, command_gives}
+use Rattle.card_laws.proofs.KeepsThroughoutLemmas.{all_noted, all_gives, all_follow}
 use Rattle.card_laws.proofs.stretches.events_are_noted.Goals as goal
 
 pub returns-clause-events : goal.returns-clause-events

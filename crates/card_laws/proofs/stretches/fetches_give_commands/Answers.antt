@@ -1,4 +1,4 @@
-use Rattle.card_laws.proofs.Bodies.{fetch_gives, fetch_carried_out}
+use Rattle.card_laws.proofs.FetchingLemmas.{fetch_gives, fetch_carried_out}
 use Rattle.card_laws.proofs.stretches.fetches_give_commands.Goals as goal
 
 pub returns-clause-gives : goal.returns-clause-gives

@@ -1,8 +1,8 @@
 use Rattle.std.proofs.Common.{subst}
 use Rattle.card_model.specs.Instructions.{is_known}
 use Rattle.card_laws.specs.Moving.{AllCanHappen}
-use Rattle.card_laws.proofs.Noting.{command_gives}
-use Rattle.card_laws.proofs.Stretching.{stretch_keeps}
+use Rattle.card_laws.proofs.NotedLemmas.{command_gives}
+use Rattle.card_laws.proofs.KeepsThroughoutLemmas.{stretch_keeps}
 use Rattle.card_laws.proofs.stretches.toolkit_laws_hold_throughout.Goals as goal
 
 pub returns-clause-cards : goal.returns-clause-cards

@@ -1,4 +1,4 @@
-use Rattle.card_laws.proofs.Held.{others_leave}
+use Rattle.card_laws.proofs.LeavesUnansweredLemmas.{others_leave}
 use Rattle.card_laws.proofs.stretches.unanswered_commands_stay.Goals as goal
 
 pub returns : goal.returns

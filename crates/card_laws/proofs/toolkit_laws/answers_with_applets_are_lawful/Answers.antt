@@ -1,4 +1,4 @@
-use Rattle.card_laws.proofs.Answering.{answer_lawful, refusals_keep}
+use Rattle.card_laws.proofs.IsLawfulWithAppletsLemmas.{answer_lawful, refusals_keep}
 use Rattle.card_laws.proofs.toolkit_laws.answers_with_applets_are_lawful.Goals as goal
 
 pub returns-clause-lawful : goal.returns-clause-lawful

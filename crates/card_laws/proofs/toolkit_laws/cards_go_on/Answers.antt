@@ -1,6 +1,6 @@
 use Rattle.card_laws.proofs.toolkit_laws.cards_go_on.Goals as goal
-use Rattle.card_laws.proofs.Going.{good_order, rows_left, told_left, answer_goes, events_go}
-use Rattle.card_laws.proofs.Refusing.{refusals_take_nothing}
+use Rattle.card_laws.proofs.GoesOnLemmas.{good_order, rows_left, told_left, answer_goes, events_go}
+use Rattle.card_laws.proofs.RefusalsTakeNothingLemmas.{refusals_take_nothing}
 
 pub returns-clause-good : goal.returns-clause-good
 returns-clause-good c = good_order

@@ -1,5 +1,5 @@
 use Rattle.card_laws.proofs.toolkit_laws.cards_stay_good.Goals as goal
-use Rattle.card_laws.proofs.Good.{answer_well, left_good}
+use Rattle.card_laws.proofs.IsGoodLemmas.{answer_well, left_good}
 
 pub returns-clause-answers : goal.returns-clause-answers
 returns-clause-answers c = λ knows card bytes runs good are.

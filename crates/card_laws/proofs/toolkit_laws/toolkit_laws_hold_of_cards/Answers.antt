@@ -4,7 +4,7 @@ use Rattle.toolkit_model.specs.Passing.{ToolkitState}
 use Rattle.toolkit_model.specs.Awaiting.{awaited, ReachesWhoAsked}
 use Rattle.card_model.specs.Toolkit.{toolkit_of}
 use Rattle.card_laws.specs.Moving.{all_taken, noted_of}
-use Rattle.card_laws.proofs.Targets.{runs_targets}
+use Rattle.card_laws.proofs.RunsTargetsLemmas.{runs_targets}
 use Rattle.card_laws.proofs.toolkit_laws.toolkit_laws_hold_of_cards.Goals as goal
 
 pub returns-clause-one : goal.returns-clause-one

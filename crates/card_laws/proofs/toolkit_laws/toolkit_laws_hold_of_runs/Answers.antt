@@ -6,7 +6,7 @@ use Rattle.card_model.specs.States.{CardState}
 use Rattle.card_model.specs.Toolkit.{toolkit_of}
 use Rattle.card_laws.specs.Happened.{events_in, noted_in}
 use Rattle.card_laws.specs.Moving.{HasOrder, Event, Answers, AllCanHappen, card_after_all}
-use Rattle.card_laws.proofs.Runs.{Lead, run_leads, early_can, run_good}
+use Rattle.card_laws.proofs.EventsInLemmas.{Lead, run_leads, early_can, run_good}
 use Rattle.card_laws.proofs.toolkit_laws.toolkit_laws_hold_of_runs.Goals as goal
 
 pub returns-clause-events : goal.returns-clause-events

@@ -1,8 +1,8 @@
 use Rattle.std.specs.Prelude.{is_some}
 use Rattle.toolkit_model.specs.Commands.{unanswered}
 use Rattle.card_laws.specs.Traces.{signals}
-use Rattle.card_laws.proofs.Runs.{step_good}
-use Rattle.card_laws.proofs.Signals.{run_alternates, ends_between}
+use Rattle.card_laws.proofs.EventsInLemmas.{step_good}
+use Rattle.card_laws.proofs.TracesLemmas.{run_alternates, ends_between}
 use Rattle.card_laws.proofs.toolkit_laws.traces_alternate.Goals as goal
 
 pub returns-clause-alternate : goal.returns-clause-alternate

@@ -1,5 +1,5 @@
 use Rattle.card_model.proofs.laws.answers_are_lawful.Goals as goal
-use Rattle.card_model.proofs.Answering.{answer_lawful, answer_usual, commands_lawful, of_lawful, refusal_keeps, left_is_good}
+use Rattle.card_model.proofs.IsLawfulAnswerLemmas.{answer_lawful, answer_usual, commands_lawful, of_lawful, refusal_keeps, left_is_good}
 use Rattle.card_model.specs.Instructions.{has_toolkit}
 
 pub returns-clause-lawful : goal.returns-clause-lawful

@@ -1,5 +1,5 @@
 use Rattle.card_model.proofs.laws.runs_are_counted.Goals as goal
-use Rattle.card_model.proofs.Counted.{counts_join, calls_counted, plans_counted}
+use Rattle.card_model.proofs.IsCountedLemmas.{counts_join, calls_counted, plans_counted}
 
 pub returns-clause-calls : goal.returns-clause-calls
 returns-clause-calls c = calls_counted

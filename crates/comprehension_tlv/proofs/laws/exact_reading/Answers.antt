@@ -1,4 +1,4 @@
-use Rattle.comprehension_tlv.proofs.Readings.{IsBytes-from_All, objects_again, objects_found, template_again, template_found, no_object}
+use Rattle.comprehension_tlv.proofs.ReadingLemmas.{IsBytes-from_All, objects_again, objects_found, template_again, template_found, no_object}
 use Rattle.comprehension_tlv.proofs.laws.exact_reading.Goals as goal
 
 pub returns : goal.returns

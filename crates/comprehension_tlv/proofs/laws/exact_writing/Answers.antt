@@ -1,4 +1,4 @@
-use Rattle.comprehension_tlv.proofs.Readings.{spellings_are, spelled_is}
+use Rattle.comprehension_tlv.proofs.ReadingLemmas.{spellings_are, spelled_is}
 use Rattle.comprehension_tlv.proofs.laws.exact_writing.Goals as goal
 
 pub returns : goal.returns

@@ -1,4 +1,4 @@
-use Rattle.comprehension_tlv.proofs.Readings.{one_list, one_template}
+use Rattle.comprehension_tlv.proofs.ReadingLemmas.{one_list, one_template}
 use Rattle.comprehension_tlv.proofs.laws.one_reading.Goals as goal
 
 pub returns : goal.returns

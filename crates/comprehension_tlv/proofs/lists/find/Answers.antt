@@ -1,5 +1,5 @@
 use Rattle.std.proofs.Common.{arith, option_copied}
-use Rattle.comprehension_tlv.proofs.Finding.{value_at_end, value_fits, no_fault, value_of_list}
+use Rattle.comprehension_tlv.proofs.ValueOfLemmas.{value_at_end, value_fits, no_fault, value_of_list}
 use Rattle.comprehension_tlv.proofs.lists.find.Goals as goal
 
 pub returns-in_err-part-clause-only : goal.returns-in_err-part-clause-only

@@ -1,6 +1,6 @@
 use Rattle.std.proofs.Common.{◌≡◌, length, option_copied}
 use Rattle.comprehension_tlv.specs.Reading.{outline, first_value}
-use Rattle.comprehension_tlv.proofs.Finding.{first_or}
+use Rattle.comprehension_tlv.proofs.ValueOfLemmas.{first_or}
 use Rattle.comprehension_tlv.proofs.lists.find.Given as goal
 
 -- what was found, or else what is found in the rest, is what is found in the whole list; and the walk ends as it must

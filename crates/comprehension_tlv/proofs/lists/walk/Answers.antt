@@ -1,5 +1,5 @@
 use Rattle.std.proofs.Common.{arith}
-use Rattle.comprehension_tlv.proofs.Outlines.{outline_at_is}
+use Rattle.comprehension_tlv.proofs.OutlineAtLemmas.{outline_at_is}
 use Rattle.comprehension_tlv.proofs.lists.walk.Goals as goal
 
 pub returns-clause-spelled : goal.returns-clause-spelled

@@ -1,7 +1,7 @@
 use Rattle.std.proofs.Common.{◌≡◌, ◌<◌, [], ◌∷◌, length, arith, rules}
 use Rattle.std.proofs.lemmas.Bool.Decides.{nat_tests}
 use Rattle.std.proofs.lemmas.List.{nil_from_length}
-use Rattle.comprehension_tlv.proofs.Readings.{template_fits, template_is, template_found, no_template, trails, one_template}
+use Rattle.comprehension_tlv.proofs.ReadingLemmas.{template_fits, template_is, template_found, no_template, trails, one_template}
 use Rattle.comprehension_tlv.proofs.templates.read_template.Goals as goal
 
 pub returns-in_err-content-clause-only : goal.returns-in_err-content-clause-only

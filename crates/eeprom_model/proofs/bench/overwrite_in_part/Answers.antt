@@ -1,6 +1,6 @@
 use Rattle.std.proofs.Common.{arith}
 use Rattle.std.proofs.lemmas.Grind.{common_steps}
-use Rattle.eeprom_model.proofs.Cuts.{cut_in_two}
+use Rattle.eeprom_model.proofs.CutBytesLemmas.{cut_in_two}
 use Rattle.eeprom_model.proofs.bench.overwrite_in_part.Goals as goal
 
 pub returns : goal.returns

@@ -1,5 +1,5 @@
 use Rattle.std.proofs.Common.{refl}
-use Rattle.file_admin.proofs.Committing.{committed_over, stopped_before}
+use Rattle.file_admin.proofs.IsWrittenOverLemmas.{committed_over, stopped_before}
 use Rattle.file_admin.proofs.adding.add.Goals as goal
 
 pub returns-in-Ok-clause-committed : goal.returns-in-Ok-clause-committed

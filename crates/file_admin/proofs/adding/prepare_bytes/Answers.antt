@@ -1,6 +1,6 @@
-use Rattle.file_admin.proofs.Blank.{filled_nothing}
-use Rattle.file_admin.proofs.Answering.{keeps_all}
 use Rattle.std.proofs.Common.{refl}
+use Rattle.file_admin.proofs.FilledLemmas.{filled_nothing}
+use Rattle.file_admin.proofs.AnswersTreeLemmas.{keeps_all}
 use Rattle.file_admin.proofs.adding.prepare_bytes.Goals as goal
 
 pub returns-then-node-eq0 : goal.returns-then-node-eq0

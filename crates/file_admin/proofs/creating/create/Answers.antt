@@ -1,9 +1,9 @@
 use Rattle.std.proofs.Common.{◌≡◌, false, refl, sym, subst, ℕ, IsTrue, IsSomeAnd}
 use Rattle.file_model.specs.declared.descriptors.Wanted.TheVariants.{Number}
 use Rattle.file_model.specs.Files.{descriptors_of, file_found, is_df}
-use Rattle.file_making.specs.Creating.{is_there, created_if_room}
-use Rattle.file_admin.proofs.Answering.{refused, not_still, carried_out, stopped}
-use Rattle.file_admin.proofs.Created.{full, change, passes_one, beside, written, done_answers}
+use Rattle.file_model.specs.Creating.{is_there, created_if_room}
+use Rattle.file_admin.proofs.AnswersTreeLemmas.{refused, not_still, carried_out, stopped}
+use Rattle.file_admin.proofs.CreatingLemmas.{full, change, passes_one, beside, written, done_answers}
 use Rattle.file_admin.proofs.creating.create.Goals as goal
 
 pub add-requires-clause-free : goal.add-requires-clause-free

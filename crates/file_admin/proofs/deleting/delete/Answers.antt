@@ -1,8 +1,8 @@
 use Rattle.std.specs.Prelude.{false, Ok}
-use Rattle.file_making.specs.Deleting.{deleting}
-use Rattle.file_admin.proofs.Answering.{not_still, carried_out, stopped}
-use Rattle.file_admin.proofs.Committing.{commits_alone}
-use Rattle.file_admin.proofs.Deleted.{change, passes_one, written, done_answers}
+use Rattle.file_model.specs.Deleting.{deleting}
+use Rattle.file_admin.proofs.AnswersTreeLemmas.{not_still, carried_out, stopped}
+use Rattle.file_admin.proofs.IsWrittenOverLemmas.{commits_alone}
+use Rattle.file_admin.proofs.DeletingLemmas.{change, passes_one, written, done_answers}
 use Rattle.file_admin.proofs.deleting.delete.Goals as goal
 
 pub returns-in-Ok-clause-done : goal.returns-in-Ok-clause-done

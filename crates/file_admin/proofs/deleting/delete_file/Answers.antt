@@ -1,7 +1,7 @@
 use Rattle.std.proofs.Common.{rules}
-use Rattle.file_tree.specs.card_model.Channels.{channel_of}
-use Rattle.file_making.specs.Deleting.{deleted}
-use Rattle.file_admin.proofs.Performing.{performs, selected_there}
+use Rattle.file_model.specs.Channels.{channel_of}
+use Rattle.file_model.specs.Deleting.{deleted}
+use Rattle.file_admin.proofs.IsTreeOutcomeLemmas.{performs, selected_there}
 use Rattle.file_admin.proofs.deleting.delete_file.Goals as goal
 
 pub returns-in-Ok-clause-performs : goal.returns-in-Ok-clause-performs

@@ -1,8 +1,8 @@
 use Rattle.std.proofs.Common.{◌≡◌, sym, ◌∙◌, Ok}
-use Rattle.file_tree.specs.card_model.Channels.{channel_of}
-use Rattle.file_making.specs.Deleting.{deleting, deleted}
-use Rattle.file_admin.proofs.Answering.{refused, alike, still_alike}
-use Rattle.file_admin.proofs.Known.{listed}
+use Rattle.file_model.specs.Channels.{channel_of}
+use Rattle.file_model.specs.Deleting.{deleting, deleted}
+use Rattle.file_admin.proofs.AnswersTreeLemmas.{refused, alike, still_alike}
+use Rattle.file_admin.proofs.StandsLemmas.{listed}
 use Rattle.file_admin.proofs.deleting.try_delete.Goals as goal
 
 pub returns-in-Ok-clause-done : goal.returns-in-Ok-clause-done

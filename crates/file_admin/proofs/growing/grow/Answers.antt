@@ -1,5 +1,5 @@
 use Rattle.std.proofs.Common.{refl}
-use Rattle.file_admin.proofs.Committing.{committed_over, stopped_before}
+use Rattle.file_admin.proofs.IsWrittenOverLemmas.{committed_over, stopped_before}
 use Rattle.file_admin.proofs.growing.grow.Goals as goal
 
 pub commit_node-requires-clause-entry : goal.commit_node-requires-clause-entry

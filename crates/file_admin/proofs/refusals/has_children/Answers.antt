@@ -1,7 +1,7 @@
 use Rattle.std.proofs.Common.{get_or, ◌≡◌, List, length, sym, ap, ◌∙◌, arith}
-use Rattle.file_model.specs.card_layout.Blank.{unused_node}
-use Rattle.file_model.specs.card_layout.declared.entries.Node.{Node}
-use Rattle.file_admin.proofs.Children.{lies, one_lies, none_lies}
+use Rattle.card_state.specs.Blank.{unused_node}
+use Rattle.card_state.specs.declared.entries.Node.{Node}
+use Rattle.file_admin.proofs.LiesInLemmas.{lies, one_lies, none_lies}
 use Rattle.file_admin.proofs.refusals.has_children.Goals as goal
 
 pub returns-then-lies_in : goal.returns-then-lies_in

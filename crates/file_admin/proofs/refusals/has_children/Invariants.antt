@@ -1,4 +1,4 @@
-use Rattle.file_admin.proofs.Children.{NoneLies}
+use Rattle.file_admin.proofs.LiesInLemmas.{NoneLies}
 use Rattle.file_admin.proofs.refusals.has_children.Given as goal
 
 abbrev pub invariant-loop-number : goal.invariant-loop-number

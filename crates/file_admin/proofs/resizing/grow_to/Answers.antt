@@ -1,19 +1,19 @@
 -- The room found in the table is that of every state it stands for: with one the file grows there in a commit, without one it is refused.
 use Rattle.std.proofs.Common.{◌≡◌, ℕ, List, ◌<◌, sym, ◌∙◌, ap, subst, arith, ◌≢◌}
-use Rattle.file_model.specs.card_layout.declared.entries.Loaded.{Loaded}
-use Rattle.file_model.specs.card_layout.Kinds.{transparent_kind}
-use Rattle.file_model.specs.card_layout.Laws.{after}
-use Rattle.file_model.specs.card_layout.Persistent.{Persistent}
-use Rattle.file_model.specs.card_layout.Spelling.{node_part}
-use Rattle.file_model.specs.card_layout.Standing.{Stands}
-use Rattle.file_model.specs.card_layout.States.{state_of}
-use Rattle.file_making.specs.Resizing.{resized_if_room}
-use Rattle.file_making.specs.Rooms.{IsSmallestRoom, room_at}
-use Rattle.card_memory.specs.Prepared.{moved}
+use Rattle.card_state.specs.declared.entries.Loaded.{Loaded}
+use Rattle.card_state.specs.Kinds.{transparent_kind}
+use Rattle.card_state.specs.Persistent.{Persistent}
+use Rattle.card_state.specs.Standing.{Stands}
+use Rattle.card_state.specs.States.{state_of}
+use Rattle.file_model.specs.Resizing.{resized_if_room}
+use Rattle.file_model.specs.Rooms.{IsSmallestRoom, room_at}
+use Rattle.layout_entries.specs.Laws.{after}
+use Rattle.layout_entries.specs.Spelling.{node_part}
+use Rattle.card_commits.specs.Prepared.{moved}
 use Rattle.file_admin.specs.Written.{with_file_resized}
-use Rattle.file_admin.proofs.Answering.{refused, not_still, carried_out, stopped}
-use Rattle.file_admin.proofs.Known.{same_state}
-use Rattle.file_admin.proofs.Resized.{is_transparent, same_size, transparent, without_room, fits_there, passes_one, answers_so, grown_over, room_beside}
+use Rattle.file_admin.proofs.AnswersTreeLemmas.{refused, not_still, carried_out, stopped}
+use Rattle.file_admin.proofs.StandsLemmas.{same_state}
+use Rattle.file_admin.proofs.ResizingLemmas.{is_transparent, same_size, transparent, without_room, fits_there, passes_one, answers_so, grown_over, room_beside}
 use Rattle.file_admin.proofs.resizing.grow_to.Goals as goal
 
 pub grow-requires-clause-file : goal.grow-requires-clause-file

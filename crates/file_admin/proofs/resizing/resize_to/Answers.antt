@@ -1,7 +1,7 @@
 use Rattle.std.proofs.Common.{◌≡◌, arith}
-use Rattle.file_making.specs.Resizing.{resized_if_room}
-use Rattle.file_admin.proofs.Answering.{unchanged}
-use Rattle.file_admin.proofs.Resized.{answers_same, nothing_passes}
+use Rattle.file_model.specs.Resizing.{resized_if_room}
+use Rattle.file_admin.proofs.AnswersTreeLemmas.{unchanged}
+use Rattle.file_admin.proofs.ResizingLemmas.{answers_same, nothing_passes}
 use Rattle.file_admin.proofs.resizing.resize_to.Goals as goal
 
 pub returns-clause-done : goal.returns-clause-done

@@ -1,14 +1,14 @@
 use Rattle.std.proofs.Common.{◌≡◌, sym, subst, arith, ◌≢◌}
-use Rattle.file_model.specs.card_layout.declared.entries.Loaded.{Loaded}
-use Rattle.file_model.specs.card_layout.Kinds.{transparent_kind}
-use Rattle.file_model.specs.card_layout.Laws.{after}
-use Rattle.file_model.specs.card_layout.Spelling.{node_part}
-use Rattle.file_model.specs.card_layout.Standing.{Stands}
-use Rattle.file_making.specs.Resizing.{resized_if_room}
+use Rattle.card_state.specs.declared.entries.Loaded.{Loaded}
+use Rattle.card_state.specs.Kinds.{transparent_kind}
+use Rattle.card_state.specs.Standing.{Stands}
+use Rattle.file_model.specs.Resizing.{resized_if_room}
+use Rattle.layout_entries.specs.Laws.{after}
+use Rattle.layout_entries.specs.Spelling.{node_part}
 use Rattle.file_admin.specs.Written.{with_file_resized}
-use Rattle.file_admin.proofs.Answering.{not_still, carried_out, stopped}
-use Rattle.file_admin.proofs.Committing.{commits_alone}
-use Rattle.file_admin.proofs.Resized.{is_transparent, same_size, fits_fewer, passes_one, answers_so, shrunk_over}
+use Rattle.file_admin.proofs.AnswersTreeLemmas.{not_still, carried_out, stopped}
+use Rattle.file_admin.proofs.IsWrittenOverLemmas.{commits_alone}
+use Rattle.file_admin.proofs.ResizingLemmas.{is_transparent, same_size, fits_fewer, passes_one, answers_so, shrunk_over}
 use Rattle.file_admin.proofs.resizing.shrink_to.Goals as goal
 
 pub returns-in-Ok-clause-done : goal.returns-in-Ok-clause-done

@@ -1,8 +1,8 @@
 use Rattle.std.proofs.Common.{◌≡◌, sym, ◌∙◌}
-use Rattle.file_tree.specs.card_model.Channels.{channel_of}
-use Rattle.file_making.specs.Resizing.{resized_if_room, resized}
-use Rattle.file_admin.proofs.Answering.{refused, alike, still_alike}
-use Rattle.file_admin.proofs.Known.{listed}
+use Rattle.file_model.specs.Channels.{channel_of}
+use Rattle.file_model.specs.Resizing.{resized_if_room, resized}
+use Rattle.file_admin.proofs.AnswersTreeLemmas.{refused, alike, still_alike}
+use Rattle.file_admin.proofs.StandsLemmas.{listed}
 use Rattle.file_admin.proofs.resizing.try_resize.Goals as goal
 
 pub returns-in-Ok-clause-done : goal.returns-in-Ok-clause-done

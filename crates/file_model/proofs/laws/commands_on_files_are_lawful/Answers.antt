@@ -1,10 +1,10 @@
 use Rattle.file_model.specs.declared.commands.ContentsCommand.TheVariants.{ReadBinary, UpdateBinary, ReadRecord, UpdateRecord, SearchRecord, Increase, Deactivate, Activate}
 use Rattle.file_model.specs.declared.commands.FileCommand.TheVariants.{Select, Status, Contents}
 use Rattle.file_model.specs.Commands.{contents_outcome, file_outcome}
-use Rattle.file_model.proofs.SelectLaws.{file_selected_so, status_told_so}
-use Rattle.file_model.proofs.BinaryLaws.{binary_read_so, binary_updated_so}
-use Rattle.file_model.proofs.RecordLaws.{record_read_so, record_updated_so, searched_so, increased_so}
-use Rattle.file_model.proofs.LifeLaws.{file_deactivated_so, file_activated_so}
+use Rattle.file_model.proofs.SelectingLemmas.{file_selected_so, status_told_so}
+use Rattle.file_model.proofs.BinariesLemmas.{binary_read_so, binary_updated_so}
+use Rattle.file_model.proofs.RecordsLemmas.{record_read_so, record_updated_so, searched_so, increased_so}
+use Rattle.file_model.proofs.LifeCyclesLemmas.{file_deactivated_so, file_activated_so}
 use Rattle.file_model.proofs.laws.commands_on_files_are_lawful.Goals as goal
 
 pub returns : goal.returns

@@ -1,6 +1,6 @@
-use Rattle.file_model.proofs.Telling.{tables_tell_files}
-use Rattle.file_model.proofs.Entries.{finds_among_entries, numbers_are_entries}
-use Rattle.file_model.proofs.Lookups.{parents_come_first, finds_in_five_searches, finds_nearest}
+use Rattle.file_model.proofs.TablesTellFilesLemmas.{tables_tell_files}
+use Rattle.file_model.proofs.NumbersAreEntriesLemmas.{finds_among_entries, numbers_are_entries}
+use Rattle.file_model.proofs.FindsNearestLemmas.{parents_come_first, finds_in_five_searches, finds_nearest}
 use Rattle.file_model.proofs.laws.files_are_found.Goals as goal
 
 pub returns-clause-told : goal.returns-clause-told

@@ -1,5 +1,5 @@
 use Rattle.file_model.specs.declared.commands.PinCommand.TheVariants.{Verify, Change, Disable, Enable, Unblock}
-use Rattle.file_model.proofs.PinLaws.{pin_verified_so, pin_changed_so, pin_disabled_so, pin_enabled_so, pin_unblocked_so}
+use Rattle.file_model.proofs.PinsLemmas.{pin_verified_so, pin_changed_so, pin_disabled_so, pin_enabled_so, pin_unblocked_so}
 use Rattle.file_model.proofs.laws.pin_commands_are_lawful.Goals as goal
 
 pub returns : goal.returns

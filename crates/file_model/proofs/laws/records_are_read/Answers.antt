@@ -1,4 +1,4 @@
-use Rattle.file_model.proofs.Parts.{finds_whole_parts, spells_numbers}
+use Rattle.file_model.proofs.FindsWholePartsLemmas.{finds_whole_parts, spells_numbers}
 use Rattle.file_model.proofs.laws.records_are_read.Goals as goal
 
 pub returns-clause-parts : goal.returns-clause-parts

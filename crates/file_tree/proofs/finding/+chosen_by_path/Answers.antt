@@ -3,7 +3,7 @@ use Rattle.file_model.specs.declared.descriptors.Descriptor.{Descriptor}
 use Rattle.file_model.specs.declared.descriptors.Wanted.TheVariants.{Child}
 use Rattle.file_model.specs.Files.{descriptors_of, file_found}
 use Rattle.file_model.specs.Selections.{ids_of, chosen_by_path}
-use Rattle.file_tree.proofs.Paths.{path_end, path_last, path_from, left_behind}
+use Rattle.file_tree.proofs.ChosenByPathLemmas.{path_end, path_last, path_from, left_behind}
 use Rattle.file_tree.proofs.finding.+chosen_by_path.Goals as goal
 
 pub returns-in_default-clause-value : goal.returns-in_default-clause-value

@@ -1,5 +1,5 @@
 use Rattle.std.proofs.Common.{sym, arith}
-use Rattle.file_tree.proofs.FirstFound.{none_chosen}
+use Rattle.file_tree.proofs.FirstFileLemmas.{none_chosen}
 use Rattle.file_tree.proofs.finding.chosen_by_identifier.Goals as goal
 
 pub returns-then-from-eq-NODE_COUNT-clause-value : goal.returns-then-from-eq-NODE_COUNT-clause-value

@@ -1,6 +1,6 @@
 use Rattle.std.proofs.Common.{arith}
-use Rattle.file_tree.proofs.Paths.{parent_less}
 use Rattle.file_model.specs.Files.{descriptors_of}
+use Rattle.file_tree.proofs.ChosenByPathLemmas.{parent_less}
 use Rattle.file_tree.proofs.finding.nearest_ef.Goals as goal
 
 pub loop-id-smaller : goal.loop-id-smaller

@@ -1,9 +1,9 @@
 use Rattle.std.proofs.Common.{◌≡◌, ap, ◌∙◌, subst}
-use Rattle.file_model.specs.card_layout.declared.entries.Loaded.{Loaded}
-use Rattle.file_model.specs.card_layout.States.{state_of}
-use Rattle.file_model.specs.card_layout.Soundness.{IsSound}
+use Rattle.card_state.specs.declared.entries.Loaded.{Loaded}
+use Rattle.card_state.specs.States.{state_of}
+use Rattle.card_state.specs.Soundness.{IsSound}
 use Rattle.file_tree.specs.Tables.{MayBeSelected}
-use Rattle.file_tree.proofs.Lying.{all_lawful}
+use Rattle.file_tree.proofs.MayBeSelectedLemmas.{all_lawful}
 use Rattle.file_tree.proofs.laws.files_may_be_selected.Goals as goal
 
 pub returns : goal.returns

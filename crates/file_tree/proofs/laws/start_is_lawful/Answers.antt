@@ -1,11 +1,11 @@
 use Rattle.std.proofs.Common.{◌≡◌, List, ap, ◌∙◌, subst}
-use Rattle.file_model.specs.card_layout.declared.entries.Loaded.{Loaded}
-use Rattle.file_model.specs.card_layout.States.{state_of}
-use Rattle.file_model.specs.card_layout.Soundness.{IsSound}
+use Rattle.card_state.specs.declared.entries.Loaded.{Loaded}
+use Rattle.card_state.specs.States.{state_of}
+use Rattle.card_state.specs.Soundness.{IsSound}
 use Rattle.file_model.specs.declared.descriptors.Descriptor.{Descriptor}
 use Rattle.file_model.specs.declared.selections.TheConstants.Selection.{AT_START}
 use Rattle.file_model.specs.Selections.{IsSelection}
-use Rattle.card_model.proofs.WokenLemmas.{start_is_selected}
+use Rattle.file_model.proofs.AtStartLemmas.{start_is_selected}
 use Rattle.file_tree.proofs.laws.start_is_lawful.Goals as goal
 
 pub returns : goal.returns

@@ -1,9 +1,9 @@
 use Rattle.std.proofs.Common.{◌≡◌, ℕ, true, Some, ap, ◌∙◌, sym, subst, arith}
 use Rattle.std.proofs.lemmas.Bool.{and_parts}
-use Rattle.file_model.specs.card_layout.declared.entries.Node.{Node}
+use Rattle.card_state.specs.declared.entries.Node.{Node}
 use Rattle.file_model.specs.Files.{descriptor_of, descriptors_of}
 use Rattle.file_tree.specs.Tables.{IsNumbered}
-use Rattle.file_tree.proofs.FirstFound.{none_before, entry_found, no_entry_found, has_entry, entry_numbered, passes, entry_at}
+use Rattle.file_tree.proofs.FirstFileLemmas.{none_before, entry_found, no_entry_found, has_entry, entry_numbered, passes, entry_at}
 use Rattle.file_tree.proofs.searching.first_by_id.Goals as goal
 
 pub descriptor_of-requires : goal.descriptor_of-requires

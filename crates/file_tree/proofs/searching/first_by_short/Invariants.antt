@@ -1,4 +1,4 @@
-use Rattle.file_tree.proofs.FirstFound.{NonePasses}
+use Rattle.file_tree.proofs.FirstFileLemmas.{NonePasses}
 use Rattle.file_tree.proofs.searching.first_by_short.Given as goal
 
 abbrev pub invariant-loop-number : goal.invariant-loop-number

@@ -1,5 +1,5 @@
 use Rattle.std.proofs.Common.{sym}
-use Rattle.file_tree.proofs.FirstFound.{short_fails}
+use Rattle.file_tree.proofs.FirstFileLemmas.{short_fails}
 use Rattle.file_tree.proofs.searching.is_wanted_by_short.Goals as goal
 
 pub returns-then-node-short : goal.returns-then-node-short

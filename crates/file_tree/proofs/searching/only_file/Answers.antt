@@ -1,9 +1,9 @@
 -- Each wanted file has this number, so the entries of other numbers fail, and the search of all finds this entry's file or none.
 use Rattle.std.proofs.Common.{◌≡◌, ℕ, Bool, true, false, Some, length, ap, ◌∙◌, sym, subst, arith, ◌&&◌}
-use Rattle.file_model.specs.card_layout.declared.entries.Node.{Node}
+use Rattle.card_state.specs.declared.entries.Node.{Node}
 use Rattle.file_model.specs.Files.{descriptor_of, descriptors_of, is_wanted}
 use Rattle.file_tree.specs.Tables.{IsNumbered}
-use Rattle.file_tree.proofs.FirstFound.{entry_found, no_entry_found, has_entry, entry_numbered, other_fails, one_fails, passes, entry_at}
+use Rattle.file_tree.proofs.FirstFileLemmas.{entry_found, no_entry_found, has_entry, entry_numbered, other_fails, one_fails, passes, entry_at}
 use Rattle.file_tree.proofs.searching.only_file.Goals.{else-node-via-then-node+else-is_wanted, else-node-via-else-node}
 use Rattle.file_tree.proofs.searching.only_file.Goals as goal
 

@@ -35,8 +35,8 @@ use Rattle.std_alloc.specs.contracts.vec.lodge.Key.{name as callee_name}
 use Rattle.std_alloc.proofs.vec.lodge.Met as callee
 use Rattle.frame_store.specs.Block.{IsBlockSize, room_of}
 use Rattle.frame_store.specs.contracts.block.Room as Room
-use Rattle.frame_store.proofs.Values.{none_val}
-use Rattle.frame_store.proofs.Lodging.{byte_laws, Housed, housed-laws, Good, tells, none_had, Lodges, at_lodge, IsLodged, lodge_goes, lodge_gives}
+use Rattle.frame_store.proofs.RoomAndLeaseLemmas.{none_val}
+use Rattle.frame_store.proofs.LodgeLemmas.{byte_laws, Housed, housed-laws, Good, tells, none_had, Lodges, at_lodge, IsLodged, lodge_goes, lodge_gives}
 use Rattle.frame_store.specs.contracts.block.house as F
 use Rattle.frame_store.specs.contracts.block.house.Key.{name as #self}
 use Rattle.frame_store.proofs.block.house.Statement as stated

@@ -33,8 +33,8 @@ use Rattle.std_alloc.specs.contracts.vec.lodged.Vec+T+Lodged.dislodge.Key.{name 
 use Rattle.std_alloc.proofs.vec.lodged.Vec+T+Lodged.dislodge.Met as callee
 use Rattle.frame_store.specs.Block.{room_of}
 use Rattle.frame_store.specs.contracts.block.Room as Room
-use Rattle.frame_store.proofs.Values.{none_val}
-use Rattle.frame_store.proofs.Lodging.{byte_laws, Housed, housed-laws, tells, none_made, Dislodges, at_dislodge, dislodge_goes, dislodge_gives}
+use Rattle.frame_store.proofs.RoomAndLeaseLemmas.{none_val}
+use Rattle.frame_store.proofs.LodgeLemmas.{byte_laws, Housed, housed-laws, tells, none_made, Dislodges, at_dislodge, dislodge_goes, dislodge_gives}
 use Rattle.frame_store.specs.contracts.block.vacate as F
 use Rattle.frame_store.specs.contracts.block.vacate.Key.{name as #self}
 use Rattle.frame_store.proofs.block.vacate.Statement as stated

@@ -1,4 +1,4 @@
-use Rattle.handset_model.proofs.Soonest.{first, none}
+use Rattle.handset_model.proofs.SoonestLemmas.{first, none}
 use Rattle.handset_model.proofs.laws.soonest_first.Goals as goal
 
 pub returns : goal.returns

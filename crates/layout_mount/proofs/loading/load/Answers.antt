@@ -1,6 +1,6 @@
 use Rattle.std.proofs.Common.{◌++◌}
-use Rattle.card_layout.specs.Checks.{checks, header_checks, pin_checks, row_checks, node_checks}
-use Rattle.layout_mount.proofs.Filling.{FindsFirst_second, first_failed-append_found}
+use Rattle.card_state.specs.Checks.{checks, header_checks, pin_checks, row_checks, node_checks}
+use Rattle.layout_mount.proofs.FindsFirstLemmas.{FindsFirst_second, first_failed-append_found}
 use Rattle.layout_mount.proofs.loading.load.Goals as goal
 
 pub returns-in-Ok-clause-checked : goal.returns-in-Ok-clause-checked

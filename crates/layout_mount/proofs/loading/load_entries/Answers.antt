@@ -1,11 +1,11 @@
 use Rattle.std.proofs.Common.{ℕ, ◌++◌, ap, ◌∙◌, refl, ◌==◌}
 use Rattle.std.proofs.lemmas.Result.{on_ok_weaker}
-use Rattle.card_layout.specs.declared.entries.Loaded.{Loaded}
-use Rattle.card_layout.specs.Blank.{empty_table}
-use Rattle.card_layout.specs.Decoding.{table_of}
-use Rattle.card_layout.proofs.EntryLemmas.{same_table}
-use Rattle.card_layout.specs.Checks.{pin_checks, row_checks, node_checks}
-use Rattle.layout_mount.proofs.Filling.{FindsFirst_second, first_failed-append_found}
+use Rattle.card_state.specs.declared.entries.Loaded.{Loaded}
+use Rattle.card_state.specs.Blank.{empty_table}
+use Rattle.card_state.specs.Decoding.{table_of}
+use Rattle.card_state.proofs.KeyOfSlotLemmas.{same_table}
+use Rattle.card_state.specs.Checks.{pin_checks, row_checks, node_checks}
+use Rattle.layout_mount.proofs.FindsFirstLemmas.{FindsFirst_second, first_failed-append_found}
 use Rattle.layout_mount.proofs.loading.load_entries.Goals as goal
 
 pub load_rows_and_nodes-requires-clause-rows : goal.load_rows_and_nodes-requires-clause-rows

@@ -1,10 +1,10 @@
 -- The nodes below this number passed and fill the table's front, so one that is refused is the first check that fails.
 use Rattle.std.proofs.Common.{◌≡◌, ℕ, ◌+◌, true, length, take, set, sym, ap, ◌∙◌, arith, subst, below_more, Some}
 use Rattle.std.proofs.lemmas.List.{length-replicate}
-use Rattle.card_layout.specs.Blank.{unused_node}
-use Rattle.card_layout.specs.Decoding.{node_at}
-use Rattle.card_layout.specs.Checks.{node_check}
-use Rattle.layout_mount.proofs.Filling.{IsFilling, IsFilling_none, IsFilling_more, take_filled, whole_filled, none_failed, first_failed_at}
+use Rattle.card_state.specs.Blank.{unused_node}
+use Rattle.card_state.specs.Decoding.{node_at}
+use Rattle.card_state.specs.Checks.{node_check}
+use Rattle.layout_mount.proofs.FindsFirstLemmas.{IsFilling, IsFilling_none, IsFilling_more, take_filled, whole_filled, none_failed, first_failed_at}
 use Rattle.layout_mount.proofs.loading.load_nodes.Goals as goal
 
 pub loop-number-init : goal.loop-number-init

@@ -1,8 +1,8 @@
 use Rattle.std.proofs.Common.{◌≡◌, ℕ, ◌<◌, true}
-use Rattle.card_layout.specs.Blank.{unused_node}
-use Rattle.card_layout.specs.Decoding.{node_at}
-use Rattle.card_layout.specs.Checks.{node_check}
-use Rattle.layout_mount.proofs.Filling.{IsFilling}
+use Rattle.card_state.specs.Blank.{unused_node}
+use Rattle.card_state.specs.Decoding.{node_at}
+use Rattle.card_state.specs.Checks.{node_check}
+use Rattle.layout_mount.proofs.FindsFirstLemmas.{IsFilling}
 use Rattle.layout_mount.proofs.loading.load_nodes.Given as goal
 
 abbrev pub invariant-loop-number : goal.invariant-loop-number

@@ -1,6 +1,6 @@
 use Rattle.std.proofs.Common.{◌≡◌, length, ap, ◌∙◌, arith}
 use Rattle.std.proofs.lemmas.List.FromFn.{length-map-range_with_len}
-use Rattle.card_layout.specs.Decoding.{row_at}
+use Rattle.card_state.specs.Decoding.{row_at}
 use Rattle.layout_mount.proofs.loading.load_row.Goals as goal
 
 pub row_passes-requires-clause-few : goal.row_passes-requires-clause-few

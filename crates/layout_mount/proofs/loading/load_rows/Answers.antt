@@ -1,11 +1,11 @@
 -- The rows that passed fill the table's front, and on the shelves that a narrow card lacks the unused rows behind them are right.
 use Rattle.std.proofs.Common.{◌≡◌, ℕ, ◌+◌, ◌<◌, ◌≤◌, true, length, take, set, sym, ap, ◌∙◌, arith, subst, below_more, Some}
 use Rattle.std.proofs.lemmas.List.{length-replicate}
-use Rattle.card_layout.specs.Blank.{unused_row}
-use Rattle.card_layout.specs.Decoding.{is_wide, row_bytes, kept_bytes, row_at}
-use Rattle.card_layout.specs.Places.{row_count}
-use Rattle.card_layout.specs.Checks.{row_check}
-use Rattle.layout_mount.proofs.Filling.{row_when_high, IsFilling, IsFilling_none, IsFilling_more, take_filled, whole_filled, none_failed, first_failed_at}
+use Rattle.card_state.specs.Blank.{unused_row}
+use Rattle.card_state.specs.Decoding.{is_wide, row_bytes, kept_bytes, row_at}
+use Rattle.card_state.specs.Places.{row_count}
+use Rattle.card_state.specs.Checks.{row_check}
+use Rattle.layout_mount.proofs.FindsFirstLemmas.{row_when_high, IsFilling, IsFilling_none, IsFilling_more, take_filled, whole_filled, none_failed, first_failed_at}
 use Rattle.layout_mount.proofs.loading.load_rows.Goals as goal
 
 pub loop-shelf-init : goal.loop-shelf-init

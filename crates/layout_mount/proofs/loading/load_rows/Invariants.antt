@@ -1,8 +1,8 @@
 use Rattle.std.proofs.Common.{◌≡◌, ℕ, ◌<◌, true}
-use Rattle.card_layout.specs.Blank.{unused_row}
-use Rattle.card_layout.specs.Decoding.{row_at}
-use Rattle.card_layout.specs.Checks.{row_check}
-use Rattle.layout_mount.proofs.Filling.{IsFilling}
+use Rattle.card_state.specs.Blank.{unused_row}
+use Rattle.card_state.specs.Decoding.{row_at}
+use Rattle.card_state.specs.Checks.{row_check}
+use Rattle.layout_mount.proofs.FindsFirstLemmas.{IsFilling}
 use Rattle.layout_mount.proofs.loading.load_rows.Given as goal
 
 abbrev pub invariant-loop-shelf : goal.invariant-loop-shelf

@@ -1,8 +1,8 @@
 use Rattle.std.proofs.Common.{map}
 use Rattle.std.specs.List.{range_with_len}
-use Rattle.card_layout.specs.Decoding.{row_at, node_at}
-use Rattle.card_layout.specs.Checks.{row_checks, node_checks}
-use Rattle.layout_mount.proofs.Filling.{found_both, FindsFirst_second, first_failed-append_found}
+use Rattle.card_state.specs.Decoding.{row_at, node_at}
+use Rattle.card_state.specs.Checks.{row_checks, node_checks}
+use Rattle.layout_mount.proofs.FindsFirstLemmas.{found_both, FindsFirst_second, first_failed-append_found}
 use Rattle.layout_mount.proofs.loading.load_rows_and_nodes.Goals as goal
 
 pub returns-in-Ok-clause-found : goal.returns-in-Ok-clause-found

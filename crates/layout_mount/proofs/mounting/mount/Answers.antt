@@ -1,5 +1,5 @@
-use Rattle.card_layout.specs.Blank.{empty_table}
-use Rattle.card_layout.proofs.EntryLemmas.{same_table}
+use Rattle.card_state.specs.Blank.{empty_table}
+use Rattle.card_state.proofs.KeyOfSlotLemmas.{same_table}
 use Rattle.layout_mount.proofs.mounting.mount.Goals as goal
 
 pub mount_into-requires-clause-empty : goal.mount_into-requires-clause-empty

@@ -1,6 +1,6 @@
 use Rattle.std.proofs.Common.{◌≡◌, ℕ, ap, subst, ◌∙◌, Some}
 use Rattle.layout_mount.specs.Mounted.{IsTable, HoldsNoCard}
-use Rattle.layout_mount.proofs.Agreeing.{is_table, is_no_card}
+use Rattle.layout_mount.proofs.SameEntriesLemmas.{is_table, is_no_card}
 use Rattle.layout_mount.proofs.mounting.mount_into.Goals as goal
 
 pub returns-in-Ok-clause-mounts : goal.returns-in-Ok-clause-mounts

@@ -1,7 +1,7 @@
 use Rattle.std.proofs.Common.{ℕ, ◌+◌, ◌-◌, List, length, replicate, refl, ap, ◌∙◌, arith}
 use Rattle.std.proofs.lemmas.List.{length-replicate}
-use Rattle.uicc_types.specs.Patches.{patched}
-use Rattle.uicc_types.proofs.PatchLemmas.{patched-patched}
+use Rattle.list_laws.specs.Patches.{patched}
+use Rattle.list_laws.proofs.PatchesLemmas.{patched-patched}
 use Rattle.layout_section.proofs.bytes.put_filled.Goals as goal
 
 pub returns : goal.returns

@@ -1,9 +1,9 @@
 use Rattle.std.proofs.Common.{◌≡◌, ℕ, ◌+◌, ◌*◌, ◌≤◌, List, length, ap, ◌∙◌, arith, slice_index_or}
-use Rattle.uicc_types.proofs.PatchLemmas.{length-patched}
-use Rattle.card_layout.specs.Blank.{unused_node}
-use Rattle.card_layout.specs.Decoding.{bytes_at}
-use Rattle.card_layout.specs.Spelling.{node_spelled}
-use Rattle.layout_section.proofs.Ranges.{one_more_there}
+use Rattle.list_laws.proofs.PatchesLemmas.{length-patched}
+use Rattle.card_state.specs.Blank.{unused_node}
+use Rattle.card_state.specs.Decoding.{bytes_at}
+use Rattle.layout_entries.specs.Spelling.{node_spelled}
+use Rattle.layout_section.proofs.PatchedLemmas.{one_more_there}
 use Rattle.layout_section.proofs.entries.spell_nodes.Goals as goal
 
 pub loop-number-preserved : goal.loop-number-preserved

@@ -1,7 +1,7 @@
 use Rattle.std.proofs.Common.{◌≡◌, ℕ, ◌*◌, ◌<◌, length, slice_index_or}
-use Rattle.card_layout.specs.Blank.{unused_node}
-use Rattle.card_layout.specs.Decoding.{bytes_at}
-use Rattle.card_layout.specs.Spelling.{node_spelled}
+use Rattle.card_state.specs.Blank.{unused_node}
+use Rattle.card_state.specs.Decoding.{bytes_at}
+use Rattle.layout_entries.specs.Spelling.{node_spelled}
 use Rattle.layout_section.proofs.entries.spell_nodes.Given as goal
 
 abbrev pub invariant-loop-number : goal.invariant-loop-number

@@ -1,9 +1,9 @@
 -- The first bytes join the parts that were prepared.
 use Rattle.std.proofs.Common.{◌≡◌, ◌⊎◌, List, [], ◌∷◌, ◌++◌, ap, ◌∙◌, inl, inr, ⊎_elim, arith, IfSome, option_map}
 use Rattle.std.proofs.lemmas.Result.{on_ok_weaker, on_err_weaker}
-use Rattle.card_layout.specs.store_form.Pieces.{Piece, applied}
+use Rattle.store_form.specs.Pieces.{Piece, applied}
 use Rattle.layout_section.specs.Laying.{IsWritten}
-use Rattle.layout_section.proofs.Writing.{HasLengths, told_completed}
+use Rattle.layout_section.proofs.LayingLemmas.{HasLengths, told_completed}
 use Rattle.layout_section.proofs.formatting.commit_first.Goals as goal
 
 pub returns-clause-written : goal.returns-clause-written

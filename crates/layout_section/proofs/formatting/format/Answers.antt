@@ -1,8 +1,8 @@
 use Rattle.std.proofs.Common.{◌≡◌, ◌⊎◌, ℕ, subst, ◌∙◌, inl, inr, ⊎_elim, IfSome, Ok}
 use Rattle.std.proofs.lemmas.Result.{on_ok_weaker, on_err_weaker}
-use Rattle.card_layout.specs.Standing.{stands_for}
-use Rattle.layout_section.proofs.Keeping.{kept_same, kept_then, kept_last}
-use Rattle.layout_section.proofs.Writing.{told_stands}
+use Rattle.card_state.specs.Standing.{stands_for}
+use Rattle.layout_section.proofs.KeepsFirstLemmas.{kept_same, kept_then, kept_last}
+use Rattle.layout_section.proofs.LayingLemmas.{told_stands}
 use Rattle.layout_section.proofs.formatting.format.Goals as goal
 
 pub returns-clause-stands : goal.returns-clause-stands

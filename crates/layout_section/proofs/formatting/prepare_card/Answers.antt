@@ -1,8 +1,8 @@
 use Rattle.std.proofs.Common.{ℕ, List, Option, ap, ◌∙◌, arith, option_map}
 use Rattle.std.proofs.lemmas.Result.{on_ok_weaker}
-use Rattle.uicc_types.specs.Patches.{patched}
-use Rattle.layout_section.proofs.Writing.{HasLengths, told_narrow, told_wide}
-use Rattle.layout_section.proofs.Keeping.{kept_then}
+use Rattle.list_laws.specs.Patches.{patched}
+use Rattle.layout_section.proofs.LayingLemmas.{HasLengths, told_narrow, told_wide}
+use Rattle.layout_section.proofs.KeepsFirstLemmas.{kept_then}
 use Rattle.layout_section.proofs.formatting.prepare_card.Goals as goal
 
 pub returns-then-card-clause-prepared : goal.returns-then-card-clause-prepared

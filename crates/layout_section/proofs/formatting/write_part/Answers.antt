@@ -1,4 +1,4 @@
-use Rattle.layout_section.proofs.Keeping.{kept_part}
+use Rattle.layout_section.proofs.KeepsFirstLemmas.{kept_part}
 use Rattle.layout_section.proofs.formatting.write_part.Goals as goal
 
 pub returns-clause-first : goal.returns-clause-first

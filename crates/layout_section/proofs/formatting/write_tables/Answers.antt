@@ -1,4 +1,4 @@
-use Rattle.layout_section.proofs.Keeping.{kept_then}
+use Rattle.layout_section.proofs.KeepsFirstLemmas.{kept_then}
 use Rattle.layout_section.proofs.formatting.write_tables.Goals as goal
 
 pub returns-in_err-write_part-2-clause-first : goal.returns-in_err-write_part-2-clause-first

@@ -1,4 +1,4 @@
-use Rattle.layout_section.proofs.Made.{lines_are_made, one_more_is_made, refused_is_not_made, faults_stay}
+use Rattle.layout_section.proofs.MadeLemmas.{lines_are_made, one_more_is_made, refused_is_not_made, faults_stay}
 use Rattle.layout_section.proofs.laws.sections_are_made.Goals as goal
 
 pub returns-clause-taken : goal.returns-clause-taken

@@ -1,10 +1,10 @@
 use Rattle.std.proofs.Common.{◌≡◌, ℕ, ◌+◌, ◌*◌, ◌≤◌, List, length, ap, ◌∙◌, arith, slice_index_or}
 use Rattle.std.proofs.lemmas.List.{get_or_default}
-use Rattle.uicc_types.proofs.PatchLemmas.{length-patched}
-use Rattle.card_layout.specs.Blank.{absent_pin}
-use Rattle.card_layout.specs.Decoding.{bytes_at}
-use Rattle.card_layout.specs.Spelling.{pin_spelled}
-use Rattle.layout_section.proofs.Ranges.{one_more_there}
+use Rattle.list_laws.proofs.PatchesLemmas.{length-patched}
+use Rattle.card_state.specs.Blank.{absent_pin}
+use Rattle.card_state.specs.Decoding.{bytes_at}
+use Rattle.layout_entries.specs.Spelling.{pin_spelled}
+use Rattle.layout_section.proofs.PatchedLemmas.{one_more_there}
 use Rattle.layout_section.proofs.pins.spell_slots.Goals as goal
 
 pub loop-slot-preserved : goal.loop-slot-preserved

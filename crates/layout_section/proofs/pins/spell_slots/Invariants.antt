@@ -1,7 +1,7 @@
 use Rattle.std.proofs.Common.{◌≡◌, ℕ, ◌*◌, ◌<◌, length, slice_index_or}
-use Rattle.card_layout.specs.Blank.{absent_pin}
-use Rattle.card_layout.specs.Decoding.{bytes_at}
-use Rattle.card_layout.specs.Spelling.{pin_spelled}
+use Rattle.card_state.specs.Blank.{absent_pin}
+use Rattle.card_state.specs.Decoding.{bytes_at}
+use Rattle.layout_entries.specs.Spelling.{pin_spelled}
 use Rattle.layout_section.proofs.pins.spell_slots.Given as goal
 
 abbrev pub invariant-loop-slot : goal.invariant-loop-slot

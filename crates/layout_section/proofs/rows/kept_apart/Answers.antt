@@ -1,7 +1,7 @@
 use Rattle.std.proofs.Common.{◌≡◌, ℕ, ◌-◌, ◌≤◌, List, length, take, drop, sym, ap, ◌∙◌, arith, replicate}
 use Rattle.std.proofs.lemmas.List.{length-drop, drop_all, take_rest}
-use Rattle.uicc_types.specs.Patches.{patched}
-use Rattle.layout_section.proofs.Ranges.{front_there}
+use Rattle.list_laws.specs.Patches.{patched}
+use Rattle.layout_section.proofs.PatchedLemmas.{front_there}
 use Rattle.layout_section.proofs.rows.kept_apart.Goals as goal
 
 pub returns-then-kept-gt-KEPT_WIDTH-clause-more : goal.returns-then-kept-gt-KEPT_WIDTH-clause-more

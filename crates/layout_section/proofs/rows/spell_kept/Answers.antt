@@ -1,11 +1,11 @@
 use Rattle.std.proofs.Common.{ℕ, ◌+◌, ◌*◌, ◌≤◌, List, length, sym, ap, subst, ◌∙◌, arith, slice_index_or}
 use Rattle.std.proofs.lemmas.List.{get_or_read}
-use Rattle.uicc_types.proofs.PatchLemmas.{length-patched}
-use Rattle.card_layout.specs.declared.entries.Row.{Row}
-use Rattle.card_layout.specs.Blank.{unused_row}
-use Rattle.card_layout.specs.Decoding.{bytes_at}
+use Rattle.list_laws.proofs.PatchesLemmas.{length-patched}
+use Rattle.card_state.specs.declared.entries.Row.{Row}
+use Rattle.card_state.specs.Blank.{unused_row}
+use Rattle.card_state.specs.Decoding.{bytes_at}
 use Rattle.layout_section.specs.RowTables.{IsKeptApart}
-use Rattle.layout_section.proofs.Ranges.{one_more_there}
+use Rattle.layout_section.proofs.PatchedLemmas.{one_more_there}
 use Rattle.layout_section.proofs.rows.spell_kept.Goals as goal
 
 pub loop-shelf-preserved : goal.loop-shelf-preserved

@@ -1,6 +1,6 @@
 use Rattle.std.proofs.Common.{◌≡◌, ℕ, ◌*◌, ◌<◌, length, slice_index_or}
-use Rattle.card_layout.specs.Blank.{unused_row}
-use Rattle.card_layout.specs.Decoding.{bytes_at}
+use Rattle.card_state.specs.Blank.{unused_row}
+use Rattle.card_state.specs.Decoding.{bytes_at}
 use Rattle.layout_section.specs.RowTables.{IsKeptApart}
 use Rattle.layout_section.proofs.rows.spell_kept.Given as goal
 

@@ -1,5 +1,5 @@
 use Rattle.std.proofs.Common.{◌∙◌, sym}
-use Rattle.layout_section.proofs.Paths.{file_there_already, place_there}
+use Rattle.layout_section.proofs.FileAtLemmas.{file_there_already, place_there}
 use Rattle.layout_section.proofs.section.place_in.Goals as goal
 
 pub returns-in-Some-child : goal.returns-in-Some-child

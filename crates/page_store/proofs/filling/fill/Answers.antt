@@ -1,9 +1,9 @@
 -- Over pages of FF the content is FF through any map, so the map's write, torn or whole, leaves it; the first map is well formed.
 use Rattle.std.proofs.Common.{◌≡◌, ◌∙◌, length, subst, arith}
-use Rattle.update_journal.specs.uicc_types.Told.{Becomes}
-use Rattle.update_journal.specs.uicc_types.Patches.{Torn}
-use Rattle.page_store.proofs.Told.{HasLength}
-use Rattle.page_store.proofs.Blanks.{HasOwn, map_torn, map_put, kept_first, first_formed}
+use Rattle.list_laws.specs.Patches.{Torn}
+use Rattle.uicc_types.specs.Told.{Becomes}
+use Rattle.page_store.proofs.InPageLemmas.{HasLength}
+use Rattle.page_store.proofs.BlanksLemmas.{HasOwn, map_torn, map_put, kept_first, first_formed}
 use Rattle.page_store.proofs.filling.fill.Goals as goal
 
 pub returns-in_err-prepare-clause-same : goal.returns-in_err-prepare-clause-same

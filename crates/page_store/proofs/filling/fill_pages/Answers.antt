@@ -1,8 +1,8 @@
 -- No page is filled where the map lies, so it stays ill formed, and the content stays all FF even where a fault tears a page.
 use Rattle.std.proofs.Common.{◌*◌, ◌∙◌, refl, subst, arith}
-use Rattle.update_journal.proofs.uicc_types.CallLemmas.{calm_same, caused_then, calm_ok}
-use Rattle.page_store.proofs.Told.{HasLength}
-use Rattle.page_store.proofs.Blanks.{first_torn, first_filled, page_filled, page_torn_told, all_filled}
+use Rattle.uicc_types.proofs.IsCalmLemmas.{calm_same, caused_then, calm_ok}
+use Rattle.page_store.proofs.InPageLemmas.{HasLength}
+use Rattle.page_store.proofs.BlanksLemmas.{first_torn, first_filled, page_filled, page_torn_told, all_filled}
 use Rattle.page_store.proofs.filling.fill_pages.Goals as goal
 
 pub returns-in_err-prepare-clause-same : goal.returns-in_err-prepare-clause-same

@@ -1,7 +1,7 @@
 use Rattle.std.proofs.Common.{◌≡◌, ◌*◌, true}
-use Rattle.update_journal.specs.uicc_types.Told.{Becomes}
-use Rattle.update_journal.specs.uicc_types.Calls.{IsCalm}
-use Rattle.page_store.proofs.Blanks.{IsFilling}
+use Rattle.uicc_types.specs.Told.{Becomes}
+use Rattle.uicc_types.specs.Calls.{IsCalm}
+use Rattle.page_store.proofs.BlanksLemmas.{IsFilling}
 use Rattle.page_store.proofs.filling.fill_pages.Given as goal
 
 abbrev pub invariant-loop-page : goal.invariant-loop-page

@@ -1,5 +1,5 @@
 use Rattle.std.proofs.Common.{arith}
-use Rattle.page_store.proofs.Blanks.{first_by}
+use Rattle.page_store.proofs.BlanksLemmas.{first_by}
 use Rattle.page_store.proofs.filling.first_map.Goals as goal
 
 pub returns-clause-first : goal.returns-clause-first

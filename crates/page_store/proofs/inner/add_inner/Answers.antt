@@ -1,6 +1,6 @@
 use Rattle.std.proofs.Common.{◌++◌, ◌∷◌, ◌+◌, ◌-◌, ◌*◌, ◌/◌, [], length, ap, ◌∙◌, arith}
-use Rattle.update_journal.specs.store_form.Pieces.{Piece}
-use Rattle.page_store.proofs.Spelled.{bytes_from, high_piece}
+use Rattle.store_form.specs.Pieces.{Piece}
+use Rattle.page_store.proofs.InnerPieceLemmas.{bytes_from, high_piece}
 use Rattle.page_store.proofs.inner.add_inner.Goals as goal
 
 pub returns-else-start-lt-OWN_START-clause-value : goal.returns-else-start-lt-OWN_START-clause-value

@@ -1,12 +1,12 @@
 use Rattle.std.proofs.Common.{List, inl, inr, sym, ap, ◌∙◌, subst, map, ⊎_elim, option_map}
 use Rattle.std.proofs.lemmas.Result.{on_ok_weaker, on_err_weaker}
-use Rattle.update_journal.specs.store_form.Pieces.{Piece, applied}
-use Rattle.update_journal.specs.store_form.Spared.{AreUsable}
+use Rattle.store_form.specs.Pieces.{Piece, applied}
+use Rattle.store_form.specs.Spared.{AreUsable}
 use Rattle.page_store.specs.Pages.{content}
 use Rattle.page_store.specs.Commits.{inner_piece}
-use Rattle.page_store.proofs.Told.{HasLength}
-use Rattle.page_store.proofs.Finishing.{all_inner, small_entries, commit_done}
-use Rattle.page_store.proofs.Moving.{moves_content}
+use Rattle.page_store.proofs.InPageLemmas.{HasLength}
+use Rattle.page_store.proofs.EntriesPieceLemmas.{all_inner, small_entries, commit_done}
+use Rattle.page_store.proofs.MovesLemmas.{moves_content}
 use Rattle.page_store.proofs.inner.commit.Goals as goal
 
 pub commit-requires-clause-usable : goal.commit-requires-clause-usable

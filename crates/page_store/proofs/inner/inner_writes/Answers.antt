@@ -1,5 +1,5 @@
 use Rattle.std.proofs.Common.{arith}
-use Rattle.update_journal.proofs.Spelling.{next_entry}
+use Rattle.update_journal.proofs.EntriesLemmas.{next_entry}
 use Rattle.page_store.proofs.inner.inner_writes.Goals as goal
 
 pub add_inner-requires-clause-short : goal.add_inner-requires-clause-short

@@ -1,5 +1,5 @@
 use Rattle.std.proofs.Common.{◌≡◌, ◌*◌, ◌≤◌, length, map, take}
-use Rattle.update_journal.specs.store_form.Pieces.{byte_total}
+use Rattle.store_form.specs.Pieces.{byte_total}
 use Rattle.page_store.specs.Commits.{inner_piece}
 use Rattle.page_store.proofs.inner.inner_writes.Given as goal
 

@@ -1,14 +1,14 @@
 -- The page is written to one that the map of the commit's beginning doesn't name, so what a fault leaves there isn't seen through it.
 use Rattle.std.proofs.Common.{◌≡◌, ◌+◌, ◌*◌, List, ℕ, Option, sym, ap, ◌∙◌, subst, rules, option_map}
-use Rattle.update_journal.proofs.uicc_types.OptionalLemmas.{on_err}
-use Rattle.update_journal.specs.uicc_types.Told.{Becomes}
-use Rattle.update_journal.specs.uicc_types.Patches.{patched, Torn}
-use Rattle.update_journal.specs.store_form.Pieces.{IsUsable}
+use Rattle.list_laws.proofs.IfSomeLemmas.{on_err}
+use Rattle.list_laws.specs.Patches.{patched, Torn}
+use Rattle.uicc_types.specs.Told.{Becomes}
+use Rattle.store_form.specs.Pieces.{IsUsable}
 use Rattle.page_store.specs.Tables.{IsPool}
 use Rattle.page_store.specs.Commits.{Moves}
-use Rattle.page_store.proofs.Maps.{pool_moved}
-use Rattle.page_store.proofs.Told.{usable_place}
-use Rattle.page_store.proofs.Moving.{moves_content, move_torn, move_done, whole_page, usable_target}
+use Rattle.page_store.proofs.IsWellFormedLemmas.{pool_moved}
+use Rattle.page_store.proofs.InPageLemmas.{usable_place}
+use Rattle.page_store.proofs.MovesLemmas.{moves_content, move_torn, move_done, whole_page, usable_target}
 use Rattle.page_store.proofs.moves.move_page.Goals as goal
 
 pub read-requires-clause-usable : goal.read-requires-clause-usable

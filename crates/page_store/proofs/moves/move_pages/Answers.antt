@@ -1,11 +1,11 @@
 -- The touched pages below this one have moved since the commit began, so a fault at the next page leaves the content as it was then.
 use Rattle.std.proofs.Common.{if◌then◌else◌, ◌≡◌, sym, ap, ◌∙◌, refl, subst, arith}
-use Rattle.update_journal.proofs.uicc_types.OptionalLemmas.{on_err}
-use Rattle.update_journal.proofs.uicc_types.CallLemmas.{calm_same, caused_then, calm_ok}
+use Rattle.list_laws.proofs.IfSomeLemmas.{on_err}
+use Rattle.uicc_types.proofs.IsCalmLemmas.{calm_same, caused_then, calm_ok}
 use Rattle.page_store.specs.Commits.{is_touched, moved_below, Moves}
 use Rattle.page_store.specs.Tables.{Kept, moved, IsTold}
-use Rattle.page_store.proofs.Moving.{none_moved, none_below, moved_next}
-use Rattle.page_store.proofs.Told.{HasLength}
+use Rattle.page_store.proofs.MovesLemmas.{none_moved, none_below, moved_next}
+use Rattle.page_store.proofs.InPageLemmas.{HasLength}
 use Rattle.page_store.proofs.moves.move_pages.Goals as goal
 
 pub loop-page-init : goal.loop-page-init

@@ -1,5 +1,5 @@
 use Rattle.std.proofs.Common.{◌≡◌, true}
-use Rattle.update_journal.specs.uicc_types.Calls.{IsCalm}
+use Rattle.uicc_types.specs.Calls.{IsCalm}
 use Rattle.page_store.specs.Commits.{moved_below, Moves}
 use Rattle.page_store.specs.Tables.{IsPool}
 use Rattle.page_store.proofs.moves.move_pages.Given as goal

@@ -1,6 +1,6 @@
 use Rattle.std.proofs.Common.{arith, rules, sym}
-use Rattle.page_store.proofs.Counting.{few_done}
-use Rattle.page_store.proofs.Moving.{move_none}
+use Rattle.page_store.proofs.DoneCountLemmas.{few_done}
+use Rattle.page_store.proofs.MovesLemmas.{move_none}
 use Rattle.page_store.proofs.moves.move_touched.Goals as goal
 
 pub move_page-requires-clause-few : goal.move_page-requires-clause-few

@@ -1,5 +1,5 @@
 use Rattle.std.proofs.Common.{sym}
-use Rattle.page_store.proofs.Putting.{touched_at}
+use Rattle.page_store.proofs.BytesOfPageLemmas.{touched_at}
 use Rattle.page_store.proofs.overlays.is_touched.Goals as goal
 
 pub returns-then-lies_in-clause-value : goal.returns-then-lies_in-clause-value

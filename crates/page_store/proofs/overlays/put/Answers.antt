@@ -1,5 +1,5 @@
 use Rattle.std.proofs.Common.{arith}
-use Rattle.page_store.proofs.Putting.{nothing_there, something_there}
+use Rattle.page_store.proofs.BytesOfPageLemmas.{nothing_there, something_there}
 use Rattle.page_store.proofs.overlays.put.Goals as goal
 
 pub returns-then-to-from : goal.returns-then-to-from

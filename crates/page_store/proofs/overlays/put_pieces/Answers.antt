@@ -1,7 +1,7 @@
 use Rattle.std.proofs.Common.{List, take, ap, ◌∙◌, arith, take_all}
-use Rattle.update_journal.specs.store_form.Pieces.{Piece, applied}
+use Rattle.store_form.specs.Pieces.{Piece, applied}
 use Rattle.page_store.specs.Commits.{bytes_of_page}
-use Rattle.page_store.proofs.Putting.{put_next, front_length}
+use Rattle.page_store.proofs.BytesOfPageLemmas.{put_next, front_length}
 use Rattle.page_store.proofs.overlays.put_pieces.Goals as goal
 
 pub loop-at-preserved : goal.loop-at-preserved

@@ -1,5 +1,5 @@
 use Rattle.std.proofs.Common.{◌≡◌, List, ℕ, length, take}
-use Rattle.update_journal.specs.store_form.Pieces.{applied}
+use Rattle.store_form.specs.Pieces.{applied}
 use Rattle.page_store.specs.Commits.{bytes_of_page}
 use Rattle.page_store.proofs.overlays.put_pieces.Given as goal
 

@@ -1,4 +1,4 @@
-use Rattle.page_store.proofs.Counting.{few_done}
+use Rattle.page_store.proofs.DoneCountLemmas.{few_done}
 use Rattle.page_store.proofs.overlays.touches_few.Goals as goal
 
 pub returns : goal.returns

@@ -1,6 +1,6 @@
 use Rattle.std.proofs.Common.{length, subst}
 use Rattle.page_store.specs.Paged.{IsKnown}
-use Rattle.page_store.proofs.Recovering.{blank_read}
+use Rattle.page_store.proofs.KnownOfLemmas.{blank_read}
 use Rattle.page_store.proofs.paged.read.Goals as goal
 
 pub returns-in-Blank-clause-ok : goal.returns-in-Blank-clause-ok

@@ -1,6 +1,6 @@
 use Rattle.std.proofs.Common.{◌≡◌, List, ℕ, Option, rules, sym, subst, IfSome, slice_range}
 use Rattle.page_store.specs.Paged.{IsKnown}
-use Rattle.page_store.proofs.Recovering.{known_read}
+use Rattle.page_store.proofs.KnownOfLemmas.{known_read}
 use Rattle.page_store.proofs.paged.recover.Goals as goal
 
 pub returns-clause-known : goal.returns-clause-known

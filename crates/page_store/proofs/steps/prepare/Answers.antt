@@ -1,12 +1,12 @@
 -- What was put page by page joins to one write of the bytes so far, and a part that a fault tears lies inside the whole range.
 use Rattle.std.proofs.Common.{◌+◌, ◌-◌, List, ℕ, drop, refl, ap, ◌∙◌, arith, rules, option_map, length-drop, length-take, take_all}
-use Rattle.update_journal.proofs.uicc_types.OptionalLemmas.{on_err}
-use Rattle.update_journal.specs.uicc_types.Patches.{patched}
-use Rattle.update_journal.proofs.uicc_types.CallLemmas.{calm_same, caused_then, calm_ok}
+use Rattle.list_laws.proofs.IfSomeLemmas.{on_err}
+use Rattle.list_laws.specs.Patches.{patched}
+use Rattle.uicc_types.proofs.IsCalmLemmas.{calm_same, caused_then, calm_ok}
+use Rattle.update_journal.proofs.PatchedLemmas.{patched-none}
 use Rattle.page_store.specs.Pages.{content}
 use Rattle.page_store.specs.Laws.{told_content}
-use Rattle.page_store.proofs.Told.{put_on, torn_next}
-use Rattle.update_journal.proofs.Parts.{patched-none}
+use Rattle.page_store.proofs.InPageLemmas.{put_on, torn_next}
 use Rattle.page_store.proofs.steps.prepare.Goals as goal
 
 pub loop-done-init : goal.loop-done-init

@@ -1,6 +1,6 @@
 use Rattle.std.proofs.Common.{◌≡◌, ◌-◌, ◌≤◌, length, take, true, option_map}
-use Rattle.update_journal.specs.uicc_types.Patches.{patched}
-use Rattle.update_journal.specs.uicc_types.Calls.{IsCalm}
+use Rattle.list_laws.specs.Patches.{patched}
+use Rattle.uicc_types.specs.Calls.{IsCalm}
 use Rattle.page_store.specs.Pages.{content}
 use Rattle.page_store.specs.Tables.{IsKept}
 use Rattle.page_store.proofs.steps.prepare.Given as goal

@@ -1,6 +1,6 @@
 use Rattle.std.proofs.Common.{length}
 use Rattle.std.proofs.lemmas.Result.{on_ok_weaker, on_err_weaker}
-use Rattle.page_store.proofs.Told.{usable_place, torn_part, put_part}
+use Rattle.page_store.proofs.InPageLemmas.{usable_place, torn_part, put_part}
 use Rattle.page_store.proofs.steps.prepare_part.Goals as goal
 
 pub prepare-requires-clause-usable : goal.prepare-requires-clause-usable

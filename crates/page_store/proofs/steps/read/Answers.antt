@@ -1,8 +1,8 @@
 use Rattle.std.proofs.Common.{◌≡◌, ◌≤◌, ◌+◌, ℕ, length, sym, ◌∙◌, subst, arith, slice_range, IfSome}
-use Rattle.update_journal.proofs.uicc_types.CallLemmas.{caused_then, calm_ok}
+use Rattle.uicc_types.proofs.IsCalmLemmas.{caused_then, calm_ok}
 use Rattle.page_store.specs.Pages.{content}
 use Rattle.page_store.specs.Laws.{told_content}
-use Rattle.page_store.proofs.Told.{Told, seen_on, part_length, mid_length}
+use Rattle.page_store.proofs.InPageLemmas.{Told, seen_on, part_length, mid_length}
 use Rattle.page_store.proofs.steps.read.Goals as goal
 
 pub loop-done-preserved : goal.loop-done-preserved

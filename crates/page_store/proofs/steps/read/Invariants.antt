@@ -1,5 +1,5 @@
 use Rattle.std.proofs.Common.{◌≡◌, ◌+◌, ◌-◌, ◌≤◌, length, take, true, IfSome, slice_range}
-use Rattle.update_journal.specs.uicc_types.Calls.{IsCalm}
+use Rattle.uicc_types.specs.Calls.{IsCalm}
 use Rattle.page_store.specs.Pages.{content}
 use Rattle.page_store.proofs.steps.read.Given as goal
 

@@ -1,6 +1,6 @@
 use Rattle.std.proofs.Common.{length}
 use Rattle.std.proofs.lemmas.Result.{on_ok_weaker}
-use Rattle.page_store.proofs.Told.{usable_place, read_part}
+use Rattle.page_store.proofs.InPageLemmas.{usable_place, read_part}
 use Rattle.page_store.proofs.steps.read_part.Goals as goal
 
 pub read-requires-clause-usable : goal.read-requires-clause-usable

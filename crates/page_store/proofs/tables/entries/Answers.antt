@@ -1,6 +1,6 @@
 use Rattle.std.proofs.Common.{arith, rules, ℕ, ◌∙◌}
 use Rattle.std.proofs.lemmas.List.{length-replicate, length-set}
-use Rattle.page_store.proofs.Loads.{entry_read, entries_read}
+use Rattle.page_store.proofs.IsNamingLemmas.{entry_read, entries_read}
 use Rattle.page_store.proofs.tables.entries.Goals as goal
 
 pub loop-k-init : goal.loop-k-init

@@ -1,5 +1,5 @@
 use Rattle.std.proofs.Common.{arith, ◌∙◌}
-use Rattle.page_store.proofs.Loads.{free_added, free_room, free_all}
+use Rattle.page_store.proofs.IsNamingLemmas.{free_added, free_room, free_all}
 use Rattle.page_store.proofs.tables.free.Goals as goal
 
 pub add-requires : goal.add-requires

@@ -1,8 +1,8 @@
 use Rattle.std.proofs.Common.{arith, set, true, false, ◌≡◌, ◌∙◌, ◌+◌, ℕ, sym, subst, take}
 use Rattle.std.proofs.lemmas.List.{length-replicate, length-set, get_or-replicate}
 use Rattle.page_store.specs.Pages.{is_right}
-use Rattle.page_store.proofs.Loads.{IsMarked, right_by, marked_too, all_right, naming}
-use Rattle.page_store.proofs.Maps.{wrong_at}
+use Rattle.page_store.proofs.IsNamingLemmas.{IsMarked, right_by, marked_too, all_right, naming}
+use Rattle.page_store.proofs.IsWellFormedLemmas.{wrong_at}
 use Rattle.page_store.proofs.tables.named.Goals as goal
 
 pub loop-k-init : goal.loop-k-init

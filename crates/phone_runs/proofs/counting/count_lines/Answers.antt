@@ -1,9 +1,9 @@
 use Rattle.std.proofs.Common.{ℕ, List, Some, sym, subst}
-use Rattle.card_steps.specs.Ends.{moment_at}
-use Rattle.phone_runs.specs.LoadLines.{made_lines}
+use Rattle.run_steps.specs.Ends.{moment_at}
+use Rattle.long_runs.specs.LoadLines.{made_lines}
+use Rattle.long_runs.proofs.CountLemmas.{counts_are_those}
 use Rattle.phone_runs.specs.Playing.{Begins}
-use Rattle.phone_runs.proofs.CountLemmas.{counts_are_those}
-use Rattle.phone_runs.proofs.Loading.{counts_run, fails_at_start, starts_loading}
+use Rattle.phone_runs.proofs.LoadRunsLemmas.{counts_run, fails_at_start, starts_loading}
 use Rattle.phone_runs.proofs.counting.count_lines.Goals as goal
 
 pub returns-in-Ok-serve_all-clause-counts : goal.returns-in-Ok-serve_all-clause-counts

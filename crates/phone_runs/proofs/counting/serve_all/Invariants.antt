@@ -1,11 +1,11 @@
 -- Between two lines the run is where it was at first, or further.
 use Rattle.std.proofs.Common.{List, ◌≤◌, ◌<◌, ◌+◌, ◌*◌, ◌^◌, Some, length}
-use Rattle.card_steps.specs.Ends.{moment_at}
-use Rattle.phone_runs.specs.declared.load_lines.TheConstants.{LONGEST_SPAN}
+use Rattle.script_form.specs.declared.handset.HandsetLine.{HandsetLine}
+use Rattle.run_steps.specs.Ends.{moment_at}
+use Rattle.long_runs.specs.declared.load_lines.TheConstants.{LONGEST_SPAN}
 use Rattle.phone_runs.specs.LoadRuns.{IsLoading}
 use Rattle.phone_runs.specs.Runs.{Beginning}
 use Rattle.phone_runs.specs.Serving.{IsAtRest}
-use Rattle.handset_model.specs.script_form.declared.handset.HandsetLine.{HandsetLine}
 use Rattle.phone_runs.proofs.counting.serve_all.Given as goal
 
 abbrev pub invariant-loop-failed : goal.invariant-loop-failed

@@ -1,8 +1,8 @@
 use Rattle.std.proofs.Common.{List, Some, sym, ◌∙◌, subst}
-use Rattle.card_steps.specs.Ends.{moment_at}
+use Rattle.script_form.specs.declared.handset.HandsetLine.{HandsetLine}
+use Rattle.run_steps.specs.Ends.{moment_at}
 use Rattle.phone_runs.specs.LoadRuns.{IsLoading}
-use Rattle.handset_model.specs.script_form.declared.handset.HandsetLine.{HandsetLine}
-use Rattle.phone_runs.proofs.Loading.{fails_amid, loads_on}
+use Rattle.phone_runs.proofs.LoadRunsLemmas.{fails_amid, loads_on}
 use Rattle.phone_runs.proofs.counting.serve_next.Goals as goal
 
 pub returns-in-Ok-clause-served : goal.returns-in-Ok-clause-served

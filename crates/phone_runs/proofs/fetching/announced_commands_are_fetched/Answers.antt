@@ -1,4 +1,4 @@
-use Rattle.phone_runs.proofs.Exchanging.{announced_fetched}
+use Rattle.phone_runs.proofs.ExchangesLemmas.{announced_fetched}
 use Rattle.phone_runs.proofs.fetching.announced_commands_are_fetched.Goals as goal
 
 pub returns : goal.returns

@@ -1,4 +1,4 @@
-use Rattle.phone_runs.proofs.Reading.{details_read}
+use Rattle.phone_runs.proofs.DetailsAreReadLemmas.{details_read}
 use Rattle.phone_runs.proofs.fetching.details_are_read.Goals as goal
 
 pub returns : goal.returns

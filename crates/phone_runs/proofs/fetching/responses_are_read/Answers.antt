@@ -1,4 +1,4 @@
-use Rattle.phone_runs.proofs.Reading.{responses_read}
+use Rattle.phone_runs.proofs.DetailsAreReadLemmas.{responses_read}
 use Rattle.phone_runs.proofs.fetching.responses_are_read.Goals as goal
 
 pub returns : goal.returns

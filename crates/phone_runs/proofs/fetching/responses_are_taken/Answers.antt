@@ -1,5 +1,5 @@
-use Rattle.phone_runs.proofs.Exchanging.{responses_taken}
-use Rattle.phone_runs.proofs.Receiving.{responses_some}
+use Rattle.phone_runs.proofs.ExchangesLemmas.{responses_taken}
+use Rattle.phone_runs.proofs.ApduOfLemmas.{responses_some}
 use Rattle.phone_runs.proofs.fetching.responses_are_taken.Goals as goal
 
 pub returns : goal.returns

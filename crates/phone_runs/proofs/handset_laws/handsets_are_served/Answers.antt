@@ -1,7 +1,7 @@
 use Rattle.std.proofs.Common.{refl}
-use Rattle.card_steps.specs.card_model.States.{powered, woken}
-use Rattle.card_steps.proofs.card_model.WokenLemmas.{woken_is_good}
-use Rattle.phone_runs.proofs.Following.{all_served}
+use Rattle.card_model.specs.States.{powered, woken}
+use Rattle.card_model.proofs.WokenLemmas.{woken_is_good}
+use Rattle.phone_runs.proofs.HandsetsAreServedLemmas.{all_served}
 use Rattle.phone_runs.proofs.handset_laws.handsets_are_served.Goals as goal
 
 pub returns-clause-served : goal.returns-clause-served

@@ -1,6 +1,6 @@
-use Rattle.phone_runs.proofs.CardEnded.{ended_of_card}
-use Rattle.phone_runs.proofs.Ended.{ended_begun}
-use Rattle.phone_runs.proofs.Lawful.{begun, legal, of_the_card}
+use Rattle.phone_runs.proofs.EndsAreOfTheCardLemmas.{ended_of_card}
+use Rattle.phone_runs.proofs.EndsAreBegunLemmas.{ended_begun}
+use Rattle.phone_runs.proofs.RunsAreLegalLemmas.{begun, legal, of_the_card}
 use Rattle.phone_runs.proofs.laws.phone_runs_are_lawful.Goals as goal
 
 pub returns-clause-legal : goal.returns-clause-legal

@@ -1,4 +1,4 @@
-use Rattle.phone_runs.proofs.OneTrace.{traces_are_one}
+use Rattle.phone_runs.proofs.PhoneRunsAreOneLemmas.{traces_are_one}
 use Rattle.phone_runs.proofs.laws.phone_runs_are_one.Goals as goal
 
 pub returns : goal.returns

@@ -1,4 +1,4 @@
-use Rattle.phone_runs.proofs.OneCount.{loads_are_one}
+use Rattle.phone_runs.proofs.LoadRunsAreOneLemmas.{loads_are_one}
 use Rattle.phone_runs.proofs.load_laws.loads_are_one.Goals as goal
 
 pub returns : goal.returns

@@ -1,11 +1,11 @@
 use Rattle.std.proofs.Common.{◌∷◌, ◌∙◌}
 use Rattle.std.proofs.lemmas.Result.{on_ok_weaker}
-use Rattle.phone_runs.proofs.Hearing.{said_clock, said_served}
-use Rattle.phone_runs.proofs.Logging.{hears_line}
-use Rattle.phone_runs.proofs.Serves.{rest_of}
-use Rattle.phone_runs.proofs.ShowSteps.{line_heard}
-use Rattle.phone_runs.specs.Logs.{Happens}
 use Rattle.handset_model.specs.History.{Said}
+use Rattle.phone_runs.proofs.IsServedMoreLemmas.{said_clock, said_served}
+use Rattle.phone_runs.proofs.RunsLemmas.{hears_line}
+use Rattle.phone_runs.proofs.ServeLemmas.{rest_of}
+use Rattle.phone_runs.proofs.ShowingLemmas.{line_heard}
+use Rattle.phone_runs.specs.Logs.{Happens}
 use Rattle.phone_runs.proofs.playing.hear_line.Goals as goal
 
 pub settle-requires : goal.settle-requires

@@ -1,7 +1,7 @@
 use Rattle.std.proofs.Common.{◌∷◌, refl}
-use Rattle.phone_runs.proofs.Logging.{plans_line}
-use Rattle.phone_runs.proofs.Serves.{rest_of}
-use Rattle.phone_runs.proofs.ShowSteps.{plan_heard}
+use Rattle.phone_runs.proofs.RunsLemmas.{plans_line}
+use Rattle.phone_runs.proofs.ServeLemmas.{rest_of}
+use Rattle.phone_runs.proofs.ShowingLemmas.{plan_heard}
 use Rattle.phone_runs.specs.Logs.{Plans}
 use Rattle.phone_runs.proofs.playing.play_on_phone.Goals as goal
 

@@ -1,9 +1,9 @@
 use Rattle.std.proofs.Common.{[], ap, ◌∙◌}
 use Rattle.std.proofs.lemmas.Result.{on_ok_weaker}
-use Rattle.phone_runs.proofs.Logging.{begins_empty}
-use Rattle.phone_runs.proofs.ShowSteps.{empty_shows}
 use Rattle.terminal_side.specs.Kept.{Kept}
 use Rattle.terminal_side.proofs.KeptLemmas.{clock_kept}
+use Rattle.phone_runs.proofs.RunsLemmas.{begins_empty}
+use Rattle.phone_runs.proofs.ShowingLemmas.{empty_shows}
 use Rattle.phone_runs.proofs.playing.start_phone.Goals as goal
 
 pub returns-clause-starts : goal.returns-clause-starts

@@ -1,10 +1,10 @@
 -- A command, a reset and a note each add one event to the log; what the places hold is what the handset asked for, and it has less to do.
 use Rattle.std.proofs.Common.{rules}
-use Rattle.card_steps.proofs.StandingLemmas.{machine_stands}
-use Rattle.card_steps.specs.Ends.{moment_at}
-use Rattle.card_steps.proofs.TellLaws.{tells_front, tells_whole}
-use Rattle.phone_runs.proofs.Serves.{asks_note, asks_reset, asks_send, none_further, none_rests, none_same, note_ends, note_further, note_more, reset_ends, reset_further, reset_more, sent_ends, sent_further, sent_more}
-use Rattle.phone_runs.proofs.ShowSteps.{none_shows, note_shows, note_shows_end, reset_shows, reset_shows_end, sent_shows, sent_shows_end}
+use Rattle.run_steps.proofs.StandingLemmas.{machine_stands}
+use Rattle.run_steps.specs.Ends.{moment_at}
+use Rattle.run_steps.proofs.TakesFrontLemmas.{tells_front, tells_whole}
+use Rattle.phone_runs.proofs.ServeLemmas.{asks_note, asks_reset, asks_send, none_further, none_rests, none_same, note_ends, note_further, note_more, reset_ends, reset_further, reset_more, sent_ends, sent_further, sent_more}
+use Rattle.phone_runs.proofs.ShowingLemmas.{none_shows, note_shows, note_shows_end, reset_shows, reset_shows_end, sent_shows, sent_shows_end}
 use Rattle.phone_runs.proofs.serving.serve.Goals as goal
 
 pub returns-in-Nothing-clause-further : goal.returns-in-Nothing-clause-further

@@ -1,7 +1,7 @@
 -- The log grows with each thing served, but tells the same lines: what one more comes to is led back to the log that the loop began with.
 use Rattle.std.proofs.Common.{Ok, ap, ◌∙◌, arith}
-use Rattle.phone_runs.proofs.Serves.{ends_again, reaches_again, rests_again}
-use Rattle.phone_runs.proofs.ShowSteps.{all_again, end_again, more_again}
+use Rattle.phone_runs.proofs.ServeLemmas.{ends_again, reaches_again, rests_again}
+use Rattle.phone_runs.proofs.ShowingLemmas.{all_again, end_again, more_again}
 use Rattle.phone_runs.proofs.serving.settle.Goals as goal
 
 pub loop-end-preserved : goal.loop-end-preserved

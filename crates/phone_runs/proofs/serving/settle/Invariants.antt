@@ -1,6 +1,6 @@
 -- The handset is where it was at first, or further, and less is left for it to do.
 use Rattle.std.proofs.Common.{◌≡◌, List, is_some, ◌≤◌}
-use Rattle.card_steps.specs.Ends.{moment_at}
+use Rattle.run_steps.specs.Ends.{moment_at}
 use Rattle.phone_runs.specs.Logs.{Event, lines_back}
 use Rattle.phone_runs.specs.Runs.{Beginning, IsAt, Reaches}
 use Rattle.phone_runs.specs.Serving.{IsPhoneServed, work_at}

@@ -1,14 +1,14 @@
 -- The trial read from the table comes to what the command settles; where that passes no state nothing is committed, and no fault stops it.
 use Rattle.std.proofs.Common.{◌≡◌, length, refl, sym, ◌∙◌, ap, subst}
 use Rattle.std.proofs.lemmas.Bool.{false≢true}
-use Rattle.file_model.proofs.uicc_types.OptionalLemmas.{on_err}
-use Rattle.file_model.specs.uicc_types.Counts.{raised_by}
-use Rattle.file_model.specs.card_layout.States.{pins_of}
+use Rattle.list_laws.proofs.IfSomeLemmas.{on_err}
+use Rattle.uicc_types.specs.Counts.{raised_by}
+use Rattle.card_state.specs.States.{pins_of}
+use Rattle.card_state.specs.Memory.{memory}
 use Rattle.file_model.specs.Commands.{pin_settled}
 use Rattle.file_model.specs.Outcomes.{PinOutcome}
-use Rattle.card_memory.specs.Model.{memory}
 use Rattle.pin_rules.specs.Outcomes.{IsCarriedOut, IsPinCutShort}
-use Rattle.pin_rules.proofs.Stopping.{settled, stopped_same, performs, stopped, only_tells, one_less}
+use Rattle.pin_rules.proofs.OutcomesLemmas.{settled, stopped_same, performs, stopped, only_tells, one_less}
 use Rattle.pin_rules.proofs.commands.named_pin_command.Goals as goal
 
 pub returns-in_err-out-clause-performs : goal.returns-in_err-out-clause-performs

@@ -1,6 +1,6 @@
 use Rattle.std.proofs.Common.{OnOk, subst, ap, ◌∙◌}
-use Rattle.file_model.specs.apdu_form.Model.{Apdu}
-use Rattle.file_model.specs.card_layout.States.{pins_of}
+use Rattle.apdu_form.specs.Model.{Apdu}
+use Rattle.card_state.specs.States.{pins_of}
 use Rattle.file_model.specs.declared.commands.PinCommand.{PinCommand}
 use Rattle.pin_rules.specs.Outcomes.{LeavesOneLess, pin_by_byte}
 use Rattle.pin_rules.proofs.commands.pin_command.Goals as goal

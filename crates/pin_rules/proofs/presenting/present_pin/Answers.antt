@@ -1,11 +1,13 @@
 -- Whatever change a right value brings, it gives all tries back; each of the four endings is told by the PIN that the slot shows then.
 use Rattle.std.proofs.Common.{◌-◌, refl, sym, ◌∙◌, arith, bytes_eq}
-use Rattle.file_model.specs.card_layout.States.{pin_state}
+use Rattle.card_state.specs.States.{pin_state}
+use Rattle.card_state.specs.Memory.{memory}
 use Rattle.file_model.specs.Pins.{pin_presented}
-use Rattle.card_memory.specs.declared.pins.PinChange.TheVariants.{Tries}
-use Rattle.card_memory.specs.Model.{memory, pin_at, changed_pin}
-use Rattle.pin_rules.proofs.Tried.{first_failed, was_wrong, second_failed, was_right}
-use Rattle.pin_rules.proofs.Trying.{sound_pin, tries_shown, tries_there, restored_shown}
+use Rattle.card_commits.specs.declared.pins.PinChange.TheVariants.{Tries}
+use Rattle.card_commits.specs.Entries.{pin_at}
+use Rattle.card_commits.specs.Pins.{changed_pin}
+use Rattle.pin_rules.proofs.IsTriedLemmas.{first_failed, was_wrong, second_failed, was_right}
+use Rattle.pin_rules.proofs.PresentPinLemmas.{sound_pin, tries_shown, tries_there, restored_shown}
 use Rattle.pin_rules.proofs.presenting.present_pin.Goals as goal
 
 pub change_pin-requires-clause-tries : goal.change_pin-requires-clause-tries

@@ -1,11 +1,13 @@
 -- The slot shows one unblocking try less after the first commit and the unblocked PIN after the second; a fault may stop either.
 use Rattle.std.proofs.Common.{◌-◌, true, sym, ◌∙◌, arith, bytes_eq}
-use Rattle.file_model.specs.card_layout.States.{pin_state}
+use Rattle.card_state.specs.States.{pin_state}
+use Rattle.card_state.specs.Memory.{memory}
 use Rattle.file_model.specs.Pins.{marked, unblock_presented}
-use Rattle.card_memory.specs.declared.pins.PinChange.TheVariants.{UnblockTries, Unblocked}
-use Rattle.card_memory.specs.Model.{memory, pin_at, changed_pin}
-use Rattle.pin_rules.proofs.Tried.{first_failed, was_wrong, second_failed, was_right}
-use Rattle.pin_rules.proofs.Trying.{sound_pin, unblock_shown, unblock_there, unblocked_shown}
+use Rattle.card_commits.specs.declared.pins.PinChange.TheVariants.{UnblockTries, Unblocked}
+use Rattle.card_commits.specs.Entries.{pin_at}
+use Rattle.card_commits.specs.Pins.{changed_pin}
+use Rattle.pin_rules.proofs.IsTriedLemmas.{first_failed, was_wrong, second_failed, was_right}
+use Rattle.pin_rules.proofs.PresentPinLemmas.{sound_pin, unblock_shown, unblock_there, unblocked_shown}
 use Rattle.pin_rules.proofs.presenting.present_unblock.Goals as goal
 
 pub change_pin-requires-clause-tries : goal.change_pin-requires-clause-tries

@@ -2,9 +2,9 @@
 use Rattle.std.proofs.Common.{◌<◌, List, length, get_or, sym, ap, ◌∙◌, arith, option_map, find, slice_get}
 use Rattle.std.proofs.lemmas.Bool.{eqb-false}
 use Rattle.std.proofs.lemmas.Option.{slice_get-get_or}
-use Rattle.file_model.specs.card_layout.declared.entries.PinSlot.{PinSlot}
-use Rattle.file_model.specs.card_layout.States.{pin_state}
-use Rattle.pin_rules.proofs.Finding.{is_key, no_slot, pin_in_slots, found_at, found_nowhere, place_low, has_key}
+use Rattle.card_state.specs.declared.entries.PinSlot.{PinSlot}
+use Rattle.card_state.specs.States.{pin_state}
+use Rattle.pin_rules.proofs.PinFoundLemmas.{is_key, no_slot, pin_in_slots, found_at, found_nowhere, place_low, has_key}
 use Rattle.pin_rules.proofs.slots.find_pin.Goals as goal
 
 pub overflow_cast-result : goal.overflow_cast-result

@@ -1,18 +1,18 @@
 -- A step and the run of the acts that are left make one run; its answer is the last one given, its command that of the last act.
 use Rattle.std.proofs.Common.{refl, sym, ap, ◌∙◌, subst, ◌-◌, Bool, Option, None, arith, is_some, IfSome}
 use Rattle.std.specs.Option.{option_or}
-use Rattle.toolkit_model.specs.toolkit_commands.declared.commands.Proactive.{Proactive}
+use Rattle.card_state.specs.States.{rows_of}
+use Rattle.card_state.specs.Memory.{memory}
+use Rattle.toolkit_commands.specs.declared.commands.Proactive.{Proactive}
+use Rattle.applet_trait.specs.declared.stimuli.Stimulus.{Stimulus}
+use Rattle.applet_trait.specs.Minds.{AppletState}
 use Rattle.toolkit_model.specs.Orderly.{CanBeSent}
-use Rattle.toolkit_model.specs.applet_trait.declared.stimuli.Stimulus.{Stimulus}
-use Rattle.toolkit_model.specs.applet_trait.Minds.{AppletState}
-use Rattle.card_memory.specs.card_layout.States.{rows_of}
 use Rattle.toolkit_model.specs.Running.{Works}
 use Rattle.proactive_handler.specs.Acts.{Told, setting_of, stage, next_of, command_of, after, IsCarriedOut}
 use Rattle.proactive_handler.specs.Runs.{ended_by}
 use Rattle.proactive_handler.specs.declared.endings.Next.{Next}
-use Rattle.proactive_handler.proofs.Joined.{told_of, sent_of, as_sent, tells_told, sends_sent, each_sent, stepped, ended, can_be_sent, stopped_at, went_on, cut_later, woke, cut_runs}
+use Rattle.proactive_handler.proofs.RunOnLemmas.{told_of, sent_of, as_sent, tells_told, sends_sent, each_sent, stepped, ended, can_be_sent, stopped_at, went_on, cut_later, woke, cut_runs}
 use Rattle.proactive_handler.proofs.MovedLemmas.{has_rows}
-use Rattle.card_memory.specs.card_layout.Memory.{memory}
 use Rattle.proactive_handler.proofs.acting.+run_on.Goals as goal
 
 pub returns-then-acts-eq0-clause-runs : goal.returns-then-acts-eq0-clause-runs

@@ -1,6 +1,6 @@
 use Rattle.std.proofs.Common.{◌≡◌, refl, sym, ap, ◌∙◌, get_or, ℕ, List}
-use Rattle.toolkit_model.specs.applet_trait.Minds.{fresh}
-use Rattle.proactive_handler.proofs.Shelves.{kept_there}
+use Rattle.applet_trait.specs.Minds.{fresh}
+use Rattle.proactive_handler.proofs.HasRowOnLemmas.{kept_there}
 use Rattle.proactive_handler.proofs.acting.wake.Goals as goal
 
 pub returns : goal.returns

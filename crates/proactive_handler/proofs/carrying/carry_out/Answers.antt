@@ -1,14 +1,14 @@
 -- Each kind of act has its lemma for any mind; that a told timer is one of eight is read from it with a fresh mind put in.
 use Rattle.std.proofs.Common.{refl, sym, ap, ◌∙◌, ℕ, List, [], rules, Ok}
 use Rattle.std.proofs.lemmas.Result.{on_ok_weaker}
-use Rattle.proactive_handler.specs.declared.endings.Reply.TheVariants.{Went}
-use Rattle.toolkit_model.specs.applet_trait.declared.stimuli.Act.TheVariants.{Done, Send, Keep, Register, Deregister, TakeTimer, FreeTimer, Answer}
-use Rattle.toolkit_model.specs.applet_trait.Minds.{fresh}
+use Rattle.card_state.specs.Memory.{memory}
+use Rattle.applet_trait.specs.declared.stimuli.Act.TheVariants.{Done, Send, Keep, Register, Deregister, TakeTimer, FreeTimer, Answer}
+use Rattle.applet_trait.specs.Minds.{fresh}
 use Rattle.toolkit_model.specs.Running.{is_held_by}
+use Rattle.proactive_handler.specs.declared.endings.Reply.TheVariants.{Went}
 use Rattle.proactive_handler.specs.declared.endings.Next.TheVariants.{Told, Idle}
 use Rattle.proactive_handler.specs.Acts.{setting_of, stimulus_of, stage}
-use Rattle.proactive_handler.proofs.Doing.{told_by, send_told, keep_told, register_told, deregister_told, free_told, done_so, answer_so, send_so, take_so, free_so, same_act}
-use Rattle.card_memory.specs.card_layout.Memory.{memory}
+use Rattle.proactive_handler.proofs.CarriesLemmas.{told_by, send_told, keep_told, register_told, deregister_told, free_told, done_so, answer_so, send_so, take_so, free_so, same_act}
 use Rattle.proactive_handler.proofs.carrying.carry_out.Goals as goal
 
 pub returns-in-Done-clause-carries : goal.returns-in-Done-clause-carries

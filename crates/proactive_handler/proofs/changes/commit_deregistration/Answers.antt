@@ -1,15 +1,15 @@
 use Rattle.std.proofs.Common.{refl, ◌∙◌, List}
-use Rattle.card_memory.specs.card_layout.Changing.{without_code_committed}
-use Rattle.card_memory.specs.card_layout.Memory.{memory}
-use Rattle.card_memory.specs.card_layout.Persistent.{Registration}
-use Rattle.card_memory.specs.card_layout.States.{rows_of}
-use Rattle.card_memory.specs.Model.{rows_alone}
-use Rattle.toolkit_model.specs.applet_trait.declared.stimuli.Act.TheVariants.{Deregister}
+use Rattle.card_state.specs.Changing.{without_code_committed}
+use Rattle.card_state.specs.Memory.{memory}
+use Rattle.card_state.specs.Persistent.{Registration}
+use Rattle.card_state.specs.States.{rows_of}
+use Rattle.card_commits.specs.Rows.{rows_alone}
+use Rattle.applet_trait.specs.declared.stimuli.Act.TheVariants.{Deregister}
 use Rattle.toolkit_model.specs.Registry.{without_code}
-use Rattle.proactive_handler.proofs.Indexing.{removed_follows, rows_alone_differ}
-use Rattle.proactive_handler.proofs.Kept.{deregister_goes}
-use Rattle.proactive_handler.proofs.Shelves.{rows_stay, rows_as_before}
-use Rattle.proactive_handler.proofs.Standings.{registers_less, commit_stands, commit_stops}
+use Rattle.proactive_handler.proofs.StandsForLemmas.{removed_follows, rows_alone_differ}
+use Rattle.proactive_handler.proofs.CarriedLemmas.{deregister_goes}
+use Rattle.proactive_handler.proofs.HasRowOnLemmas.{rows_stay, rows_as_before}
+use Rattle.proactive_handler.proofs.WithTheseRowsLemmas.{registers_less, commit_stands, commit_stops}
 use Rattle.proactive_handler.proofs.changes.commit_deregistration.Goals as goal
 
 pub returns-in_err-deregister-clause-carries : goal.returns-in_err-deregister-clause-carries

@@ -1,16 +1,16 @@
 -- The commit registers the row as the session's act does, so the index with the shelf put under this code stands for the rows again.
 use Rattle.std.proofs.Common.{refl, ◌∙◌, List}
-use Rattle.card_memory.specs.card_layout.Changing.{with_code_committed}
-use Rattle.card_memory.specs.card_layout.Memory.{memory}
-use Rattle.card_memory.specs.card_layout.Persistent.{Registration}
-use Rattle.card_memory.specs.card_layout.States.{rows_of}
-use Rattle.card_memory.specs.Model.{rows_alone}
-use Rattle.toolkit_model.specs.applet_trait.declared.stimuli.Act.TheVariants.{Register}
+use Rattle.card_state.specs.Changing.{with_code_committed}
+use Rattle.card_state.specs.Memory.{memory}
+use Rattle.card_state.specs.Persistent.{Registration}
+use Rattle.card_state.specs.States.{rows_of}
+use Rattle.card_commits.specs.Rows.{rows_alone}
+use Rattle.applet_trait.specs.declared.stimuli.Act.TheVariants.{Register}
 use Rattle.toolkit_model.specs.Registry.{with_code}
-use Rattle.proactive_handler.proofs.Indexing.{added_follows, rows_alone_differ}
-use Rattle.proactive_handler.proofs.Kept.{register_goes}
-use Rattle.proactive_handler.proofs.Shelves.{row_shown, rows_stay, rows_as_before, registered_there, may_register}
-use Rattle.proactive_handler.proofs.Standings.{registers_more, commit_stands, commit_stops}
+use Rattle.proactive_handler.proofs.StandsForLemmas.{added_follows, rows_alone_differ}
+use Rattle.proactive_handler.proofs.CarriedLemmas.{register_goes}
+use Rattle.proactive_handler.proofs.HasRowOnLemmas.{row_shown, rows_stay, rows_as_before, registered_there, may_register}
+use Rattle.proactive_handler.proofs.WithTheseRowsLemmas.{registers_more, commit_stands, commit_stops}
 use Rattle.proactive_handler.proofs.changes.commit_registration.Goals as goal
 
 pub register-requires-clause-event : goal.register-requires-clause-event

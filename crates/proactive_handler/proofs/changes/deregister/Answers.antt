@@ -1,10 +1,10 @@
 use Rattle.std.proofs.Common.{sym, ◌∙◌}
-use Rattle.card_memory.specs.card_layout.Memory.{memory}
-use Rattle.toolkit_model.specs.applet_trait.declared.stimuli.Stimulus.TheVariants.{Went, Refused}
-use Rattle.toolkit_model.specs.applet_trait.declared.stimuli.Act.TheVariants.{Deregister}
-use Rattle.proactive_handler.proofs.Kept.{deregister_rests, deregister_fails}
-use Rattle.proactive_handler.proofs.Shelves.{row_shown}
-use Rattle.proactive_handler.proofs.Standings.{rests_so}
+use Rattle.card_state.specs.Memory.{memory}
+use Rattle.applet_trait.specs.declared.stimuli.Stimulus.TheVariants.{Went, Refused}
+use Rattle.applet_trait.specs.declared.stimuli.Act.TheVariants.{Deregister}
+use Rattle.proactive_handler.proofs.CarriedLemmas.{deregister_rests, deregister_fails}
+use Rattle.proactive_handler.proofs.HasRowOnLemmas.{row_shown}
+use Rattle.proactive_handler.proofs.WithTheseRowsLemmas.{rests_so}
 use Rattle.proactive_handler.proofs.changes.deregister.Goals as goal
 
 pub deregister-requires : goal.deregister-requires

@@ -1,18 +1,18 @@
 -- Bytes that are kept change no codes, so an index of the rows stays one; after a fault the rows are the old ones or those of the act.
 use Rattle.std.proofs.Common.{refl, ◌∙◌, List, arith}
 use Rattle.std.proofs.lemmas.Bool.Decides.{nat_tests}
-use Rattle.card_memory.specs.card_layout.Changing.{with_kept_committed}
-use Rattle.card_memory.specs.card_layout.Memory.{memory}
-use Rattle.card_memory.specs.card_layout.Persistent.{Registration}
-use Rattle.card_memory.specs.card_layout.States.{rows_of}
-use Rattle.card_memory.specs.Model.{rows_alone}
-use Rattle.toolkit_model.specs.applet_trait.declared.stimuli.Stimulus.TheVariants.{Refused}
-use Rattle.toolkit_model.specs.applet_trait.declared.stimuli.Act.TheVariants.{Keep}
+use Rattle.card_state.specs.Changing.{with_kept_committed}
+use Rattle.card_state.specs.Memory.{memory}
+use Rattle.card_state.specs.Persistent.{Registration}
+use Rattle.card_state.specs.States.{rows_of}
+use Rattle.card_commits.specs.Rows.{rows_alone}
+use Rattle.applet_trait.specs.declared.stimuli.Stimulus.TheVariants.{Refused}
+use Rattle.applet_trait.specs.declared.stimuli.Act.TheVariants.{Keep}
 use Rattle.toolkit_model.specs.Registry.{with_kept}
-use Rattle.proactive_handler.proofs.Indexing.{kept_follows, rows_alone_differ}
-use Rattle.proactive_handler.proofs.Kept.{keep_goes, keep_fails}
-use Rattle.proactive_handler.proofs.Shelves.{rows_stay, rows_as_before}
-use Rattle.proactive_handler.proofs.Standings.{keeps, rests_so, commit_stands, commit_stops}
+use Rattle.proactive_handler.proofs.StandsForLemmas.{kept_follows, rows_alone_differ}
+use Rattle.proactive_handler.proofs.CarriedLemmas.{keep_goes, keep_fails}
+use Rattle.proactive_handler.proofs.HasRowOnLemmas.{rows_stay, rows_as_before}
+use Rattle.proactive_handler.proofs.WithTheseRowsLemmas.{keeps, rests_so, commit_stands, commit_stops}
 use Rattle.proactive_handler.proofs.changes.keep.Goals as goal
 
 pub returns-then-bytes-gt-MOST_KEPT-clause-carries : goal.returns-then-bytes-gt-MOST_KEPT-clause-carries

@@ -1,18 +1,18 @@
 -- The late trigger taken out is of an idle applet with a row, whose run leaves the other late ones; so the rest is caught up from there.
 use Rattle.std.proofs.Common.{◌-◌, sym, ap, ◌∙◌, subst, false, List, arith, refl}
+use Rattle.card_state.specs.Memory.{memory}
+use Rattle.applet_trait.specs.Minds.{minds_of}
+use Rattle.applet_trait.specs.declared.stimuli.Stimulus.TheVariants.{Event}
 use Rattle.toolkit_model.specs.Sessions.{SessionState, LateTrigger}
 use Rattle.toolkit_model.specs.Driving.{caught_up}
-use Rattle.kept_triggers.specs.Frames.{kept}
+use Rattle.toolkit_model.specs.Passing.{ToolkitState}
+use Rattle.toolkit_model.proofs.AsksLemmas.{run_late}
+use Rattle.event_dispatch.specs.Frames.{kept}
 use Rattle.proactive_handler.specs.Boxes.{AreForOthers}
-use Rattle.toolkit_model.specs.applet_trait.Minds.{minds_of}
 use Rattle.proactive_handler.specs.Steps.{scene, IsDone, toolkit}
 use Rattle.proactive_handler.proofs.ScenesLemmas.{scene_then, scene_since}
 use Rattle.proactive_handler.proofs.MovedLemmas.{has_rows}
-use Rattle.proactive_handler.proofs.Caught.{caught_row, caught_idle, caught_served, caught_apart, zero_done, none_done, one_stops, more_moves, one_leaves, more_leaves}
-use Rattle.toolkit_model.specs.applet_trait.declared.stimuli.Stimulus.TheVariants.{Event}
-use Rattle.toolkit_model.specs.Passing.{ToolkitState}
-use Rattle.card_memory.specs.card_layout.Memory.{memory}
-use Rattle.toolkit_model.proofs.Asks.{run_late}
+use Rattle.proactive_handler.proofs.CaughtUpLemmas.{caught_row, caught_idle, caught_served, caught_apart, zero_done, none_done, one_stops, more_moves, one_leaves, more_leaves}
 use Rattle.proactive_handler.proofs.driving.+catch_each.Goals as goal
 
 pub returns-then-count-eq0-clause-moves : goal.returns-then-count-eq0-clause-moves

@@ -1,9 +1,9 @@
 use Rattle.std.proofs.Common.{arith, refl}
-use Rattle.toolkit_model.specs.applet_trait.Minds.{minds_of}
+use Rattle.card_state.specs.Memory.{memory}
+use Rattle.applet_trait.specs.Minds.{minds_of}
 use Rattle.proactive_handler.specs.Steps.{scene}
 use Rattle.proactive_handler.proofs.MovedLemmas.{has_rows}
-use Rattle.proactive_handler.proofs.Caught.{zero_done}
-use Rattle.card_memory.specs.card_layout.Memory.{memory}
+use Rattle.proactive_handler.proofs.CaughtUpLemmas.{zero_done}
 use Rattle.proactive_handler.proofs.driving.catch_up.Goals as goal
 
 pub returns-then-count-eq0-clause-moves : goal.returns-then-count-eq0-clause-moves

@@ -1,14 +1,14 @@
 -- The late triggers are as many as their free places tell, so all are caught up with before it settles; a fault stops it before that.
 use Rattle.std.proofs.Common.{refl, sym, ap, subst, arith, rules}
-use Rattle.card_memory.specs.card_layout.States.{rows_of}
+use Rattle.card_state.specs.States.{rows_of}
+use Rattle.card_state.specs.Memory.{memory}
+use Rattle.applet_trait.specs.Minds.{minds_of}
 use Rattle.toolkit_model.specs.Sessions.{SessionState}
-use Rattle.toolkit_model.specs.applet_trait.Minds.{minds_of}
 use Rattle.proactive_handler.specs.Serving.{IsSessionServed}
 use Rattle.proactive_handler.specs.Steps.{toolkit, scene}
 use Rattle.proactive_handler.proofs.MovedLemmas.{has_rows}
-use Rattle.proactive_handler.proofs.Caught.{driven_stops, driven_done, driven_leaves, driven_left}
-use Rattle.proactive_handler.proofs.Serving.{settled_served}
-use Rattle.card_memory.specs.card_layout.Memory.{memory}
+use Rattle.proactive_handler.proofs.CaughtUpLemmas.{driven_stops, driven_done, driven_leaves, driven_left}
+use Rattle.proactive_handler.proofs.IsSessionServedLemmas.{settled_served}
 use Rattle.proactive_handler.proofs.driving.drive.Goals as goal
 
 pub returns-in_err-catch_up-clause-moves : goal.returns-in_err-catch_up-clause-moves

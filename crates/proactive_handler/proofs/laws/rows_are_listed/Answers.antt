@@ -1,4 +1,4 @@
-use Rattle.proactive_handler.proofs.Listed.{rows_listed}
+use Rattle.proactive_handler.proofs.RowsAreListedLemmas.{rows_listed}
 use Rattle.proactive_handler.proofs.laws.rows_are_listed.Goals as goal
 
 pub returns : goal.returns

@@ -1,4 +1,4 @@
-use Rattle.proactive_handler.proofs.Registered.{sessions_served}
+use Rattle.proactive_handler.proofs.SessionsAreServedLemmas.{sessions_served}
 use Rattle.proactive_handler.proofs.laws.sessions_are_served.Goals as goal
 
 pub returns : goal.returns

@@ -1,13 +1,13 @@
 -- As a command was fetched, its owner has a row and is idle once it is answered; where it was the card's own, nobody runs.
 use Rattle.std.proofs.Common.{sym, ap, ◌∙◌, subst, ℕ, Some, rules}
-use Rattle.toolkit_model.specs.toolkit_commands.Replies.{replied}
-use Rattle.toolkit_model.specs.applet_trait.Minds.{minds_of}
+use Rattle.card_state.specs.Memory.{memory}
+use Rattle.toolkit_commands.specs.Replies.{replied}
+use Rattle.applet_trait.specs.Minds.{minds_of}
 use Rattle.proactive_handler.specs.Serving.{IsSessionServed}
 use Rattle.proactive_handler.specs.Steps.{scene}
 use Rattle.proactive_handler.proofs.MovedLemmas.{has_rows}
-use Rattle.proactive_handler.proofs.Serving.{awaited, gone_served, owner_row, owner_idle}
-use Rattle.proactive_handler.proofs.Answered.{of_awaited, awaited_of, owner_done, owner_stops, own_done, own_left, owner_left, owner_leaves}
-use Rattle.card_memory.specs.card_layout.Memory.{memory}
+use Rattle.proactive_handler.proofs.IsSessionServedLemmas.{awaited, gone_served, owner_row, owner_idle}
+use Rattle.proactive_handler.proofs.AnsweredLemmas.{of_awaited, awaited_of, owner_done, owner_stops, own_done, own_left, owner_left, owner_leaves}
 use Rattle.proactive_handler.proofs.responding.answer.Goals as goal
 
 pub run_alone-requires-clause-row : goal.run_alone-requires-clause-row

@@ -1,15 +1,15 @@
 -- The response leaves what is late as it was, so answering it and ending the command are one step that leaves the others' boxes alone.
-use Rattle.toolkit_model.specs.toolkit_commands.Replies.{replied}
-use Rattle.proactive_handler.specs.Boxes.{AreForOthers}
-use Rattle.toolkit_model.specs.applet_trait.Minds.{minds_of}
-use Rattle.proactive_handler.proofs.ScenesLemmas.{scene_then}
-use Rattle.proactive_handler.specs.Steps.{scene, toolkit}
-use Rattle.proactive_handler.proofs.Serving.{awaited}
-use Rattle.proactive_handler.proofs.Answered.{of_awaited, awaited_of, answered_late, responded_stops, responded_moves, responded_leaves, responded_turns}
 use Rattle.std.proofs.Common.{sym, ap, ◌∙◌, subst, List}
+use Rattle.card_state.specs.Memory.{memory}
+use Rattle.toolkit_commands.specs.Replies.{replied}
+use Rattle.applet_trait.specs.Minds.{minds_of}
 use Rattle.toolkit_model.specs.Sessions.{LateTrigger}
 use Rattle.toolkit_model.specs.Passing.{ToolkitState}
-use Rattle.card_memory.specs.card_layout.Memory.{memory}
+use Rattle.proactive_handler.specs.Boxes.{AreForOthers}
+use Rattle.proactive_handler.proofs.ScenesLemmas.{scene_then}
+use Rattle.proactive_handler.specs.Steps.{scene, toolkit}
+use Rattle.proactive_handler.proofs.IsSessionServedLemmas.{awaited}
+use Rattle.proactive_handler.proofs.AnsweredLemmas.{of_awaited, awaited_of, answered_late, responded_stops, responded_moves, responded_leaves, responded_turns}
 use Rattle.proactive_handler.proofs.responding.respond.Goals as goal
 
 pub returns-in_err-answer-clause-moves : goal.returns-in_err-answer-clause-moves

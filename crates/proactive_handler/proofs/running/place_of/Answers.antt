@@ -1,5 +1,5 @@
 use Rattle.std.proofs.Common.{length, sym, ◌∙◌, ap}
-use Rattle.proactive_handler.proofs.Serving.{has_room}
+use Rattle.proactive_handler.proofs.IsSessionServedLemmas.{has_room}
 use Rattle.proactive_handler.proofs.running.place_of.Goals as goal
 
 pub returns-clause-room : goal.returns-clause-room

@@ -1,8 +1,8 @@
 use Rattle.std.proofs.Common.{refl}
-use Rattle.card_memory.specs.card_layout.Memory.{memory}
+use Rattle.card_state.specs.Memory.{memory}
 use Rattle.proactive_handler.specs.Runs.{ended_by}
 use Rattle.proactive_handler.specs.Steps.{scene}
-use Rattle.proactive_handler.proofs.Ran.{run_same, run_done, run_stopped, run_answer}
+use Rattle.proactive_handler.proofs.RunOfRowLemmas.{run_same, run_done, run_stopped, run_answer}
 use Rattle.proactive_handler.proofs.running.run_applet.Goals as goal
 
 pub returns-in-Ok-clause-moves : goal.returns-in-Ok-clause-moves

@@ -1,19 +1,19 @@
 -- The mind that ran is put back in its own box, so all other shelves' are as they were; where there is no box the run is none at all.
 use Rattle.std.proofs.Common.{set, ℕ, List, Option, Some, None, refl, sym, ap, ◌∙◌, subst, arith, rules, ◌<◌, length, slice_index_or}
 use Rattle.std.proofs.lemmas.List.{set-get_or, get_or-set_other}
-use Rattle.toolkit_model.specs.applet_trait.Minds.{AppletState, minds_of}
+use Rattle.card_state.specs.Memory.{memory}
+use Rattle.card_commits.specs.Entries.{HasRowOn}
+use Rattle.applet_trait.specs.Minds.{AppletState, minds_of}
 use Rattle.toolkit_model.specs.Passing.{ToolkitState, Passed, passed_rows}
 use Rattle.toolkit_model.specs.Commands.{last_answer}
 use Rattle.toolkit_model.specs.Running.{mind_on, run_of_row, with_mind}
-use Rattle.card_memory.specs.Model.{HasRowOn}
 use Rattle.proactive_handler.specs.Boxes.{kinds_of}
 use Rattle.proactive_handler.specs.Steps.{Scene, toolkit, scene}
 use Rattle.proactive_handler.specs.Reached.{Tells}
 use Rattle.proactive_handler.proofs.MovedLemmas.{on_done, mind_there, none_there, put_back, same_kinds, has_rows, still_done}
-use Rattle.proactive_handler.proofs.Places.{run_served}
-use Rattle.proactive_handler.proofs.Ran.{none_runs}
-use Rattle.card_memory.specs.card_layout.Memory.{memory}
-use Rattle.proactive_handler.proofs.Begun.{run_turns}
+use Rattle.proactive_handler.proofs.HasPlacesLemmas.{run_served}
+use Rattle.proactive_handler.proofs.RunOfRowLemmas.{none_runs}
+use Rattle.proactive_handler.proofs.TurnsToLemmas.{run_turns}
 use Rattle.proactive_handler.proofs.running.run_one.Goals as goal
 
 pub returns-in-Some-clause-tells : goal.returns-in-Some-clause-tells

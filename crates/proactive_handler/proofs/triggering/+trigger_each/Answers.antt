@@ -1,15 +1,15 @@
 -- The shelves differ, so after the first one's turn the others still have rows and places for late events; the turns make one.
 use Rattle.std.proofs.Common.{ap, ◌∙◌, map, arith}
-use Rattle.card_memory.specs.uicc_types.declared.identifiers.Shelf.{Shelf}
-use Rattle.card_memory.specs.card_layout.Memory.{memory}
+use Rattle.uicc_types.specs.declared.identifiers.Shelf.{Shelf}
+use Rattle.card_state.specs.Memory.{memory}
+use Rattle.applet_trait.specs.Minds.{minds_of}
 use Rattle.toolkit_model.specs.Passing.{in_turn}
-use Rattle.toolkit_model.specs.applet_trait.Minds.{minds_of}
 use Rattle.proactive_handler.specs.Serving.{triggered_one}
 use Rattle.proactive_handler.specs.Scenes.{IsInService}
 use Rattle.proactive_handler.proofs.ScenesLemmas.{scene_then, scene_done, scene_fault}
 use Rattle.proactive_handler.specs.Steps.{scene}
 use Rattle.proactive_handler.proofs.MovedLemmas.{has_rows}
-use Rattle.proactive_handler.proofs.Told.{stopped_tells, turn_stops, turns_stop, turns_done, turns_answer, nobody_done, nobody_answers, none_of, rows_later, apart_later, first_apart, room_later, not_first, not_later, turn_leaves, turns_leave, turns_left, nobody_leaves}
+use Rattle.proactive_handler.proofs.InTurnLemmas.{stopped_tells, turn_stops, turns_stop, turns_done, turns_answer, nobody_done, nobody_answers, none_of, rows_later, apart_later, first_apart, room_later, not_first, not_later, turn_leaves, turns_leave, turns_left, nobody_leaves}
 use Rattle.proactive_handler.proofs.triggering.+trigger_each.Goals as goal
 
 pub returns-in_err-answer-in-Some-clause-tells : goal.returns-in_err-answer-in-Some-clause-tells

@@ -1,8 +1,8 @@
 use Rattle.std.proofs.Common.{sym, subst, ℕ, ◌≢◌, All, AllPairs}
-use Rattle.card_memory.proofs.uicc_types.NumberedLemmas.{all_unmapped}
-use Rattle.card_memory.proofs.uicc_types.PairLemmas.{pairs_unmap}
-use Rattle.card_memory.specs.Model.{HasRowOn}
-use Rattle.card_memory.specs.uicc_types.declared.identifiers.Shelf.{Shelf}
+use Rattle.list_laws.proofs.MapLemmas.{all_unmapped}
+use Rattle.list_laws.proofs.AllPairsLemmas.{pairs_unmap}
+use Rattle.uicc_types.specs.declared.identifiers.Shelf.{Shelf}
+use Rattle.card_commits.specs.Entries.{HasRowOn}
 use Rattle.proactive_handler.proofs.triggering.trigger.Goals as goal
 
 pub trigger_each-requires-clause-rows : goal.trigger_each-requires-clause-rows

@@ -1,21 +1,21 @@
 -- An idle applet runs, a waiting one has the event kept or misses it; in each case the shelves behind it still have their places.
 use Rattle.std.proofs.Common.{refl, sym, ap, ◌∙◌, subst, Bool, false, rules}
 use Rattle.std.proofs.lemmas.Result.{IfOk-weaker}
-use Rattle.toolkit_model.specs.applet_trait.declared.stimuli.Stimulus.{Stimulus}
+use Rattle.card_state.specs.Memory.{memory}
+use Rattle.applet_trait.specs.declared.stimuli.Stimulus.{Stimulus}
+use Rattle.applet_trait.specs.Minds.{minds_of}
 use Rattle.toolkit_model.specs.Sessions.{SessionState}
 use Rattle.toolkit_model.specs.Passing.{ToolkitState}
 use Rattle.toolkit_model.specs.Commands.{last_answer}
 use Rattle.toolkit_model.specs.Running.{run_of_row}
 use Rattle.toolkit_model.specs.Driving.{trigger_for, with_session}
-use Rattle.toolkit_model.specs.applet_trait.Minds.{minds_of}
 use Rattle.proactive_handler.specs.Serving.{IsSessionServed, HasPlaces}
 use Rattle.proactive_handler.specs.Steps.{toolkit, scene, Moves}
 use Rattle.proactive_handler.specs.Reached.{TurnsOnly}
 use Rattle.proactive_handler.proofs.MovedLemmas.{on_done, has_rows}
-use Rattle.proactive_handler.proofs.Places.{run_places, kept_places}
-use Rattle.proactive_handler.proofs.Serving.{late_served}
-use Rattle.proactive_handler.proofs.Told.{idle_moves, idle_answers, missed, busy_done, busy_answers, idle_turns}
-use Rattle.card_memory.specs.card_layout.Memory.{memory}
+use Rattle.proactive_handler.proofs.HasPlacesLemmas.{run_places, kept_places}
+use Rattle.proactive_handler.proofs.IsSessionServedLemmas.{late_served}
+use Rattle.proactive_handler.proofs.InTurnLemmas.{idle_moves, idle_answers, missed, busy_done, busy_answers, idle_turns}
 use Rattle.proactive_handler.proofs.triggering.trigger_one.Goals as goal
 
 pub returns-then-idle-clause-tells : goal.returns-then-idle-clause-tells

@@ -1,5 +1,5 @@
 use Rattle.std.proofs.Common.{get_or, ◌≡◌, ℕ, ◌-◌, ◌<◌, ◌∙◌, arith, length-set, get_or-set_other}
-use Rattle.record_commands.proofs.Sums.{added_at, one_more, one_more_carried, all_carried}
+use Rattle.record_commands.proofs.SumOfLemmas.{added_at, one_more, one_more_carried, all_carried}
 use Rattle.record_commands.proofs.adding.add.Goals as goal
 
 pub loop-at-preserved : goal.loop-at-preserved

@@ -1,5 +1,5 @@
 use Rattle.std.proofs.Common.{get_or, ◌≡◌, ℕ, ◌-◌, ◌/◌, ◌^◌, ◌<◌, ◌≤◌, length}
-use Rattle.record_commands.proofs.Sums.{total_from, HasSum}
+use Rattle.record_commands.proofs.SumOfLemmas.{total_from, HasSum}
 use Rattle.record_commands.proofs.adding.add.Given as goal
 
 abbrev pub decreases-loop-at : goal.decreases-loop-at

@@ -1,15 +1,15 @@
 -- The sum was read from the state the store still has; it passes one state, that with the sum as newest record, and a fault leaves either.
 use Rattle.std.proofs.Common.{◌≡◌, Option, Some, sym, ◌∙◌, true, [], ◌∷◌, Ok}
-use Rattle.file_model.proofs.uicc_types.OptionalLemmas.{on_err, if_some, if_some_at}
-use Rattle.file_model.specs.card_layout.Persistent.{Persistent}
-use Rattle.file_model.specs.card_layout.Changing.{with_newest_record}
-use Rattle.file_model.specs.declared.rules.Op.TheVariants.{Increase}
+use Rattle.list_laws.proofs.IfSomeLemmas.{on_err, if_some, if_some_at}
+use Rattle.card_state.specs.Persistent.{Persistent}
+use Rattle.card_state.specs.Changing.{with_newest_record}
+use Rattle.card_state.specs.Memory.{held_by}
+use Rattle.access_rules.specs.declared.rules.Op.TheVariants.{Increase}
 use Rattle.file_model.specs.Access.{may}
 use Rattle.file_model.specs.Outcomes.{settled_file}
-use Rattle.card_memory.specs.Model.{held_by}
-use Rattle.file_commands.proofs.ChainedLemmas.{left_by}
 use Rattle.file_model.specs.Records.{sum_to_write, increase_in}
-use Rattle.record_commands.proofs.Stopping.{one_passes, one_changes, reads_held, increase_passed}
+use Rattle.binary_commands.proofs.GivesLemmas.{left_by}
+use Rattle.record_commands.proofs.SettledFileLemmas.{one_passes, one_changes, reads_held, increase_passed}
 use Rattle.record_commands.proofs.increasing.increase_file.Given.{Over}
 use Rattle.record_commands.proofs.increasing.increase_file.Goals.{In-Ok}
 use Rattle.record_commands.proofs.increasing.increase_file.Goals as goal

@@ -1,6 +1,6 @@
+use Rattle.card_state.specs.Memory.{memory}
 use Rattle.file_model.specs.Records.{file_to_increase, increase_in, increased}
-use Rattle.card_memory.specs.Model.{memory}
-use Rattle.file_commands.proofs.ChainedLemmas.{file_gives, file_passes, refusal_gives}
+use Rattle.binary_commands.proofs.GivesLemmas.{file_gives, file_passes, refusal_gives}
 use Rattle.record_commands.proofs.increasing.try_increase.Goals as goal
 
 pub returns-in-Ok-clause-gives : goal.returns-in-Ok-clause-gives

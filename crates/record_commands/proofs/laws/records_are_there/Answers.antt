@@ -1,9 +1,9 @@
 use Rattle.std.proofs.Common.{◌≡◌, ap, ◌∙◌, subst}
-use Rattle.file_model.specs.card_layout.declared.entries.Loaded.{Loaded}
-use Rattle.file_model.specs.card_layout.States.{state_of}
-use Rattle.file_model.specs.card_layout.Soundness.{IsSound}
+use Rattle.card_state.specs.declared.entries.Loaded.{Loaded}
+use Rattle.card_state.specs.States.{state_of}
+use Rattle.card_state.specs.Soundness.{IsSound}
 use Rattle.record_commands.specs.Tables.{HaveRecords}
-use Rattle.record_commands.proofs.Fullness.{all_filled}
+use Rattle.record_commands.proofs.HaveRecordsLemmas.{all_filled}
 use Rattle.record_commands.proofs.laws.records_are_there.Goals as goal
 
 pub returns : goal.returns

@@ -1,16 +1,16 @@
 -- A life cycle status that is new passes one state: a fault leaves that or the one before, and all other files are as they were.
 use Rattle.std.proofs.Common.{◌≡◌, Option, Some, [], ◌∷◌, refl, sym, ◌∙◌, true, rules, ne_eqb}
-use Rattle.file_model.proofs.uicc_types.OptionalLemmas.{on_err, if_some, if_some_at}
-use Rattle.file_model.specs.card_layout.Persistent.{Persistent}
-use Rattle.file_model.specs.card_layout.Changing.{with_life}
+use Rattle.list_laws.proofs.IfSomeLemmas.{on_err, if_some, if_some_at}
+use Rattle.card_state.specs.Persistent.{Persistent}
+use Rattle.card_state.specs.Changing.{with_life}
+use Rattle.card_state.specs.Memory.{held_by}
 use Rattle.file_model.specs.Access.{may}
 use Rattle.file_model.specs.Files.{descriptors_of}
-use Rattle.card_memory.specs.Model.{held_by}
-use Rattle.file_commands.proofs.ChainedLemmas.{left_by}
 use Rattle.file_model.specs.Outcomes.{settled_file}
 use Rattle.file_model.specs.LifeCycles.{life_in}
-use Rattle.record_commands.proofs.Living.{told_keeps}
-use Rattle.record_commands.proofs.Stopping.{one_passes, one_changes, reads_held, life_passed}
+use Rattle.binary_commands.proofs.GivesLemmas.{left_by}
+use Rattle.record_commands.proofs.KeepsSelectionsLemmas.{told_keeps}
+use Rattle.record_commands.proofs.SettledFileLemmas.{one_passes, one_changes, reads_held, life_passed}
 use Rattle.record_commands.proofs.lives.change_file.Goals as goal
 
 pub returns-in_err-write_life-clause-passes : goal.returns-in_err-write_life-clause-passes

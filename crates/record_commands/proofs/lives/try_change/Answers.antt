@@ -1,6 +1,6 @@
+use Rattle.card_state.specs.Memory.{memory}
 use Rattle.file_model.specs.LifeCycles.{life_file, life_in, life_changed}
-use Rattle.card_memory.specs.Model.{memory}
-use Rattle.file_commands.proofs.ChainedLemmas.{file_gives, file_passes, refusal_gives}
+use Rattle.binary_commands.proofs.GivesLemmas.{file_gives, file_passes, refusal_gives}
 use Rattle.record_commands.proofs.lives.try_change.Goals as goal
 
 pub returns-in-Ok-clause-gives : goal.returns-in-Ok-clause-gives

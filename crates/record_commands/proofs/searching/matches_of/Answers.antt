@@ -1,10 +1,10 @@
 use Rattle.std.proofs.Common.{◌≡◌, ◌-◌, ◌++◌, ◌∷◌, [], ℕ, Bool, Option, cond, List, sym, ap, ◌∙◌, arith, rules, filter}
-use Rattle.file_model.proofs.uicc_types.OptionalLemmas.{if_some, if_some_at}
-use Rattle.file_model.specs.card_layout.Persistent.{Persistent}
-use Rattle.card_memory.specs.Model.{held_by}
+use Rattle.list_laws.proofs.IfSomeLemmas.{if_some, if_some_at}
+use Rattle.card_state.specs.Persistent.{Persistent}
+use Rattle.card_state.specs.Memory.{held_by}
 use Rattle.record_commands.specs.Searching.{is_match, numbers_left}
-use Rattle.record_commands.proofs.Numbers.{one_looked_at, none_left}
-use Rattle.record_commands.proofs.Stopping.{reads_held}
+use Rattle.record_commands.proofs.NumbersLeftLemmas.{one_looked_at, none_left}
+use Rattle.record_commands.proofs.SettledFileLemmas.{reads_held}
 use Rattle.record_commands.proofs.searching.matches_of.Goals as goal
 
 pub loop-left-preserved : goal.loop-left-preserved

@@ -1,5 +1,5 @@
 use Rattle.std.proofs.Common.{◌≡◌, ◌+◌, ◌≤◌, ◌++◌, length, All, IfSome, filter, Ok}
-use Rattle.card_memory.specs.Model.{Reads, held_by, memory}
+use Rattle.card_state.specs.Memory.{Reads, held_by, memory}
 use Rattle.record_commands.specs.Searching.{is_match, numbers_left, IsRecord}
 use Rattle.record_commands.proofs.searching.matches_of.Given as goal
 

@@ -1,8 +1,8 @@
 use Rattle.std.proofs.Common.{ℕ, ◌∙◌, ap, ◌==◌, filter}
-use Rattle.file_model.proofs.uicc_types.OptionalLemmas.{if_some, if_some_at, if_ok_from}
-use Rattle.card_memory.specs.Model.{held_by}
+use Rattle.list_laws.proofs.IfSomeLemmas.{if_some, if_some_at, if_ok_from}
+use Rattle.card_state.specs.Memory.{held_by}
 use Rattle.record_commands.specs.Searching.{is_match, left_from, numbers_left}
-use Rattle.record_commands.proofs.Numbers.{matched_left}
+use Rattle.record_commands.proofs.NumbersLeftLemmas.{matched_left}
 use Rattle.record_commands.proofs.searching.numbers_from.Goals as goal
 
 pub returns-clause-found : goal.returns-clause-found

@@ -2,7 +2,7 @@ use Rattle.std.proofs.Common.{◌∷◌, take, drop, ℕ, List, Bool, ◌+◌, �
 use Rattle.std.specs.List.{starts_with}
 use Rattle.std.proofs.lemmas.Bool.{or_left}
 use Rattle.file_model.specs.Records.{has_within}
-use Rattle.record_commands.proofs.Looking.{looked_at, no_room_within, none_within}
+use Rattle.record_commands.proofs.HasWithinLemmas.{looked_at, no_room_within, none_within}
 use Rattle.record_commands.proofs.searching.stand_within.Goals as goal
 
 pub returns-then-saturating_sub-others : goal.returns-then-saturating_sub-others

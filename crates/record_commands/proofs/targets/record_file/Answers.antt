@@ -1,6 +1,6 @@
 use Rattle.std.proofs.Common.{sym, ◌∙◌}
 use Rattle.file_model.specs.Files.{descriptors_of}
-use Rattle.record_commands.proofs.Targeting.{target_of}
+use Rattle.record_commands.proofs.IsTargetLemmas.{target_of}
 use Rattle.record_commands.proofs.targets.record_file.Goals as goal
 
 pub returns-clause-target : goal.returns-clause-target

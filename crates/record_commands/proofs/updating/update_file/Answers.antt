@@ -1,15 +1,15 @@
 -- The number found is that of the command's rules, so its record is the one state passed; a fault of the write leaves either state.
 use Rattle.std.proofs.Common.{◌≡◌, Some, sym, ◌∙◌, true, [], ◌∷◌}
-use Rattle.file_model.proofs.uicc_types.OptionalLemmas.{on_err, if_some, if_some_at}
-use Rattle.file_model.specs.card_layout.Persistent.{Persistent}
-use Rattle.file_model.specs.declared.rules.Op.TheVariants.{UpdateRecord}
+use Rattle.list_laws.proofs.IfSomeLemmas.{on_err, if_some, if_some_at}
+use Rattle.card_state.specs.Persistent.{Persistent}
+use Rattle.card_state.specs.Memory.{held_by}
+use Rattle.access_rules.specs.declared.rules.Op.TheVariants.{UpdateRecord}
 use Rattle.file_model.specs.Access.{may}
 use Rattle.file_model.specs.Outcomes.{settled_file}
-use Rattle.card_memory.specs.Model.{held_by}
-use Rattle.file_commands.proofs.ChainedLemmas.{left_by}
 use Rattle.file_model.specs.Records.{record_update_in}
+use Rattle.binary_commands.proofs.GivesLemmas.{left_by}
 use Rattle.record_commands.specs.Updating.{record_written}
-use Rattle.record_commands.proofs.Stopping.{one_passes, one_changes, reads_held, update_passed}
+use Rattle.record_commands.proofs.SettledFileLemmas.{one_passes, one_changes, reads_held, update_passed}
 use Rattle.record_commands.proofs.updating.update_file.Given.{Over}
 use Rattle.record_commands.proofs.updating.update_file.Goals.{In-Ok}
 use Rattle.record_commands.proofs.updating.update_file.Goals as goal

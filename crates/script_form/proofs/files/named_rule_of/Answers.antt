@@ -1,5 +1,5 @@
 -- A rule's word is parted in one way, and each part says one thing.
-use Rattle.script_form.proofs.Rules.{four_before, same_rule}
+use Rattle.script_form.proofs.IsRuleLemmas.{four_before, same_rule}
 use Rattle.script_form.proofs.files.named_rule_of.Goals as goal
 
 pub returns-in_err-file : goal.returns-in_err-file

@@ -1,6 +1,6 @@
 -- A dash names no rule.
 use Rattle.std.proofs.Common.{rules}
-use Rattle.script_form.proofs.Rules.{dash_rule}
+use Rattle.script_form.proofs.IsRuleLemmas.{dash_rule}
 use Rattle.script_form.proofs.files.rule_of.Goals as goal
 
 pub returns-in-45 : goal.returns-in-45

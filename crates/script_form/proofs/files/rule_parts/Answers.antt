@@ -1,6 +1,6 @@
 -- A word is parted in one way.
 use Rattle.std.proofs.Common.{rules}
-use Rattle.script_form.proofs.Rules.{same_parts}
+use Rattle.script_form.proofs.IsRuleLemmas.{same_parts}
 use Rattle.script_form.proofs.files.rule_parts.Goals as goal
 
 pub returns-then-first-eq58-clause-only : goal.returns-then-first-eq58-clause-only

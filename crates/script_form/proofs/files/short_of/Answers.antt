@@ -1,6 +1,6 @@
 -- A dash is no number.
 use Rattle.std.proofs.Common.{rules}
-use Rattle.script_form.proofs.Numbers.{dash_short}
+use Rattle.script_form.proofs.IsNumberLemmas.{dash_short}
 use Rattle.script_form.proofs.files.short_of.Goals as goal
 
 pub returns-in-45 : goal.returns-in-45

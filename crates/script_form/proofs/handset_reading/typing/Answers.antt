@@ -1,5 +1,5 @@
 -- The text is all that is left of the line.
-use Rattle.script_form.proofs.Commands.{no_typing, typing_read, untyped}
+use Rattle.script_form.proofs.IsCommandLineLemmas.{no_typing, typing_read, untyped}
 use Rattle.script_form.proofs.handset_reading.typing.Goals as goal
 
 pub returns-in_err-rest : goal.returns-in_err-rest

@@ -1,6 +1,6 @@
 -- A line that begins with `apdu` and a space is a command's.
 use Rattle.std.proofs.Common.{arith}
-use Rattle.script_form.proofs.Commands.{begins, reads_line}
+use Rattle.script_form.proofs.IsCommandLineLemmas.{begins, reads_line}
 use Rattle.script_form.proofs.reading.read_into.Goals as goal
 
 pub returns-in-97 : goal.returns-in-97

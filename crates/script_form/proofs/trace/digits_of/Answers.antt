@@ -1,5 +1,5 @@
 use Rattle.std.proofs.Common.{arith}
-use Rattle.script_form.proofs.Digits.{digits_read}
+use Rattle.script_form.proofs.EncodeWithLemmas.{digits_read}
 use Rattle.script_form.proofs.trace.digits_of.Goals as goal
 
 pub returns-clause-value : goal.returns-clause-value

@@ -1,6 +1,6 @@
 use Rattle.std.proofs.Common.{ℕ, List, ◌++◌, ◌∙◌, ap, sym, arith, take_all}
 use Rattle.hex.specs.Hex.{upper_digits}
-use Rattle.script_form.proofs.Digits.{encode_more, encode_none}
+use Rattle.script_form.proofs.EncodeWithLemmas.{encode_more, encode_none}
 use Rattle.script_form.proofs.trace.put_hex.Goals as goal
 
 pub loop-byte-init : goal.loop-byte-init

@@ -1,7 +1,7 @@
 -- The word of a number has one to nine digits, and none but `0` itself begins with a zero.
 use Rattle.std.proofs.Common.{lit<, arith}
 use Rattle.std.proofs.lemmas.Bool.Decides.{nat_tests}
-use Rattle.script_form.proofs.Numbers.{number_read, numeral, zero_read}
+use Rattle.script_form.proofs.IsNumberLemmas.{number_read, numeral, zero_read}
 use Rattle.script_form.proofs.values.decimal_of.Goals as goal
 
 pub returns-then-is_empty : goal.returns-then-is_empty

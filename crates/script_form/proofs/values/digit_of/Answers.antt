@@ -1,5 +1,5 @@
 use Rattle.std.proofs.Common.{arith}
-use Rattle.script_form.proofs.Hexadecimal.{none_large, value_read}
+use Rattle.script_form.proofs.IsHexLemmas.{none_large, value_read}
 use Rattle.script_form.proofs.values.digit_of.Goals as goal
 
 pub returns-clause-value : goal.returns-clause-value

@@ -1,7 +1,7 @@
 -- The number of the digits so far is below ten to their count, at most nine, so no step overflows; a byte that is no digit refuses all.
 use Rattle.std.proofs.Common.{◌≡◌, false, true, get_or, refl, sym, ◌∙◌, arith, take_all}
 use Rattle.std.proofs.lemmas.Int.Digits.{digits_more, digits_value_more}
-use Rattle.script_form.proofs.Numbers.{digit_read, not_digits, pow_more, below_pow}
+use Rattle.script_form.proofs.IsNumberLemmas.{digit_read, not_digits, pow_more, below_pow}
 use Rattle.script_form.proofs.values.digits_value_of.Goals as goal
 
 pub loop-digit-init : goal.loop-digit-init

@@ -1,4 +1,4 @@
-use Rattle.script_form.proofs.Hexadecimal.{pair_read, pair_refused}
+use Rattle.script_form.proofs.IsHexLemmas.{pair_read, pair_refused}
 use Rattle.script_form.proofs.values.pair_of.Goals as goal
 
 pub returns-clause-byte : goal.returns-clause-byte

@@ -1,6 +1,6 @@
 -- A word that is too short, too long or not of digits stands for no bytes.
 use Rattle.std.proofs.Common.{◌≡◌, ◌*◌, ◌+◌, [], ◌∷◌, length, subst, sym, ap, ◌∙◌, List, ℕ, arith, length-append}
-use Rattle.script_form.proofs.Hexadecimal.{IsRead, all_read, length-hex, none_reads, one_read}
+use Rattle.script_form.proofs.IsHexLemmas.{IsRead, all_read, length-hex, none_reads, one_read}
 use Rattle.script_form.proofs.values.read_bytes.Goals as goal
 use Rattle.script_form.proofs.values.read_bytes.Goals.{then-count-eq0-via-then-count-eq0, then-count-eq0-via-else-count-eq0+then-count, then-count-eq0-via-else-count-eq0+else-count+then-word-eq1}
 

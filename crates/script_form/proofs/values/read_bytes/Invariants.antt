@@ -1,5 +1,5 @@
 use Rattle.std.proofs.Common.{◌≡◌, length}
-use Rattle.script_form.proofs.Hexadecimal.{IsRead}
+use Rattle.script_form.proofs.IsHexLemmas.{IsRead}
 use Rattle.script_form.proofs.values.read_bytes.Given as goal
 
 -- the bytes of the pairs so far were added

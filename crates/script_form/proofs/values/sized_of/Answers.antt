@@ -1,5 +1,5 @@
 use Rattle.std.proofs.Common.{sym, ◌∙◌}
-use Rattle.script_form.proofs.Hexadecimal.{not_sized}
+use Rattle.script_form.proofs.IsHexLemmas.{not_sized}
 use Rattle.script_form.proofs.values.sized_of.Goals as goal
 
 pub returns-in-Err : goal.returns-in-Err

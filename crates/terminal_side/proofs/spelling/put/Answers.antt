@@ -1,4 +1,4 @@
-use Rattle.toolkit_commands.proofs.Sizes.{length_put}
+use Rattle.toolkit_commands.proofs.LengthsOfCommandsLemmas.{length_put}
 use Rattle.terminal_side.proofs.spelling.put.Goals as goal
 
 pub returns-clause-size : goal.returns-clause-size

@@ -3,7 +3,7 @@ use Rattle.std.proofs.lemmas.Grind.{common_steps}
 use Rattle.std.proofs.lemmas.Result.{err_from_is_err_and}
 use Rattle.comprehension_tlv.specs.Seen.{object_of}
 use Rattle.toolkit_commands.specs.Values.{items_of, values}
-use Rattle.toolkit_commands.proofs.Joined.{with_front, too_many, next_value}
+use Rattle.toolkit_commands.proofs.ItemsOfLemmas.{with_front, too_many, next_value}
 use Rattle.toolkit_commands.proofs.choices.choice_of.Goals as goal
 
 pub returns-in_err-push-clause-exact : goal.returns-in_err-push-clause-exact

@@ -1,7 +1,7 @@
 use Rattle.std.proofs.Common.{◌≡◌, ◌+◌, ◌≤◌, length, None}
 use Rattle.toolkit_commands.specs.Values.{values, items_of, choice_of}
 use Rattle.toolkit_commands.specs.Steps.{items_in}
-use Rattle.toolkit_commands.proofs.Joined.{with_front}
+use Rattle.toolkit_commands.proofs.ItemsOfLemmas.{with_front}
 use Rattle.toolkit_commands.proofs.choices.choice_of.Given as goal
 
 -- the items so far with those that are left are all items

@@ -1,7 +1,7 @@
-use Rattle.comprehension_tlv.proofs.Readings.{IsBytes-from_All}
-use Rattle.toolkit_commands.proofs.RoundTrip.{command_is_read}
-use Rattle.toolkit_commands.proofs.Found.{read_is_command}
-use Rattle.toolkit_commands.proofs.FourFaults.{read_is_fit}
+use Rattle.comprehension_tlv.proofs.ReadingLemmas.{IsBytes-from_All}
+use Rattle.toolkit_commands.proofs.SpelledLemmas.{command_is_read}
+use Rattle.toolkit_commands.proofs.IsCommandLemmas.{read_is_command}
+use Rattle.toolkit_commands.proofs.FourFaultsLemmas.{read_is_fit}
 use Rattle.toolkit_commands.proofs.laws.exact_commands.Goals as goal
 
 pub returns : goal.returns

@@ -1,5 +1,5 @@
-use Rattle.comprehension_tlv.proofs.Readings.{IsBytes-from_All}
-use Rattle.toolkit_commands.proofs.Reports.{envelope_is_read, read_is_envelope}
+use Rattle.comprehension_tlv.proofs.ReadingLemmas.{IsBytes-from_All}
+use Rattle.toolkit_commands.proofs.IsEnvelopeLemmas.{envelope_is_read, read_is_envelope}
 use Rattle.toolkit_commands.proofs.laws.exact_envelopes.Goals as goal
 
 pub returns : goal.returns

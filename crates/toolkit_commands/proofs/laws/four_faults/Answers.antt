@@ -1,5 +1,5 @@
-use Rattle.comprehension_tlv.proofs.Readings.{IsBytes-from_All}
-use Rattle.toolkit_commands.proofs.FourFaults.{tlv_exactly, missing_exactly, unknown_exactly, bad_exactly}
+use Rattle.comprehension_tlv.proofs.ReadingLemmas.{IsBytes-from_All}
+use Rattle.toolkit_commands.proofs.FourFaultsLemmas.{tlv_exactly, missing_exactly, unknown_exactly, bad_exactly}
 use Rattle.toolkit_commands.proofs.laws.four_faults.Goals as goal
 
 pub returns : goal.returns

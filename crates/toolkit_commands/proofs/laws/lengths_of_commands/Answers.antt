@@ -1,4 +1,4 @@
-use Rattle.toolkit_commands.proofs.Sizes.{same_length, short_enough, proper_is_writable}
+use Rattle.toolkit_commands.proofs.LengthsOfCommandsLemmas.{same_length, short_enough, proper_is_writable}
 use Rattle.toolkit_commands.proofs.laws.lengths_of_commands.Goals as goal
 
 pub returns : goal.returns

@@ -1,5 +1,5 @@
 use Rattle.std.proofs.Common.{arith}
-use Rattle.toolkit_commands.proofs.RoundTrip.{is_command, spelled_is_read}
+use Rattle.toolkit_commands.proofs.SpelledLemmas.{is_command, spelled_is_read}
 use Rattle.toolkit_commands.proofs.laws.spelled_is_read.Goals as goal
 
 pub returns : goal.returns

@@ -1,6 +1,6 @@
 use Rattle.std.proofs.Common.{ℕ, ◌+◌, ◌∷◌, ◌++◌, take, drop, ap, ◌∙◌}
 use Rattle.toolkit_commands.specs.Reading.{proactive_of}
-use Rattle.toolkit_commands.proofs.Numbered.{number_changed, details_changed, read_changed}
+use Rattle.toolkit_commands.proofs.RenumberedLemmas.{number_changed, details_changed, read_changed}
 use Rattle.toolkit_commands.proofs.numbering.renumber.Goals as goal
 
 -- the bytes are written with the number at its place

@@ -1,5 +1,5 @@
 use Rattle.std.proofs.Common.{◌∙◌}
-use Rattle.toolkit_commands.proofs.Table.{details_read_ok, details_read_err, details_of_read}
+use Rattle.toolkit_commands.proofs.ProactiveOfLemmas.{details_read_ok, details_read_err, details_of_read}
 use Rattle.toolkit_commands.proofs.reading.found_details.Goals as goal
 
 pub returns-in-Ok-clause-exact : goal.returns-in-Ok-clause-exact

@@ -1,4 +1,4 @@
-use Rattle.toolkit_commands.proofs.Needs.{item_found}
+use Rattle.toolkit_commands.proofs.NeededLemmas.{item_found}
 use Rattle.toolkit_commands.proofs.reading.needed.Goals as goal
 
 pub returns-clause-item : goal.returns-clause-item

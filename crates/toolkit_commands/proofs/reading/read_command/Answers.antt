@@ -1,6 +1,6 @@
 use Rattle.std.proofs.Common.{refl, subst}
 use Rattle.toolkit_commands.specs.Steps.{Tells, command_of}
-use Rattle.toolkit_commands.proofs.Table.{opened_by_table}
+use Rattle.toolkit_commands.proofs.ProactiveOfLemmas.{opened_by_table}
 use Rattle.toolkit_commands.proofs.reading.read_command.Goals as goal
 
 pub returns-clause-exact : goal.returns-clause-exact

@@ -1,5 +1,5 @@
 use Rattle.std.proofs.Common.{sym, Ok, Err}
-use Rattle.toolkit_commands.proofs.FourFaults.{result_is_bounded, result_is_spelled}
+use Rattle.toolkit_commands.proofs.FourFaultsLemmas.{result_is_bounded, result_is_spelled}
 use Rattle.toolkit_commands.proofs.reading.read_proactive.Goals as goal
 
 pub returns-in-Ok-clause-bounded : goal.returns-in-Ok-clause-bounded

@@ -1,6 +1,6 @@
 use Rattle.std.proofs.Common.{sym, ap, ◌∙◌, arith}
 use Rattle.toolkit_commands.specs.Replies.{values_of}
-use Rattle.toolkit_commands.proofs.OneWalk.{answered, reply_is, reply_fits, no_reply}
+use Rattle.toolkit_commands.proofs.RepliesLemmas.{answered, reply_is, reply_fits, no_reply}
 use Rattle.toolkit_commands.proofs.responses.read_response_in_place.Goals as goal
 
 pub returns-in_err-found-clause-exact : goal.returns-in_err-found-clause-exact

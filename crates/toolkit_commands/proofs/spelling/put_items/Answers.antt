@@ -1,5 +1,5 @@
 use Rattle.std.proofs.lemmas.Result.{err_from_is_err_and}
-use Rattle.toolkit_commands.proofs.Lengths.{items_no_room}
+use Rattle.toolkit_commands.proofs.SpellingsLemmas.{items_no_room}
 use Rattle.toolkit_commands.proofs.spelling.put_items.Goals as goal
 
 pub returns-in_err-put_item-clause-put : goal.returns-in_err-put_item-clause-put

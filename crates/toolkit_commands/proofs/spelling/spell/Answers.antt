@@ -1,12 +1,12 @@
 use Rattle.std.proofs.Common.{◌≡◌, ◌≤◌, length, ap, ◌∙◌, arith}
 use Rattle.std.proofs.lemmas.Grind.{common_steps}
-use Rattle.toolkit_commands.specs.Reading.{proactive_of}
-use Rattle.toolkit_commands.proofs.RoundTrip.{spelled_is_read}
 use Rattle.std.proofs.lemmas.Bool.{false≢true}
 use Rattle.std.proofs.lemmas.Result.{err_from_is_err_and}
 use Rattle.comprehension_tlv.specs.Writing.{spellings}
+use Rattle.toolkit_commands.specs.Reading.{proactive_of}
+use Rattle.toolkit_commands.proofs.SpelledLemmas.{spelled_is_read}
 use Rattle.toolkit_commands.specs.Table.{objects_of_command, spelled}
-use Rattle.toolkit_commands.proofs.Lengths.{length-tagged}
+use Rattle.toolkit_commands.proofs.SpellingsLemmas.{length-tagged}
 use Rattle.toolkit_commands.proofs.spelling.spell.Goals as goal
 
 pub returns-in_err-put_command-clause-room : goal.returns-in_err-put_command-clause-room

@@ -1,5 +1,5 @@
-use Rattle.toolkit_model.proofs.Stepping.{HasLaws}
-use Rattle.toolkit_model.proofs.Replies.{responses_reach}
+use Rattle.toolkit_model.proofs.DrivingLemmas.{HasLaws}
+use Rattle.toolkit_model.proofs.ReachesWhoAskedLemmas.{responses_reach}
 use Rattle.toolkit_model.proofs.answering.responses_reach_who_asked.Goals as goal
 
 pub returns : goal.returns

@@ -1,7 +1,7 @@
 use Rattle.toolkit_model.specs.Commands.{unanswered}
 use Rattle.toolkit_model.specs.Steps.{moved_by}
-use Rattle.toolkit_model.proofs.Stepping.{HasLaws}
-use Rattle.toolkit_model.proofs.Fetches.{fetched_one_at_a_time, one_is_answered}
+use Rattle.toolkit_model.proofs.DrivingLemmas.{HasLaws}
+use Rattle.toolkit_model.proofs.FetchingLemmas.{fetched_one_at_a_time, one_is_answered}
 use Rattle.toolkit_model.proofs.fetching.one_command_is_outstanding.Goals as goal
 
 pub returns : goal.returns

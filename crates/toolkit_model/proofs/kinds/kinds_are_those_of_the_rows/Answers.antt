@@ -1,5 +1,5 @@
-use Rattle.toolkit_model.proofs.Stepping.{HasLaws}
-use Rattle.toolkit_model.proofs.Kinded.{kinds_stay, wakes_keep_kinds}
+use Rattle.toolkit_model.proofs.DrivingLemmas.{HasLaws}
+use Rattle.toolkit_model.proofs.KindsLemmas.{kinds_stay, wakes_keep_kinds}
 use Rattle.toolkit_model.proofs.kinds.kinds_are_those_of_the_rows.Goals as goal
 
 pub returns-clause-commands : goal.returns-clause-commands

@@ -1,4 +1,4 @@
-use Rattle.toolkit_model.proofs.Begins.{told_begin, triggered_begin, before_driving}
+use Rattle.toolkit_model.proofs.BegunLemmas.{told_begin, triggered_begin, before_driving}
 use Rattle.toolkit_model.proofs.order.idle_targets_run_in_order.Goals as goal
 
 pub returns : goal.returns

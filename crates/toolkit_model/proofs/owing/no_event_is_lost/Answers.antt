@@ -1,5 +1,5 @@
-use Rattle.toolkit_model.proofs.Stepping.{HasLaws}
-use Rattle.toolkit_model.proofs.EventLaws.{nothing_lost}
+use Rattle.toolkit_model.proofs.DrivingLemmas.{HasLaws}
+use Rattle.toolkit_model.proofs.LosesNothingLemmas.{nothing_lost}
 use Rattle.toolkit_model.proofs.owing.no_event_is_lost.Goals as goal
 
 pub returns : goal.returns

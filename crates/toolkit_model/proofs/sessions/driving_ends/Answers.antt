@@ -1,4 +1,4 @@
-use Rattle.toolkit_model.proofs.Orderlies.{driving_is_done}
+use Rattle.toolkit_model.proofs.IsInOrderLemmas.{driving_is_done}
 use Rattle.toolkit_model.proofs.sessions.driving_ends.Goals as goal
 
 pub returns : goal.returns

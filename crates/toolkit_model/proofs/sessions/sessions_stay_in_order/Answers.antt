@@ -1,5 +1,5 @@
-use Rattle.toolkit_model.proofs.Stepping.{HasLaws}
-use Rattle.toolkit_model.proofs.Orderlies.{stay_in_order}
+use Rattle.toolkit_model.proofs.DrivingLemmas.{HasLaws}
+use Rattle.toolkit_model.proofs.IsInOrderLemmas.{stay_in_order}
 use Rattle.toolkit_model.proofs.sessions.sessions_stay_in_order.Goals as goal
 
 pub returns : goal.returns

@@ -1,4 +1,4 @@
-use Rattle.toolkit_model.proofs.Sounds.{installed_sound}
+use Rattle.toolkit_model.proofs.SoundLemmas.{installed_sound}
 use Rattle.toolkit_model.proofs.soundness.installed_rows_are_sound.Goals as goal
 
 pub returns : goal.returns

@@ -1,5 +1,5 @@
-use Rattle.toolkit_model.proofs.Stepping.{HasLaws}
-use Rattle.toolkit_model.proofs.Sounds.{steps_stay_good}
+use Rattle.toolkit_model.proofs.DrivingLemmas.{HasLaws}
+use Rattle.toolkit_model.proofs.SoundLemmas.{steps_stay_good}
 use Rattle.toolkit_model.proofs.soundness.steps_leave_good.Goals as goal
 
 pub returns : goal.returns

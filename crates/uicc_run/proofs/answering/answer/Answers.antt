@@ -1,7 +1,7 @@
 use Rattle.std.proofs.Common.{◌≡◌, [], arith, ◌∙◌, subst, sym}
 use Rattle.std.proofs.lemmas.Grind.{common_steps}
-use Rattle.card_core.specs.applet_trait.Minds.{minds_of}
-use Rattle.run_words.specs.Model.{AskForRun}
+use Rattle.applet_trait.specs.Minds.{minds_of}
+use Rattle.command_line.specs.Model.{AskForRun}
 use Rattle.uicc_run.specs.Answering.{HasLoadedOnBench, HasOuterCauses, HasRunOnBench, HasServed, KeepsToScripts, NameNoImage}
 use Rattle.uicc_run.specs.Worlds.{outside}
 use Rattle.uicc_run.proofs.answering.answer.Goals as goal

@@ -1,5 +1,5 @@
-use Rattle.uicc_run.proofs.AnswerLemmas.{asks_for_devices, devices_are_asked, has_no_words, keeps_without_words, loads_run, no_image}
-use Rattle.uicc_run.proofs.BipLemmas.{asks_for_run}
+use Rattle.uicc_run.proofs.AnsweringLemmas.{asks_for_devices, devices_are_asked, has_no_words, keeps_without_words, loads_run, no_image}
+use Rattle.uicc_run.proofs.TerminalsLemmas.{asks_for_run}
 use Rattle.uicc_run.proofs.answering.play.Goals as goal
 
 pub play_on-requires : goal.play_on-requires

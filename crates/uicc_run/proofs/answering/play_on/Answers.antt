@@ -1,10 +1,10 @@
 -- The words that ask for the run also name the device: it has the size that the run wants, and where no image is named there is no path.
 use Rattle.std.proofs.Common.{map, string_bytes, ap, ◌∙◌, subst}
-use Rattle.card_core.specs.applet_trait.Minds.{minds_of}
+use Rattle.applet_trait.specs.Minds.{minds_of}
 use Rattle.uicc_run.specs.Loading.{LoadsFrom}
 use Rattle.uicc_run.specs.Opening.{RunsFrom}
 use Rattle.uicc_run.specs.Worlds.{outside, over_bench}
-use Rattle.uicc_run.proofs.AnswerLemmas.{devices_are_asked, fits_run, load_size_given, size_given}
+use Rattle.uicc_run.proofs.AnsweringLemmas.{devices_are_asked, fits_run, load_size_given, size_given}
 use Rattle.uicc_run.proofs.answering.play_on.Goals as goal
 
 pub play_over-requires : goal.play_over-requires

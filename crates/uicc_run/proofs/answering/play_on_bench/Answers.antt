@@ -1,11 +1,11 @@
 -- A new bench is written as the device that play_over takes; where no memory is left for it, the run ends as one that was never begun.
 use Rattle.std.proofs.Common.{ℕ, length, map, string_bytes, [], Some, ap, subst, ◌∙◌}
 use Rattle.std.proofs.lemmas.List.{length-replicate}
-use Rattle.card_core.specs.applet_trait.Minds.{minds_of}
+use Rattle.applet_trait.specs.Minds.{minds_of}
 use Rattle.uicc_run.specs.Answering.{HasLoadedOver, HasRunOver}
 use Rattle.uicc_run.specs.Worlds.{outside}
-use Rattle.uicc_run.proofs.AnswerLemmas.{has_no_device, keeps_without_device, loads_no_device}
-use Rattle.uicc_run.proofs.BipLemmas.{bip_no_device}
+use Rattle.uicc_run.proofs.AnsweringLemmas.{has_no_device, keeps_without_device, loads_no_device}
+use Rattle.uicc_run.proofs.TerminalsLemmas.{bip_no_device}
 use Rattle.uicc_run.proofs.answering.play_on_bench.Goals as goal
 
 pub play_over-requires : goal.play_over-requires

@@ -2,7 +2,7 @@
 use Rattle.std.proofs.Common.{map, string_bytes}
 use Rattle.uicc_run.specs.Opening.{ReadsFrom}
 use Rattle.uicc_run.specs.Worlds.{world}
-use Rattle.uicc_run.proofs.AnswerLemmas.{gone, load_gone}
+use Rattle.uicc_run.proofs.AnsweringLemmas.{gone, load_gone}
 use Rattle.uicc_run.proofs.answering.play_over.Goals as goal
 
 pub returns-clause-script : goal.returns-clause-script

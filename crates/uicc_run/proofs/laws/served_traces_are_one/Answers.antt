@@ -1,4 +1,4 @@
-use Rattle.uicc_run.proofs.OneTrace.{loads_are_one, served_are_one}
+use Rattle.uicc_run.proofs.DeterminedLemmas.{loads_are_one, served_are_one}
 use Rattle.uicc_run.proofs.laws.served_traces_are_one.Goals as goal
 
 pub returns-clause-served : goal.returns-clause-served

@@ -1,4 +1,4 @@
-use Rattle.uicc_run.proofs.OneTrace.{traces_are_one}
+use Rattle.uicc_run.proofs.DeterminedLemmas.{traces_are_one}
 use Rattle.uicc_run.proofs.laws.traces_are_one.Goals as goal
 
 pub returns : goal.returns

@@ -1,11 +1,11 @@
 use Rattle.std.proofs.Common.{◌≡◌, Some, Ok, ap, sym, ◌∙◌, subst, inl, inr, refl, IfSome}
-use Rattle.card_core.specs.card_layout.Standing.{stands_for}
-use Rattle.card_core.specs.applet_trait.Minds.{minds_of}
-use Rattle.phone_runs.specs.card_sections.Script.{with_lines}
-use Rattle.phone_runs.specs.FixedRows.{fixed_rows}
+use Rattle.card_state.specs.Standing.{stands_for}
+use Rattle.applet_trait.specs.Minds.{minds_of}
+use Rattle.section_lines.specs.Script.{with_lines}
+use Rattle.long_runs.specs.FixedRows.{fixed_rows}
 use Rattle.uicc_run.specs.Loading.{IsFixedCard}
 use Rattle.uicc_run.specs.Stores.{content_in, mark_of}
-use Rattle.uicc_run.proofs.OpenLemmas.{none_counted}
+use Rattle.uicc_run.proofs.OpeningLemmas.{none_counted}
 use Rattle.uicc_run.proofs.loading.load.Goals as goal
 
 pub returns-in-Ok-describe_rows-clause-comes : goal.returns-in-Ok-describe_rows-clause-comes

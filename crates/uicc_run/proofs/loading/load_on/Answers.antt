@@ -1,9 +1,9 @@
 use Rattle.std.proofs.Common.{◌≡◌, true, false, ap, sym, ◌∙◌, subst, Ok, IfSome}
-use Rattle.card_core.specs.card_layout.Standing.{stands_for}
-use Rattle.card_core.specs.applet_trait.Minds.{minds_of}
+use Rattle.card_state.specs.Standing.{stands_for}
+use Rattle.applet_trait.specs.Minds.{minds_of}
 use Rattle.uicc_run.specs.Loading.{ComesToLoad}
 use Rattle.uicc_run.specs.Stores.{content_in, held_in, mark_of, memory_in}
-use Rattle.uicc_run.proofs.StoreLemmas.{given_over, load_comes_over}
+use Rattle.uicc_run.proofs.StoresLemmas.{given_over, load_comes_over}
 use Rattle.uicc_run.proofs.loading.load_on.Goals as goal
 
 pub returns-then-pages-clause-comes : goal.returns-then-pages-clause-comes

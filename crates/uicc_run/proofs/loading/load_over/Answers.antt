@@ -1,7 +1,7 @@
 use Rattle.std.proofs.Common.{◌≡◌, sym, subst, Ok, IfSome}
-use Rattle.card_core.specs.card_layout.Standing.{stands_for}
-use Rattle.uicc_run.proofs.LoadLemmas.{counted_from, kept_from, stands_now}
-use Rattle.uicc_run.proofs.OpenLemmas.{memory_tells}
+use Rattle.card_state.specs.Standing.{stands_for}
+use Rattle.uicc_run.proofs.LoadingLemmas.{counted_from, kept_from, stands_now}
+use Rattle.uicc_run.proofs.OpeningLemmas.{memory_tells}
 use Rattle.uicc_run.proofs.loading.load_over.Goals as goal
 
 pub returns-in-Ok-clause-comes : goal.returns-in-Ok-clause-comes

@@ -1,12 +1,12 @@
 use Rattle.std.proofs.Common.{[], Some, refl, ap, ◌∙◌}
 use Rattle.card_core.specs.Parts.{CardParts}
-use Rattle.phone_runs.specs.Playing.{Begins}
 use Rattle.card_core.specs.Cards.{parts_of}
+use Rattle.phone_runs.specs.Playing.{Begins}
 use Rattle.uicc_run.specs.Loading.{load_beginning}
-use Rattle.uicc_run.proofs.CardLemmas.{at_end}
-use Rattle.uicc_run.proofs.EndLemmas.{ends_counted, rose_as}
-use Rattle.uicc_run.proofs.LoadLemmas.{as_ended, counted_on, load_begins, load_closes, memory_keeps, never_wanting, not_loaded}
-use Rattle.uicc_run.proofs.OpenLemmas.{kept_on}
+use Rattle.uicc_run.proofs.HasKindsOfLemmas.{at_end}
+use Rattle.uicc_run.proofs.EndsForLemmas.{ends_counted, rose_as}
+use Rattle.uicc_run.proofs.LoadingLemmas.{as_ended, counted_on, load_begins, load_closes, memory_keeps, never_wanting, not_loaded}
+use Rattle.uicc_run.proofs.OpeningLemmas.{kept_on}
 use Rattle.uicc_run.proofs.loading.open_and_load.Goals as goal
 
 pub returns-in-Ok-clause-comes : goal.returns-in-Ok-clause-comes

@@ -1,13 +1,13 @@
 -- A line does nothing, is out of place, or goes to card or link, where reset or sink may fail: each is joined to the lines before it.
 use Rattle.std.proofs.Common.{false}
-use Rattle.phone_runs.proofs.card_sections.BehindLemmas.{bad_behind, ends_reading, reads_on, reads_to_end}
-use Rattle.card_steps.specs.Moves.{step_of}
-use Rattle.card_steps.proofs.StandingLemmas.{machine_minds, machine_stands}
-use Rattle.uicc_run.proofs.CardLemmas.{machine_kinds}
+use Rattle.script_reader.proofs.BehindLemmas.{bad_behind, ends_reading, reads_on, reads_to_end}
+use Rattle.run_steps.specs.Moves.{step_of}
+use Rattle.run_steps.proofs.StandingLemmas.{machine_minds, machine_stands}
+use Rattle.uicc_run.proofs.HasKindsOfLemmas.{machine_kinds}
 use Rattle.uicc_run.specs.Steps.{may_follow, may_stand}
 use Rattle.uicc_run.specs.Accounts.{Takes, Transfers}
-use Rattle.uicc_run.proofs.PlayLemmas.{breaks_in_step, breaks_in_tpdu, comes_to_end, ends_in_step, ends_playing, plays_further, plays_on, step_does, tpdu_does}
-use Rattle.uicc_run.proofs.ShowLemmas.{cut_in_step, cut_in_tpdu, ends_showing, shows_failure, shows_further, shows_on, shows_to_end, stands_there, step_does_show, tpdu_does_show}
+use Rattle.uicc_run.proofs.PlayingLemmas.{breaks_in_step, breaks_in_tpdu, comes_to_end, ends_in_step, ends_playing, plays_further, plays_on, step_does, tpdu_does}
+use Rattle.uicc_run.proofs.ShowingLemmas.{cut_in_step, cut_in_tpdu, ends_showing, shows_failure, shows_further, shows_on, shows_to_end, stands_there, step_does_show, tpdu_does_show}
 use Rattle.uicc_run.proofs.playing.play_line.Goals as goal
 
 pub returns-in-Err-clause-played : goal.returns-in-Err-clause-played

@@ -1,12 +1,12 @@
 use Rattle.std.proofs.Common.{Option, ap, arith, sym, subst, ◌∙◌}
 use Rattle.std.proofs.lemmas.Bool.{false≢true}
-use Rattle.phone_runs.specs.card_sections.Behind.{IsReading, LinesReadTo}
-use Rattle.card_steps.specs.Ends.{moment_at}
+use Rattle.uicc_types.specs.declared.answers.Answer.{Answer}
+use Rattle.script_reader.specs.Behind.{IsReading, LinesReadTo}
+use Rattle.run_steps.specs.Ends.{moment_at}
 use Rattle.uicc_run.specs.Listeners.{is_handset}
 use Rattle.uicc_run.specs.Playing.{IsPlaying}
 use Rattle.uicc_run.specs.Showing.{IsShowing}
 use Rattle.uicc_run.specs.Steps.{may_stand}
-use Rattle.update_journal.specs.uicc_types.declared.answers.Answer.{Answer}
 use Rattle.uicc_run.proofs.playing.play_lines.Goals as goal
 
 -- ---- the card

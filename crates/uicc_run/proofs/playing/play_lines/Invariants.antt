@@ -1,17 +1,17 @@
 -- Between two lines the run is where it was at first, or further.
 use Rattle.std.proofs.Common.{◌≡◌, List, ℕ, is_some, ◌≤◌, true, false}
-use Rattle.card_steps.specs.byte_streams.Reading.{IsWithin}
-use Rattle.phone_runs.specs.card_sections.Behind.{IsReading}
-use Rattle.card_steps.specs.Ends.{moment_at}
+use Rattle.uicc_types.specs.Counts.{Meter}
+use Rattle.byte_streams.specs.Reading.{IsWithin}
+use Rattle.script_form.specs.declared.lines.ScriptLine.{ScriptLine}
+use Rattle.script_reader.specs.Behind.{IsReading}
+use Rattle.run_steps.specs.Ends.{moment_at}
 use Rattle.phone_runs.specs.Lines.{IsBetweenLines, IsServing}
 use Rattle.phone_runs.specs.Runs.{Beginning}
 use Rattle.phone_runs.specs.Showing.{Outset, ServesShowing}
-use Rattle.card_steps.specs.script_form.declared.lines.ScriptLine.{ScriptLine}
 use Rattle.uicc_run.specs.Listeners.{is_handset}
 use Rattle.uicc_run.specs.Playing.{Given, IsPlaying}
 use Rattle.uicc_run.specs.Showing.{IsShowing}
 use Rattle.uicc_run.specs.Steps.{may_stand}
-use Rattle.update_journal.specs.uicc_types.Counts.{Meter}
 use Rattle.uicc_run.proofs.playing.play_lines.Given as goal
 
 abbrev pub invariant-loop-script : goal.invariant-loop-script

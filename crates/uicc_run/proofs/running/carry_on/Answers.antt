@@ -1,9 +1,9 @@
 use Rattle.std.proofs.Common.{inl, inr, refl, ap, sym, ◌∙◌, subst}
 use Rattle.std.proofs.lemmas.Bool.{false≢true}
-use Rattle.phone_runs.specs.card_sections.Behind.{IsReading, LinesReadTo}
-use Rattle.card_steps.specs.Ends.{moment_at}
+use Rattle.script_reader.specs.Behind.{IsReading, LinesReadTo}
+use Rattle.run_steps.specs.Ends.{moment_at}
 use Rattle.phone_runs.proofs.LineLemmas.{ends_amid, starts_serving, stops_at_start, unread_amid}
-use Rattle.phone_runs.proofs.ShowSteps.{starts_so, stops_amid, stops_first}
+use Rattle.phone_runs.proofs.ShowingLemmas.{starts_so, stops_amid, stops_first}
 use Rattle.uicc_run.specs.Listeners.{is_handset}
 use Rattle.uicc_run.specs.Serving.{beginning}
 use Rattle.uicc_run.specs.Steps.{may_stand}

@@ -1,12 +1,12 @@
 -- The words ask for one mode alone: in its branch all that is said of the other modes is refuted, and its own call says the rest.
 use Rattle.std.proofs.Common.{Some, refl, ap, sym, ◌∙◌, inl}
-use Rattle.card_steps.proofs.byte_streams.ReadingLemmas.{IsTaken-none}
-use Rattle.run_words.specs.declared.requests.Mode.TheVariants.{Bip, Load}
+use Rattle.byte_streams.proofs.ReadingLemmas.{IsTaken-none}
+use Rattle.command_line.specs.declared.requests.Mode.TheVariants.{Bip, Load}
 use Rattle.uicc_run.specs.Headline.{first_of, is_served_by}
 use Rattle.uicc_run.specs.Listeners.{is_handset}
 use Rattle.uicc_run.specs.Stores.{mark_of}
-use Rattle.uicc_run.proofs.OpenLemmas.{not_begun, unplanned_still}
-use Rattle.uicc_run.proofs.WorldLemmas.{to_play, to_play_told}
+use Rattle.uicc_run.proofs.OpeningLemmas.{not_begun, unplanned_still}
+use Rattle.uicc_run.proofs.IsToPlayLemmas.{to_play, to_play_told}
 use Rattle.uicc_run.proofs.ModeLemmas.{makes_bare, no_bip, no_load, not_bip, not_bip_load, not_bip_open, not_load, not_load_bip, not_load_open, the_load}
 use Rattle.uicc_run.proofs.running.carry_out.Goals as goal
 

@@ -1,6 +1,6 @@
 -- Without a section the bytes stay, with one the card opened is the one formatted, and a fault in formatting ends the run before it opens.
 use Rattle.std.proofs.Common.{[], refl, ◌∙◌}
-use Rattle.uicc_run.proofs.OpenLemmas.{caused_counted, caused_kept, keeps_so, made_none, made_so, memory_tells, none_is_some, not_made, stays_made, unplanned_then}
+use Rattle.uicc_run.proofs.OpeningLemmas.{caused_counted, caused_kept, keeps_so, made_none, made_so, memory_tells, none_is_some, not_made, stays_made, unplanned_then}
 use Rattle.uicc_run.proofs.running.make_and_play.Goals as goal
 
 pub returns-in-Ok-clause-comes : goal.returns-in-Ok-clause-comes

@@ -1,21 +1,21 @@
 -- The card opened is the one at the end of the link, and the store handed back is that card's: the lines are told from one to the other.
 use Rattle.std.proofs.Common.{[], None, ap, refl, sym, subst, ◌∙◌}
+use Rattle.uicc_types.specs.Counts.{Meter}
+use Rattle.uicc_types.specs.declared.plans.TheConstants.Plan.{NONE}
 use Rattle.card_core.specs.Parts.{CardParts}
 use Rattle.card_core.specs.Cards.{parts_of}
-use Rattle.card_steps.specs.Ends.{moment_at}
-use Rattle.card_steps.specs.Stepping.{moment}
+use Rattle.run_steps.specs.Ends.{moment_at}
+use Rattle.run_steps.specs.Stepping.{moment}
 use Rattle.phone_runs.specs.Showing.{StartsShowing}
 use Rattle.uicc_run.specs.Listeners.{is_handset}
 use Rattle.uicc_run.specs.Opening.{IsStarted}
-use Rattle.uicc_run.proofs.CardLemmas.{at_end}
-use Rattle.uicc_run.proofs.EndLemmas.{ends_played, rose_as}
-use Rattle.uicc_run.proofs.OpenLemmas.{caused_counted, caused_kept, formatted_then, given_back, refusal_keeps, refused, starts}
+use Rattle.uicc_run.proofs.HasKindsOfLemmas.{at_end}
+use Rattle.uicc_run.proofs.EndsForLemmas.{ends_played, rose_as}
+use Rattle.uicc_run.proofs.OpeningLemmas.{caused_counted, caused_kept, formatted_then, given_back, refusal_keeps, refused, starts}
 use Rattle.uicc_run.proofs.ReadingLemmas.{reads_behind, reads_refused, reads_start}
 use Rattle.uicc_run.proofs.ServingLemmas.{opening}
-use Rattle.uicc_run.proofs.ShowLemmas.{outset, refused_shows, serves_shown_first, shows_first}
+use Rattle.uicc_run.proofs.ShowingLemmas.{outset, refused_shows, serves_shown_first, shows_first}
 use Rattle.uicc_run.specs.Showing.{IsShowing, LinesShow}
-use Rattle.update_journal.specs.uicc_types.Counts.{Meter}
-use Rattle.update_journal.specs.uicc_types.declared.plans.TheConstants.Plan.{NONE}
 use Rattle.uicc_run.proofs.running.open_and_play.Goals as goal
 
 pub returns-in-Ok-clause-comes : goal.returns-in-Ok-clause-comes

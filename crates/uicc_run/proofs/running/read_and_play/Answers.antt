@@ -1,20 +1,20 @@
 -- Over moving pages as over the journal, what is said of the store is led to its device, by whose bytes the memory is told.
 use Rattle.std.proofs.Common.{◌≡◌, [], None, refl, true, false, ap, sym, inr, ◌∙◌, subst, IfSome, Ok}
-use Rattle.card_core.specs.card_layout.Standing.{stands_for}
-use Rattle.card_steps.proofs.byte_streams.ReadingLemmas.{IsTaken-within, IsWithin-start}
-use Rattle.card_core.specs.card_model.Counts.{IsCounted}
-use Rattle.card_core.specs.applet_trait.Minds.{minds_of}
-use Rattle.phone_runs.specs.card_sections.Reading.{EndsInSection}
-use Rattle.card_steps.proofs.StepLemmas.{idle_counted}
-use Rattle.phone_runs.specs.layout_section.Laying.{KeepsFirstOr}
+use Rattle.uicc_types.specs.Told.{Becomes}
+use Rattle.byte_streams.proofs.ReadingLemmas.{IsTaken-within, IsWithin-start}
+use Rattle.card_state.specs.Standing.{stands_for}
+use Rattle.layout_section.specs.Laying.{KeepsFirstOr}
+use Rattle.applet_trait.specs.Minds.{minds_of}
+use Rattle.card_model.specs.Counts.{IsCounted}
+use Rattle.section_lines.specs.SectionReading.{EndsInSection}
+use Rattle.run_steps.proofs.SteppingLemmas.{idle_counted}
 use Rattle.uicc_run.specs.Headline.{Comes}
 use Rattle.uicc_run.specs.Scripts.{ReachesStart}
 use Rattle.uicc_run.specs.Showing.{ShowsTo}
 use Rattle.uicc_run.specs.Stores.{content_in, held_in, mark_of, memory_in}
 use Rattle.uicc_run.specs.Unplanned.{IsUnplanned}
-use Rattle.update_journal.specs.uicc_types.Told.{Becomes}
-use Rattle.uicc_run.proofs.OpenLemmas.{at_first, at_start_of, described_some, describes_none, reached, unplanned_still}
-use Rattle.uicc_run.proofs.StoreLemmas.{comes_over, given_over, keeps_over, kept_over}
+use Rattle.uicc_run.proofs.OpeningLemmas.{at_first, at_start_of, described_some, describes_none, reached, unplanned_still}
+use Rattle.uicc_run.proofs.StoresLemmas.{comes_over, given_over, keeps_over, kept_over}
 use Rattle.uicc_run.proofs.running.read_and_play.Goals as goal
 
 pub returns-in-Err-clause-comes : goal.returns-in-Err-clause-comes

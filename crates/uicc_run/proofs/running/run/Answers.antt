@@ -2,11 +2,11 @@
 use Rattle.std.proofs.Common.{ap, arith, is_some, subst, ◌∙◌}
 use Rattle.std.proofs.lemmas.Grind.{common_steps}
 use Rattle.uicc_run.specs.Headline.{Closes}
-use Rattle.uicc_run.proofs.BipLemmas.{channels_served, rose_on, status_low}
-use Rattle.uicc_run.proofs.BoxLemmas.{is_boxed}
-use Rattle.uicc_run.proofs.LoadLemmas.{load_completes}
-use Rattle.uicc_run.proofs.WorldLemmas.{to_read, to_read_told}
-use Rattle.uicc_run.proofs.ScriptLemmas.{bad_stops, completes, eight_is_full, five_is, full_stops, good_ends, line_verdict, not_usage, one_is, refuses, seven_refuses, seven_starts, six_shows, stops_bad, two_is_bad, verdict, zero_is_good, zero_reads_out}
+use Rattle.uicc_run.proofs.TerminalsLemmas.{channels_served, rose_on, status_low}
+use Rattle.uicc_run.proofs.HasBoxLemmas.{is_boxed}
+use Rattle.uicc_run.proofs.LoadingLemmas.{load_completes}
+use Rattle.uicc_run.proofs.IsToPlayLemmas.{to_read, to_read_told}
+use Rattle.uicc_run.proofs.ScriptsLemmas.{bad_stops, completes, eight_is_full, five_is, full_stops, good_ends, line_verdict, not_usage, one_is, refuses, seven_refuses, seven_starts, six_shows, stops_bad, two_is_bad, verdict, zero_is_good, zero_reads_out}
 use Rattle.uicc_run.proofs.running.run.Goals as goal
 
 pub returns-clause-trace : goal.returns-clause-trace

@@ -1,7 +1,7 @@
 use Rattle.std.proofs.Common.{◌≡◌, ◌+◌, length, sym, ◌∙◌, subst, refl, arith, take-append-drop, false}
-use Rattle.uicc_types.proofs.OptionalLemmas.{on_err}
-use Rattle.uicc_types.proofs.CallLemmas.{calm_same, caused_then, calm_ok}
-use Rattle.update_journal.proofs.Parts.{begun, goes_on, torn_short}
+use Rattle.list_laws.proofs.IfSomeLemmas.{on_err}
+use Rattle.uicc_types.proofs.IsCalmLemmas.{calm_same, caused_then, calm_ok}
+use Rattle.update_journal.proofs.PatchedLemmas.{begun, goes_on, torn_short}
 use Rattle.update_journal.proofs.device.write.Goals as goal
 
 pub loop-rest-init : goal.loop-rest-init

@@ -1,6 +1,6 @@
 use Rattle.std.proofs.Common.{◌≡◌, ◌+◌, length, false}
 use Rattle.uicc_types.specs.Calls.{IsCalm}
-use Rattle.update_journal.proofs.Parts.{PartWritten}
+use Rattle.update_journal.proofs.PatchedLemmas.{PartWritten}
 use Rattle.update_journal.proofs.device.write.Given as goal
 
 abbrev pub decreases-loop-rest : goal.decreases-loop-rest

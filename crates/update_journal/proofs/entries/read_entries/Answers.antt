@@ -5,7 +5,7 @@ use Rattle.std.proofs.lemmas.List.Elements.{All-nil, All-push, All-same}
 use Rattle.store_form.specs.Pieces.{Piece, byte_total, IsUsablePiece}
 use Rattle.update_journal.specs.Entries.{pieces_in}
 use Rattle.update_journal.specs.WellFormed.{usable_from_test}
-use Rattle.update_journal.proofs.Reading.{no_area, no_count, begun_with, reads_more, reads_to_end, reads_on, reads_unusable, reads_too_many, reads_all, byte_total-one}
+use Rattle.update_journal.proofs.PiecesInLemmas.{no_area, no_count, begun_with, reads_more, reads_to_end, reads_on, reads_unusable, reads_too_many, reads_all, byte_total-one}
 use Rattle.update_journal.proofs.entries.read_entries.Goals as goal
 use Rattle.update_journal.proofs.entries.read_entries.Goals.{then-count-eq0-via-then-count-eq0, then-count-eq0-via-else-count-eq0+then-from-gt-MOST_PIECES}
 

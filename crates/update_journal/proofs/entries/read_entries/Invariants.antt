@@ -1,6 +1,6 @@
 use Rattle.std.proofs.Common.{◌≡◌, ◌≤◌, ◌-◌, length, All}
 use Rattle.store_form.specs.Pieces.{byte_total, IsUsablePiece}
-use Rattle.update_journal.proofs.Reading.{Reads}
+use Rattle.update_journal.proofs.PiecesInLemmas.{Reads}
 use Rattle.update_journal.proofs.entries.read_entries.Given as goal
 
 abbrev pub invariant-loop : goal.invariant-loop

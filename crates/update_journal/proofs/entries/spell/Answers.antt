@@ -1,8 +1,8 @@
 -- The count and the entries up to each piece are the front of all entries, so where one of them doesn't fit, all are too long.
 use Rattle.std.proofs.Common.{◌∷◌, ◌++◌, ℕ, List, length, sym, ap, ◌∙◌, arith, flat_map, take_all}
-use Rattle.uicc_types.proofs.OptionalLemmas.{on_err}
+use Rattle.list_laws.proofs.IfSomeLemmas.{on_err}
 use Rattle.update_journal.specs.Entries.{entry, entries}
-use Rattle.update_journal.proofs.Spelling.{next_entry, length-entries}
+use Rattle.update_journal.proofs.EntriesLemmas.{next_entry, length-entries}
 use Rattle.update_journal.proofs.entries.spell.Goals as goal
 
 pub returns-in_err-append-clause-full : goal.returns-in_err-append-clause-full

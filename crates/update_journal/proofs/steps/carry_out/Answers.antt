@@ -1,6 +1,6 @@
 use Rattle.std.proofs.lemmas.Result.{on_ok_weaker}
-use Rattle.uicc_types.proofs.OptionalLemmas.{whichever}
-use Rattle.update_journal.proofs.Told.{while_pieces, while_closing, once_closed}
+use Rattle.list_laws.proofs.IfSomeLemmas.{whichever}
+use Rattle.update_journal.proofs.IsUnderWayLemmas.{while_pieces, while_closing, once_closed}
 use Rattle.update_journal.proofs.steps.carry_out.Goals as goal
 
 pub returns-in_err-write_pieces-clause-stable : goal.returns-in_err-write_pieces-clause-stable

@@ -1,8 +1,8 @@
 use Rattle.std.proofs.Common.{inl, inr, ◌∙◌, arith, length}
-use Rattle.uicc_types.proofs.OptionalLemmas.{on_ok, on_err}
+use Rattle.list_laws.proofs.IfSomeLemmas.{on_ok, on_err}
 use Rattle.update_journal.specs.Entries.{entries}
-use Rattle.update_journal.proofs.Spelling.{length-entries}
-use Rattle.update_journal.proofs.Told.{while_entries, while_opening, once_open}
+use Rattle.update_journal.proofs.EntriesLemmas.{length-entries}
+use Rattle.update_journal.proofs.IsUnderWayLemmas.{while_entries, while_opening, once_open}
 use Rattle.update_journal.proofs.steps.commit.Goals as goal
 
 pub returns-in_err-write_entries-clause-whole : goal.returns-in_err-write_entries-clause-whole

@@ -1,9 +1,9 @@
 use Rattle.std.proofs.Common.{◌≡◌, ◌<◌, ◌∙◌, ap, arith, length, option_map}
 use Rattle.std.proofs.lemmas.Bool.Decides.{nat_tests}
 use Rattle.std.proofs.lemmas.Result.{on_ok_weaker, on_err_weaker}
-use Rattle.uicc_types.proofs.OptionalLemmas.{on_ok}
+use Rattle.list_laws.proofs.IfSomeLemmas.{on_ok}
 use Rattle.update_journal.specs.Journal.{stable_of}
-use Rattle.update_journal.proofs.Told.{nothing_put, once_prepared, while_preparing}
+use Rattle.update_journal.proofs.IsUnderWayLemmas.{nothing_put, once_prepared, while_preparing}
 use Rattle.update_journal.proofs.steps.prepare.Goals as goal
 
 pub returns-then-is_empty-clause-ok : goal.returns-then-is_empty-clause-ok

@@ -1,8 +1,8 @@
 use Rattle.std.proofs.Common.{◌≡◌, List, ℕ, Option, sym, subst, ◌∙◌, IfSome, slice_range}
 use Rattle.store_form.specs.Pieces.{Piece}
 use Rattle.update_journal.specs.Journal.{IsUnderWay}
-use Rattle.update_journal.proofs.Parts.{HasLength}
-use Rattle.update_journal.proofs.Told.{found_pieces, found_nothing, not_closed}
+use Rattle.update_journal.proofs.PatchedLemmas.{HasLength}
+use Rattle.update_journal.proofs.IsUnderWayLemmas.{found_pieces, found_nothing, not_closed}
 use Rattle.update_journal.proofs.steps.recover.Goals as goal
 
 pub carry_out-requires-clause-under_way : goal.carry_out-requires-clause-under_way

@@ -1,5 +1,5 @@
 use Rattle.std.proofs.Common.{◌∙◌, ap, length, arith}
-use Rattle.update_journal.proofs.Spelling.{entries_some}
+use Rattle.update_journal.proofs.EntriesLemmas.{entries_some}
 use Rattle.update_journal.proofs.steps.write_long_entries.Goals as goal
 
 pub returns-clause-off : goal.returns-clause-off

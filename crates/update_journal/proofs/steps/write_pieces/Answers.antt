@@ -1,9 +1,9 @@
 use Rattle.std.proofs.Common.{◌≡◌, ℕ, refl, subst, ◌∙◌, arith, length, option_map}
-use Rattle.uicc_types.proofs.OptionalLemmas.{on_err}
-use Rattle.uicc_types.specs.Patches.{patched, Torn}
+use Rattle.list_laws.proofs.IfSomeLemmas.{on_err}
+use Rattle.list_laws.specs.Patches.{patched, Torn}
 use Rattle.uicc_types.specs.Told.{Becomes}
-use Rattle.uicc_types.proofs.CallLemmas.{calm_same, caused_then, calm_ok}
-use Rattle.update_journal.proofs.Told.{none_written, piece_written, all_written, piece_torn, piece_inside}
+use Rattle.uicc_types.proofs.IsCalmLemmas.{calm_same, caused_then, calm_ok}
+use Rattle.update_journal.proofs.IsUnderWayLemmas.{none_written, piece_written, all_written, piece_torn, piece_inside}
 use Rattle.update_journal.proofs.steps.write_pieces.Goals as goal
 
 pub loop-at-init : goal.loop-at-init

@@ -1,4 +1,4 @@
-use Rattle.bip_channels.proofs.Together.{answer_is, after_answer, refusal_is, after_refusal}
+use Rattle.bip_channels.proofs.KeptCarriedLemmas.{answer_is, after_answer, refusal_is, after_refusal}
 use Rattle.bip_channels.proofs.terminal.Bip.command.Goals as goal
 
 pub returns-in-Ok-clause-answer : goal.returns-in-Ok-clause-answer

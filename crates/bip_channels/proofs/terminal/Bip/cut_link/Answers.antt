@@ -1,4 +1,4 @@
-use Rattle.bip_channels.proofs.Together.{cut_is, after_cut}
+use Rattle.bip_channels.proofs.KeptCarriedLemmas.{cut_is, after_cut}
 use Rattle.bip_channels.proofs.terminal.Bip.cut_link.Goals as goal
 
 pub returns-clause-event : goal.returns-clause-event

@@ -1,4 +1,4 @@
-use Rattle.bip_channels.proofs.Together.{echo_is, after_echo}
+use Rattle.bip_channels.proofs.KeptCarriedLemmas.{echo_is, after_echo}
 use Rattle.bip_channels.proofs.terminal.Bip.echo.Goals as goal
 
 pub returns-clause-event : goal.returns-clause-event

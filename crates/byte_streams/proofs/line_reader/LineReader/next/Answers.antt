@@ -1,10 +1,10 @@
 -- What `fill` takes is still to come, so what is known of the first line in what is held is known of the text as it was before.
 use Rattle.std.proofs.Common.{◌<◌, ◌+◌, length, ap, arith, rules}
 use Rattle.byte_streams.specs.declared.next_line.NextLine.TheVariants.{TooLong}
-use Rattle.byte_streams.proofs.BadLemmas.{full_bad}
-use Rattle.byte_streams.proofs.OutcomeLemmas.{cut_short, ended_line, final_line, outcome}
+use Rattle.byte_streams.proofs.BeginsBadLemmas.{full_bad}
+use Rattle.byte_streams.proofs.NextLineLemmas.{cut_short, ended_line, final_line, outcome}
 use Rattle.byte_streams.proofs.ReadingLemmas.{stays, stays_on}
-use Rattle.byte_streams.proofs.TakenLemmas.{room_after, taken_for, within_after, within_on}
+use Rattle.byte_streams.proofs.IsWithinLemmas.{room_after, taken_for, within_after, within_on}
 use Rattle.byte_streams.proofs.line_reader.LineReader.next.Goals as goal
 
 pub returns-in-Ok-LineEnd : goal.returns-in-Ok-LineEnd

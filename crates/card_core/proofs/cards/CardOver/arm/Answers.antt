@@ -1,6 +1,6 @@
 use Rattle.std.proofs.Common.{sym, ◌∙◌, ap, subst}
 use Rattle.card_core.specs.Cards.{parts_of, card_of, IsCardReady}
-use Rattle.card_core.proofs.Restarts.{metered, metered_same, armed_ready}
+use Rattle.card_core.proofs.RestartLemmas.{metered, metered_same, armed_ready}
 use Rattle.card_core.proofs.cards.CardOver.arm.Goals as goal
 
 pub returns-clause-ready : goal.returns-clause-ready

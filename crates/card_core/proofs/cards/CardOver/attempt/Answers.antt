@@ -1,13 +1,13 @@
 -- What holds of the command that was read is led to its bytes: Le cuts the data after Ok, a fault leaves none, bad form is refused.
 use Rattle.std.proofs.Common.{false, refl, sym, ◌∙◌, ap, rules}
-use Rattle.file_model.specs.apdu_form.Model.{Apdu, cut_to}
-use Rattle.file_model.specs.uicc_types.declared.answers.TheConstants.StatusWord.{WRONG_LENGTH}
+use Rattle.uicc_types.specs.declared.answers.TheConstants.StatusWord.{WRONG_LENGTH}
+use Rattle.apdu_form.specs.Model.{Apdu, cut_to}
 use Rattle.card_model.specs.Answers.{tried}
 use Rattle.card_model.specs.Instructions.{is_known}
 use Rattle.card_core.specs.Acting.{in_bytes}
 use Rattle.card_core.specs.Cards.{parts_of, card_with}
-use Rattle.card_core.proofs.Named.{cut_settled, cut_acts, stopped_settled, stopped_acts, refused_settled, refused_acts, not_tried}
-use Rattle.card_core.proofs.Refusing.{named_by, not_named}
+use Rattle.card_core.proofs.ActsAsLemmas.{cut_settled, cut_acts, stopped_settled, stopped_acts, refused_settled, refused_acts, not_tried}
+use Rattle.card_core.proofs.CommandNamedLemmas.{named_by, not_named}
 use Rattle.card_core.proofs.cards.CardOver.attempt.Goals as goal
 
 pub returns-in-Ok-take-clause-settled : goal.returns-in-Ok-take-clause-settled

@@ -1,8 +1,8 @@
 use Rattle.std.proofs.Common.{refl, ap, ◌∙◌, rules}
 use Rattle.card_model.specs.Answers.{told_pending}
 use Rattle.card_core.specs.Cards.{parts_of, card_of, card_due}
-use Rattle.card_core.proofs.Pending.{pending_gives, pending_left, whole_acts, stopped_whole}
-use Rattle.card_core.proofs.Counting.{pending_counts}
+use Rattle.card_core.proofs.ToldPendingLemmas.{pending_gives, pending_left, whole_acts, stopped_whole}
+use Rattle.card_core.proofs.CommitsStatesLemmas.{pending_counts}
 use Rattle.card_core.proofs.cards.CardOver.carry_out.Goals as goal
 
 pub returns-in-Ok-clause-answered : goal.returns-in-Ok-clause-answered

@@ -1,16 +1,16 @@
 -- A fault puts the noted rows back: no row had come but by INSTALL, so table and boxes fit again, whatever was committed.
 use Rattle.std.proofs.Common.{◌∷◌, Err, Option, ap, subst, sym, ◌∙◌, rules, All, IfSome, IsSomeAnd}
-use Rattle.file_model.specs.card_layout.declared.entries.Loaded.{Loaded}
+use Rattle.card_state.specs.declared.entries.Loaded.{Loaded}
 use Rattle.card_model.specs.Answers.{settled, carried_out}
 use Rattle.card_model.specs.Runs.{IsLeft}
 use Rattle.card_model.specs.States.{CardState}
+use Rattle.card_model.specs.declared.instructions.Instruction.TheVariants.{Toolkit}
 use Rattle.card_core.specs.Cards.{parts_of, card_of}
 use Rattle.card_core.specs.Registered.{IsUsedOrBlank}
-use Rattle.card_model.specs.declared.instructions.Instruction.TheVariants.{Toolkit}
-use Rattle.card_core.proofs.Comes.{none_comes}
-use Rattle.card_core.proofs.Levels.{toolkit_acts}
-use Rattle.card_core.proofs.Restored.{rows_blank, put_back_so, due_same, set_restored, moves_restored}
-use Rattle.card_core.proofs.Served.{in_order, some_told}
+use Rattle.card_core.proofs.HasNoRowLemmas.{none_comes}
+use Rattle.card_core.proofs.ActsOnLemmas.{toolkit_acts}
+use Rattle.card_core.proofs.PutBackLemmas.{rows_blank, put_back_so, due_same, set_restored, moves_restored}
+use Rattle.card_core.proofs.IsRunningLemmas.{in_order, some_told}
 use Rattle.card_core.proofs.cards.CardOver.carry_out_by_toolkit.Goals as goal
 
 pub note-requires : goal.note-requires

@@ -1,36 +1,36 @@
 -- A refusal and STATUS put back what their channel had selected and meet no fault; else a fault leaves one of the states passed.
 use Rattle.std.proofs.Common.{◌≡◌, ℕ, List, Option, Some, refl, sym, ◌∙◌, ap, subst, rules, slice_set, unwrap_or, Ok, Err}
 use Rattle.std.proofs.lemmas.Bool.{false≢true}
-use Rattle.file_model.specs.apdu_form.Model.{Apdu}
-use Rattle.file_model.specs.card_layout.declared.entries.Loaded.{Loaded}
-use Rattle.file_model.specs.card_layout.Memory.{memory}
-use Rattle.file_model.specs.card_layout.Standing.{standing, Agrees}
-use Rattle.file_model.specs.card_layout.States.{pins_of, rows_of}
+use Rattle.apdu_form.specs.Model.{Apdu}
+use Rattle.card_state.specs.declared.entries.Loaded.{Loaded}
+use Rattle.card_state.specs.Memory.{memory}
+use Rattle.card_state.specs.Standing.{standing, Agrees}
+use Rattle.card_state.specs.States.{pins_of, rows_of}
 use Rattle.file_model.specs.Access.{keys_seen}
 use Rattle.file_model.specs.Files.{descriptors_of}
 use Rattle.file_model.specs.declared.selections.Selection.{Selection}
 use Rattle.file_model.specs.declared.selections.TheConstants.Selection.{AT_START}
-use Rattle.card_model.specs.Channels.{channel_of, selected_on}
-use Rattle.proactive_handler.specs.card_memory.Laws.{IsTold}
-use Rattle.card_core.specs.AnyStore.{RefusesFile, NeedsNoContents}
-use Rattle.card_core.specs.Cards.{parts_of, card_of, memory_of}
-use Rattle.file_making.specs.Lawful.{AreSelected}
+use Rattle.file_model.specs.Channels.{channel_of, selected_on}
+use Rattle.file_model.specs.LawfulTrees.{AreSelected}
 use Rattle.file_model.specs.Commands.{file_outcome}
 use Rattle.file_model.specs.declared.commands.FileCommand.{FileCommand}
-use Rattle.record_commands.specs.Tables.{HasOtherFiles}
-use Rattle.card_core.proofs.Denied.{all_stays}
-use Rattle.card_core.proofs.Kept.{kept_selected, rows_beside_files, set_after}
-use Rattle.card_core.proofs.Restarts.{toolkit_kept}
-use Rattle.card_core.proofs.Selecting.{set_selected}
-use Rattle.card_core.proofs.Settling.{files_settle, files_fault, put_back, files_counts}
-use Rattle.card_core.proofs.Lost.{fault_left, card_boxes}
-use Rattle.card_core.proofs.Served.{cards_in_order, some_told}
-use Rattle.card_core.proofs.Staying.{files_moved, files_kept, status_keeps}
-use Rattle.card_core.proofs.Telling.{files_told}
 use Rattle.file_model.specs.Outcomes.{settled_file}
+use Rattle.card_commits.specs.Laws.{IsTold}
+use Rattle.record_commands.specs.Tables.{HasOtherFiles}
 use Rattle.card_model.specs.declared.instructions.Instruction.TheVariants.{File}
-use Rattle.card_core.proofs.Levels.{files_act}
-use Rattle.card_opening.proofs.Started.{holds_card}
+use Rattle.card_core.specs.AnyStore.{RefusesFile, NeedsNoContents}
+use Rattle.card_core.specs.Cards.{parts_of, card_of, memory_of}
+use Rattle.card_core.proofs.RefusesByTableLemmas.{all_stays}
+use Rattle.card_core.proofs.IsSetLemmas.{kept_selected, rows_beside_files, set_after}
+use Rattle.card_core.proofs.RestartLemmas.{toolkit_kept}
+use Rattle.card_core.proofs.AreSelectedLemmas.{set_selected}
+use Rattle.card_core.proofs.SettlesLemmas.{files_settle, files_fault, put_back, files_counts}
+use Rattle.card_core.proofs.IsLeftLemmas.{fault_left, card_boxes}
+use Rattle.card_core.proofs.IsRunningLemmas.{cards_in_order, some_told}
+use Rattle.card_core.proofs.MovesItsOwnLemmas.{files_moved, files_kept, status_keeps}
+use Rattle.card_core.proofs.AnswersAsLemmas.{files_told}
+use Rattle.card_core.proofs.ActsOnLemmas.{files_act}
+use Rattle.card_core.proofs.HoldsCardLemmas.{holds_card}
 use Rattle.card_core.proofs.cards.CardOver.carry_out_on_files.Goals as goal
 
 pub returns-in-Ok-clause-settled : goal.returns-in-Ok-clause-settled

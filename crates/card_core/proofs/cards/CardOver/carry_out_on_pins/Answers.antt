@@ -1,29 +1,29 @@
 -- A fault puts the old PINs back in the table, whatever was committed: the store holds one of the states that the command passes.
-use Rattle.card_core.proofs.Restored.{silent_agrees}
 use Rattle.std.proofs.Common.{None, Contains, Ok, Err, ℕ, List, ◌∷◌, Option, refl, sym, ◌∙◌, ap, subst, rules}
 use Rattle.std.proofs.lemmas.Bool.{false≢true}
-use Rattle.file_model.specs.card_layout.Standing.{standing, Agrees}
-use Rattle.file_model.specs.card_layout.declared.entries.Loaded.{Loaded}
-use Rattle.file_model.specs.card_layout.States.{pins_of, rows_of}
-use Rattle.proactive_handler.specs.card_memory.Performing.{with_each}
+use Rattle.card_state.specs.Standing.{standing, Agrees}
+use Rattle.card_state.specs.declared.entries.Loaded.{Loaded}
+use Rattle.card_state.specs.States.{pins_of, rows_of}
+use Rattle.card_state.specs.Memory.{memory}
+use Rattle.access_rules.specs.declared.rules.Verified.{Verified}
 use Rattle.file_model.specs.declared.descriptors.Descriptor.{Descriptor}
 use Rattle.file_model.specs.Files.{descriptors_of}
 use Rattle.file_model.specs.Commands.{pin_outcome, pin_settled}
-use Rattle.card_model.specs.declared.instructions.Instruction.TheVariants.{Pin}
-use Rattle.card_core.proofs.Levels.{pins_act}
+use Rattle.file_model.specs.LawfulTrees.{AreSelected}
+use Rattle.card_commits.specs.Performing.{with_each}
 use Rattle.pin_rules.specs.Outcomes.{IsCarriedOut}
+use Rattle.card_model.specs.declared.instructions.Instruction.TheVariants.{Pin}
+use Rattle.card_core.proofs.PutBackLemmas.{silent_agrees}
+use Rattle.card_core.proofs.ActsOnLemmas.{pins_act}
 use Rattle.card_core.specs.Cards.{parts_of, card_of}
-use Rattle.file_making.specs.Lawful.{AreSelected}
-use Rattle.card_opening.proofs.Started.{holds_card}
-use Rattle.file_model.specs.declared.rules.Verified.{Verified}
-use Rattle.file_model.specs.card_layout.Memory.{memory}
-use Rattle.card_core.proofs.Denied.{all_stays, pins_refused}
-use Rattle.card_core.proofs.Kept.{rows_beside_pins, files_beside_pins, holds_passed, set_after}
-use Rattle.card_core.proofs.Lost.{fault_left, card_boxes}
-use Rattle.card_core.proofs.Served.{cards_in_order}
-use Rattle.card_core.proofs.Restarts.{toolkit_kept}
-use Rattle.card_core.proofs.Settling.{pins_settle, pins_fault, pins_counts}
-use Rattle.card_core.proofs.Telling.{pins_answer}
+use Rattle.card_core.proofs.HoldsCardLemmas.{holds_card}
+use Rattle.card_core.proofs.RefusesByTableLemmas.{all_stays, pins_refused}
+use Rattle.card_core.proofs.IsSetLemmas.{rows_beside_pins, files_beside_pins, holds_passed, set_after}
+use Rattle.card_core.proofs.IsLeftLemmas.{fault_left, card_boxes}
+use Rattle.card_core.proofs.IsRunningLemmas.{cards_in_order}
+use Rattle.card_core.proofs.RestartLemmas.{toolkit_kept}
+use Rattle.card_core.proofs.SettlesLemmas.{pins_settle, pins_fault, pins_counts}
+use Rattle.card_core.proofs.AnswersAsLemmas.{pins_answer}
 use Rattle.card_core.proofs.cards.CardOver.carry_out_on_pins.Goals as goal
 
 pub returns-in-Ok-clause-settled : goal.returns-in-Ok-clause-settled

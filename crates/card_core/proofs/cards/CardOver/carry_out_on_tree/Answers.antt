@@ -1,19 +1,19 @@
 -- on_tree speaks of each memory with the table's entries: the card's answer, its commits and what a fault leaves are drawn from that.
 use Rattle.std.proofs.Common.{ℕ, List, Option, refl, ◌∙◌, ap, subst, rules, Ok, Err}
-use Rattle.file_model.specs.card_layout.declared.entries.Loaded.{Loaded}
-use Rattle.file_model.specs.card_layout.Standing.{standing, Agrees}
-use Rattle.file_model.specs.card_layout.States.{pins_of, rows_of}
+use Rattle.card_state.specs.declared.entries.Loaded.{Loaded}
+use Rattle.card_state.specs.Standing.{standing, Agrees}
+use Rattle.card_state.specs.States.{pins_of, rows_of}
+use Rattle.card_state.specs.Memory.{memory}
 use Rattle.file_model.specs.Access.{keys_seen}
-use Rattle.card_opening.proofs.Started.{holds_card}
-use Rattle.card_core.specs.Cards.{parts_of, card_of}
-use Rattle.card_core.proofs.Kept.{rows_beside_files, set_after}
-use Rattle.card_core.proofs.Lost.{fault_left, card_boxes}
-use Rattle.card_core.proofs.Restarts.{toolkit_kept}
-use Rattle.card_core.proofs.Served.{cards_in_order}
 use Rattle.card_model.specs.declared.instructions.Instruction.TheVariants.{Tree}
-use Rattle.card_core.proofs.Levels.{tree_acts}
-use Rattle.card_core.proofs.Trees.{trees_stand, trees_settle, trees_fault, tree_moved, trees_counts, trees_calm, trees_so}
-use Rattle.file_model.specs.card_layout.Memory.{memory}
+use Rattle.card_core.proofs.HoldsCardLemmas.{holds_card}
+use Rattle.card_core.specs.Cards.{parts_of, card_of}
+use Rattle.card_core.proofs.IsSetLemmas.{rows_beside_files, set_after}
+use Rattle.card_core.proofs.IsLeftLemmas.{fault_left, card_boxes}
+use Rattle.card_core.proofs.RestartLemmas.{toolkit_kept}
+use Rattle.card_core.proofs.IsRunningLemmas.{cards_in_order}
+use Rattle.card_core.proofs.ActsOnLemmas.{tree_acts}
+use Rattle.card_core.proofs.TreeOutcomeLemmas.{trees_stand, trees_settle, trees_fault, tree_moved, trees_counts, trees_calm, trees_so}
 use Rattle.card_core.proofs.cards.CardOver.carry_out_on_tree.Goals as goal
 
 pub returns-in-Ok-clause-settled : goal.returns-in-Ok-clause-settled

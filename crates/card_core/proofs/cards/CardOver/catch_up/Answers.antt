@@ -1,6 +1,6 @@
 use Rattle.std.proofs.Common.{sym, ◌∙◌, true≢false}
 use Rattle.card_core.specs.Cards.{parts_of}
-use Rattle.card_core.proofs.Restarts.{boxes_there, due_is}
+use Rattle.card_core.proofs.RestartLemmas.{boxes_there, due_is}
 use Rattle.card_core.proofs.cards.CardOver.catch_up.Goals as goal
 
 pub restart-requires-clause-boxes : goal.restart-requires-clause-boxes

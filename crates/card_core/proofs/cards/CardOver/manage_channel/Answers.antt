@@ -1,12 +1,12 @@
 -- A channel opened, one closed and a refusal are each read from what manage says of the channels; nothing is committed in any of the three.
 use Rattle.std.proofs.Common.{ℕ, Option, Some, None, refl, ◌∙◌, ap, rules, Result, Ok, Err}
-use Rattle.file_model.specs.uicc_types.declared.answers.StatusWord.{StatusWord}
+use Rattle.uicc_types.specs.declared.answers.StatusWord.{StatusWord}
 use Rattle.card_core.specs.Cards.{parts_of}
 use Rattle.card_core.specs.Commands.{channels_managed}
-use Rattle.card_core.proofs.Settling.{channels_settle, channels_pass}
-use Rattle.card_core.proofs.Telling.{channels_answer}
-use Rattle.card_core.proofs.Counting.{counts_none}
-use Rattle.card_core.proofs.Levels.{channels_act}
+use Rattle.card_core.proofs.SettlesLemmas.{channels_settle, channels_pass}
+use Rattle.card_core.proofs.AnswersAsLemmas.{channels_answer}
+use Rattle.card_core.proofs.CommitsStatesLemmas.{counts_none}
+use Rattle.card_core.proofs.ActsOnLemmas.{channels_act}
 use Rattle.card_core.proofs.cards.CardOver.manage_channel.Goals as goal
 
 pub returns-in-Ok-Some-clause-settled : goal.returns-in-Ok-Some-clause-settled

@@ -1,15 +1,15 @@
 -- The opened card is set out part by part: the boxes given fill all shelves with empty ones behind, and a migrated card is a card still.
 use Rattle.std.proofs.Common.{true, false, None, option_map, refl, subst, arith, rules}
 use Rattle.std.proofs.lemmas.List.{length-map}
-use Rattle.file_model.specs.card_layout.declared.entries.Loaded.{Loaded}
-use Rattle.file_model.specs.card_layout.Standing.{standing}
-use Rattle.file_model.specs.card_layout.States.{rows_of}
-use Rattle.proactive_handler.specs.applet_registry.Indexes.{StandsFor}
+use Rattle.card_state.specs.declared.entries.Loaded.{Loaded}
+use Rattle.card_state.specs.Standing.{standing}
+use Rattle.card_state.specs.States.{rows_of}
+use Rattle.applet_trait.specs.Minds.{minds_of}
+use Rattle.event_dispatch.specs.Indexes.{StandsFor}
 use Rattle.card_model.specs.States.{nothing_verified}
-use Rattle.toolkit_model.specs.applet_trait.Minds.{minds_of}
 use Rattle.card_core.specs.Parts.{CardParts}
 use Rattle.card_core.specs.Openings.{with_all_shelves}
-use Rattle.card_core.proofs.Opened.{all_shelves, opened_is, opened_ready, holds_migrated}
+use Rattle.card_core.proofs.IsOpenedLemmas.{all_shelves, opened_is, opened_ready, holds_migrated}
 use Rattle.card_core.proofs.cards.CardOver.open.Goals as goal
 
 pub returns-in-Ok-begin-clause-opened : goal.returns-in-Ok-begin-clause-opened

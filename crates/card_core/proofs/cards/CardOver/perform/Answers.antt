@@ -1,18 +1,18 @@
 -- What was due is done first and leaves the same card: a fault in that leaves what the command may leave, and else it meets that card.
 use Rattle.std.proofs.Common.{◌≡◌, ℕ, [], Option, sym, ◌∙◌, ap, subst, rules, IfSome, IsSomeAnd, is_some}
 use Rattle.std.proofs.lemmas.Bool.{false≢true}
-use Rattle.file_model.specs.card_layout.Standing.{standing}
+use Rattle.card_state.specs.Standing.{standing}
 use Rattle.card_model.specs.States.{CardState, IsGood}
 use Rattle.card_model.specs.Answers.{answer, passed}
 use Rattle.card_model.specs.Runs.{IsLeft}
 use Rattle.card_core.specs.Acting.{in_whole, ActsAs}
 use Rattle.card_core.specs.AnyStore.{command_named}
 use Rattle.card_core.specs.Cards.{parts_of, card_of, card_due}
-use Rattle.card_core.proofs.Standing.{card_told, due_told}
-use Rattle.card_core.proofs.Restarts.{due_is}
-use Rattle.card_core.proofs.Staying.{acts_anew}
-use Rattle.card_core.proofs.Leaving.{comes_from, good_comes, on_ok_of, on_err_of, left_restarted}
-use Rattle.card_core.proofs.Counting.{counts_from, if_any, stops_unmoved}
+use Rattle.card_core.proofs.CardOfLemmas.{card_told, due_told}
+use Rattle.card_core.proofs.RestartLemmas.{due_is}
+use Rattle.card_core.proofs.MovesItsOwnLemmas.{acts_anew}
+use Rattle.card_core.proofs.IsGoodLemmas.{comes_from, good_comes, on_ok_of, on_err_of, left_restarted}
+use Rattle.card_core.proofs.CommitsStatesLemmas.{counts_from, if_any, stops_unmoved}
 use Rattle.card_core.proofs.cards.CardOver.perform.Goals as goal
 
 pub returns-in-Ok-clause-answered : goal.returns-in-Ok-clause-answered

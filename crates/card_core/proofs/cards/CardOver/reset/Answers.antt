@@ -1,8 +1,8 @@
 -- The card started again is the one due, which is the old card after a reset: power_up moves no bytes, and only PowerLost ends it off.
 use Rattle.std.proofs.Common.{true, false, refl, sym, ◌∙◌, ap, rules, true≢false}
-use Rattle.file_model.specs.uicc_types.Counts.{Meter}
+use Rattle.uicc_types.specs.Counts.{Meter}
 use Rattle.card_core.specs.Cards.{parts_of, card_of}
-use Rattle.card_core.proofs.Restarts.{boxes_there, held_moved, on_same, due_moved, due_restarted, ready_with, read_from, good_restarted, not_lost, ok_not_lost}
+use Rattle.card_core.proofs.RestartLemmas.{boxes_there, held_moved, on_same, due_moved, due_restarted, ready_with, read_from, good_restarted, not_lost, ok_not_lost}
 use Rattle.card_core.proofs.cards.CardOver.reset.Goals as goal
 
 pub restart-requires-clause-boxes : goal.restart-requires-clause-boxes

@@ -2,21 +2,22 @@
 use Rattle.std.proofs.Common.{List, Option, None, true, false, refl, sym, ◌∙◌, ap, subst, rules, All}
 use Rattle.std.specs.Vec.{with_items}
 use Rattle.std.proofs.lemmas.List.{with_items_is}
-use Rattle.file_model.specs.card_layout.States.{rows_of}
-use Rattle.card_model.specs.States.{HasBox, woken_boxes, nothing_verified}
-use Rattle.card_opening.specs.layout_mount.Mounted.{HasRead}
-use Rattle.toolkit_model.specs.applet_trait.Minds.{minds_of}
-use Rattle.card_opening.specs.Starts.{IsReadAgain}
-use Rattle.card_core.specs.Parts.{CardParts}
-use Rattle.card_core.specs.Cards.{parts_of, boxes_kept}
-use Rattle.card_core.proofs.Boxes.{length-kept}
-use Rattle.file_model.specs.card_layout.declared.entries.Loaded.{Loaded}
+use Rattle.card_state.specs.States.{rows_of}
+use Rattle.card_state.specs.declared.entries.Loaded.{Loaded}
 use Rattle.file_model.specs.Files.{descriptors_of}
 use Rattle.file_model.specs.declared.selections.Selection.{Selection}
-use Rattle.proactive_handler.specs.applet_registry.Indexes.{StandsFor}
-use Rattle.file_making.specs.Lawful.{AreSelected}
-use Rattle.card_core.proofs.Restarts.{due_same, restart_is, set_restarted, still_has, toolkit_begun}
-use Rattle.card_core.proofs.Selecting.{basic_selected}
+use Rattle.file_model.specs.LawfulTrees.{AreSelected}
+use Rattle.layout_mount.specs.Mounted.{HasRead}
+use Rattle.applet_trait.specs.Minds.{minds_of}
+use Rattle.toolkit_model.specs.Commands.{woken_boxes}
+use Rattle.event_dispatch.specs.Indexes.{StandsFor}
+use Rattle.card_model.specs.States.{HasBox, nothing_verified}
+use Rattle.card_core.specs.Starts.{IsReadAgain}
+use Rattle.card_core.specs.Parts.{CardParts}
+use Rattle.card_core.specs.Cards.{parts_of, boxes_kept}
+use Rattle.card_core.proofs.BoxesKeptLemmas.{length-kept}
+use Rattle.card_core.proofs.RestartLemmas.{due_same, restart_is, set_restarted, still_has, toolkit_begun}
+use Rattle.card_core.proofs.AreSelectedLemmas.{basic_selected}
 use Rattle.card_core.proofs.cards.CardOver.restart.Goals as goal
 
 pub returns-in-Ok-clause-restarted : goal.returns-in-Ok-clause-restarted

@@ -1,28 +1,28 @@
 -- poll speaks of a table and boxes that are lent: all it says is led to the card's own, also which state a fault in telling STATUS leaves.
 use Rattle.std.proofs.Common.{◌≡◌, ℕ, List, ◌∷◌, length, Option, option_map, Ok, Err, refl, sym, ◌∙◌, ap, subst, rules}
 use Rattle.std.proofs.lemmas.List.{with_items_is, length-map}
-use Rattle.toolkit_model.specs.applet_trait.Minds.{AppletState, minds_of}
-use Rattle.file_model.specs.card_layout.declared.entries.Loaded.{Loaded}
-use Rattle.file_model.specs.card_layout.Standing.{Agrees}
+use Rattle.card_state.specs.declared.entries.Loaded.{Loaded}
+use Rattle.card_state.specs.Standing.{Agrees}
+use Rattle.card_state.specs.Memory.{memory}
 use Rattle.file_model.specs.declared.descriptors.Descriptor.{Descriptor}
+use Rattle.file_model.specs.LawfulTrees.{AreSelected}
+use Rattle.applet_trait.specs.Minds.{AppletState, minds_of}
+use Rattle.toolkit_model.specs.OrderlySessions.{IsInOrder}
 use Rattle.proactive_handler.specs.Boxes.{kinds_of}
 use Rattle.proactive_handler.specs.Steps.{scene, toolkit}
-use Rattle.toolkit_model.specs.OrderlySessions.{IsInOrder}
 use Rattle.card_model.specs.Runs.{IsLeft}
 use Rattle.card_model.specs.States.{CardState}
-use Rattle.session_commands.specs.Carrying.{HasToolkit, Comes}
-use Rattle.session_commands.specs.Deleting.{LeavesUnregistered}
+use Rattle.cat_commands.specs.Carrying.{HasToolkit, Comes}
+use Rattle.cat_commands.specs.Deleting.{LeavesUnregistered}
 use Rattle.card_core.specs.Cards.{parts_of}
-use Rattle.file_making.specs.Lawful.{AreSelected}
 use Rattle.card_core.specs.Moves.{polled_on}
-use Rattle.card_core.proofs.Polled.{polling, polled_may, polled_settles, polled_stopped, polled_set, polled_counts, polled_so}
-use Rattle.card_core.proofs.Served.{in_order, holds_left}
-use Rattle.card_core.proofs.Carried.{lent, files_beside_rows, rows_alone_moved, has_toolkit_of}
-use Rattle.card_core.proofs.Calm.{polled_calm}
-use Rattle.card_core.proofs.Staying.{status_lent}
-use Rattle.card_core.proofs.Stopped.{polled_rows}
-use Rattle.file_model.specs.card_layout.Memory.{memory}
-use Rattle.card_opening.proofs.Started.{holds_card}
+use Rattle.card_core.proofs.PolledOnLemmas.{polling, polled_may, polled_settles, polled_stopped, polled_set, polled_counts, polled_so}
+use Rattle.card_core.proofs.IsRunningLemmas.{in_order, holds_left}
+use Rattle.card_core.proofs.HasToolkitLemmas.{lent, files_beside_rows, rows_alone_moved, has_toolkit_of}
+use Rattle.card_core.proofs.ActingLemmas.{polled_calm}
+use Rattle.card_core.proofs.MovesItsOwnLemmas.{status_lent}
+use Rattle.card_core.proofs.HasRowsOfLemmas.{polled_rows}
+use Rattle.card_core.proofs.HoldsCardLemmas.{holds_card}
 use Rattle.card_core.proofs.cards.CardOver.serve_status.Goals as goal
 
 pub returns-in-Ok-clause-polled : goal.returns-in-Ok-clause-polled

@@ -1,35 +1,35 @@
 -- by_toolkit speaks of a lent table and lent boxes; where a fault stops a DELETE, the box whose row may be gone is the one that is leaving.
-use Rattle.proactive_handler.specs.Boxes.{kinds_of}
 use Rattle.std.proofs.Common.{◌≡◌, ℕ, List, ◌∷◌, length, Option, option_map, Ok, Err, refl, sym, ◌∙◌, ap, subst, rules}
 use Rattle.std.proofs.lemmas.Bool.{false≢true}
 use Rattle.std.proofs.lemmas.List.{with_items_is, length-map}
-use Rattle.toolkit_model.specs.applet_trait.Minds.{AppletState, minds_of}
-use Rattle.file_model.specs.card_layout.declared.entries.Loaded.{Loaded}
-use Rattle.file_model.specs.card_layout.Standing.{Agrees}
-use Rattle.file_model.specs.card_layout.States.{pins_of}
+use Rattle.card_state.specs.declared.entries.Loaded.{Loaded}
+use Rattle.card_state.specs.Standing.{Agrees}
+use Rattle.card_state.specs.States.{pins_of}
+use Rattle.card_state.specs.Memory.{memory}
 use Rattle.file_model.specs.Access.{keys_seen}
 use Rattle.file_model.specs.declared.descriptors.Descriptor.{Descriptor}
-use Rattle.proactive_handler.specs.Steps.{scene, toolkit}
+use Rattle.file_model.specs.LawfulTrees.{AreSelected}
+use Rattle.applet_trait.specs.Minds.{AppletState, minds_of}
 use Rattle.toolkit_model.specs.OrderlySessions.{IsInOrder}
+use Rattle.proactive_handler.specs.Boxes.{kinds_of}
+use Rattle.proactive_handler.specs.Steps.{scene, toolkit}
 use Rattle.card_model.specs.Runs.{IsLeft}
 use Rattle.card_model.specs.Answers.{settled, carried_out}
 use Rattle.card_model.specs.States.{CardState}
-use Rattle.session_commands.specs.Carrying.{HasToolkit, Carries}
-use Rattle.session_commands.specs.Deleting.{LeavesUnregistered}
-use Rattle.card_core.specs.Cards.{parts_of}
-use Rattle.file_making.specs.Lawful.{AreSelected}
-use Rattle.card_core.specs.Commands.{KindsKept}
 use Rattle.card_model.specs.Toolkit.{toolkit_outcome}
 use Rattle.card_model.specs.declared.instructions.Instruction.TheVariants.{Toolkit}
-use Rattle.card_core.proofs.Levels.{toolkit_acts}
-use Rattle.card_core.proofs.Broken.{toolkit_stopped}
-use Rattle.card_core.proofs.Served.{in_order, set_served, holds_left}
-use Rattle.card_core.proofs.Carried.{toolkit_settles, toolkit_answers, LeavesBy, leaves_by, lent, files_beside_rows, toolkit_counts, toolkit_so}
-use Rattle.card_core.proofs.Calm.{toolkit_calm}
-use Rattle.card_core.proofs.Staying.{toolkit_moved}
-use Rattle.card_core.proofs.Stopped.{toolkit_rows}
-use Rattle.file_model.specs.card_layout.Memory.{memory}
-use Rattle.card_opening.proofs.Started.{holds_card}
+use Rattle.cat_commands.specs.Carrying.{HasToolkit, Carries}
+use Rattle.cat_commands.specs.Deleting.{LeavesUnregistered}
+use Rattle.card_core.specs.Cards.{parts_of}
+use Rattle.card_core.specs.Commands.{KindsKept}
+use Rattle.card_core.proofs.ActsOnLemmas.{toolkit_acts}
+use Rattle.card_core.proofs.IsToolkitCutShortLemmas.{toolkit_stopped}
+use Rattle.card_core.proofs.IsRunningLemmas.{in_order, set_served, holds_left}
+use Rattle.card_core.proofs.HasToolkitLemmas.{toolkit_settles, toolkit_answers, LeavesBy, leaves_by, lent, files_beside_rows, toolkit_counts, toolkit_so}
+use Rattle.card_core.proofs.ActingLemmas.{toolkit_calm}
+use Rattle.card_core.proofs.MovesItsOwnLemmas.{toolkit_moved}
+use Rattle.card_core.proofs.HasRowsOfLemmas.{toolkit_rows}
+use Rattle.card_core.proofs.HoldsCardLemmas.{holds_card}
 use Rattle.card_core.proofs.cards.CardOver.serve_toolkit.Goals as goal
 
 pub returns-in-Ok-clause-settled : goal.returns-in-Ok-clause-settled

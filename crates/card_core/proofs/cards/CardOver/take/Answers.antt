@@ -1,16 +1,16 @@
 -- That the command names this instruction on these channels turns what its method says into what is said of a command of known form.
 use Rattle.std.proofs.Common.{true, false, refl, sym, ◌∙◌, ap, rules, Ok}
+use Rattle.apdu_form.specs.Model.{Apdu}
 use Rattle.file_model.specs.Chains.{and_given}
 use Rattle.file_model.specs.declared.commands.FileCommand.TheVariants.{Select, Status, Contents}
-use Rattle.file_model.specs.apdu_form.Model.{Apdu}
 use Rattle.card_model.specs.Answers.{carried_with}
 use Rattle.card_model.specs.Instructions.{instruction_tried, is_known}
 use Rattle.card_model.specs.declared.instructions.Instruction.TheVariants.{File, Pin, ManageChannel, Toolkit, Tree}
 use Rattle.card_core.specs.Acting.{in_form}
 use Rattle.card_core.specs.Cards.{parts_of, card_with}
 use Rattle.card_core.specs.Commands.{by_instruction}
-use Rattle.card_core.proofs.Named.{take_settled, take_plain, take_acts, take_alone, refused_settled, refused_acts}
-use Rattle.card_core.proofs.Stopped.{no_fault}
+use Rattle.card_core.proofs.ActsAsLemmas.{take_settled, take_plain, take_acts, take_alone, refused_settled, refused_acts}
+use Rattle.card_core.proofs.HasRowsOfLemmas.{no_fault}
 use Rattle.card_core.proofs.cards.CardOver.take.Goals as goal
 
 pub returns-in-Ok-File-Status-clause-settled : goal.returns-in-Ok-File-Status-clause-settled

@@ -1,15 +1,15 @@
 -- A fault puts the noted rows back: telling of STATUS gives no shelf a row that had none, so the table is the old one and boxes fit.
 use Rattle.std.proofs.Common.{◌∷◌, Option, ap, subst, sym, ◌∙◌, rules, All, IfSome, IsSomeAnd}
-use Rattle.file_model.specs.card_layout.declared.entries.Loaded.{Loaded}
+use Rattle.card_state.specs.declared.entries.Loaded.{Loaded}
 use Rattle.card_model.specs.Runs.{IsLeft}
 use Rattle.card_model.specs.States.{CardState}
 use Rattle.card_core.specs.Cards.{parts_of, card_of}
 use Rattle.card_core.specs.Moves.{polled_on}
 use Rattle.card_core.specs.Registered.{IsUsedOrBlank}
-use Rattle.card_core.proofs.Comes.{none_polled}
-use Rattle.card_core.proofs.Restored.{rows_blank, put_back_so, due_same, set_restored, status_restored}
-use Rattle.card_core.proofs.Carried.{rows_alone_moved}
-use Rattle.card_core.proofs.Served.{in_order, some_told}
+use Rattle.card_core.proofs.HasNoRowLemmas.{none_polled}
+use Rattle.card_core.proofs.PutBackLemmas.{rows_blank, put_back_so, due_same, set_restored, status_restored}
+use Rattle.card_core.proofs.HasToolkitLemmas.{rows_alone_moved}
+use Rattle.card_core.proofs.IsRunningLemmas.{in_order, some_told}
 use Rattle.card_core.proofs.cards.CardOver.tell_applets.Goals as goal
 
 pub note-requires : goal.note-requires

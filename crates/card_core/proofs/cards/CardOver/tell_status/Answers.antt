@@ -1,15 +1,15 @@
 -- STATUS alone meets no fault and commits nothing: what both steps commit, and what a fault leaves, is what telling the applets does.
 use Rattle.std.proofs.Common.{◌≡◌, false, refl, subst, rules, Ok, Err, OnErr}
-use Rattle.file_model.specs.card_layout.declared.entries.Loaded.{Loaded}
 use Rattle.std.proofs.lemmas.Bool.{eq-eqb, false≢true, ne_eqb}
-use Rattle.file_model.specs.uicc_types.declared.answers.TheConstants.StatusWord.{DONE}
+use Rattle.uicc_types.specs.declared.answers.TheConstants.StatusWord.{DONE}
+use Rattle.card_state.specs.declared.entries.Loaded.{Loaded}
 use Rattle.card_core.specs.Cards.{parts_of, card_of, card_due, card_with}
-use Rattle.card_core.proofs.Polling.{status_both, status_so, status_silent_on, status_stopped, status_answers_other}
-use Rattle.card_core.proofs.Staying.{status_moved, status_kept}
-use Rattle.card_core.proofs.Calm.{status_calm}
-use Rattle.card_core.proofs.Levels.{status_acts}
-use Rattle.card_core.proofs.Counting.{status_counts, status_counts_other, status_stays, status_stops}
-use Rattle.card_core.proofs.Taking.{status_commits, status_commits_other}
+use Rattle.card_core.proofs.TellStatusLemmas.{status_both, status_so, status_silent_on, status_stopped, status_answers_other}
+use Rattle.card_core.proofs.MovesItsOwnLemmas.{status_moved, status_kept}
+use Rattle.card_core.proofs.ActingLemmas.{status_calm}
+use Rattle.card_core.proofs.ActsOnLemmas.{status_acts}
+use Rattle.card_core.proofs.CommitsStatesLemmas.{status_counts, status_counts_other, status_stays, status_stops}
+use Rattle.card_core.proofs.CommitsSoLemmas.{status_commits, status_commits_other}
 use Rattle.card_core.proofs.cards.CardOver.tell_status.Goals as goal
 
 pub returns-in-Ok-clause-settled : goal.returns-in-Ok-clause-settled

@@ -1,25 +1,25 @@
 -- After a fault the card is the one due, and all but power stays as perform left it; no command answers 6581 of itself.
 use Rattle.std.proofs.Common.{◌≡◌, [], length, Option, true, refl, sym, ◌∙◌, ap, subst, Err, inl, inr, Ok, IfSome, IsSomeAnd}
 use Rattle.std.proofs.lemmas.Bool.{false≢true}
-use Rattle.file_model.proofs.uicc_types.OptionalLemmas.{on_err}
-use Rattle.file_model.specs.uicc_types.declared.answers.StatusWord.{StatusWord}
-use Rattle.proactive_handler.specs.card_memory.Performing.{CommitsAtMost}
+use Rattle.list_laws.proofs.IfSomeLemmas.{on_err}
+use Rattle.uicc_types.specs.declared.answers.StatusWord.{StatusWord}
+use Rattle.card_commits.specs.Performing.{CommitsAtMost}
 use Rattle.card_model.specs.States.{CardState}
 use Rattle.card_model.specs.Answers.{passed, answer}
 use Rattle.card_model.specs.Runs.{IsLeft}
 use Rattle.card_core.specs.AnyStore.{MovesItsOwn}
 use Rattle.card_core.specs.Cards.{parts_of, card_of, held_by, IsCardReady}
 use Rattle.card_core.specs.Moves.{StopsAt}
-use Rattle.card_core.proofs.AtMost.{all_commits}
-use Rattle.card_core.proofs.Restarts.{due_same, failed_ready, fail_power, not_lost}
-use Rattle.card_core.proofs.Leaving.{fail_moves}
-use Rattle.card_core.proofs.Refusing.{failed_first, ok_not_err}
-use Rattle.card_core.proofs.Staying.{still_its_own, refused_anew, left_alone}
-use Rattle.card_core.proofs.Telling.{answered_so, stood_so}
-use Rattle.card_core.proofs.Named.{acts_named}
-use Rattle.card_core.proofs.Calm.{calm_may, calm_stands}
-use Rattle.card_core.proofs.Counting.{if_any, stops_unmoved}
-use Rattle.card_core.proofs.Taking.{so_may, so_stands}
+use Rattle.card_core.proofs.StopsAtLemmas.{all_commits}
+use Rattle.card_core.proofs.RestartLemmas.{due_same, failed_ready, fail_power, not_lost}
+use Rattle.card_core.proofs.IsGoodLemmas.{fail_moves}
+use Rattle.card_core.proofs.CommandNamedLemmas.{failed_first, ok_not_err}
+use Rattle.card_core.proofs.MovesItsOwnLemmas.{still_its_own, refused_anew, left_alone}
+use Rattle.card_core.proofs.AnswersAsLemmas.{answered_so, stood_so}
+use Rattle.card_core.proofs.ActsAsLemmas.{acts_named}
+use Rattle.card_core.proofs.ActingLemmas.{calm_may, calm_stands}
+use Rattle.card_core.proofs.CommitsStatesLemmas.{if_any, stops_unmoved}
+use Rattle.card_core.proofs.CommitsSoLemmas.{so_may, so_stands}
 use Rattle.card_core.proofs.cards.CardOver.transmit.Goals as goal
 
 pub returns-in-Err-clause-moves : goal.returns-in-Err-clause-moves

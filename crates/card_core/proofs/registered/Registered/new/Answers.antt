@@ -1,8 +1,8 @@
 use Rattle.std.proofs.Common.{◌≡◌, List, replicate, rules, sym, subst, refl, All}
 use Rattle.std.proofs.lemmas.List.Elements.{All-replicate}
-use Rattle.file_model.proofs.uicc_types.NumberedLemmas.{all_alike}
-use Rattle.file_model.specs.card_layout.Blank.{unused_row}
-use Rattle.file_model.specs.card_layout.declared.entries.Row.{Row}
+use Rattle.list_laws.proofs.MapLemmas.{all_alike}
+use Rattle.card_state.specs.Blank.{unused_row}
+use Rattle.card_state.specs.declared.entries.Row.{Row}
 use Rattle.card_core.specs.Registered.{IsUsedOrBlank}
 use Rattle.card_core.proofs.registered.Registered.new.Goals as goal
 

@@ -4,7 +4,7 @@ use Rattle.std.proofs.lemmas.Result.{err_from_is_err_and}
 use Rattle.std.proofs.lemmas.Bool.Decides.{nat_tests}
 use Rattle.comprehension_tlv.specs.Reading.{outline_at}
 use Rattle.comprehension_tlv.specs.Seen.{object_of}
-use Rattle.comprehension_tlv.proofs.Outlines.{outline_at-nil, outline_at-object, outline_at-fault}
+use Rattle.comprehension_tlv.proofs.OutlineAtLemmas.{outline_at-nil, outline_at-object, outline_at-fault}
 use Rattle.comprehension_tlv.proofs.walks.Walk.next.Goals as goal
 
 pub returns-then-is_empty : goal.returns-then-is_empty

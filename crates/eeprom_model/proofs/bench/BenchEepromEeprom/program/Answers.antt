@@ -2,7 +2,7 @@ use Rattle.std.proofs.Common.{rules, arith, replicate, length}
 use Rattle.std.proofs.lemmas.List.{length-replicate}
 use Rattle.std.proofs.lemmas.Grind.{common_steps}
 use Rattle.eeprom_model.specs.Bench.{cut_bytes}
-use Rattle.eeprom_model.proofs.Cuts.{Torn_by, length-cut_bytes}
+use Rattle.eeprom_model.proofs.CutBytesLemmas.{Torn_by, length-cut_bytes}
 use Rattle.eeprom_model.proofs.bench.BenchEepromEeprom.program.Goals as goal
 
 pub returns-in-Some-clause-torn : goal.returns-in-Some-clause-torn

@@ -30,7 +30,7 @@ use Rattle.core.proofs.atomic.Steps.{fm}
 use Rattle.core.proofs.option.Made.{Some-of, none_of}
 use Rattle.std_alloc.proofs.Pairs.{pair_of, pair_val}
 use Rattle.std.proofs.raw_atomic.Walks.{proved_at, leaves}
-use Rattle.frame_store.proofs.Values.{none_val, room_own, room_made, lease_val, lease_own, lease_made, slot_at, then_runs}
+use Rattle.frame_store.proofs.RoomAndLeaseLemmas.{none_val, room_own, room_made, lease_val, lease_own, lease_made, slot_at, then_runs}
 use Rattle.frame_store.specs.Block.{IsBlockSize, bytes_of}
 use Rattle.frame_store.specs.contracts.block.Room as Room
 use Rattle.frame_store.specs.contracts.block.Lease as lease

@@ -26,7 +26,7 @@ use Rattle.core.proofs.alloc.Calls.{Al, seen, Goes-blank, Gives, at_gives, Gives
 use Rattle.core.proofs.alloc.Shapes.{after}
 use Rattle.core.proofs.atomic.Steps.{fm}
 use Rattle.std.proofs.raw_atomic.Walks.{proved_at, leaves}
-use Rattle.frame_store.proofs.Values.{none_val, room_told, lease_val, lease_told, slot_at, then_runs, out_of_block}
+use Rattle.frame_store.proofs.RoomAndLeaseLemmas.{none_val, room_told, lease_val, lease_told, slot_at, then_runs, out_of_block}
 use Rattle.frame_store.specs.Block.{bytes_of, room_of}
 use Rattle.frame_store.specs.contracts.block.Lease.free.{ended, clauses}
 use Rattle.frame_store.specs.contracts.block.Lease.free.Key.{name as #self}

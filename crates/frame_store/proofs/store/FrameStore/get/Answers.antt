@@ -1,6 +1,6 @@
 use Rattle.std.proofs.Common.{◌≤◌, ap, subst, ◌∙◌, take, drop, sum, get_or, ◌+◌, ◌-◌, List, ℕ}
 use Rattle.frame_store.specs.Model.{Frames}
-use Rattle.frame_store.proofs.Changes.{got}
+use Rattle.frame_store.proofs.FramesLemmas.{got}
 use Rattle.frame_store.proofs.store.FrameStore.get.Goals as goal
 
 pub returns : goal.returns

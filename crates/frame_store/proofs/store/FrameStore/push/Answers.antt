@@ -1,7 +1,7 @@
 use Rattle.std.proofs.Common.{◌+◌, ap, refl, ◌∙◌, length, arith, ℕ, List, [], ◌∷◌, ◌++◌, take}
 use Rattle.std.specs.Vec.{with_items_from}
 use Rattle.frame_store.specs.Model.{Frames, parted}
-use Rattle.frame_store.proofs.Changes.{changed, counts, placed, pushed}
+use Rattle.frame_store.proofs.FramesLemmas.{changed, counts, placed, pushed}
 use Rattle.frame_store.proofs.store.FrameStore.push.Goals as goal
 use Rattle.frame_store.proofs.store.FrameStore.push.Goals.{then-len-self-via-then-len-self, then-len-self-via-else-len-self+then-part-self}
 

@@ -2,7 +2,7 @@ use Rattle.std.proofs.Common.{◌≤◌, ap, subst, ◌∙◌, drop, take, sum, 
 use Rattle.std.proofs.Math.Seq.{paste}
 use Rattle.std.specs.Vec.{with_items_from}
 use Rattle.frame_store.specs.Model.{Frames, parted}
-use Rattle.frame_store.proofs.Changes.{changed, counts, placed, moved_down, moved_long, removed}
+use Rattle.frame_store.proofs.FramesLemmas.{changed, counts, placed, moved_down, moved_long, removed}
 use Rattle.frame_store.proofs.store.FrameStore.remove.Goals as goal
 
 pub returns : goal.returns

@@ -1,5 +1,5 @@
 use Rattle.std.proofs.Common.{ℕ, List, get_or, drop, ap, ◌∙◌, zero-add, arith, get_or-take, get_or-drop}
-use Rattle.layout_mount.proofs.Parts.{first_slice}
+use Rattle.layout_mount.proofs.ImagesLemmas.{first_slice}
 use Rattle.layout_mount.proofs.image.Image.byte.Goals as goal
 
 pub returns : goal.returns

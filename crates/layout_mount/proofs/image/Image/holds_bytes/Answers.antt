@@ -1,6 +1,6 @@
 use Rattle.std.proofs.Common.{subst}
-use Rattle.card_layout.specs.uicc_types.Told.{AreBytes}
-use Rattle.layout_mount.proofs.Parts.{bytes-whole}
+use Rattle.uicc_types.specs.Told.{AreBytes}
+use Rattle.layout_mount.proofs.ImagesLemmas.{bytes-whole}
 use Rattle.layout_mount.proofs.image.Image.holds_bytes.Goals as goal
 
 pub returns : goal.returns

@@ -1,5 +1,5 @@
 use Rattle.std.proofs.Common.{◌+◌, ◌*◌, ◌-◌, arith}
-use Rattle.layout_mount.proofs.Parts.{upper_slice}
+use Rattle.layout_mount.proofs.ImagesLemmas.{upper_slice}
 use Rattle.layout_mount.proofs.image.Image.kept.Goals as goal
 
 pub returns-clause-value : goal.returns-clause-value

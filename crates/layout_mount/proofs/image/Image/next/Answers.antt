@@ -1,5 +1,5 @@
 use Rattle.std.proofs.Common.{◌∙◌, arith}
-use Rattle.layout_mount.proofs.Parts.{next_there}
+use Rattle.layout_mount.proofs.ImagesLemmas.{next_there}
 use Rattle.layout_mount.proofs.image.Image.next.Goals as goal
 
 pub returns : goal.returns

@@ -1,5 +1,5 @@
 use Rattle.std.proofs.Common.{◌+◌, ◌*◌, ◌-◌, arith}
-use Rattle.layout_mount.proofs.Parts.{table_slice}
+use Rattle.layout_mount.proofs.ImagesLemmas.{table_slice}
 use Rattle.layout_mount.proofs.image.Image.node.Goals as goal
 
 pub returns-clause-value : goal.returns-clause-value

@@ -1,5 +1,5 @@
 use Rattle.std.proofs.Common.{◌≡◌, ℕ, List, ◌∙◌, arith, slice_range}
-use Rattle.layout_mount.proofs.Parts.{same_entries, same_told, length-whole}
+use Rattle.layout_mount.proofs.ImagesLemmas.{same_entries, same_told, length-whole}
 use Rattle.layout_mount.proofs.image.Image.read.Goals as goal
 
 pub returns-clause-image : goal.returns-clause-image

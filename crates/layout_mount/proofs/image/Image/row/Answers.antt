@@ -1,7 +1,7 @@
 use Rattle.std.proofs.Common.{◌+◌, ◌*◌, ◌-◌, arith}
-use Rattle.layout_mount.proofs.Parts.{table_slice, upper_slice}
-use Rattle.card_layout.specs.Places.{row_place}
-use Rattle.card_layout.proofs.RowPlacesLemmas.{row_place_low, row_place_high}
+use Rattle.card_state.specs.Places.{row_place}
+use Rattle.card_state.proofs.RowPlaceLemmas.{row_place_low, row_place_high}
+use Rattle.layout_mount.proofs.ImagesLemmas.{table_slice, upper_slice}
 use Rattle.layout_mount.proofs.image.Image.row.Goals as goal
 
 pub returns-then-shelf-lt-LOWER_ROW_COUNT-clause-value : goal.returns-then-shelf-lt-LOWER_ROW_COUNT-clause-value

@@ -1,14 +1,14 @@
 -- The new DF has no bytes, so the files still lie one after the other, and no file of its parent has its identifier.
 use Rattle.std.proofs.Common.{ℕ, ◌<◌, List, [], ◌∷◌, ◌++◌, length, take, ap, sym, subst, refl, inl, ◌∙◌, arith}
 use Rattle.std.proofs.lemmas.List.{length-set, take_more_set}
-use Rattle.card_layout.specs.declared.entries.Node.{Node}
-use Rattle.card_layout.specs.Persistent.{File}
-use Rattle.card_layout.specs.Kinds.{is_ef_kind}
-use Rattle.card_layout.specs.Checks.{is_known_kind}
+use Rattle.card_state.specs.declared.entries.Node.{Node}
+use Rattle.card_state.specs.Persistent.{File}
+use Rattle.card_state.specs.Kinds.{is_ef_kind}
+use Rattle.card_state.specs.Checks.{is_known_kind}
+use Rattle.card_state.specs.NewFiles.{df_node}
 use Rattle.layout_section.specs.Adding.{df_numbered, IsPlaceIn}
-use Rattle.card_layout.specs.NewFiles.{df_node}
 use Rattle.layout_section.specs.Filing.{AreFilesOf, files_in, file_in}
-use Rattle.layout_section.proofs.Filed.{length-files, file_count, filed_push, files_push, tree_for}
+use Rattle.layout_section.proofs.FilingLemmas.{length-files, file_count, filed_push, files_push, tree_for}
 use Rattle.layout_section.proofs.files.Files.add_df.Goals as goal
 
 pub bounds-self-inside-self-inside : goal.bounds-self-inside-self-inside

@@ -2,18 +2,18 @@
 use Rattle.std.proofs.Common.{◌≡◌, ℕ, ◌+◌, ◌<◌, ◌≤◌, List, [], ◌∷◌, ◌++◌, length, take, replicate, ap, sym, subst, refl, inr, ◌∙◌, arith}
 use Rattle.std.proofs.lemmas.List.{length-set, take_more_set, length-replicate}
 use Rattle.std.specs.Vec.{with_items}
-use Rattle.uicc_types.specs.Patches.{patched}
-use Rattle.uicc_types.proofs.PatchLemmas.{length-patched}
-use Rattle.card_layout.specs.declared.entries.Node.{Node}
-use Rattle.card_layout.specs.Persistent.{File}
-use Rattle.card_layout.specs.Sections.{byte_total_of, size_of}
-use Rattle.card_layout.specs.Checks.{is_known_kind}
+use Rattle.list_laws.specs.Patches.{patched}
+use Rattle.list_laws.proofs.PatchesLemmas.{length-patched}
+use Rattle.card_state.specs.declared.entries.Node.{Node}
+use Rattle.card_state.specs.Persistent.{File}
+use Rattle.card_state.specs.Sections.{byte_total_of, size_of}
+use Rattle.card_state.specs.Checks.{is_known_kind}
+use Rattle.card_state.specs.NewFiles.{rule_from}
+use Rattle.card_state.proofs.NewFileLemmas.{some_bytes}
 use Rattle.layout_section.specs.Adding.{ef_numbered, IsPlaceIn, is_short_for}
-use Rattle.card_layout.specs.NewFiles.{rule_from}
-use Rattle.card_layout.proofs.NewFileLemmas.{some_bytes}
 use Rattle.layout_section.specs.Filing.{all_bytes, AreFilesOf, IsEfBehind, files_in}
-use Rattle.layout_section.proofs.Filed.{file_count, file_total, filed_push, tree_for, short_for, items_are}
-use Rattle.layout_section.proofs.NewFiles.{known_kind, new_behind, with_new}
+use Rattle.layout_section.proofs.FilingLemmas.{file_count, file_total, filed_push, tree_for, short_for, items_are}
+use Rattle.layout_section.proofs.EfNumberedLemmas.{known_kind, new_behind, with_new}
 use Rattle.layout_section.proofs.files.Files.add_ef.Goals as goal
 
 pub overflow_cast-place : goal.overflow_cast-place

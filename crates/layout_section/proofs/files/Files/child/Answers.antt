@@ -1,8 +1,8 @@
 use Rattle.std.proofs.Common.{List, take, Some, None, subst}
-use Rattle.card_layout.specs.Persistent.{File}
-use Rattle.card_layout.specs.Sections.{child_of}
+use Rattle.card_state.specs.Persistent.{File}
+use Rattle.card_state.specs.Sections.{child_of}
 use Rattle.layout_section.specs.Adding.{IsFound}
-use Rattle.layout_section.proofs.Filed.{child_found, child_missing}
+use Rattle.layout_section.proofs.FilingLemmas.{child_found, child_missing}
 use Rattle.layout_section.proofs.files.Files.child.Goals as goal
 
 pub returns-in-Some : goal.returns-in-Some

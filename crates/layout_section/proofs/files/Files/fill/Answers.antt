@@ -1,19 +1,19 @@
 -- The bytes lie inside one file's range, apart from the others', so its contents alone change; without a place none can be filled.
 use Rattle.std.proofs.Common.{◌≡◌, ◌≢◌, ℕ, ◌+◌, ◌<◌, ◌≤◌, List, length, take, get_or, ap, sym, subst, ◌∙◌, arith, Ok, Err}
 use Rattle.std.specs.Vec.{with_items}
-use Rattle.uicc_types.specs.Patches.{patched}
-use Rattle.uicc_types.proofs.PatchLemmas.{length-patched}
-use Rattle.card_layout.specs.declared.entries.Node.{Node}
-use Rattle.card_layout.specs.declared.faults.SectionFault.TheVariants.{Bad}
-use Rattle.card_layout.specs.Blank.{unused_node}
-use Rattle.card_layout.specs.Kinds.{df_kind}
-use Rattle.card_layout.specs.Places.{data_place}
-use Rattle.card_layout.specs.Persistent.{File}
+use Rattle.list_laws.specs.Patches.{patched}
+use Rattle.list_laws.proofs.PatchesLemmas.{length-patched}
+use Rattle.card_state.specs.declared.entries.Node.{Node}
+use Rattle.card_state.specs.declared.faults.SectionFault.TheVariants.{Bad}
+use Rattle.card_state.specs.Blank.{unused_node}
+use Rattle.card_state.specs.Kinds.{df_kind}
+use Rattle.card_state.specs.Places.{data_place}
+use Rattle.card_state.specs.Persistent.{File}
 use Rattle.layout_section.specs.Adding.{file_numbered, filled, Rewrites}
 use Rattle.layout_section.specs.Entries.{HasNoBytes, AreBytesAt}
 use Rattle.layout_section.specs.Filing.{files_in}
-use Rattle.layout_section.proofs.Filed.{file_count, used_count, items_are}
-use Rattle.layout_section.proofs.Rewriting.{table_node, high_place, bytes_inside, done_fill, refused_fill}
+use Rattle.layout_section.proofs.FilingLemmas.{file_count, used_count, items_are}
+use Rattle.layout_section.proofs.RewritesLemmas.{table_node, high_place, bytes_inside, done_fill, refused_fill}
 use Rattle.layout_section.proofs.files.Files.fill.Goals as goal
 
 pub bounds-self-inside-from : goal.bounds-self-inside-from

@@ -1,8 +1,8 @@
 use Rattle.std.proofs.Common.{List, take, ap, sym, ◌∙◌, ◌&&◌, ◌==◌}
 use Rattle.std.specs.List.{list_any}
-use Rattle.card_layout.specs.Kinds.{is_ef_kind}
-use Rattle.card_layout.specs.Persistent.{File}
-use Rattle.layout_section.proofs.Filed.{short_is}
+use Rattle.card_state.specs.Kinds.{is_ef_kind}
+use Rattle.card_state.specs.Persistent.{File}
+use Rattle.layout_section.proofs.FilingLemmas.{short_is}
 use Rattle.layout_section.proofs.files.Files.has_short.Goals as goal
 
 pub returns : goal.returns

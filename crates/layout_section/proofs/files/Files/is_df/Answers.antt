@@ -1,10 +1,10 @@
 use Rattle.std.proofs.Common.{◌≡◌, ℕ, ◌<◌, List, length, take, get_or, ap, sym, ◌∙◌, arith, ◌==◌, length-take, get_or-take}
-use Rattle.card_layout.specs.declared.entries.Node.{Node}
-use Rattle.card_layout.specs.Kinds.{df_kind}
-use Rattle.card_layout.specs.Blank.{unused_node}
-use Rattle.card_layout.specs.Persistent.{File}
+use Rattle.card_state.specs.declared.entries.Node.{Node}
+use Rattle.card_state.specs.Kinds.{df_kind}
+use Rattle.card_state.specs.Blank.{unused_node}
+use Rattle.card_state.specs.Persistent.{File}
 use Rattle.layout_section.specs.Adding.{file_numbered}
-use Rattle.layout_section.proofs.Filed.{length-files, file_there}
+use Rattle.layout_section.proofs.FilingLemmas.{length-files, file_there}
 use Rattle.layout_section.proofs.files.Files.is_df.Goals as goal
 
 pub bounds-self-inside-from : goal.bounds-self-inside-from

@@ -1,5 +1,5 @@
 use Rattle.std.proofs.Common.{sym}
-use Rattle.layout_section.proofs.Filed.{file_count}
+use Rattle.layout_section.proofs.FilingLemmas.{file_count}
 use Rattle.layout_section.proofs.files.Files.len.Goals as goal
 
 pub returns-clause-value : goal.returns-clause-value

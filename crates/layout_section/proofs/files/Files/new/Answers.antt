@@ -1,7 +1,7 @@
 use Rattle.std.proofs.Common.{List, sym, subst, arith}
-use Rattle.card_layout.specs.declared.entries.Node.{Node}
+use Rattle.card_state.specs.declared.entries.Node.{Node}
 use Rattle.layout_section.specs.Filing.{all_bytes, AreFilesOf}
-use Rattle.layout_section.proofs.Filed.{mf_filed}
+use Rattle.layout_section.proofs.FilingLemmas.{mf_filed}
 use Rattle.layout_section.proofs.files.Files.new.Goals as goal
 
 pub invariant_of-result : goal.invariant_of-result

@@ -1,6 +1,6 @@
 use Rattle.std.proofs.Common.{take, ap, sym, ◌∙◌}
-use Rattle.card_layout.specs.Sections.{byte_total_of}
-use Rattle.layout_section.proofs.Filed.{total_is}
+use Rattle.card_state.specs.Sections.{byte_total_of}
+use Rattle.layout_section.proofs.FilingLemmas.{total_is}
 use Rattle.layout_section.proofs.files.Files.total.Goals as goal
 
 pub returns-clause-value : goal.returns-clause-value

@@ -1,9 +1,9 @@
 use Rattle.std.proofs.Common.{List, set, subst, arith, Ok, Err}
-use Rattle.card_layout.specs.Persistent.{Pin}
-use Rattle.card_layout.specs.declared.entries.PinSlot.{PinSlot}
-use Rattle.card_layout.specs.declared.faults.SectionFault.TheVariants.{Bad}
+use Rattle.card_state.specs.Persistent.{Pin}
+use Rattle.card_state.specs.declared.entries.PinSlot.{PinSlot}
+use Rattle.card_state.specs.declared.faults.SectionFault.TheVariants.{Bad}
 use Rattle.layout_section.specs.Adding.{AddsPin, new_pin}
-use Rattle.layout_section.proofs.Slots.{pins_in, pin_added, pin_refused, no_slot}
+use Rattle.layout_section.proofs.PinSlotsLemmas.{pins_in, pin_added, pin_refused, no_slot}
 use Rattle.layout_section.proofs.pins.Pins.add.Goals as goal
 
 pub returns-in_default : goal.returns-in_default

@@ -1,12 +1,12 @@
 use Rattle.std.proofs.Common.{◌≡◌, ℕ, set, get_or, true, false, ◌+◌, ◌<◌, ◌∙◌, sym, ap, subst, refl, arith}
-use Rattle.card_layout.specs.declared.entries.Row.{Row}
-use Rattle.card_layout.specs.Blank.{unused_row}
-use Rattle.card_layout.specs.Sections.{with_row}
+use Rattle.card_state.specs.declared.entries.Row.{Row}
+use Rattle.card_state.specs.Blank.{unused_row}
+use Rattle.card_state.specs.Sections.{with_row}
+use Rattle.card_state.specs.Installations.{registered}
 use Rattle.layout_section.specs.Adding.{RowList}
-use Rattle.card_layout.specs.Installations.{registered}
 use Rattle.layout_section.specs.Installing.{may_take}
 use Rattle.layout_section.specs.RowTables.{AreRowsOf}
-use Rattle.layout_section.proofs.Shelving.{rows_in, shelf_taken, row_put, row_kept, may_parts}
+use Rattle.layout_section.proofs.RowTablesLemmas.{rows_in, shelf_taken, row_put, row_kept, may_parts}
 use Rattle.layout_section.proofs.rows.Rows.add.Goals as goal
 
 pub bounds-self-inside-from : goal.bounds-self-inside-from

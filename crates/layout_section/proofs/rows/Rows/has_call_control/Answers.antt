@@ -1,8 +1,8 @@
 use Rattle.std.proofs.Common.{◌∙◌, sym, ap}
 use Rattle.std.specs.List.{list_any}
-use Rattle.card_layout.specs.Sections.{is_call_control}
+use Rattle.card_state.specs.Sections.{is_call_control}
 use Rattle.layout_section.specs.Adding.{RowList}
-use Rattle.layout_section.proofs.Shelving.{rows_control}
+use Rattle.layout_section.proofs.RowTablesLemmas.{rows_control}
 use Rattle.layout_section.proofs.rows.Rows.has_call_control.Goals as goal
 
 pub returns : goal.returns

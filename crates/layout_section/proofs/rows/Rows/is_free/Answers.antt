@@ -1,7 +1,7 @@
 use Rattle.std.proofs.Common.{◌≡◌, ◌∙◌, sym, ap, arith, not, ◌==◌, slice_index_or}
 use Rattle.std.specs.List.{list_any}
 use Rattle.layout_section.specs.Adding.{RowList}
-use Rattle.layout_section.proofs.Shelving.{shelf_taken}
+use Rattle.layout_section.proofs.RowTablesLemmas.{shelf_taken}
 use Rattle.layout_section.proofs.rows.Rows.is_free.Goals as goal
 
 pub returns : goal.returns

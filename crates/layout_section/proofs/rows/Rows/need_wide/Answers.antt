@@ -1,8 +1,8 @@
 use Rattle.std.proofs.Common.{◌∙◌, sym, ap}
 use Rattle.std.specs.List.{list_any}
-use Rattle.card_layout.specs.Sections.{needs_wide}
+use Rattle.card_state.specs.Sections.{needs_wide}
 use Rattle.layout_section.specs.Adding.{RowList}
-use Rattle.layout_section.proofs.Shelving.{rows_want_wide}
+use Rattle.layout_section.proofs.RowTablesLemmas.{rows_want_wide}
 use Rattle.layout_section.proofs.rows.Rows.need_wide.Goals as goal
 
 pub returns : goal.returns

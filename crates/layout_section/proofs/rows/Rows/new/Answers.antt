@@ -1,10 +1,10 @@
 use Rattle.std.proofs.Common.{◌≡◌, List, replicate, ap, rules}
-use Rattle.card_layout.specs.declared.entries.Row.{Row}
-use Rattle.card_layout.specs.Blank.{unused_row}
-use Rattle.card_layout.specs.Persistent.{Registration}
+use Rattle.list_laws.proofs.MapLemmas.{all_alike}
+use Rattle.card_state.specs.declared.entries.Row.{Row}
+use Rattle.card_state.specs.Blank.{unused_row}
+use Rattle.card_state.specs.Persistent.{Registration}
 use Rattle.layout_section.specs.Adding.{RowList}
-use Rattle.uicc_types.proofs.NumberedLemmas.{all_alike}
-use Rattle.layout_section.proofs.Shelving.{rows_in_none, no_rows}
+use Rattle.layout_section.proofs.RowTablesLemmas.{rows_in_none, no_rows}
 use Rattle.layout_section.proofs.rows.Rows.new.Goals as goal
 
 pub invariant_of-result : goal.invariant_of-result

@@ -1,11 +1,11 @@
 use Rattle.std.proofs.Common.{List, get_or, ap, subst, ◌∙◌}
 use Rattle.std.proofs.lemmas.List.{get_or-take, get_or-drop, take_rest}
-use Rattle.card_layout.specs.declared.entries.Row.{Row}
-use Rattle.card_layout.specs.Blank.{unused_row}
-use Rattle.card_layout.specs.Spelling.{row_spelled}
+use Rattle.card_state.specs.declared.entries.Row.{Row}
+use Rattle.card_state.specs.Blank.{unused_row}
+use Rattle.layout_entries.specs.Spelling.{row_spelled}
 use Rattle.layout_section.specs.Adding.{RowList}
 use Rattle.layout_section.specs.RowTables.{AreRowsOf}
-use Rattle.layout_section.proofs.Shelving.{kept_short}
+use Rattle.layout_section.proofs.RowTablesLemmas.{kept_short}
 use Rattle.layout_section.proofs.rows.Rows.spelled.Goals as goal
 
 pub spell_kept-requires-clause-kept : goal.spell_kept-requires-clause-kept

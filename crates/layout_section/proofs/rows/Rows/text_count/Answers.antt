@@ -1,7 +1,7 @@
 use Rattle.std.proofs.Common.{◌∙◌, sym, ap, count_by}
-use Rattle.card_layout.specs.Sections.{has_text}
+use Rattle.card_state.specs.Sections.{has_text}
 use Rattle.layout_section.specs.Adding.{RowList}
-use Rattle.layout_section.proofs.Shelving.{rows_show}
+use Rattle.layout_section.proofs.RowTablesLemmas.{rows_show}
 use Rattle.layout_section.proofs.rows.Rows.text_count.Goals as goal
 
 pub returns : goal.returns

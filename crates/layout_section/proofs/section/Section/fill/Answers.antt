@@ -1,10 +1,10 @@
 use Rattle.std.proofs.Common.{ℕ, ap, subst, ◌∙◌}
-use Rattle.card_layout.specs.Persistent.{Persistent}
-use Rattle.card_layout.specs.Soundness.{mf}
-use Rattle.card_layout.specs.Sections.{file_at, rows_fit, FillLine}
+use Rattle.card_state.specs.Persistent.{Persistent}
+use Rattle.card_state.specs.Soundness.{mf}
+use Rattle.card_state.specs.Sections.{file_at, rows_fit, FillLine}
 use Rattle.layout_section.specs.Adding.{AddsLine, file_numbered, filled}
 use Rattle.layout_section.specs.Describing.{described}
-use Rattle.layout_section.proofs.Lines.{rewritten_total, follows_fill}
+use Rattle.layout_section.proofs.AddsLemmas.{rewritten_total, follows_fill}
 use Rattle.layout_section.proofs.section.Section.fill.Goals as goal
 
 pub returns-in-Some : goal.returns-in-Some

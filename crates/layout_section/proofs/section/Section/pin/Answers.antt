@@ -1,9 +1,9 @@
 use Rattle.std.proofs.Common.{List, subst}
-use Rattle.card_layout.specs.Persistent.{Pin, Persistent}
-use Rattle.card_layout.specs.Sections.{with_pin, PinLine}
+use Rattle.card_state.specs.Persistent.{Pin, Persistent}
+use Rattle.card_state.specs.Sections.{with_pin, PinLine}
 use Rattle.layout_section.specs.Adding.{AddsLine, new_pin, is_new_pin}
 use Rattle.layout_section.specs.Describing.{described}
-use Rattle.layout_section.proofs.Lines.{follows_change}
+use Rattle.layout_section.proofs.AddsLemmas.{follows_change}
 use Rattle.layout_section.proofs.section.Section.pin.Goals as goal
 
 pub returns : goal.returns

@@ -1,12 +1,12 @@
 -- The kind is from 1 to 7 and the rows so far fit the files, so the tests of the row alone decide between Bad, NoRoom and Ok.
 use Rattle.std.proofs.Common.{◌≡◌, ℕ, List, ◌+◌, true, false, Option, Some, sym, ap, subst, ◌∙◌, IfSome, Ok, Err}
-use Rattle.card_layout.specs.declared.faults.SectionFault.TheVariants.{Bad, NoRoom}
-use Rattle.card_layout.specs.Persistent.{Registration, Persistent}
-use Rattle.card_layout.specs.Sections.{RowLine, installation_of, with_row, rows_fit, byte_total_of}
+use Rattle.card_state.specs.declared.faults.SectionFault.TheVariants.{Bad, NoRoom}
+use Rattle.card_state.specs.Persistent.{Registration, Persistent}
+use Rattle.card_state.specs.Sections.{RowLine, installation_of, with_row, rows_fit, byte_total_of}
+use Rattle.card_state.specs.Installations.{registered}
 use Rattle.layout_section.specs.Adding.{AddsLine, IsKind}
-use Rattle.card_layout.specs.Installations.{registered}
 use Rattle.layout_section.specs.Describing.{described, has_room_for_row}
-use Rattle.layout_section.proofs.Lines.{state_with, row_bad, row_no_room, row_follows, rows_fit_with}
+use Rattle.layout_section.proofs.AddsLemmas.{state_with, row_bad, row_no_room, row_follows, rows_fit_with}
 use Rattle.layout_section.proofs.section.Section.row.Goals as goal
 
 pub returns-then-not-may_take : goal.returns-then-not-may_take

@@ -1,6 +1,6 @@
 use Rattle.std.proofs.Common.{ℕ, ◌+◌, ◌≤◌, length, subst, sym, nat_le}
-use Rattle.card_layout.specs.Places.{data_place, data_end}
-use Rattle.layout_section.proofs.Writing.{held_total, fits_before}
+use Rattle.card_state.specs.Places.{data_place, data_end}
+use Rattle.layout_section.proofs.LayingLemmas.{held_total, fits_before}
 use Rattle.layout_section.proofs.section.Section.spelled.Goals as goal
 
 pub returns-clause-fits : goal.returns-clause-fits

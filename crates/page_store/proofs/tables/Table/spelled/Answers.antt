@@ -1,8 +1,8 @@
 use Rattle.std.proofs.Common.{get_or, ◌≡◌, ◌++◌, List, ℕ, length, sym, ap, ◌∙◌, arith, slice_range}
 use Rattle.std.specs.Int.{w16, to_be_bytes}
 use Rattle.page_store.specs.Tables.{Kept}
-use Rattle.page_store.proofs.Finishing.{bytes_of}
-use Rattle.page_store.proofs.Spelled.{entries_more, length_so_far}
+use Rattle.page_store.proofs.EntriesPieceLemmas.{bytes_of}
+use Rattle.page_store.proofs.InnerPieceLemmas.{entries_more, length_so_far}
 use Rattle.page_store.proofs.tables.Table.spelled.Goals as goal
 
 pub add_entry-requires : goal.add_entry-requires

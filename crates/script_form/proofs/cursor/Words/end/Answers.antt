@@ -1,6 +1,6 @@
 -- A line that is left has a word.
 use Rattle.std.proofs.Common.{◌≡◌, true, false, ◌∙◌}
-use Rattle.script_form.proofs.Spaces.{words_left_some}
+use Rattle.script_form.proofs.WordsLemmas.{words_left_some}
 use Rattle.script_form.proofs.cursor.Words.end.Goals as goal
 
 pub returns-in-Some : goal.returns-in-Some

@@ -1,7 +1,7 @@
 -- The next word ends at the first space, or with the line.
 use Rattle.std.proofs.Common.{sym, ap, ◌∙◌}
 use Rattle.script_form.specs.Words.{words_left}
-use Rattle.script_form.proofs.Spaces.{words_at, words_alone}
+use Rattle.script_form.proofs.WordsLemmas.{words_at, words_alone}
 use Rattle.script_form.proofs.cursor.Words.word.Goals as goal
 
 pub returns-in-Some : goal.returns-in-Some

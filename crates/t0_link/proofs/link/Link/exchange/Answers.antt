@@ -5,8 +5,8 @@ use Rattle.t0_link.specs.declared.tpdus.Transfer.TheVariants.{GetResponse, Outgo
 use Rattle.t0_link.specs.Exchanging.{Exchanges, IsPassed}
 use Rattle.t0_link.specs.Linking.{Passes, fetched, kept_back}
 use Rattle.t0_link.specs.Tpdus.{p3_of, transfer_in}
-use Rattle.t0_link.proofs.Passed.{by_transfer}
-use Rattle.t0_link.proofs.Courses.{both_are, given_back, own_off, passed_off}
+use Rattle.t0_link.proofs.CommandAnswerLemmas.{by_transfer}
+use Rattle.t0_link.proofs.CourseLemmas.{both_are, given_back, own_off, passed_off}
 use Rattle.t0_link.proofs.link.Link.exchange.Goals as goal
 
 pub returns-in-None-clause-moves : goal.returns-in-None-clause-moves

@@ -1,9 +1,9 @@
-use Rattle.apdu_form.specs.Model.{Apdu}
 use Rattle.std.proofs.Common.{Option, ◌≡◌, ℕ, Ok, Err, sym, ◌∙◌, ap, subst}
+use Rattle.apdu_form.specs.Model.{Apdu}
 use Rattle.t0_link.specs.Carrying.{received}
 use Rattle.t0_link.specs.Exchanging.{Exchanges, IsPassed}
 use Rattle.t0_link.specs.Linking.{link_answer}
-use Rattle.t0_link.proofs.Courses.{both_are, carried_passes, command_received, command_stopped}
+use Rattle.t0_link.proofs.CourseLemmas.{both_are, carried_passes, command_received, command_stopped}
 use Rattle.t0_link.proofs.link.Link.send.Goals as goal
 
 pub returns-in-Ok-clause-moves : goal.returns-in-Ok-clause-moves

@@ -1,6 +1,6 @@
 use Rattle.std.proofs.Common.{ap, ◌∙◌}
 use Rattle.terminal_side.specs.Kept.{hearing}
-use Rattle.terminal_side.proofs.Steps.{kept_line}
+use Rattle.terminal_side.proofs.PhoneLemmas.{kept_line}
 use Rattle.terminal_side.proofs.phone.Phone.input.Goals as goal
 
 pub returns : goal.returns

@@ -1,6 +1,6 @@
 use Rattle.std.proofs.Common.{ap, ◌∙◌}
 use Rattle.terminal_side.specs.Kept.{losing_power}
-use Rattle.terminal_side.proofs.Steps.{kept_cut, kept_off}
+use Rattle.terminal_side.proofs.PhoneLemmas.{kept_cut, kept_off}
 use Rattle.terminal_side.proofs.phone.Phone.lost_power.Goals as goal
 
 pub returns-clause-lost : goal.returns-clause-lost

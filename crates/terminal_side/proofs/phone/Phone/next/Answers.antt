@@ -1,7 +1,7 @@
 use Rattle.std.proofs.Common.{ap, ◌∙◌}
 use Rattle.handset_model.specs.Legal.{item_of}
 use Rattle.terminal_side.specs.Kept.{Kept, doing}
-use Rattle.terminal_side.proofs.Steps.{asked_kept, kept_next}
+use Rattle.terminal_side.proofs.PhoneLemmas.{asked_kept, kept_next}
 use Rattle.terminal_side.proofs.phone.Phone.next.Goals as goal
 
 pub returns-clause-item : goal.returns-clause-item

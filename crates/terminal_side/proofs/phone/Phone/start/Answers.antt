@@ -1,6 +1,6 @@
 use Rattle.std.proofs.Common.{ap, ◌∙◌}
 use Rattle.terminal_side.specs.Kept.{starting}
-use Rattle.terminal_side.proofs.Steps.{kept_reset, kept_start}
+use Rattle.terminal_side.proofs.PhoneLemmas.{kept_reset, kept_start}
 use Rattle.terminal_side.proofs.phone.Phone.start.Goals as goal
 
 pub returns-clause-first : goal.returns-clause-first

@@ -1,6 +1,6 @@
 use Rattle.std.proofs.Common.{ap, ◌∙◌}
 use Rattle.terminal_side.specs.Kept.{hearing_answer}
-use Rattle.terminal_side.proofs.Steps.{kept_answer}
+use Rattle.terminal_side.proofs.PhoneLemmas.{kept_answer}
 use Rattle.terminal_side.proofs.phone.Phone.take_answer.Goals as goal
 
 pub returns : goal.returns

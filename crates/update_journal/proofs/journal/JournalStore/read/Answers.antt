@@ -1,7 +1,7 @@
 use Rattle.std.proofs.Common.{◌≡◌, ◌+◌, length, subst, IfSome, slice_range}
 use Rattle.std.proofs.lemmas.Result.{on_ok_weaker}
 use Rattle.update_journal.specs.Journal.{Journaled}
-use Rattle.update_journal.proofs.Told.{read_stable}
+use Rattle.update_journal.proofs.IsUnderWayLemmas.{read_stable}
 use Rattle.update_journal.proofs.journal.JournalStore.read.Goals as goal
 
 pub returns-clause-ok : goal.returns-clause-ok

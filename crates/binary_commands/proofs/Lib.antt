@@ -1,0 +1,7 @@
+pub mod GivesLemmas
+mod OptionLemmas
+mod PinToldLemmas
+mod RulingRecordLemmas
+pub mod SelectingLemmas
+mod UpdateInLemmas
+mod WorkedOnLemmas

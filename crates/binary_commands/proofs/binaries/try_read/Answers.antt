@@ -1,0 +1,18 @@
+use Rattle.std.proofs.Common.{ap, ◌∙◌}
+use Rattle.card_state.specs.Memory.{memory}
+use Rattle.file_model.specs.Binaries.{binary_file, binary_to_read, read_from, binary_read}
+use Rattle.file_model.specs.Files.{descriptors_of}
+use Rattle.binary_commands.proofs.GivesLemmas.{file_gives, refusal_gives}
+use Rattle.binary_commands.proofs.binaries.try_read.Goals as goal
+
+pub returns-in-Ok-clause-gives : goal.returns-in-Ok-clause-gives
+unfolding binary_read
+returns-in-Ok-clause-gives g c =
+    file_gives (memory g.S.Store c.args.store.now c.args.loaded.now) (λ state is. (c.tables_tell_states.ensures (g.S.Store.store_mark c.args.store.now) (g.S.Store.stable c.args.store.now) c.args.loaded.now state c.requires.place.mounted.agrees is).files) (λ files. binary_to_read files c.args.selection.now c.args.command.now) (λ state. read_from state c.args.seen.now c.args.selection.now c.args.command.now) c.binary_file.result (c.binary_file.ensures.value ∙ ap (λ b. binary_file b (descriptors_of c.args.loaded.now) c.args.selection.now c.args.command.now) c.has_le_alone.ensures)
+    c.in-Ok.file c.in-Ok.is _ _ _ c.read_file.ensures.gives
+
+pub returns-in-Err-clause-gives : goal.returns-in-Err-clause-gives
+unfolding binary_read
+returns-in-Err-clause-gives g c =
+    refusal_gives (memory g.S.Store c.args.store.now c.args.loaded.now) (λ state is. (c.tables_tell_states.ensures (g.S.Store.store_mark c.args.store.now) (g.S.Store.stable c.args.store.now) c.args.loaded.now state c.requires.place.mounted.agrees is).files) (λ files. binary_to_read files c.args.selection.now c.args.command.now) (λ state. read_from state c.args.seen.now c.args.selection.now c.args.command.now) c.binary_file.result (c.binary_file.ensures.value ∙ ap (λ b. binary_file b (descriptors_of c.args.loaded.now) c.args.selection.now c.args.command.now) c.has_le_alone.ensures)
+    c.in-Err.status c.in-Err.is c.args.out.now

@@ -1,0 +1,17 @@
+//! The commands on files over a store (ETSI TS 102 221, 11.1).
+#![tactic(auto)]
+
+mod access;
+mod binaries;
+mod laws;
+mod selecting;
+mod settling;
+mod targets;
+mod telling;
+
+pub use access::is_allowed;
+pub use binaries::{read_binary, update_binary};
+pub use laws::is_card_table;
+pub use selecting::{select, status};
+pub use settling::settle;
+pub use targets::{addressed, is_deactivated, worked_on};

@@ -1,0 +1,20 @@
+use Rattle.card_commits.proofs.FilledLemmas.{whole_of}
+use Rattle.card_commits.proofs.PreparesLemmas.{free_inside, lies_from, lies_inside, moved_by, prepared_both, not_prepared}
+use Rattle.card_commits.proofs.preparing.prepare_moved.Goals as goal
+
+pub prepare_copy-requires-clause-source : goal.prepare_copy-requires-clause-source
+prepare_copy-requires-clause-source g c = record {
+  above = lies_from c.cards_are_known.ensures.files _ _ c.args.loaded.now c.requires.mounted.agrees c.args.number c.args.node.now c.requires.file;
+  inside = lies_inside c.cards_are_known.ensures.files _ _ c.args.loaded.now c.requires.mounted.agrees c.args.number c.args.node.now c.requires.file;
+}
+
+pub returns-in-Ok : goal.returns-in-Ok
+returns-in-Ok g c =
+    prepared_both _ _ _ _ _ _ _ c.prepare_blank.result c.in-Ok.ensures.prepares c.prepare_blank.ensures.prepares
+    (λ is put.
+    moved_by c.args.node.now c.args.place c.args.size (g.S.Store.stable c.args.store.now) (g.S.Store.stable c.prepare_copy.new.store) (g.S.Store.stable c.prepare_blank.new.store) c.requires.more
+    (lies_inside c.cards_are_known.ensures.files _ _ c.args.loaded.now c.requires.mounted.agrees c.args.number c.args.node.now c.requires.file) (free_inside c.args.loaded.now c.args.place c.args.size c.requires.free)
+    (whole_of (g.S.Store.stable c.args.store.now) (g.S.Store.byte_count c.args.store.now) c.requires.mounted.size_is (g.met.S.Store.told_length c.args.store.now)) is put)
+
+pub returns-in-Err : goal.returns-in-Err
+returns-in-Err g c = not_prepared _ _ _ _ c.in-Err.fault c.in-Err.ensures.prepares

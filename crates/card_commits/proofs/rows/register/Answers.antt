@@ -1,0 +1,41 @@
+-- The commit needs that no two rows answer call control: the code is another one, or no other row has it; both cases make one commit.
+use Rattle.std.proofs.Common.{[], ◌∷◌, List, ℕ, Contains, ◌⊎◌, ap, subst, ◌∙◌, inl, inr, ⊎_elim, arith}
+use Rattle.std.proofs.lemmas.Result.{on_ok_weaker}
+use Rattle.card_state.specs.declared.entries.Row.{Row}
+use Rattle.card_state.specs.Changing.{with_code_committed}
+use Rattle.card_state.specs.Sections.{sorted_codes}
+use Rattle.card_state.specs.States.{registration_of, rows_of}
+use Rattle.card_state.specs.Kinds.{codes_of, call_control_code}
+use Rattle.card_state.specs.Persistent.{Registration}
+use Rattle.layout_entries.specs.Spelling.{row_part}
+use Rattle.layout_laws.specs.StandingLaws.{NoOtherHasCallControl}
+use Rattle.card_commits.specs.Entries.{row_at, with_row_at}
+use Rattle.card_commits.proofs.RowsLemmas.{events_commit, rows_after, changed_rows, still_call_control}
+use Rattle.card_commits.proofs.rows.register.Goals as goal
+use Rattle.card_commits.specs.Commits.{Commits}
+
+pub returns-clause-committed : goal.returns-clause-committed
+returns-clause-committed g c = c.replace_events.ensures.committed (with_code_committed c.args.shelf.0 c.args.code)
+    (subst (λ (row : Row). Commits (g.S.Store.store_mark c.args.store.now) (g.S.Store.stable c.args.store.now) c.args.loaded.now (row_part c.args.shelf.0 (record row { events = c.with_event-events.result }) 5 7 ∷ []) (with_row_at c.args.loaded.now c.args.shelf.0 (record row { events = c.with_event-events.result })) (with_code_committed c.args.shelf.0 c.args.code))
+    c.row_of.ensures.value
+    (events_commit c.cards_are_known.ensures.table c.states_are_of_entries.ensures.from.rows _ _ c.args.loaded.now c.args.shelf.0 c.row_of.result.now c.row_of.ensures.there c.rows_stand.ensures.codes.events c.with_event-events.result (λ r. record r { codes = sorted_codes (c.args.code ∷ r.codes) })
+    (omega (arith, c.with_event-events.ensures.low (c.cards_are_known.ensures.rows _ _ c.args.loaded.now _ c.args.shelf.0 c.row_of.result.now c.requires.mounted.agrees.stands c.row_of.ensures.there).events))
+    (⊎_elim {C = (Contains (codes_of c.with_event-events.result) call_control_code → Contains (codes_of c.row_of.result.now.events) call_control_code) ⊎ NoOtherHasCallControl c.args.loaded.now c.args.shelf.0}
+    (λ other. inl (still_call_control c.args.code _ _ other c.with_event-events.ensures.value)) (λ free. inr free) c.requires.event.1)
+    (ap (λ (codes : List ℕ). let new : Registration = record (registration_of c.args.shelf.0 c.row_of.result.now) { codes = codes } in new) c.with_event-events.ensures.value)))
+
+pub returns-clause-rows : goal.returns-clause-rows
+returns-clause-rows g c =
+    on_ok_weaker c.replace_events.result
+    (λ table.
+    ap rows_of table
+    ∙ rows_after c.cards_are_known.ensures.table _ _ c.args.loaded.now (row_part c.args.shelf.0 (record (row_at c.args.loaded.now c.args.shelf.0) { events = c.with_event-events.result }) 5 7 ∷ []) (with_row_at c.args.loaded.now c.args.shelf.0 (record (row_at c.args.loaded.now c.args.shelf.0) { events = c.with_event-events.result })) (with_code_committed c.args.shelf.0 c.args.code) c.requires.mounted.agrees
+    (subst (λ (row : Row). Commits (g.S.Store.store_mark c.args.store.now) (g.S.Store.stable c.args.store.now) c.args.loaded.now (row_part c.args.shelf.0 (record row { events = c.with_event-events.result }) 5 7 ∷ []) (with_row_at c.args.loaded.now c.args.shelf.0 (record row { events = c.with_event-events.result })) (with_code_committed c.args.shelf.0 c.args.code))
+    c.row_of.ensures.value
+    (events_commit c.cards_are_known.ensures.table c.states_are_of_entries.ensures.from.rows _ _ c.args.loaded.now c.args.shelf.0 c.row_of.result.now c.row_of.ensures.there c.rows_stand.ensures.codes.events c.with_event-events.result (λ r. record r { codes = sorted_codes (c.args.code ∷ r.codes) })
+    (omega (arith, c.with_event-events.ensures.low (c.cards_are_known.ensures.rows _ _ c.args.loaded.now _ c.args.shelf.0 c.row_of.result.now c.requires.mounted.agrees.stands c.row_of.ensures.there).events))
+    (⊎_elim {C = (Contains (codes_of c.with_event-events.result) call_control_code → Contains (codes_of c.row_of.result.now.events) call_control_code) ⊎ NoOtherHasCallControl c.args.loaded.now c.args.shelf.0}
+    (λ other. inl (still_call_control c.args.code _ _ other c.with_event-events.ensures.value)) (λ free. inr free) c.requires.event.1)
+    (ap (λ (codes : List ℕ). let new : Registration = record (registration_of c.args.shelf.0 c.row_of.result.now) { codes = codes } in new) c.with_event-events.ensures.value)))
+    ∙ changed_rows c.cards_are_known.ensures.table _ _ c.args.loaded.now (λ r. record r { codes = sorted_codes (c.args.code ∷ r.codes) }) c.args.shelf.0 c.requires.mounted.agrees)
+    c.replace_events.ensures.table

@@ -1,0 +1,12 @@
+use Rattle.std.proofs.Common.{ap, ◌∙◌, arith}
+use Rattle.card_state.specs.declared.entries.Row.{Row}
+use Rattle.card_commits.specs.Entries.{row_at}
+use Rattle.card_commits.proofs.HasRecordLemmas.{one_usable}
+use Rattle.card_commits.proofs.RowsLemmas.{part_usable, carried}
+use Rattle.card_commits.proofs.rows.replace_events.Goals as goal
+
+pub replace_row-requires-clause-usable : goal.replace_row-requires-clause-usable
+replace_row-requires-clause-usable g c = one_usable _ c.row_piece.new.writes c.row_piece.ensures (part_usable c.args.shelf.0 5 7 _ c.row_of.ensures.low (omega arith) (omega arith))
+
+pub returns-clause-committed : goal.returns-clause-committed
+returns-clause-committed g c = λ change commits. c.replace_row.ensures.committed change (carried _ _ c.args.loaded.now c.args.shelf.0 5 7 (record (row_at c.args.loaded.now c.args.shelf.0) { events = c.args.events }) (record c.copy_of.result { events = c.args.events }) c.row_piece.new.writes change (ap (λ (r : Row). record r { events = c.args.events }) (c.copy_of.ensures ∙ c.row_of.ensures.value)) c.row_piece.ensures commits)

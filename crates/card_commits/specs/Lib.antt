@@ -1,0 +1,10 @@
+pub mod Commits
+pub mod Entries
+pub mod Laws
+pub mod Model
+pub mod Performing
+pub mod Pins
+pub mod Prepared
+pub mod PreparedCommits
+pub mod Ranges
+pub mod Rows

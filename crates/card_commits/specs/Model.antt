@@ -1,0 +1,1 @@
+-- The definitions, for the crates that stand on this one.

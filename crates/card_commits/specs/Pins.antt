@@ -1,0 +1,37 @@
+-- What a commit sets of a PIN.
+use Rattle.std.specs.Prelude.{ℕ, ◌≤◌, true}
+use Rattle.card_state.specs.declared.entries.PinSlot.{PinSlot}
+use Rattle.card_state.specs.declared.sizes.TheConstants.{TRIES, UNBLOCK_TRIES}
+use Rattle.card_state.specs.Persistent.{Persistent}
+use Rattle.card_state.specs.States.{pin_state}
+use Rattle.card_state.specs.Changing.{with_pin_for}
+use Rattle.card_commits.specs.declared.pins.PinChange.{PinChange}
+use Rattle.card_commits.specs.declared.pins.PinChange.TheVariants.{Tries, UnblockTries, Value, Enabled, Unblocked}
+
+-- A value that was found right gives all tries again.
+unfoldable pub changed_pin : PinChange → PinSlot → PinSlot
+changed_pin (Tries tries) pin = record pin { tries = tries }
+changed_pin (UnblockTries tries) pin = record pin { unblock_tries = tries }
+changed_pin (Value value) pin = record pin { tries = TRIES; value = value }
+changed_pin (Enabled enabled) pin = record pin { enabled = enabled; tries = TRIES }
+changed_pin (Unblocked value) pin = record pin { enabled = true; tries = TRIES; unblock_tries = UNBLOCK_TRIES; value = value }
+
+-- the first of the bytes of the entry that are set, and the one behind the last
+abbrev pub span_of : PinChange → ℕ × ℕ
+span_of (Tries tries) = (2, 3)
+span_of (UnblockTries tries) = (3, 4)
+span_of (Value value) = (2, 12)
+span_of (Enabled enabled) = (1, 3)
+span_of (Unblocked value) = (1, 12)
+
+-- no more tries than a PIN can have
+abbrev pub HasFewTries : PinChange → Type 0
+HasFewTries (Tries tries) = tries ≤ TRIES
+HasFewTries (UnblockTries tries) = tries ≤ UNBLOCK_TRIES
+HasFewTries (Value value) = Unit {0}
+HasFewTries (Enabled enabled) = Unit {0}
+HasFewTries (Unblocked value) = Unit {0}
+
+-- with this PIN changed so
+abbrev pub with_pin_changed : PinChange → PinSlot → Persistent → Persistent
+with_pin_changed change pin state = with_pin_for state (pin_state (changed_pin change pin))

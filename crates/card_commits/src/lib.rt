@@ -1,0 +1,26 @@
+//! Committed changes of a card over a store: each change is one commit, after which the store stands for the changed state, and
+//! after a fault for that or for the state before. For files that come or grow, free bytes are prepared first, which commits
+//! nothing. Of the crates above, those that make, delete and resize files alone name places in the memory.
+#![tactic(auto)]
+
+mod commits;
+mod entries;
+mod entry_commits;
+mod files;
+mod laws;
+mod pieces;
+mod pins;
+mod prepared_pieces;
+mod preparing;
+mod reading;
+mod rows;
+mod stops;
+
+pub use entry_commits::commit_node;
+pub use files::{write_bytes, write_life, write_newest_record, write_record};
+pub use laws::{contents_are_whole, tables_tell_states};
+pub use pins::{PinChange, change_pin};
+pub use preparing::{prepare_blank, prepare_moved};
+pub use reading::{read_bytes, read_record};
+pub use rows::{deregister, install_row, keep_bytes, register, remove_row};
+pub use stops::Stop;

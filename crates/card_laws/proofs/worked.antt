@@ -1,0 +1,5 @@
+-- Definitions, worked out on examples.
+mod GuessCounts
+mod Reading
+mod Runs
+mod SendingLaws

@@ -1,8 +1,0 @@
-use Rattle.card_layout.proofs.EventCodes.{adds_code, removes_code}
-use Rattle.card_layout.proofs.laws.event_bits_are_codes.Goals as goal
-
-pub returns-clause-set : goal.returns-clause-set
-returns-clause-set c = adds_code
-
-pub returns-clause-clear : goal.returns-clause-clear
-returns-clause-clear c = removes_code

@@ -1,5 +1,0 @@
-use Rattle.card_layout.proofs.Padding.{put_by_parts}
-use Rattle.card_layout.proofs.spelling.put_padded.Goals as goal
-
-pub returns : goal.returns
-returns c = put_by_parts c.args.width c.min-shown.result c.args.part.now _ _ _ c.requires.short c.min-shown.ensures c.put.ensures c.put-2.ensures

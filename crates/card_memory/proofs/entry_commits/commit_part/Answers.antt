@@ -1,9 +1,0 @@
-use Rattle.std.proofs.Common.{List, [], ◌∷◌, ◌++◌, ◌∙◌, ap}
-use Rattle.file_model.specs.store_form.Pieces.{Piece}
-use Rattle.file_model.specs.card_layout.Spelling.{node_part}
-use Rattle.card_memory.proofs.EntryCommitting.{part_usable}
-use Rattle.card_memory.proofs.entry_commits.commit_part.Goals as goal
-
-pub commit-requires-clause-usable : goal.commit-requires-clause-usable
-commit-requires-clause-usable g c = part_usable _ c.args.number c.args.from c.args.to c.args.node.now _ c.requires.ready.size c.requires.entry c.requires.some c.requires.inside
-    (c.in-Ok.ensures.ok ∙ ap (λ (pieces : List Piece). pieces ++ node_part c.args.number c.args.node.now c.args.from c.args.to ∷ []) c.new-writes.ensures)

@@ -1,5 +1,0 @@
-use Rattle.card_memory.proofs.Telling.{tables_tell}
-use Rattle.card_memory.proofs.laws.tables_tell_states.Goals as goal
-
-pub returns : goal.returns
-returns c = tables_tell c.stores_stand.ensures.known c.cards_are_known.ensures.table c.cards_are_known.ensures.card c.files_are_found.ensures.told

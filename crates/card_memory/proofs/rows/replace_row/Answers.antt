@@ -1,9 +1,0 @@
-use Rattle.card_memory.specs.Entries.{with_row_at}
-use Rattle.card_memory.proofs.Committing.{stopped}
-use Rattle.card_memory.proofs.rows.replace_row.Goals as goal
-
-pub returns-in_err-commit-clause-committed : goal.returns-in_err-commit-clause-committed
-returns-in_err-commit-clause-committed g c = λ change commits. stopped _ _ _ _ _ c.from_residual.result c.from_residual.ensures (c.in_err-commit.ensures.committed (record (with_row_at c.args.loaded.now c.args.shelf.0 c.args.row) { next = c.args.next }) change commits)
-
-pub returns-clause-committed : goal.returns-clause-committed
-returns-clause-committed g c = λ change commits. rw c.from.ensures (c.in_ok-commit.ensures.committed (record (with_row_at c.args.loaded.now c.args.shelf.0 c.args.row) { next = c.args.next }) change commits)

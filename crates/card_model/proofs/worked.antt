@@ -1,0 +1,5 @@
+-- Definitions, worked out on examples.
+mod Commands
+mod Runs
+mod Toolkit
+mod Trees

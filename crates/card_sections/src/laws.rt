@@ -1,8 +1,0 @@
-//! Laws on what a section describes.
-ghost use Rattle.card_sections.specs.RowLaws.{RowsHaveBoxes};
-
-/// Each row that a section describes is of the kind of the box on its shelf.
-#[tactic(auto, using(crate::proofs::RowLemmas::rows_have_boxes))]
-pub fn rows_have_boxes()
-    ensures { RowsHaveBoxes }
-{}

@@ -1,0 +1,49 @@
+-- Where everything stands in the memory of a card, by its number.
+use Rattle.std.specs.Prelude.{ℕ, ◌+◌, ◌*◌, ◌-◌, Bool, nat_lt, if◌then◌else◌}
+use Rattle.card_state.specs.declared.places.TheConstants.{MEMORY_SIZE, VERSION, NARROW_VERSION, WIDE_VERSION, STORE_MARK, SEQUENCE, PINS, ROWS, NODES, DATA, UPPER_ROWS, KEPT_APART}
+use Rattle.card_state.specs.declared.sizes.TheConstants.{PIN_WIDTH, ROW_STRIDE, NODE_WIDTH, KEPT_WIDTH, KEPT_LIMIT, LOWER_ROW_COUNT, ROW_COUNT}
+
+abbrev pub memory_size : ℕ
+memory_size = MEMORY_SIZE
+
+-- the four bytes by which a card is known, then the version, the byte of the kind of store, and the next sequence number
+abbrev pub version_place : ℕ
+version_place = VERSION
+
+abbrev pub version_of : Bool → ℕ
+version_of wide = if wide then WIDE_VERSION else NARROW_VERSION
+
+abbrev pub store_mark_place : ℕ
+store_mark_place = STORE_MARK
+
+abbrev pub sequence_place : ℕ
+sequence_place = SEQUENCE
+
+-- the slots of the PINs with the keys 01, 81 and 0A, in this order
+abbrev pub pin_place : ℕ → ℕ
+pin_place slot = PINS + PIN_WIDTH * slot
+
+-- the rows; those of the shelves above 15 stand behind the files of a wide card
+abbrev pub row_place : ℕ → ℕ
+row_place shelf = if nat_lt shelf LOWER_ROW_COUNT then ROWS + ROW_STRIDE * shelf else UPPER_ROWS + ROW_STRIDE * (shelf - LOWER_ROW_COUNT)
+
+-- the kept bytes of a row from the 33rd on
+abbrev pub kept_place : ℕ → ℕ
+kept_place shelf = KEPT_APART + KEPT_WIDTH * shelf
+
+abbrev pub node_place : ℕ → ℕ
+node_place number = NODES + NODE_WIDTH * number
+
+-- the bytes of the files begin here, and end at or below the place that the version gives
+abbrev pub data_place : ℕ
+data_place = DATA
+
+abbrev pub data_end : Bool → ℕ
+data_end wide = if wide then UPPER_ROWS else MEMORY_SIZE
+
+-- how many rows a card has, and how many bytes each may keep
+abbrev pub row_count : Bool → ℕ
+row_count wide = if wide then ROW_COUNT else LOWER_ROW_COUNT
+
+abbrev pub kept_limit : Bool → ℕ
+kept_limit wide = if wide then KEPT_LIMIT else KEPT_WIDTH

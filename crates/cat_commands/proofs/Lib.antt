@@ -1,0 +1,19 @@
+mod AppletDeletedLemmas
+mod AppletInstalledLemmas
+pub mod CardsLemmas
+mod CarriesLemmas
+mod ComesLemmas
+mod DeletingLemmas
+mod FetchTriedLemmas
+mod HasNoRowLemmas
+mod HasRowOnLemmas
+mod InstallTriedLemmas
+mod IsBetweenCommandsLemmas
+mod IsBusyWithLemmas
+mod KeepsBesidesLemmas
+mod RegisteringLemmas
+mod StopsAtLemmas
+mod TellsOfLemmas
+mod TriggersLemmas
+mod TryingLemmas
+mod WakeLemmas

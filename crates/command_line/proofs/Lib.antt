@@ -1,0 +1,3 @@
+mod OptionFormsLemmas
+mod RequestLemmas
+mod WordListLemmas

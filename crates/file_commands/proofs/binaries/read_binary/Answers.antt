@@ -1,7 +1,0 @@
-use Rattle.file_commands.proofs.Optional.{same_ok}
-use Rattle.file_commands.proofs.binaries.read_binary.Goals as goal
-
-pub returns-clause-refused : goal.returns-clause-refused
-returns-clause-refused g c = λ status is.
-    let refused = c.try_read.ensures.refused status is in
-    (cc, c.settle.ensures.refused status (same_ok c.try_read.result _ _ c.in_ok-tried.was refused.0), refused.1)

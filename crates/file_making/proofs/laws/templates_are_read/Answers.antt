@@ -1,8 +1,0 @@
-use Rattle.file_making.proofs.ReadBack.{asked_found, asked_only}
-use Rattle.file_making.proofs.laws.templates_are_read.Goals as goal
-
-pub returns-clause-alone : goal.returns-clause-alone
-returns-clause-alone c = asked_found
-
-pub returns-clause-all : goal.returns-clause-all
-returns-clause-all c = asked_only

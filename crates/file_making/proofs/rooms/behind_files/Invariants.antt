@@ -1,6 +1,0 @@
-use Rattle.std.proofs.Common.{drop}
-use Rattle.file_making.proofs.Ways.{IsBehind}
-use Rattle.file_making.proofs.rooms.behind_files.Given as goal
-
-abbrev pub invariant-loop-node : goal.invariant-loop-node
-invariant-loop-node l = IsBehind l.nodes (drop l.node-index l.nodes) l.place l.size l.behind

@@ -1,5 +1,0 @@
-use Rattle.file_making.proofs.Numbers.{AreUsed}
-use Rattle.file_making.proofs.rooms.free_number.Given as goal
-
-abbrev pub invariant-loop-number : goal.invariant-loop-number
-invariant-loop-number l = AreUsed l.fn.loaded l.df l.number

@@ -1,0 +1,81 @@
+-- Logical channels (ETSI TS 102 221, 8.7 and 11.1.17), and the class bytes that name them (10.1.1).
+use Rattle.std.specs.Prelude.{ℕ, ◌/◌, ◌%◌, ◌*◌, ◌==◌, ◌&&◌, ◌||◌, not, Bool, false, if◌then◌else◌, List, [], ◌∷◌, find, slice_index_or, slice_set, nat_le, Option, Some, None, is_some, Result, Ok, Err}
+use Rattle.uicc_types.specs.declared.answers.StatusWord.{StatusWord}
+use Rattle.uicc_types.specs.declared.answers.TheConstants.StatusWord.{WRONG_LENGTH, WRONG_PARAMETERS, NO_FREE_CHANNEL, CONDITIONS_NOT_SATISFIED}
+use Rattle.apdu_form.specs.Model.{Apdu}
+use Rattle.file_model.specs.Chains.{given, needs}
+use Rattle.file_model.specs.Outcomes.{has_no_data}
+use Rattle.file_model.specs.declared.selections.Selection.{Selection}
+use Rattle.file_model.specs.declared.selections.TheConstants.Selection.{AT_START}
+
+-- ---- class bytes
+
+-- the class without the channel: 00, 80 or F0
+abbrev pub family : ℕ → ℕ
+family class = class / 16 * 16
+
+-- 0X and 8X name a channel in their lower half
+abbrev pub names_channel : ℕ → Bool
+names_channel class = family class == 0x00 || family class == 0x80
+
+abbrev pub is_class : ℕ → Bool
+is_class class = names_channel class || class == 0xF0
+
+-- b4 or b3: secure messaging, which this card does not have
+abbrev pub asks_secure_messaging : ℕ → Bool
+asks_secure_messaging class = names_channel class && not (class / 4 % 4 == 0)
+
+-- the channel in b2 and b1; the class F0 stands for the basic channel
+abbrev pub channel_of : ℕ → ℕ
+channel_of class = if names_channel class then class % 4 else 0
+
+-- what is selected on a channel, if it is open
+abbrev pub selected_on : List (Option Selection) → ℕ → Option Selection
+selected_on channels channel = slice_index_or channels channel None
+
+abbrev pub is_open : List (Option Selection) → ℕ → Bool
+is_open channels channel = is_some (selected_on channels channel)
+
+-- ---- MANAGE CHANNEL
+
+-- the channels, and the data of the answer
+pub record ChannelOutcome : Type 0 where
+  pub body : List ℕ
+  pub channels : List (Option Selection)
+
+-- the smallest channel of 1 to 3 that is closed
+abbrev pub closed_channel : List (Option Selection) → Option ℕ
+closed_channel channels = find (λ channel. not (is_open channels channel)) (1 ∷ 2 ∷ 3 ∷ [])
+
+-- a channel that is opened from the basic one begins at the MF; one that is opened from another has the current DF of that
+abbrev pub first_selection : ℕ → Selection → Selection
+first_selection from selection = if from == 0 then AT_START else record { df = selection.df; ef = None; pointer = None }
+
+-- Le is 1 or 256
+abbrev pub is_le_of_number : Option ℕ → Bool
+is_le_of_number None = false
+is_le_of_number (Some le) = le == 1 || le == 256
+
+-- opening answers the number of the channel
+abbrev pub channel_opened : List (Option Selection) → Selection → Apdu → Result ChannelOutcome StatusWord
+channel_opened channels selection apdu =
+    needs (has_no_data apdu && is_le_of_number apdu.expected) WRONG_LENGTH (
+    given (closed_channel channels) NO_FREE_CHANNEL (λ channel.
+    Ok (record { body = channel ∷ []; channels = slice_set channels channel (Some (first_selection (channel_of apdu.class) selection)) })))
+
+abbrev pub channel_closed : List (Option Selection) → Apdu → Result ChannelOutcome StatusWord
+channel_closed channels apdu =
+    needs (has_no_data apdu) WRONG_LENGTH (
+    needs (is_open channels apdu.p2) CONDITIONS_NOT_SATISFIED (
+    Ok (record { body = []; channels = slice_set channels apdu.p2 None })))
+
+-- P1 00 opens a channel, P1 80 closes the one in P2
+unfoldable pub channel_tried : List (Option Selection) → Selection → Apdu → Result ChannelOutcome StatusWord
+channel_tried channels selection apdu =
+    if apdu.p1 == 0x00 && apdu.p2 == 0x00 then channel_opened channels selection apdu
+    else if apdu.p1 == 0x80 && nat_le 1 apdu.p2 && nat_le apdu.p2 3 then channel_closed channels apdu
+    else Err WRONG_PARAMETERS
+
+-- the basic channel alone is open, with the MF selected (8.7)
+abbrev pub basic_channel_alone : List (Option Selection)
+basic_channel_alone = Some AT_START ∷ None ∷ None ∷ None ∷ []

@@ -1,0 +1,4 @@
+pub mod Adding
+pub mod Fields
+pub mod Laws
+pub mod Spelling

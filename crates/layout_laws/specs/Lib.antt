@@ -1,0 +1,10 @@
+pub mod Bare
+pub mod Cards
+pub mod ChangeLaws
+pub mod Changes
+pub mod Known
+pub mod Migrating
+pub mod Standing
+pub mod StandingLaws
+pub mod Stores
+pub mod Writing

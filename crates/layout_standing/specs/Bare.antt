@@ -1,9 +1,0 @@
--- Entries without their numbers of two bytes.
-use Rattle.card_layout.specs.declared.entries.Node.{Node}
-use Rattle.card_layout.specs.declared.entries.Row.{Row}
-
-abbrev pub bare_node : Node → Node
-bare_node node = record node { id = record { 0 = 0 }; arr = record { 0 = 0 }; place = 0; size = 0 }
-
-abbrev pub bare_row : Row → Row
-bare_row row = record row { sequence = 0 }

@@ -1,0 +1,10 @@
+pub mod AllContainsLemmas
+pub mod AllPairsLemmas
+pub mod CondLemmas
+pub mod ContainsLemmas
+pub mod EditLemmas
+pub mod FindLemmas
+pub mod IfSomeLemmas
+pub mod MapLemmas
+pub mod PatchesLemmas
+pub mod SliceRangeLemmas

@@ -1,0 +1,377 @@
+-- From one event of a run to the next, where all bytes are told.
+use Rattle.std.proofs.Common.{◌≡◌, ℕ, true, false, List, [], ◌∷◌, ◌++◌, Option, Some, Err, refl, sym, ap, ◌∙◌, append_assoc, subst, inl, inr, reverse}
+use Rattle.std.proofs.lemmas.List.{append-nil, reverse-append}
+use Rattle.std.proofs.lemmas.List.Concat.{flat_map-append}
+use Rattle.uicc_types.specs.declared.answers.Answer.{Answer}
+use Rattle.uicc_types.specs.declared.plans.Plan.{Plan}
+use Rattle.uicc_types.specs.declared.plans.TheConstants.Plan.{NONE}
+use Rattle.uicc_types.specs.declared.runs.Step.{Step}
+use Rattle.uicc_types.specs.declared.runs.Step.TheVariants as step
+use Rattle.uicc_types.specs.declared.runs.TraceItem.{TraceItem}
+use Rattle.uicc_types.specs.declared.runs.TraceItem.TheVariants as item
+use Rattle.script_form.specs.declared.handset.HandsetLine.{HandsetLine}
+use Rattle.script_form.specs.declared.handset.Note.{Note}
+use Rattle.card_model.specs.Counts.{IsCounted}
+use Rattle.card_model.specs.Laws.{CountsJoin, PlansAreSetInOrder}
+use Rattle.card_model.specs.Runs.{plan_given, armed_after, plans_joined, waiting_after}
+use Rattle.card_model.specs.States.{Machine}
+use Rattle.handset_model.specs.History.{Said, Sent, Noted}
+use Rattle.handset_model.specs.Legal.{IsOrderly, TraceEntry, Seen, Shown, entries_of, items_seen}
+use Rattle.handset_model.specs.Rules.{asked}
+use Rattle.handset_model.specs.Sending.{apdu_of}
+use Rattle.handset_model.specs.declared.commands.Command.{Command}
+use Rattle.handset_model.specs.declared.known.Duty.{Duty}
+use Rattle.handset_model.specs.declared.known.Duty.TheVariants.{Rest, Transmit, Show, ResetCard}
+use Rattle.terminal_side.specs.Kept.{Kept, kept}
+use Rattle.run_steps.specs.Ends.{End, moment_at}
+use Rattle.run_steps.proofs.GoesOnLemmas.{calm_before, calm_behind, run_one, run_then}
+use Rattle.run_steps.specs.Runs.{GoesOn, ends_calm, text_of}
+use Rattle.run_steps.specs.Stepping.{BreaksOff, BreaksStep, EndsStep, GivesStep, Moment, TakesShowing, exchanged, restarted_by, seen as seen_of}
+use Rattle.run_steps.specs.declared.steps.Reply.{Reply}
+use Rattle.run_steps.specs.declared.steps.Reply.TheVariants as reply
+use Rattle.run_steps.specs.declared.steps.Restarted.{Restarted as AReset}
+use Rattle.run_steps.specs.declared.steps.Restarted.TheVariants as ended
+use Rattle.run_steps.specs.declared.steps.StepEnd.{StepEnd}
+use Rattle.run_steps.specs.declared.steps.StepEnd.TheVariants.{SinkFailed, ResetFailed}
+use Rattle.phone_runs.specs.Logs.{Event, Happens, Plans, AreInTurn, cut_steps, history, lines_back, shown, steps, steps_back, trace}
+use Rattle.phone_runs.specs.Playing.{Begins}
+use Rattle.phone_runs.specs.Runs.{Beginning, BreaksIn, BreaksInStep, BreaksSo, RunEnds, FailsSo, IsAt, IsPhoneRun, Reaches}
+use Rattle.phone_runs.specs.Serving.{replied, reset_by}
+use Rattle.phone_runs.specs.Traces.{entries_text, entry_text, note_line}
+
+-- ---- traces behind traces
+
+pub seen-append : (one more : List TraceEntry) → items_seen (one ++ more) ≡ items_seen one ++ items_seen more
+seen-append [] more = refl
+seen-append (Seen item ∷ one) more = ap (λ s. item ∷ s) (seen-append one more)
+seen-append (Shown note ∷ one) more = seen-append one more
+
+pub text-append : (one more : List TraceEntry) → entries_text (one ++ more) ≡ entries_text one ++ entries_text more
+text-append one more = flat_map-append entry_text one more
+
+-- ---- one more step
+
+-- a log goes on with one step of the card, which shows this
+pub record GoesOnBy (log later : List Event) (step : Step) (items : List TraceItem) : Type 0 where
+  pub steps_are : steps later ≡ steps log ++ step ∷ []
+  pub shown_is : shown later ≡ shown log ++ items
+  pub text_is : entries_text (trace later) ≡ entries_text (trace log) ++ text_of items
+  pub orderly : IsOrderly (history log) → IsOrderly (history later)
+  pub in_turn : AreInTurn log → AreInTurn later
+
+pub plans_behind : PlansAreSetInOrder → (steps_so : List Step) (step : Step) (waiting : Plan) → waiting ≡ waiting_after NONE steps_so
+    → plan_given steps_so ++ armed_after waiting (step ∷ []) ≡ plan_given (steps_so ++ step ∷ [])
+plans_behind order steps_so step waiting waits = ap (λ w. plan_given steps_so ++ armed_after w (step ∷ [])) waits ∙ sym (order NONE steps_so (step ∷ [])).0
+
+pub waiting_behind : PlansAreSetInOrder → (steps_so : List Step) (step : Step) (waiting : Plan) → waiting ≡ waiting_after NONE steps_so
+    → waiting_after waiting (step ∷ []) ≡ waiting_after NONE (steps_so ++ step ∷ [])
+waiting_behind order steps_so step waiting waits = ap (λ w. waiting_after w (step ∷ [])) waits ∙ sym (order NONE steps_so (step ∷ [])).1
+
+runs_on : (first old new : Machine) (log later : List Event) (step : Step) (items : List TraceItem) → IsPhoneRun first log old → GoesOnBy log later step items
+    → GoesOn old (step ∷ []) items new → IsPhoneRun first later new
+runs_on first old new log later step items run goes more = record {
+  orderly = goes.orderly run.orderly;
+  in_turn = goes.in_turn run.in_turn;
+  run = subst (λ s. GoesOn first s (shown later) new) (sym goes.steps_are)
+      (subst (λ i. GoesOn first (steps log ++ step ∷ []) i new) (sym goes.shown_is) (run_then (steps log) (step ∷ []) first old new (shown log) items run.run more));
+}
+
+-- a step was taken
+pub reaches_by : CountsJoin → PlansAreSetInOrder → (given : Beginning) (log later : List Event) (step : Step) (items : List TraceItem) (phone mid : Kept) (from to : Moment) → GoesOnBy log later step items → phone ≡ kept (history later)
+    → ((old : Machine) (before : List ℕ) → from.machine ≡ Some old → from.taken ≡ Some before → TakesShowing items old before step from to) → IsAt given log mid from → IsAt given later phone to
+reaches_by join order given log later step items phone mid from to goes keeps takes at =
+    let showing = takes at.machine (given.before ++ entries_text (trace log)) at.told at.written in
+    let taken = showing.taken in
+    record {
+      machine = taken.machine;
+      run = runs_on given.first at.machine taken.machine log later step items at.run goes
+          (subst (λ i. GoesOn at.machine (step ∷ []) i taken.machine) showing.shows (run_one at.machine taken.machine step taken.shown taken.gives));
+      keeps = keeps;
+      told = taken.told;
+      written = taken.written ∙ ap Some (append_assoc given.before (entries_text (trace log)) (text_of taken.shown)
+          ∙ ap (λ i. given.before ++ (entries_text (trace log) ++ text_of i)) showing.shows ∙ ap (λ rest. given.before ++ rest) (sym goes.text_is));
+      counted = subst (λ s. IsCounted given.meter to.meter (plan_given s) (shown later)) (sym goes.steps_are)
+          (subst (λ i. IsCounted given.meter to.meter (plan_given (steps log ++ step ∷ [])) i) (ap (λ i. shown log ++ i) showing.shows ∙ sym goes.shown_is)
+          (subst (λ l. IsCounted given.meter to.meter l (shown log ++ taken.shown)) (plans_behind order (steps log) step from.waiting at.waits)
+          (join given.meter from.meter to.meter (plan_given (steps log)) (armed_after from.waiting (step ∷ [])) (shown log) taken.shown at.counted taken.counted)));
+      waits = taken.waits ∙ waiting_behind order (steps log) step from.waiting at.waits ∙ ap (λ s. waiting_after NONE s) (sym goes.steps_are);
+      rests = λ calm. rests_then at showing calm;
+    }
+  where
+    rests_then : IsAt given log mid from → (showing : TakesShowing items at.machine (given.before ++ entries_text (trace log)) step from to) → ends_calm (shown later) ≡ true → to.is_due ≡ false
+    rests_then at showing calm =
+        let so : ends_calm (shown log ++ showing.taken.shown) ≡ true = subst (λ i. ends_calm i ≡ true) (goes.shown_is ∙ ap (λ i. shown log ++ i) (sym showing.shows)) calm in
+        showing.taken.rests (λ none. at.rests (calm_before (shown log) showing.taken.shown none so)) (calm_behind (shown log) showing.taken.shown so)
+
+-- a step was the last
+fails_by : CountsJoin → PlansAreSetInOrder → (given : Beginning) (log : List Event) (phone : Kept) (from to : Moment) → asked (history log) ≡ ResetCard
+    → ((old : Machine) (before : List ℕ) → from.machine ≡ Some old → from.taken ≡ Some before → EndsStep old before step.Reset from to) → IsAt given log phone from → FailsSo given (lines_back log) to
+fails_by join order given log phone from to resets ends at =
+    let last = ends at.machine (given.before ++ entries_text (trace log)) at.told at.written in
+    record {
+      log = log;
+      old = at.machine;
+      lines_are = refl;
+      run = at.run;
+      resets = resets;
+      machine = last.machine;
+      last = last.shown;
+      ends = last.ends;
+      stands = last.stands;
+      written = last.written;
+      counted = subst (λ l. IsCounted given.meter to.meter l (shown log ++ last.shown)) (plans_behind order (steps log) step.Reset from.waiting at.waits)
+          (join given.meter from.meter to.meter (plan_given (steps log)) (armed_after from.waiting (step.Reset ∷ [])) (shown log) last.shown at.counted last.counted);
+    }
+
+-- the sink failed in a step
+breaks_by : CountsJoin → (given : Beginning) (log : List Event) (phone : Kept) (step : Step) (from to : Moment)
+    → ((old : Machine) (before : List ℕ) → from.machine ≡ Some old → from.taken ≡ Some before → BreaksStep old before step from to) → (at : IsAt given log phone from) → BreaksInStep given log at.machine step to
+breaks_by join given log phone step from to breaks at =
+    let broken = breaks at.machine (given.before ++ entries_text (trace log)) at.told at.written in
+    record {
+      machine = broken.machine;
+      pending = broken.pending;
+      front = broken.front;
+      set = broken.set;
+      broken = subst (λ w. BreaksOff at.machine step broken.pending (armed_after w (step ∷ [])) broken.set broken.machine) at.waits broken.broken;
+      cut_off = broken.cut_off;
+      stands = broken.stands;
+      written = broken.written;
+      counted = join given.meter from.meter to.meter (plan_given (steps log)) broken.set (shown log) broken.pending at.counted broken.counted;
+    }
+
+broken_at : (given : Beginning) (log : List Event) (old : Machine) (now : Moment) (duty : Duty) → asked (history log) ≡ duty → IsPhoneRun given.first log old → BreaksIn given log old now duty → BreaksSo given (lines_back log) now
+broken_at given log old now duty is run broken = record { log = log; old = old; lines_are = refl; run = run; broken = subst (λ d. BreaksIn given log old now d) (sym is) broken }
+
+-- ---- a command
+
+-- a command and what came of it
+abbrev pub with_reply : Command → Reply → Answer → List Event → List Event
+with_reply command outcome answer log = Happens (replied outcome answer) ∷ Happens (Sent command) ∷ log
+
+steps_sent : (command : Command) (outcome : Reply) (answer : Answer) (log : List Event) → steps (with_reply command outcome answer log) ≡ steps log ++ step.Apdu (apdu_of command) ∷ []
+steps_sent command reply.Answered answer log = reverse-append (step.Apdu (apdu_of command) ∷ []) (steps_back log)
+steps_sent command reply.Cut answer log = reverse-append (step.Apdu (apdu_of command) ∷ []) (steps_back log)
+steps_sent command reply.Off answer log = reverse-append (step.Apdu (apdu_of command) ∷ []) (steps_back log)
+
+abbrev pub sent_entries : Command → Reply → Answer → List TraceEntry
+sent_entries command outcome answer = Seen (item.Command (apdu_of command)) ∷ Seen (seen_of outcome answer) ∷ []
+
+pub trace_sent : (command : Command) (outcome : Reply) (answer : Answer) (log : List Event) → trace (with_reply command outcome answer log) ≡ trace log ++ sent_entries command outcome answer
+trace_sent command reply.Answered answer log = reverse-append (Seen (item.Answer answer.body answer.status) ∷ Seen (item.Command (apdu_of command)) ∷ []) (entries_of (history log))
+trace_sent command reply.Cut answer log = reverse-append (Seen item.Cut ∷ Seen (item.Command (apdu_of command)) ∷ []) (entries_of (history log))
+trace_sent command reply.Off answer log = reverse-append (Seen item.Off ∷ Seen (item.Command (apdu_of command)) ∷ []) (entries_of (history log))
+
+pub orderly_sent : (command : Command) (outcome : Reply) (answer : Answer) (log : List Event) → asked (history log) ≡ Transmit command → IsOrderly (history log) → IsOrderly (history (with_reply command outcome answer log))
+orderly_sent command reply.Answered answer log is orderly = (refl, (is, orderly))
+orderly_sent command reply.Cut answer log is orderly = (inl refl, (is, orderly))
+orderly_sent command reply.Off answer log is orderly = (refl, (is, orderly))
+
+pub sends_on : (command : Command) (outcome : Reply) (answer : Answer) (log : List Event) → asked (history log) ≡ Transmit command
+    → GoesOnBy log (with_reply command outcome answer log) (step.Apdu (apdu_of command)) (exchanged (apdu_of command) answer outcome)
+sends_on command outcome answer log is = record {
+  steps_are = steps_sent command outcome answer log;
+  shown_is = ap items_seen (trace_sent command outcome answer log) ∙ seen-append (trace log) (sent_entries command outcome answer);
+  text_is = ap entries_text (trace_sent command outcome answer log) ∙ text-append (trace log) (sent_entries command outcome answer);
+  orderly = orderly_sent command outcome answer log is;
+  in_turn = λ in_turn. in_turn;
+}
+
+pub lines_sent : (command : Command) (outcome : Reply) (answer : Answer) (log : List Event) → lines_back (with_reply command outcome answer log) ≡ lines_back log
+lines_sent command reply.Answered answer log = refl
+lines_sent command reply.Cut answer log = refl
+lines_sent command reply.Off answer log = refl
+
+pub reaches_sent : CountsJoin → PlansAreSetInOrder → (given : Beginning) (log : List Event) (command : Command) (outcome : Reply) (answer : Answer) (old new : Kept) (from to : Moment) → asked (history log) ≡ Transmit command
+    → ((old : Machine) (before : List ℕ) → from.machine ≡ Some old → from.taken ≡ Some before → TakesShowing (exchanged (apdu_of command) answer outcome) old before (step.Apdu (apdu_of command)) from to)
+    → new ≡ kept (replied outcome answer ∷ Sent command ∷ history log) → IsAt given log old from → Reaches given (lines_back log) new to
+reaches_sent join order given log command outcome answer old new from to is takes keeps at = record {
+  log = with_reply command outcome answer log;
+  lines_are = lines_sent command outcome answer log;
+  at = reaches_by join order given log (with_reply command outcome answer log) _ _ new old from to (sends_on command outcome answer log is) keeps takes at;
+}
+
+-- the run ended in it
+pub ends_sent : CountsJoin → (given : Beginning) (log : List Event) (command : Command) (end : StepEnd) (phone : Kept) (from to : Moment) → asked (history log) ≡ Transmit command
+    → ((old : Machine) (before : List ℕ) → from.machine ≡ Some old → from.taken ≡ Some before → GivesStep (Err end) old before (step.Apdu (apdu_of command)) from to)
+    → IsAt given log phone from → RunEnds given (lines_back log) to end
+ends_sent join given log command SinkFailed phone from to is gives at =
+    broken_at given log at.machine to (Transmit command) is at.run (breaks_by join given log phone (step.Apdu (apdu_of command)) from to gives at)
+ends_sent join given log command ResetFailed phone from to is gives at =
+    let ended = gives at.machine (given.before ++ entries_text (trace log)) at.told at.written in absurd ended.ends
+
+-- ---- a reset
+
+abbrev pub with_reset : AReset → List Event → List Event
+with_reset outcome log = Happens (reset_by outcome) ∷ log
+
+steps_reset : (outcome : AReset) (log : List Event) → asked (history log) ≡ ResetCard → steps (with_reset outcome log) ≡ steps log ++ step.Reset ∷ []
+steps_reset ended.Done log is = reverse-append (step.Reset ∷ []) (steps_back log)
+steps_reset ended.Cut log is = ap (λ d. reverse (cut_steps d ++ steps_back log)) is ∙ reverse-append (step.Reset ∷ []) (steps_back log)
+
+abbrev pub reset_entries : AReset → List TraceEntry
+reset_entries ended.Done = Seen item.Reset ∷ []
+reset_entries ended.Cut = Seen item.Cut ∷ []
+
+pub trace_reset : (outcome : AReset) (log : List Event) → trace (with_reset outcome log) ≡ trace log ++ reset_entries outcome
+trace_reset ended.Done log = reverse-append (Seen item.Reset ∷ []) (entries_of (history log))
+trace_reset ended.Cut log = reverse-append (Seen item.Cut ∷ []) (entries_of (history log))
+
+pub orderly_reset : (outcome : AReset) (log : List Event) → asked (history log) ≡ ResetCard → IsOrderly (history log) → IsOrderly (history (with_reset outcome log))
+orderly_reset ended.Done log is orderly = (is, orderly)
+orderly_reset ended.Cut log is orderly = (inr is, orderly)
+
+resets_seen : (outcome : AReset) → items_seen (reset_entries outcome) ≡ restarted_by outcome
+resets_seen ended.Done = refl
+resets_seen ended.Cut = refl
+
+resets_text : (outcome : AReset) → entries_text (reset_entries outcome) ≡ text_of (restarted_by outcome)
+resets_text ended.Done = refl
+resets_text ended.Cut = refl
+
+pub lines_reset : (outcome : AReset) (log : List Event) → lines_back (with_reset outcome log) ≡ lines_back log
+lines_reset ended.Done log = refl
+lines_reset ended.Cut log = refl
+
+pub resets_on : (outcome : AReset) (log : List Event) → asked (history log) ≡ ResetCard → GoesOnBy log (with_reset outcome log) step.Reset (restarted_by outcome)
+resets_on outcome log is = record {
+  steps_are = steps_reset outcome log is;
+  shown_is = ap items_seen (trace_reset outcome log) ∙ seen-append (trace log) (reset_entries outcome) ∙ ap (λ i. shown log ++ i) (resets_seen outcome);
+  text_is = ap entries_text (trace_reset outcome log) ∙ text-append (trace log) (reset_entries outcome) ∙ ap (λ t. entries_text (trace log) ++ t) (resets_text outcome);
+  orderly = orderly_reset outcome log is;
+  in_turn = λ in_turn. in_turn;
+}
+
+pub reaches_reset : CountsJoin → PlansAreSetInOrder → (given : Beginning) (log : List Event) (outcome : AReset) (old new : Kept) (from to : Moment) → asked (history log) ≡ ResetCard
+    → ((old : Machine) (before : List ℕ) → from.machine ≡ Some old → from.taken ≡ Some before → TakesShowing (restarted_by outcome) old before step.Reset from to)
+    → new ≡ kept (reset_by outcome ∷ history log) → IsAt given log old from → Reaches given (lines_back log) new to
+reaches_reset join order given log outcome old new from to is takes keeps at = record {
+  log = with_reset outcome log;
+  lines_are = lines_reset outcome log;
+  at = reaches_by join order given log (with_reset outcome log) _ _ new old from to (resets_on outcome log is) keeps takes at;
+}
+
+pub ends_reset : CountsJoin → PlansAreSetInOrder → (given : Beginning) (log : List Event) (end : StepEnd) (phone : Kept) (from to : Moment) → asked (history log) ≡ ResetCard
+    → ((old : Machine) (before : List ℕ) → from.machine ≡ Some old → from.taken ≡ Some before → GivesStep (Err end) old before step.Reset from to)
+    → IsAt given log phone from → RunEnds given (lines_back log) to end
+ends_reset join order given log SinkFailed phone from to is gives at = broken_at given log at.machine to ResetCard is at.run (breaks_by join given log phone step.Reset from to gives at)
+ends_reset join order given log ResetFailed phone from to is gives at = fails_by join order given log phone from to is gives at
+
+-- ---- a note
+
+pub trace_noted : (note : Note) (log : List Event) → trace (Happens (Noted note) ∷ log) ≡ trace log ++ Shown note ∷ []
+trace_noted note log = reverse-append (Shown note ∷ []) (entries_of (history log))
+
+pub shown_noted : (note : Note) (log : List Event) → shown (Happens (Noted note) ∷ log) ≡ shown log
+shown_noted note log = ap items_seen (trace_noted note log) ∙ seen-append (trace log) (Shown note ∷ []) ∙ append-nil (shown log)
+
+pub text_noted : (note : Note) (log : List Event) → entries_text (trace (Happens (Noted note) ∷ log)) ≡ entries_text (trace log) ++ note_line note
+text_noted note log = ap entries_text (trace_noted note log) ∙ text-append (trace log) (Shown note ∷ []) ∙ ap (λ t. entries_text (trace log) ++ t) (append-nil (note_line note))
+
+-- where the card stands and what waits is the same, and this is what the sink has taken
+pub reaches_noted : (given : Beginning) (log : List Event) (note : Note) (old new : Kept) (from : Moment) (taken : Option (List ℕ)) → asked (history log) ≡ Show note
+    → ((before : List ℕ) → from.taken ≡ Some before → taken ≡ Some (before ++ note_line note)) → new ≡ kept (Noted note ∷ history log) → IsAt given log old from → Reaches given (lines_back log) new (record from { taken = taken })
+reaches_noted given log note old new from taken is more keeps at = record {
+  log = Happens (Noted note) ∷ log;
+  lines_are = refl;
+  at = record {
+    machine = at.machine;
+    run = record {
+      orderly = (is, at.run.orderly);
+      in_turn = at.run.in_turn;
+      run = subst (λ i. GoesOn given.first (steps log) i at.machine) (sym (shown_noted note log)) at.run.run;
+    };
+    keeps = keeps;
+    told = at.told;
+    written = more (given.before ++ entries_text (trace log)) at.written ∙ ap Some (append_assoc given.before (entries_text (trace log)) (note_line note) ∙ ap (λ rest. given.before ++ rest) (sym (text_noted note log)));
+    counted = subst (λ i. IsCounted given.meter from.meter (plan_given (steps log)) i) (sym (shown_noted note log)) at.counted;
+    waits = at.waits;
+    rests = λ calm. at.rests (subst (λ i. ends_calm i ≡ true) (shown_noted note log) calm);
+  };
+}
+
+pub record IsFrontTaken (taken : Option (List ℕ)) (before part : List ℕ) : Type 0 where
+  pub front : List ℕ
+  pub begun : (rest : List ℕ) × (part ≡ front ++ rest)
+  pub written : taken ≡ Some (before ++ front)
+
+pub ends_noted : (given : Beginning) (log : List Event) (note : Note) (phone : Kept) (from : Moment) (taken : Option (List ℕ)) → ((machine : Machine) → from.machine ≡ Some machine → from.held ≡ Some machine.card.persistent) → asked (history log) ≡ Show note
+    → ((before : List ℕ) → from.taken ≡ Some before → IsFrontTaken taken before (note_line note)) → IsAt given log phone from → BreaksSo given (lines_back log) (record from { taken = taken })
+ends_noted given log note phone from taken stands is breaks at =
+    let front = breaks (given.before ++ entries_text (trace log)) at.written in
+    broken_at given log at.machine (record from { taken = taken }) (Show note) is at.run (record {
+      front = front.front;
+      begun = front.begun;
+      stands = stands at.machine at.told;
+      written = front.written;
+      counted = at.counted;
+    })
+
+-- ---- lines
+
+-- the handset hears a line
+pub hears_line : (given : Beginning) (log : List Event) (line : HandsetLine) (old new : Kept) (now : Moment) → asked (history log) ≡ Rest → new ≡ kept (Said line ∷ history log) → IsAt given log old now → IsAt given (Happens (Said line) ∷ log) new now
+hears_line given log line old new now rest keeps at = record {
+  machine = at.machine;
+  run = record { orderly = (rest, at.run.orderly); in_turn = at.run.in_turn; run = at.run.run };
+  keeps = keeps;
+  told = at.told;
+  written = at.written;
+  counted = at.counted;
+  waits = at.waits;
+  rests = at.rests;
+}
+
+pub steps_planned : (plan : Plan) (log : List Event) → steps (Plans plan ∷ log) ≡ steps log ++ step.Plan plan ∷ []
+steps_planned plan log = reverse-append (step.Plan plan ∷ []) (steps_back log)
+
+-- faults are planned
+plans_so : PlansAreSetInOrder → (given : Beginning) (log : List Event) (plan : Plan) (phone : Kept) (now : Moment) → asked (history log) ≡ Rest → IsAt given log phone now
+    → IsAt given (Plans plan ∷ log) phone (record now { waiting = plans_joined now.waiting plan })
+plans_so order given log plan phone now rest at = record {
+  machine = at.machine;
+  run = record {
+    orderly = at.run.orderly;
+    in_turn = (rest, at.run.in_turn);
+    run = subst (λ s. GoesOn given.first s (shown log) at.machine) (sym (steps_planned plan log))
+        (subst (λ i. GoesOn given.first (steps log ++ step.Plan plan ∷ []) i at.machine) (append-nil (shown log))
+        (run_then (steps log) (step.Plan plan ∷ []) given.first at.machine at.machine (shown log) [] at.run.run (run_one at.machine at.machine (step.Plan plan) [] (record { seen = refl; stays = refl }))));
+  };
+  keeps = at.keeps;
+  told = at.told;
+  written = at.written;
+  counted = subst (λ l. IsCounted given.meter now.meter l (shown log)) (sym (append-nil (plan_given (steps log))) ∙ sym (order NONE (steps log) (step.Plan plan ∷ [])).0 ∙ ap (λ s. plan_given s) (sym (steps_planned plan log))) at.counted;
+  waits = ap (λ w. plans_joined w plan) at.waits ∙ sym (order NONE (steps log) (step.Plan plan ∷ [])).1 ∙ ap (λ s. waiting_after NONE s) (sym (steps_planned plan log));
+  rests = at.rests;
+}
+
+pub plans_line : PlansAreSetInOrder → (given : Beginning) (log : List Event) (plan : Plan) (phone : Kept) (from to : End) (taken : Option (List ℕ)) → asked (history log) ≡ Rest → to ≡ record from { waiting = plans_joined from.waiting plan }
+    → IsAt given log phone (moment_at from taken) → IsAt given (Plans plan ∷ log) phone (moment_at to taken)
+plans_line order given log plan phone from to taken rest joins at =
+    subst (λ (e : End). IsAt given (Plans plan ∷ log) phone (moment_at e taken)) (sym joins) (plans_so order given log plan phone (moment_at from taken) rest at)
+
+-- a handset that keeps the same
+pub keeps_same : (given : Beginning) (log : List Event) (old new : Kept) (now : Moment) → new ≡ kept (history log) → IsAt given log old now → IsAt given log new now
+keeps_same given log old new now keeps at = record {
+  machine = at.machine;
+  run = at.run;
+  keeps = keeps;
+  told = at.told;
+  written = at.written;
+  counted = at.counted;
+  waits = at.waits;
+  rests = at.rests;
+}
+
+-- nothing has happened yet
+pub begins_empty : (given : Beginning) (phone : Kept) (now : Moment) → phone ≡ kept [] → Begins given now → IsAt given [] phone now
+begins_empty given phone now keeps begins = record {
+  machine = given.first;
+  run = record { orderly = tt; in_turn = tt; run = record { seen = refl; stays = refl } };
+  keeps = keeps;
+  told = begins.told;
+  written = begins.written ∙ ap Some (sym (append-nil given.before));
+  counted = begins.counted;
+  waits = begins.waits;
+  rests = λ calm. begins.rests;
+}

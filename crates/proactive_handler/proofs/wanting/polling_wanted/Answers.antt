@@ -1,0 +1,18 @@
+use Rattle.std.proofs.Common.{◌≡◌, sym, ◌∙◌, true, false, arith}
+use Rattle.card_state.specs.States.{rows_of}
+use Rattle.proactive_handler.proofs.WantedLemmas.{polls_already, polls_for_nobody, polls_now}
+use Rattle.proactive_handler.proofs.wanting.polling_wanted.Goals as goal
+
+pub returns-then-polls-clause-value : goal.returns-then-polls-clause-value
+returns-then-polls-clause-value c = polls_already c.args.profile.now (rows_of c.args.loaded.now) c.args.announced.now (sym c.polls.ensures ∙ c.if-polls.true)
+
+pub returns-then-not-is_heard-clause-value : goal.returns-then-not-is_heard-clause-value
+returns-then-not-is_heard-clause-value c =
+    let nobody : c.is_heard.result ≡ false = grind (arith, c.if-not-is_heard.true) in
+    polls_for_nobody c.args.profile.now c.args.index.now (rows_of c.args.loaded.now) c.args.announced.now c.requires (sym c.is_heard.ensures ∙ nobody)
+
+pub returns-clause-value : goal.returns-clause-value
+returns-clause-value c =
+    let somebody : c.is_heard.result ≡ true = grind (arith, c.if-not-is_heard.false) in
+    c.if_allowed.ensures.value
+    ∙ polls_now c.args.profile.now c.args.index.now (rows_of c.args.loaded.now) c.args.announced.now c.requires (sym c.polls.ensures ∙ c.if-polls.false) (sym c.is_heard.ensures ∙ somebody)

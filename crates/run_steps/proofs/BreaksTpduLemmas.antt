@@ -1,0 +1,79 @@
+-- What the sink has taken of a TPDU's lines.
+use Rattle.std.proofs.Common.{◌≡◌, ℕ, List, [], ◌∷◌, ◌++◌, Option, Some, refl, sym, ap, ◌∙◌, append_assoc, inl, inr}
+use Rattle.std.specs.Io.KnownBytes.{append_known}
+use Rattle.uicc_types.specs.Told.{Becomes}
+use Rattle.uicc_types.specs.declared.answers.Answer.{Answer}
+use Rattle.uicc_types.specs.declared.runs.TraceItem.{TraceItem}
+use Rattle.uicc_types.specs.declared.runs.TraceItem.TheVariants as item
+use Rattle.t0_link.specs.Linking.{Course}
+use Rattle.byte_streams.specs.Streams.{TakesFront}
+use Rattle.script_form.specs.Traces.{trace_text}
+use Rattle.script_form.specs.declared.trace.TraceLine.TheVariants as line
+use Rattle.card_model.specs.Counts.{IsCounted}
+use Rattle.card_model.specs.Runs.{armed_after}
+use Rattle.card_model.specs.States.{Machine}
+use Rattle.run_steps.specs.Ends.{End, moment_at}
+use Rattle.run_steps.specs.Tpdus.{BreaksTpdu, Delivers, TakesTpdu, steps_of}
+use Rattle.run_steps.proofs.SteppingLemmas.{ToldFront, in_one_line, text_of_one, text_of_two, told_front, told_more}
+use Rattle.run_steps.specs.Shown.{shown_for}
+use Rattle.run_steps.specs.Runs.{item_text, machine_of}
+use Rattle.run_steps.proofs.StandingLemmas.{machine_stands}
+
+module _ (tpdu before : List ℕ) (old : Machine) (course : Course) (keeps kept : Option Answer) where
+  -- both lines were written
+  pub takes : (from to : End) (taken mid now : Option (List ℕ)) (reply : TraceItem) → taken ≡ Some before → Delivers old course reply kept from to
+      → mid ≡ append_known taken (trace_text (line.Command tpdu)) → now ≡ append_known mid (item_text reply) → TakesTpdu old before tpdu course kept (moment_at from taken) (moment_at to now)
+  takes from to taken mid now reply told delivered command replied = record {
+    machine = delivered.machine;
+    own = delivered.own;
+    reply = reply;
+    told = delivered.told;
+    gives = delivered.gives;
+    written = told_more mid now (item_text reply) (before ++ item_text (item.Command tpdu)) replied (told_more taken mid (item_text (item.Command tpdu)) before command told) ∙ ap Some (text_of_two (item.Command tpdu) reply before);
+    counted = delivered.counted;
+    waits = delivered.waits;
+    rests = delivered.rests;
+  }
+
+  -- the sink failed in the second line
+  pub breaks_reply : (from to : End) (taken mid now : Option (List ℕ)) (reply : TraceItem) → taken ≡ Some before → Delivers old course reply kept from to
+      → mid ≡ append_known taken (trace_text (line.Command tpdu)) → Becomes (TakesFront (item_text reply)) mid now → BreaksTpdu old before tpdu course keeps kept (moment_at from taken) (moment_at to now)
+  breaks_reply from to taken mid now reply told delivered command broken =
+      let front : ToldFront now (item_text reply) (before ++ item_text (item.Command tpdu)) = told_front mid now (item_text reply) (before ++ item_text (item.Command tpdu)) broken (told_more taken mid (item_text (item.Command tpdu)) before command told) in
+      record {
+        machine = delivered.machine;
+        own = delivered.own;
+        pending = shown_for tpdu reply;
+        front = item_text (item.Command tpdu) ++ front.front;
+        set = armed_after from.waiting (steps_of course);
+        stands = machine_stands to.parts delivered.machine delivered.told;
+        broken = inr (reply, delivered.gives, refl, refl);
+        cut_off = record {
+          whole = item.Command tpdu ∷ [];
+          last = reply;
+          part = front.front;
+          parted = refl;
+          begun = front.begun;
+          written = ap (λ start. start ++ front.front) (sym (text_of_one (item.Command tpdu)));
+        };
+        written = front.written ∙ ap Some (append_assoc before (item_text (item.Command tpdu)) front.front);
+        counted = delivered.counted;
+      }
+
+-- the sink failed in the line of the TPDU
+pub breaks_tpdu : (tpdu before : List ℕ) (old : Machine) (course : Course) (keeps : Option Answer) (end : End) (taken now : Option (List ℕ)) → IsCounted end.parts.meter end.parts.meter [] [] → machine_of end.parts ≡ Some old → taken ≡ Some before
+    → Becomes (TakesFront (trace_text (line.Command tpdu))) taken now → BreaksTpdu old before tpdu course keeps keeps (moment_at end taken) (moment_at end now)
+breaks_tpdu tpdu before old course keeps end taken now counted is told broken =
+    let front : ToldFront now (item_text (item.Command tpdu)) before = told_front taken now (item_text (item.Command tpdu)) before broken told in
+    record {
+      machine = old;
+      own = [];
+      pending = item.Command tpdu ∷ [];
+      front = front.front;
+      set = [];
+      stands = machine_stands end.parts old is;
+      broken = inl (refl, refl, refl, refl, refl);
+      cut_off = in_one_line (item.Command tpdu) before now front;
+      written = front.written;
+      counted = counted;
+    }

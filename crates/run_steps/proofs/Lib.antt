@@ -1,0 +1,16 @@
+mod BareBytesLemmas
+mod BreaksTpduLemmas
+mod ComesLemmas
+mod DeliversLemmas
+pub mod GoesOnLemmas
+pub mod ItemOfLemmas
+mod LeLemmas
+mod LinkedLemmas
+mod LooksAtLeLemmas
+mod SendsLemmas
+mod ShowingLemmas
+pub mod StandingLemmas
+mod SteppedLemmas
+pub mod SteppingLemmas
+pub mod TakesFrontLemmas
+mod worked

@@ -1,0 +1,84 @@
+//! How a terminal's commands come to the card.
+ghost use Rattle.std.specs.Prelude.{◌≡◌, IsTrue};
+ghost use Rattle.uicc_types.specs.Told.{AreBytes};
+ghost use Rattle.t0_link.specs.Carrying.{carried};
+ghost use Rattle.run_steps.specs.Ends.{Comes, reply_for};
+ghost use Rattle.run_steps.specs.Stepping.{seen};
+
+use crate::ends::CardEnd;
+use crate::link_laws::link_changes_no_step;
+use crate::steps::Reply;
+use applet_trait::Applet;
+use store_form::Store;
+use t0_link::{Endpoint, Link, LinkFault, is_carried};
+use uicc_types::Answer;
+
+/// How a terminal's commands come to the card.
+#[derive(Debug, Drop)]
+pub enum Carrier {
+    /// As they are.
+    Direct,
+    /// Over a T=0 link, as TPDUs.
+    Link(Link),
+}
+
+impl Carrier {
+    // Has the card take a command. One that the link does not carry goes to the card as it is. Most commands go so, and over a link
+    // there is more to do than a call.
+    #[inline(always)]
+    pub(crate) fn send<S: Store, B: Applet>(
+        &mut self,
+        end: &mut CardEnd<S, B>,
+        apdu: &[u8],
+        answer: &mut Answer,
+    ) -> Reply
+        ensures { Comes end.old apdu.now (seen result answer.new) end.new }
+    {
+        match self {
+            Carrier::Link(link) if is_carried(apdu) => send_over(link, end, apdu, answer),
+            Carrier::Link(_) | Carrier::Direct => send(end, apdu, answer),
+        }
+    }
+}
+
+// Has the card take a command as it is.
+fn send<S: Store, B: Applet>(end: &mut CardEnd<S, B>, apdu: &[u8], answer: &mut Answer) -> Reply
+    ensures { Comes end.old apdu.now (seen result answer.new) end.new }
+{
+    reply_of(end.transmit(apdu, answer))
+}
+
+// Has the card take a command over the link.
+#[inline(never)]
+fn send_over<S: Store, B: Applet>(
+    link: &mut Link,
+    end: &mut CardEnd<S, B>,
+    apdu: &[u8],
+    answer: &mut Answer,
+) -> Reply
+    requires { IsTrue (carried apdu.now) }
+    ensures { Comes end.old apdu.now (seen result answer.new) end.new }
+{
+    link_changes_no_step();
+    are_bytes(apdu);
+    end.is_ready();
+    reply_of(link.command(end, apdu, answer))
+}
+
+// Does nothing. What a slice of bytes has are bytes.
+fn are_bytes(slice: &[u8])
+    ensures { AreBytes slice.now }
+{
+    let _slice = slice;
+}
+
+// What came of a command that was given to an endpoint.
+pub(crate) fn reply_of(outcome: Result<(), LinkFault>) -> Reply
+    ensures { result ≡ reply_for outcome }
+{
+    match outcome {
+        Ok(()) => Reply::Answered,
+        Err(LinkFault::PowerLost) => Reply::Cut,
+        Err(LinkFault::NoPower) => Reply::Off,
+    }
+}

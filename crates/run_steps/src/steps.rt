@@ -1,0 +1,214 @@
+//! What is done to the card, and what the trace shows of it.
+ghost use Rattle.std.specs.Prelude.{◌≡◌, ◌≢◌, ◌≤◌, List, ℕ, Some, Err, OnOk, OnErr, is_some, length};
+ghost use Rattle.std.specs.Io.KnownBytes.{append_known};
+ghost use Rattle.uicc_types.specs.Counts.{CountsFailure, raised};
+ghost use Rattle.uicc_types.specs.Told.{Becomes};
+ghost use Rattle.uicc_types.specs.declared.byte_lists.TheConstants.{LONGEST_COMMAND};
+ghost use Rattle.uicc_types.specs.declared.runs.Step.TheVariants as step;
+ghost use Rattle.byte_streams.specs.Streams.{TakesFront};
+ghost use Rattle.script_form.specs.Traces.{trace_text};
+ghost use Rattle.card_model.specs.States.{Machine};
+ghost use Rattle.run_steps.specs.Ends.{moment_at};
+ghost use Rattle.run_steps.specs.Moves.{IsShort, step_of};
+ghost use Rattle.run_steps.specs.Runs.{item_text, machine_of};
+ghost use Rattle.run_steps.specs.Showing.{Shows, ShowsAny};
+ghost use Rattle.run_steps.specs.Stepping.{GivesShowing, GivesStep, exchanged, restarted_by, seen};
+ghost use Rattle.run_steps.specs.Tallies.{Tallies, tally};
+
+use crate::carriers::Carrier;
+use crate::ends::CardEnd;
+use crate::moves::Move;
+use applet_trait::Applet;
+use byte_streams::{Failed, Sink};
+use card_model::runs_are_counted;
+use script_form::{TraceLine, write_answer, write_command, write_trace};
+use store_form::Store;
+use uicc_types::Answer;
+
+/// Why a step is the last.
+#[derive(Clone, Copy, Debug, PartialEq, Eq)]
+pub enum StepEnd {
+    /// The trace could not be written on.
+    SinkFailed,
+    /// The memory failed in a reset. The trace says so.
+    ResetFailed,
+}
+
+/// What came of a command.
+#[derive(Clone, Copy, Debug, PartialEq, Eq)]
+pub enum Reply {
+    /// The card answered it.
+    Answered,
+    /// Power was lost in it.
+    Cut,
+    /// There was no power.
+    Off,
+}
+
+/// What came of a reset in which the memory did not fail.
+#[derive(Clone, Copy, Debug, PartialEq, Eq)]
+pub enum Restarted {
+    /// The card was reset.
+    Done,
+    /// Power was lost in it.
+    Cut,
+}
+
+/// What came of a reset.
+#[derive(Clone, Copy, Debug, PartialEq, Eq)]
+pub enum ResetOutcome {
+    /// The card was reset.
+    Done,
+    /// Power was lost in it.
+    Cut,
+    /// The memory failed in it.
+    Failed,
+}
+
+/// Takes a step, and writes what it shows.
+pub fn take_step<S: Store, B: Applet, W: Sink>(
+    end: &mut CardEnd<S, B>,
+    carrier: &mut Carrier,
+    step: Move<'_>,
+    answer: &mut Answer,
+    trace: &mut W,
+) -> Result<(), StepEnd>
+    requires short { IsShort step }
+    ensures gives { (old : Machine) (before : List ℕ) → machine_of end.old.parts ≡ Some old
+        → W.taken trace.old ≡ Some before
+        → GivesStep result old before (step_of step.entry) (moment_at end.old (W.taken trace.old))
+        (moment_at end.new (W.taken trace.new)) }
+    ensures shows { (before : List ℕ) → W.taken trace.old ≡ Some before
+        → ShowsAny result before (step_of step.entry) (moment_at end.old (W.taken trace.old))
+        (moment_at end.new (W.taken trace.new)) }
+    ensures failed { result ≡ Err StepEnd.ResetFailed
+        → end.new.parts.meter.faults ≡ raised end.old.parts.meter.faults }
+    ensures tallies { Tallies (tally W.Sink end.old trace.old) (tally W.Sink end.new trace.new)
+        (result ≡ Err StepEnd.SinkFailed) }
+{
+    match step {
+        Move::Send(apdu) => match exchange(end, carrier, apdu, answer, trace) {
+            Ok(_) => Ok(()),
+            Err(why) => Err(why),
+        },
+        Move::Reset => match restart(end, trace) {
+            Ok(_) => Ok(()),
+            Err(why) => Err(why),
+        },
+        Move::Plans(plan) => {
+            end.plan(plan);
+            Ok(())
+        }
+    }
+}
+
+/// Sends a command to the card, as it is or over a link, and answers what came of it; an answer stands in `answer`. The command's
+/// line is written first, and where the sink fails in it, the card is sent nothing. The trace is the same over either carrier.
+pub fn exchange<S: Store, B: Applet, W: Sink>(
+    end: &mut CardEnd<S, B>,
+    carrier: &mut Carrier,
+    apdu: &[u8],
+    answer: &mut Answer,
+    trace: &mut W,
+) -> Result<Reply, StepEnd>
+    requires short { length apdu.now ≤ LONGEST_COMMAND }
+    ensures gives { (old : Machine) (before : List ℕ) → machine_of end.old.parts ≡ Some old
+        → W.taken trace.old ≡ Some before
+        → GivesShowing result (exchanged apdu.now answer.new) old before (step.Apdu apdu.now)
+        (moment_at end.old (W.taken trace.old)) (moment_at end.new (W.taken trace.new)) }
+    ensures shows { (before : List ℕ) → W.taken trace.old ≡ Some before
+        → Shows result (exchanged apdu.now answer.new) before (step.Apdu apdu.now)
+        (moment_at end.old (W.taken trace.old)) (moment_at end.new (W.taken trace.new)) }
+    ensures ends { result ≢ Err StepEnd.ResetFailed }
+    ensures tallies { Tallies (tally W.Sink end.old trace.old) (tally W.Sink end.new trace.new)
+        (result ≡ Err StepEnd.SinkFailed) }
+{
+    runs_are_counted();
+    match write_command(trace, apdu) {
+        Ok(()) => {
+            let is_set = end.set_plan();
+            let reply = carrier.send(end, apdu, answer);
+            end.clear_plan(is_set);
+            match write_reply(trace, reply, answer) {
+                Ok(()) => Ok(reply),
+                Err(why) => Err(why),
+            }
+        }
+        Err(Failed) => Err(StepEnd::SinkFailed),
+    }
+}
+
+/// Writes what came of a command.
+pub(crate) fn write_reply<W: Sink>(
+    trace: &mut W,
+    reply: Reply,
+    answer: &Answer,
+) -> Result<(), StepEnd>
+    ensures ok { OnOk result (W.taken trace.new ≡ append_known (W.taken trace.old)
+        (item_text (seen reply answer.now))) }
+    ensures err { OnErr result (Becomes (TakesFront (item_text (seen reply answer.now)))
+        (W.taken trace.old) (W.taken trace.new)) }
+    ensures sink { OnErr result (result ≡ Err StepEnd.SinkFailed) }
+    ensures cause { CountsFailure (W.faults trace.old) (W.faults trace.new) (result ≡ Err StepEnd.SinkFailed) }
+    ensures tells { is_some (W.taken trace.new) ≡ is_some (W.taken trace.old) }
+{
+    match reply {
+        Reply::Answered => match write_answer(trace, answer) {
+            Ok(()) => Ok(()),
+            Err(Failed) => Err(StepEnd::SinkFailed),
+        },
+        Reply::Cut => write_step(trace, &TraceLine::Cut),
+        Reply::Off => write_step(trace, &TraceLine::Off),
+    }
+}
+
+/// Resets the card, and answers what came of it.
+pub fn restart<S: Store, B: Applet, W: Sink>(
+    end: &mut CardEnd<S, B>,
+    trace: &mut W,
+) -> Result<Restarted, StepEnd>
+    ensures gives { (old : Machine) (before : List ℕ) → machine_of end.old.parts ≡ Some old
+        → W.taken trace.old ≡ Some before
+        → GivesShowing result restarted_by old before step.Reset (moment_at end.old (W.taken trace.old))
+        (moment_at end.new (W.taken trace.new)) }
+    ensures shows { (before : List ℕ) → W.taken trace.old ≡ Some before
+        → Shows result restarted_by before step.Reset (moment_at end.old (W.taken trace.old))
+        (moment_at end.new (W.taken trace.new)) }
+    ensures failed { result ≡ Err StepEnd.ResetFailed
+        → end.new.parts.meter.faults ≡ raised end.old.parts.meter.faults }
+    ensures tallies { Tallies (tally W.Sink end.old trace.old) (tally W.Sink end.new trace.new)
+        (result ≡ Err StepEnd.SinkFailed) }
+{
+    runs_are_counted();
+    let is_set = end.set_plan();
+    let outcome = end.reset();
+    end.clear_plan(is_set);
+    match outcome {
+        ResetOutcome::Done => match write_step(trace, &TraceLine::Reset) {
+            Ok(()) => Ok(Restarted::Done),
+            Err(why) => Err(why),
+        },
+        ResetOutcome::Cut => match write_step(trace, &TraceLine::Cut) {
+            Ok(()) => Ok(Restarted::Cut),
+            Err(why) => Err(why),
+        },
+        ResetOutcome::Failed => match write_step(trace, &TraceLine::EepromFailed) {
+            Ok(()) => Err(StepEnd::ResetFailed),
+            Err(_) => Err(StepEnd::SinkFailed),
+        },
+    }
+}
+
+/// Writes a line of a step.
+fn write_step<W: Sink>(trace: &mut W, line: &TraceLine) -> Result<(), StepEnd>
+    ensures ok { OnOk result (W.taken trace.new ≡ append_known (W.taken trace.old) (trace_text line.now)) }
+    ensures err { OnErr result (Becomes (TakesFront (trace_text line.now)) (W.taken trace.old) (W.taken trace.new)) }
+    ensures sink { OnErr result (result ≡ Err StepEnd.SinkFailed) }
+    ensures cause { CountsFailure (W.faults trace.old) (W.faults trace.new) (result ≡ Err StepEnd.SinkFailed) }
+    ensures tells { is_some (W.taken trace.new) ≡ is_some (W.taken trace.old) }
+{
+    match write_trace(trace, line) {
+        Ok(()) => Ok(()),
+        Err(Failed) => Err(StepEnd::SinkFailed),
+    }
+}

@@ -1,0 +1,85 @@
+//! A TPDU in a run.
+ghost use Rattle.std.specs.Prelude.{◌≡◌, ◌≤◌, List, ℕ, Some, Option, IsErr, length};
+ghost use Rattle.uicc_types.specs.declared.answers.Answer.{Answer as AnyAnswer};
+ghost use Rattle.uicc_types.specs.declared.byte_lists.TheConstants.{LONGEST_COMMAND};
+ghost use Rattle.t0_link.specs.Exchanging.{IsPassed};
+ghost use Rattle.t0_link.specs.Linking.{link_answer};
+ghost use Rattle.card_model.specs.States.{Machine};
+ghost use Rattle.run_steps.specs.Ends.{moment_at};
+ghost use Rattle.run_steps.specs.Tpdus.{Delivers, GivesTpdu, IsPrepared};
+ghost use Rattle.run_steps.specs.Runs.{machine_of};
+ghost use Rattle.run_steps.specs.Showing.{ShowsCourse, TpduShows};
+ghost use Rattle.run_steps.specs.Stepping.{seen};
+ghost use Rattle.run_steps.specs.Tallies.{Tallies, tally};
+
+use crate::carriers::reply_of;
+use crate::ends::CardEnd;
+use crate::steps::{Reply, write_reply};
+use applet_trait::Applet;
+use byte_streams::{Failed, Sink};
+use card_model::runs_are_counted;
+use script_form::write_command;
+use store_form::Store;
+use t0_link::{Link, is_passed};
+use uicc_types::Answer;
+
+// Sets the plan that waits, where an APDU is passed, and answers whether the device was given one.
+fn prepare<S: Store, B: Applet>(end: &mut CardEnd<S, B>, tpdu: &[u8]) -> bool
+    ensures { (kept : Option AnyAnswer) → IsPrepared (link_answer kept tpdu.now) end.old result end.new }
+{
+    let passed = is_passed(tpdu);
+    if passed { end.set_plan() } else { false }
+}
+
+// Gives the link a TPDU, and answers what came of it; an answer stands in `answer`.
+fn deliver<S: Store, B: Applet>(
+    link: &mut Link,
+    end: &mut CardEnd<S, B>,
+    tpdu: &[u8],
+    answer: &mut Answer,
+) -> Reply
+    ensures delivers { (old : Machine) → machine_of end.old.parts ≡ Some old
+        → Delivers old (link_answer link.old tpdu.now) (seen result answer.new) link.new end.old end.new }
+    ensures shows { ShowsCourse (link_answer link.old tpdu.now) (seen result answer.new) link.new end.old end.new }
+    ensures stays { (IsPassed (link_answer link.old tpdu.now) → ⊥) → end.new ≡ end.old }
+    ensures kept { end.old.parts.meter.faults ≤ end.new.parts.meter.faults }
+{
+    runs_are_counted();
+    let is_set = prepare(end, tpdu);
+    let outcome = link.exchange(end, tpdu, answer);
+    end.clear_plan(is_set);
+    reply_of(outcome)
+}
+
+/// Takes a TPDU, and writes what it comes to: its own line, and the link's answer, or that power was lost or was not there. Where the
+/// link passes an APDU, the plan that waits is set before. Where the sink fails in the first line, the link is given nothing. `answer`
+/// is a place for the link's answer.
+pub fn take_tpdu<S: Store, B: Applet, W: Sink>(
+    link: &mut Link,
+    end: &mut CardEnd<S, B>,
+    tpdu: &[u8],
+    answer: &mut Answer,
+    trace: &mut W,
+) -> Result<(), Failed>
+    requires { length tpdu.now ≤ LONGEST_COMMAND }
+    ensures gives { (old : Machine) (before : List ℕ) → machine_of end.old.parts ≡ Some old
+        → W.taken trace.old ≡ Some before
+        → GivesTpdu result old before tpdu.now (link_answer link.old tpdu.now) link.old link.new
+        (moment_at end.old (W.taken trace.old)) (moment_at end.new (W.taken trace.new)) }
+    ensures shows { (before : List ℕ) → W.taken trace.old ≡ Some before
+        → TpduShows result before tpdu.now (link_answer link.old tpdu.now) link.old link.new
+        (moment_at end.old (W.taken trace.old)) (moment_at end.new (W.taken trace.new)) }
+    ensures stays { (IsPassed (link_answer link.old tpdu.now) → ⊥) → end.new ≡ end.old }
+    ensures tallies { Tallies (tally W.Sink end.old trace.old) (tally W.Sink end.new trace.new) (IsErr result) }
+{
+    match write_command(trace, tpdu) {
+        Ok(()) => {
+            let reply = deliver(link, end, tpdu, answer);
+            match write_reply(trace, reply, answer) {
+                Ok(()) => Ok(()),
+                Err(_) => Err(Failed),
+            }
+        }
+        Err(Failed) => Err(Failed),
+    }
+}

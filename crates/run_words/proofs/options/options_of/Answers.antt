@@ -1,6 +1,0 @@
-use Rattle.std.proofs.Common.{string_bytes}
-use Rattle.run_words.proofs.OptionLemmas.{few_options}
-use Rattle.run_words.proofs.options.options_of.Goals as goal
-
-pub returns-then-words-gt-MOST_WORDS : goal.returns-then-words-gt-MOST_WORDS
-returns-then-words-gt-MOST_WORDS c = few_options string_bytes c.args.before c.args.words.now c.if-words-gt-MOST_WORDS.true

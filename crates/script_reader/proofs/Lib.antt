@@ -1,0 +1,2 @@
+pub mod AreReadLemmas
+pub mod BehindLemmas

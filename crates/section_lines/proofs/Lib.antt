@@ -1,0 +1,3 @@
+mod ReadingLemmas
+pub mod RowsHaveBoxesLemmas
+pub mod WithLinesLemmas

@@ -1,0 +1,4 @@
+pub mod Cast
+pub mod RowLaws
+pub mod Script
+pub mod SectionReading

@@ -1,0 +1,2 @@
+pub mod ConsultedLemmas
+mod worked

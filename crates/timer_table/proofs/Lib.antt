@@ -1,0 +1,2 @@
+pub mod IsSmallestFreeLemmas
+mod worked

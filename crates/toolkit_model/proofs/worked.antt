@@ -1,0 +1,3 @@
+-- Definitions, worked out on examples.
+mod HandsetSessions
+mod Runs

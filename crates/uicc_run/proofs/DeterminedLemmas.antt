@@ -1,0 +1,154 @@
+-- What is told of the same lines twice, from the same card, is one where nothing fails.
+use Rattle.std.proofs.Common.{◌≡◌, ℕ, false, map, List, [], ◌∷◌, ◌++◌, Option, Some, None, Result, Ok, Err, refl, sym, ap, ◌∙◌, subst, inl, append-nil}
+use Rattle.list_laws.proofs.ContainsLemmas.{front_of, back_of}
+use Rattle.uicc_types.specs.declared.answers.Answer.{Answer}
+use Rattle.uicc_types.specs.declared.runs.Step.{Step}
+use Rattle.uicc_types.specs.declared.runs.Step.TheVariants as step
+use Rattle.uicc_types.specs.declared.runs.TraceItem.{TraceItem}
+use Rattle.uicc_types.specs.declared.runs.TraceItem.TheVariants as item
+use Rattle.t0_link.specs.Linking.{Answers, Course, Passes, link_answer}
+use Rattle.script_form.specs.declared.lines.ScriptLine.{ScriptLine}
+use Rattle.card_state.specs.Persistent.{Persistent}
+use Rattle.applet_trait.specs.Minds.{AppletState}
+use Rattle.card_model.specs.Counts.{is_cut, is_failure}
+use Rattle.card_model.specs.Runs.{StepGives, IsRun}
+use Rattle.card_model.specs.States.{Machine}
+use Rattle.card_laws.specs.FaultLaws.{RunsAreOne}
+use Rattle.card_laws.specs.Faults.{ShowsNoCut, ShowsNoFailure}
+use Rattle.handset_model.specs.Legal.{TraceEntry}
+use Rattle.run_steps.specs.Runs.{text_of}
+use Rattle.run_steps.specs.Tpdus.{CourseGives}
+use Rattle.run_steps.specs.Shown.{kept_over, shown_for, shown_over}
+use Rattle.long_runs.specs.LoadLines.{made_lines}
+use Rattle.long_runs.specs.Counts.{counts_of}
+use Rattle.phone_runs.specs.LoadRuns.{all_heard, entry_line}
+use Rattle.phone_runs.specs.Effects.{phone_lines}
+use Rattle.phone_runs.specs.Laws.{PhoneRunsAreOne}
+use Rattle.phone_runs.specs.Runs.{IsPhoneRun}
+use Rattle.phone_runs.specs.Traces.{entries_text}
+use Rattle.uicc_run.specs.Accounts.{Account, AreTold, Deed, IsTold, Takes, Transfers, joined}
+use Rattle.uicc_run.specs.Determined.{LoadsAreOne, ServedTracesAreOne, TracesAreOne}
+use Rattle.uicc_run.specs.Loading.{IsFixedCard}
+use Rattle.uicc_run.specs.Playing.{IsOpened}
+use Rattle.uicc_run.specs.Runs.{first_machine}
+use Rattle.uicc_run.specs.Steps.{deeds}
+
+abbrev NotFailed : TraceItem → Type 0
+NotFailed seen = is_failure seen ≡ false
+
+abbrev NotCut : TraceItem → Type 0
+NotCut seen = is_cut seen ≡ false
+
+abbrev Calm : List TraceItem → Type 0
+Calm items = ShowsNoFailure items × ShowsNoCut items
+
+-- the parts of an account of one thing and then others
+calm_parts : (account first others : Account) → account ≡ joined first others → Calm account.own → Calm first.own × Calm others.own
+calm_parts account first others is calm =
+    let all : Calm (first.own ++ others.own) = subst (λ (a : Account). Calm a.own) is calm in
+    ((front_of NotFailed first.own others.own all.0, front_of NotCut first.own others.own all.1), (back_of NotFailed first.own others.own all.0, back_of NotCut first.own others.own all.1))
+
+-- the second of two items
+abbrev second_of : List TraceItem → TraceItem
+second_of (first ∷ second ∷ more) = second
+second_of _ = item.Off
+
+run_of : (old new : Machine) (step : Step) (own : List TraceItem) → StepGives old step own new → IsRun old (step ∷ []) own new
+run_of old new step own gives = inl (record { front = own; middle = new; back = []; first = gives; rest = record { seen = refl; stays = refl }; seen = sym (append-nil own) })
+
+module _ (law : RunsAreOne) where
+  one_step : (old new left : Machine) (step : Step) (own other : List TraceItem) → StepGives old step own new → StepGives old step other left → Calm own → Calm other → (own ≡ other) × (new ≡ left)
+  one_step old new left step own other a b calm calm' = law old new left (step ∷ []) own other (run_of old new step own a) (run_of old left step other b) calm.0 calm.1 calm'.0 calm'.1
+
+  -- what is told of a step, or of a TPDU, and where link and card stand then
+  abbrev AreOne : Account → Account → Option Answer → Option Answer → Machine → Machine → Type 0
+  AreOne account other after after' new left = (account.own ≡ other.own) × (account.shown ≡ other.shown) × (after ≡ after') × (new ≡ left)
+
+  one_course : (course : Course) (tpdu : List ℕ) (old new left : Machine) (own other : List TraceItem) (reply reply' : TraceItem) (after after' : Option Answer)
+      → CourseGives course old own reply after new → CourseGives course old other reply' after' left → Calm own → Calm other
+      → (own ≡ other) × (shown_for tpdu reply ≡ shown_for tpdu reply') × (after ≡ after') × (new ≡ left)
+  one_course (Answers linked) tpdu old new left own other reply reply' after after' a b calm calm' =
+      (a.silent ∙ sym b.silent, ap (shown_for tpdu) (a.seen ∙ sym b.seen), a.keeps ∙ sym b.keeps, a.stays ∙ sym b.stays)
+  one_course (Passes apdu make) tpdu old new left own other reply reply' after after' a b calm calm' =
+      let same = one_step old new left (step.Apdu apdu) own other a.gives b.gives calm calm' in
+      let shown : a.shown ≡ b.shown = ap second_of (sym a.came ∙ same.0 ∙ b.came) in
+      (same.0, ap (shown_for tpdu) (a.seen ∙ ap (shown_over make) shown ∙ sym b.seen), a.keeps ∙ ap (kept_over make) shown ∙ sym b.keeps, same.1)
+
+  one_deed : (deed : Deed) (kept : Option Answer) (old new left : Machine) (account other : Account) (after after' : Option Answer)
+      → IsTold deed kept old account after new → IsTold deed kept old other after' left → Calm account.own → Calm other.own → AreOne account other after after' new left
+  one_deed (Takes step) kept old new left account other after after' a b calm calm' =
+      let same = one_step old new left step account.own other.own a.gives b.gives calm calm' in
+      (same.0, a.shown_is ∙ same.0 ∙ sym b.shown_is, a.keeps ∙ sym b.keeps, same.1)
+  one_deed (Transfers tpdu) kept old new left account other after after' a b calm calm' =
+      let same = one_course (link_answer kept tpdu) tpdu old new left account.own other.own a.reply b.reply after after' a.gives b.gives calm calm' in
+      (same.0, a.shown_is ∙ same.1 ∙ sym b.shown_is, same.2, same.3)
+
+  pub one_account : (deeds : List Deed) (kept : Option Answer) (old new left : Machine) (account other : Account) (after after' : Option Answer)
+      → AreTold deeds kept old account after new → AreTold deeds kept old other after' left → Calm account.own → Calm other.own → (account.shown ≡ other.shown) × (new ≡ left)
+  one_account [] kept old new left account other after after' a b calm calm' = (ap (λ (x : Account). x.shown) (a.account_is ∙ sym b.account_is), a.stays ∙ sym b.stays)
+  one_account (deed ∷ more) kept old new left account other after after' a b calm calm' =
+      let mine = calm_parts account a.first a.others a.account_is calm in
+      let theirs = calm_parts other b.first b.others b.account_is calm' in
+      let here = one_deed deed kept old a.middle b.middle a.first b.first a.between b.between a.told b.told mine.0 theirs.0 in
+      let moved : AreTold more b.between a.middle b.others after' left = subst (λ (middle : Machine). AreTold more b.between middle b.others after' left) (sym here.3) b.rest in
+      let rest' : AreTold more a.between a.middle b.others after' left = subst (λ (between : Option Answer). AreTold more between a.middle b.others after' left) (sym here.2) moved in
+      let rest = one_account more a.between a.middle new left a.others b.others after after' a.rest rest' mine.1 theirs.1 in (
+        ap (λ (x : Account). x.shown) a.account_is ∙ ap (λ (front : List TraceItem). front ++ a.others.shown) here.1 ∙ ap (λ (back : List TraceItem). b.first.shown ++ back) rest.0
+            ∙ sym (ap (λ (x : Account). x.shown) b.account_is),
+        rest.1,
+      )
+
+-- ---- the card that is opened
+
+abbrev value_of : {X E : Type 0} → X → Result X E → X
+value_of other (Ok value) = value
+value_of other (Err fault) = other
+
+abbrev there_of : {X : Type 0} → X → Option X → X
+there_of other None = other
+there_of other (Some value) = value
+
+pub one_start : (boxes : List (Option AppletState)) (first : Option Persistent) (memory : Result Persistent ℕ) (section : List ScriptLine) (start other : Persistent)
+    → IsOpened boxes first memory section start → IsOpened boxes first memory section other → start ≡ other
+one_start boxes None memory section start other a b = ap (value_of start) (sym a.1 ∙ b.1)
+one_start boxes (Some bare) memory section start other a b = ap (λ (made : Result (Option Persistent) _). there_of start (value_of None made)) (sym a ∙ b)
+
+pub traces_are_one : RunsAreOne → TracesAreOne
+traces_are_one law given left left' end end' now now' run other same_section same_lines calm calm' =
+    let opened : IsOpened given.boxes given.first given.memory run.section other.start = subst (λ (section : List ScriptLine). IsOpened given.boxes given.first given.memory section other.start) (sym same_section) other.lines.opened in
+    let start : run.start ≡ other.start = one_start given.boxes given.first given.memory run.section run.start other.start run.lines.opened opened in
+    let lines : AreTold (deeds run.played) None (first_machine other.start given.boxes) other.account other.kept other.machine =
+    subst (λ (played : List ScriptLine). AreTold (deeds played) None (first_machine other.start given.boxes) other.account other.kept other.machine) (sym same_lines) other.are_told in
+    let told : AreTold (deeds run.played) None (first_machine run.start given.boxes) other.account other.kept other.machine =
+    subst (λ (held : Persistent). AreTold (deeds run.played) None (first_machine held given.boxes) other.account other.kept other.machine) (sym start) lines in
+    let same = one_account law (deeds run.played) None (first_machine run.start given.boxes) run.machine other.machine run.account other.account run.kept other.kept run.are_told told calm calm' in
+    (run.written ∙ ap (λ (shown : List TraceItem). Some (given.before ++ text_of shown)) same.0 ∙ sym other.written, run.stands ∙ ap (λ (m : Machine). Some m.card.persistent) same.1 ∙ sym other.stands)
+
+-- ---- where a handset serves the card
+
+pub served_are_one : PhoneRunsAreOne → ServedTracesAreOne
+served_are_one law given left left' end end' now now' run other same_section same_lines calm calm' =
+    let opened : IsOpened given.boxes given.first given.memory run.section other.start = subst (λ (section : List ScriptLine). IsOpened given.boxes given.first given.memory section other.start) (sym same_section) other.lines_are.opened in
+    let start : run.start ≡ other.start = one_start given.boxes given.first given.memory run.section run.start other.start run.lines_are.opened opened in
+    let theirs : IsPhoneRun (first_machine run.start given.boxes) other.log other.machine = subst (λ (held : Persistent). IsPhoneRun (first_machine held given.boxes) other.log other.machine) (sym start) other.run in
+    let same = law (first_machine run.start given.boxes) run.machine other.machine (phone_lines run.played) run.log other.log
+    (record { run = run.run; lines_are = run.told; rests = run.rests; failures = calm.0; cuts = calm.1 })
+    (record { run = theirs; lines_are = other.told ∙ ap phone_lines (sym same_lines); rests = other.rests; failures = calm'.0; cuts = calm'.1 }) in (
+      run.written ∙ ap (λ (entries : List TraceEntry). Some (given.before ++ entries_text entries)) same.shows ∙ sym other.written,
+      run.stands ∙ ap (λ (m : Machine). Some m.card.persistent) same.card ∙ sym other.stands,
+    )
+
+-- the card of a long run is one
+one_fixed : (boxes : List (Option AppletState)) (card other : Persistent) → IsFixedCard boxes card → IsFixedCard boxes other → card ≡ other
+one_fixed boxes card other a b = ap (λ (made : Result (Option Persistent) _). there_of card (value_of None made)) (sym a ∙ b)
+
+pub loads_are_one : PhoneRunsAreOne → LoadsAreOne
+loads_are_one law given start count lines lines' counts counts' leaves leaves' run other calm calm' =
+    let card : run.card ≡ other.card = one_fixed given.boxes run.card other.card run.is_fixed other.is_fixed in
+    let theirs : IsPhoneRun (first_machine run.card given.boxes) other.counted.log other.counted.machine = subst (λ (held : Persistent). IsPhoneRun (first_machine held given.boxes) other.counted.log other.counted.machine) (sym card) other.counted.run in
+    let same = law (first_machine run.card given.boxes) run.counted.machine other.counted.machine (all_heard (made_lines start count)) run.counted.log other.counted.log
+    (record { run = run.counted.run; lines_are = run.counted.lines_are; rests = run.counted.rests; failures = calm.0; cuts = calm.1 })
+    (record { run = theirs; lines_are = other.counted.lines_are; rests = other.counted.rests; failures = calm'.0; cuts = calm'.1 }) in (
+      run.counted.counts_are ∙ ap (λ (entries : List TraceEntry). counts_of (map entry_line entries)) same.shows ∙ sym other.counted.counts_are,
+      run.left.held ∙ run.counted.stands ∙ ap (λ (m : Machine). Some m.card.persistent) same.card ∙ sym other.counted.stands ∙ sym other.left.held,
+    )

@@ -1,0 +1,78 @@
+-- A run whose card was open ends as its lines do.
+use Rattle.std.proofs.Common.{◌≡◌, ℕ, Result, Ok, Err, refl, sym, subst, inl, is_some, IsErr}
+use Rattle.uicc_types.specs.Counts.{CountsFailure, Meter, Rose}
+use Rattle.script_reader.specs.declared.behind.PlayEnd.{PlayEnd}
+use Rattle.script_reader.specs.declared.behind.PlayEnd.TheVariants as play
+use Rattle.long_runs.specs.declared.counts.Counts.{Counts}
+use Rattle.phone_runs.specs.declared.counting.MemoryFailed.{MemoryFailed}
+use Rattle.uicc_run.specs.Causes.{EndsFor, EndsLoad}
+use Rattle.uicc_run.specs.Endings.{status_for}
+use Rattle.uicc_run.specs.Loading.{ending_for_load}
+use Rattle.uicc_run.specs.Worlds.{World}
+use Rattle.uicc_run.specs.declared.endings.Ending.{Ending}
+use Rattle.uicc_run.specs.declared.endings.Ending.TheVariants.{Played}
+
+for_its_source : (end : PlayEnd) → status_for (Played end) ≡ 3 → end ≡ play.ReadFailed
+for_its_source play.Finished is = absurd (cc)
+for_its_source (play.BadLine number) is = absurd (cc)
+for_its_source play.ReadFailed is = refl
+for_its_source play.SinkFailed is = absurd (cc)
+for_its_source play.ResetFailed is = absurd (cc)
+
+for_its_sink : (end : PlayEnd) → status_for (Played end) ≡ 4 → end ≡ play.SinkFailed
+for_its_sink play.Finished is = absurd (cc)
+for_its_sink (play.BadLine number) is = absurd (cc)
+for_its_sink play.ReadFailed is = absurd (cc)
+for_its_sink play.SinkFailed is = refl
+for_its_sink play.ResetFailed is = absurd (cc)
+
+for_its_memory : (end : PlayEnd) → status_for (Played end) ≡ 6 → end ≡ play.ResetFailed
+for_its_memory play.Finished is = absurd (cc)
+for_its_memory (play.BadLine number) is = absurd (cc)
+for_its_memory play.ReadFailed is = absurd (cc)
+for_its_memory play.SinkFailed is = absurd (cc)
+for_its_memory play.ResetFailed is = refl
+
+same_end : (end other : PlayEnd) → Played end ≡ Played other → end ≡ other
+same_end end other is = cc is
+
+pub ends_played : (end : PlayEnd) (before after : World) (TraceIsSame BoxesAreSame : Type 0) → CountsFailure before.source after.source (end ≡ play.ReadFailed) → CountsFailure before.sink after.sink (end ≡ play.SinkFailed)
+    → (end ≡ play.ResetFailed → Rose before.meter.faults after.meter.faults) → is_some after.taken ≡ is_some before.taken → EndsFor (Played end) before after TraceIsSame ⊥ BoxesAreSame
+ends_played end before after TraceIsSame BoxesAreSame source sink memory tells = record {
+  source_cause = record { kept = source.kept; rose = λ three. source.rose (for_its_source end three) };
+  sink_cause = record { kept = sink.kept; rose = λ four. sink.rose (for_its_sink end four) };
+  memory_cause = λ six. inl (memory (for_its_memory end six));
+  reset_cause = λ reset. memory (same_end end play.ResetFailed reset);
+  tells = tells;
+  unshown = λ none. absurd none;
+  untouched = λ none. none;
+  boxes = λ none. absurd none;
+}
+
+-- a long run ends with its counts, or for its memory
+ends_so : (lines : ℕ) (outcome : Result Counts MemoryFailed) (old new : Meter) (BoxesAreSame : Type 0) → (IsErr outcome → Rose old.faults new.faults) → EndsLoad (ending_for_load lines outcome) old new ⊥ BoxesAreSame
+ends_so lines (Ok counts) old new BoxesAreSame failed = record {
+  used = λ is. cc is;
+  played = λ end is. cc is;
+  unread = λ is. cc is;
+  unwritten = λ is. cc is;
+  untouched = λ none. none;
+  boxes = λ none. absurd none;
+  memory_cause = λ is. absurd (cc is);
+}
+ends_so lines (Err fault) old new BoxesAreSame failed = record {
+  used = λ is. cc is;
+  played = λ end is. cc is;
+  unread = λ is. cc is;
+  unwritten = λ is. cc is;
+  untouched = λ none. none;
+  boxes = λ none. absurd none;
+  memory_cause = λ is. inl (failed refl);
+}
+
+pub ends_counted : (lines : ℕ) (outcome : Result Counts MemoryFailed) (ending : Ending) (old new : Meter) (BoxesAreSame : Type 0) → ending ≡ ending_for_load lines outcome → (IsErr outcome → Rose old.faults new.faults) → EndsLoad ending old new ⊥ BoxesAreSame
+ends_counted lines outcome ending old new BoxesAreSame is failed = subst (λ (e : Ending). EndsLoad e old new ⊥ BoxesAreSame) (sym is) (ends_so lines outcome old new BoxesAreSame failed)
+
+-- what rose between two meters rose between two others that counted the same
+pub rose_as : (old mid new last : Meter) → mid.faults ≡ old.faults → last ≡ new → Rose mid.faults new.faults → Rose old.faults last.faults
+rose_as old mid new last first same rose = subst (λ (m : Meter). Rose old.faults m.faults) (sym same) (subst (λ (count : ℕ). Rose count new.faults) first rose)

@@ -1,0 +1,463 @@
+-- From the lines before `start` to the card that is opened.
+use Rattle.std.proofs.Common.{◌≡◌, ℕ, true, false, List, [], ◌∷◌, ◌++◌, Option, Some, None, is_some, Result, Ok, Err, refl, sym, ap, ◌∙◌, arith, inl, inr, option_map, subst, ◌⊎◌, IfSome, IsOkAnd}
+use Rattle.std.proofs.lemmas.List.Elements.{All-nil}
+use Rattle.std.specs.Result.{result_ok}
+use Rattle.list_laws.proofs.IfSomeLemmas.{if_some_at}
+use Rattle.uicc_types.specs.Counts.{Caused, Meter}
+use Rattle.uicc_types.specs.declared.plans.TheConstants.Plan.{NONE}
+use Rattle.byte_streams.proofs.ReadingLemmas.{HasRead-start}
+use Rattle.byte_streams.specs.Lines.{lines_within}
+use Rattle.byte_streams.specs.Reading.{at_start, pending}
+use Rattle.script_form.specs.declared.lines.ScriptLine.{ScriptLine}
+use Rattle.script_form.specs.declared.lines.ScriptLine.TheVariants.{Passed, Start, Reset, Df, Transparent, Linear, Cyclic, Fill, Rec, Pin, Row, Apdu, Tpdu, Cut, Fail, ReadFail, Handset, Cmd, Echo, Lose}
+use Rattle.script_reader.proofs.AreReadLemmas.{Say-from_read}
+use Rattle.script_reader.specs.declared.behind.PlayEnd.{PlayEnd}
+use Rattle.script_reader.specs.declared.reader.ScriptReader.{ScriptReader}
+use Rattle.card_state.specs.Migration.{migrated}
+use Rattle.card_state.specs.Persistent.{Persistent}
+use Rattle.card_state.specs.Standing.{stands_for, standing}
+use Rattle.card_state.specs.declared.faults.SectionFault.{SectionFault}
+use Rattle.layout_mount.proofs.MountedLemmas.{read_told}
+use Rattle.applet_trait.specs.Minds.{AppletState}
+use Rattle.card_model.specs.Counts.{IsCounted}
+use Rattle.card_model.specs.Laws.{CountsJoin}
+use Rattle.card_model.specs.States.{IsGood, woken}
+use Rattle.card_core.specs.Cards.{card_of, held_by}
+use Rattle.card_core.specs.Openings.{opened, with_all_shelves}
+use Rattle.card_core.specs.Parts.{CardParts}
+use Rattle.card_core.specs.Boxes.{IsFirstWithoutBox}
+use Rattle.card_core.specs.Starts.{Finds, IsLeftMigrated, FaultLeaves}
+use Rattle.card_core.specs.declared.opening_faults.OpenFault.{OpenFault}
+use Rattle.card_core.specs.declared.opening_faults.OpenFault.TheVariants as fault
+use Rattle.section_lines.specs.SectionReading.{AtStart, InSection}
+use Rattle.section_lines.specs.Script.{described, then_on, with_lines}
+use Rattle.run_steps.specs.Stepping.{moment}
+use Rattle.run_steps.proofs.StandingLemmas.{is_machine}
+use Rattle.uicc_run.specs.Endings.{KeepsBytes}
+use Rattle.uicc_run.specs.Headline.{Comes, FailsToFormat, HasNoMemory, HoldsStart, IsMigratedAtMost, IsNotOpened}
+use Rattle.uicc_run.specs.Opening.{IsGiven, IsMade, IsStarted, ending_for, makes}
+use Rattle.uicc_run.specs.Serving.{ComesTo}
+use Rattle.uicc_run.specs.Playing.{Given, IsOpened, Leaves}
+use Rattle.uicc_run.specs.Scripts.{ReachesStart}
+use Rattle.uicc_run.specs.Steps.{may_stand}
+use Rattle.uicc_run.specs.Unplanned.{IsUnplanned}
+use Rattle.uicc_run.specs.declared.endings.Ending.{Ending}
+use Rattle.uicc_run.specs.declared.endings.Ending.TheVariants.{EepromFailed, FormatFailed, NoMemory}
+
+-- ---- counts
+
+-- a call that met no fault
+pub caused_counted : {Failed Lost : Type 0} → (old new : Meter) → Caused old new Failed Lost → (Failed → ⊥) → (Lost → ⊥) → IsCounted old new [] []
+caused_counted old new caused no_failure no_loss = record {
+  failures = caused.no_fault no_failure;
+  cuts = caused.no_cut no_loss;
+  plans = caused.plans_kept;
+  latest = caused.latest_kept;
+  no_plan = λ none. caused.plan_kept ∙ none;
+}
+
+-- a call that shows nothing, be there a fault in it or none
+pub caused_kept : {Failed Lost : Type 0} → (old new : Meter) → Caused old new Failed Lost → IsUnplanned old new
+caused_kept old new caused = record { faults_kept = caused.faults_kept; cuts_kept = caused.cuts_kept; plans_kept = caused.plans_kept; latest_kept = caused.latest_kept; no_plan = λ none. caused.plan_kept ∙ none }
+
+-- behind what met none
+pub kept_on : {Failed Lost : Type 0} → (first middle last : Meter) → IsCounted first middle [] [] → Caused middle last Failed Lost → IsUnplanned first last
+kept_on first middle last counted caused = record {
+  faults_kept = omega (arith, counted.failures, caused.faults_kept);
+  cuts_kept = omega (arith, counted.cuts, caused.cuts_kept);
+  plans_kept = caused.plans_kept ∙ counted.plans;
+  latest_kept = caused.latest_kept ∙ counted.latest;
+  no_plan = λ none. caused.plan_kept ∙ counted.no_plan none;
+}
+
+counted_kept : (old new : Meter) → IsCounted old new [] [] → IsUnplanned old new
+counted_kept old new counted = record {
+  faults_kept = omega (arith, counted.failures);
+  cuts_kept = omega (arith, counted.cuts);
+  plans_kept = counted.plans;
+  latest_kept = counted.latest;
+  no_plan = counted.no_plan;
+}
+
+-- ---- the card that the lines describe
+
+-- a script that describes a card goes on describing one, and one that describes none doesn't begin
+some_line : (cast : List (Option AppletState)) (more : List ScriptLine) (card : Option Persistent) → ((state : Persistent) → with_lines cast (Some state) more ≡ Ok card → is_some card ≡ true) → (came : Result Persistent SectionFault)
+    → then_on (λ next. with_lines cast next more) (then_on (λ new. Ok (Some new)) came) ≡ Ok card → is_some card ≡ true
+some_line cast more card rest (Ok new) is = rest new is
+some_line cast more card rest (Err fault) is = absurd (cc)
+
+pub some_stays : (cast : List (Option AppletState)) (lines : List ScriptLine) (state : Persistent) (card : Option Persistent) → with_lines cast (Some state) lines ≡ Ok card → is_some card ≡ true
+some_stays cast [] state card is = cc
+some_stays cast (line ∷ more) state card is = some_line cast more card (λ state' is'. some_stays cast more state' card is') (described cast state line) is
+
+no_line : (cast : List (Option AppletState)) (line : ScriptLine) (more : List ScriptLine) (card : Option Persistent) → ((card' : Option Persistent) → with_lines cast None more ≡ Ok card' → is_some card' ≡ false) → with_lines cast None (line ∷ more) ≡ Ok card → is_some card ≡ false
+no_line cast Passed more card rest is = rest card is
+no_line cast Start more card rest is = absurd (cc)
+no_line cast Reset more card rest is = absurd (cc)
+no_line cast (Df path) more card rest is = absurd (cc)
+no_line cast (Transparent path size short rule) more card rest is = absurd (cc)
+no_line cast (Linear path length count short rule) more card rest is = absurd (cc)
+no_line cast (Cyclic path length count short rule) more card rest is = absurd (cc)
+no_line cast (Fill path offset bytes) more card rest is = absurd (cc)
+no_line cast (Rec path number bytes) more card rest is = absurd (cc)
+no_line cast (Pin key value enabled unblock) more card rest is = absurd (cc)
+no_line cast (Row shelf priority content) more card rest is = absurd (cc)
+no_line cast (Apdu bytes) more card rest is = absurd (cc)
+no_line cast (Tpdu bytes) more card rest is = absurd (cc)
+no_line cast (Cut cut) more card rest is = absurd (cc)
+no_line cast (Fail fail) more card rest is = absurd (cc)
+no_line cast (ReadFail call) more card rest is = absurd (cc)
+no_line cast (Handset said) more card rest is = absurd (cc)
+no_line cast (Cmd bytes) more card rest is = absurd (cc)
+no_line cast (Echo channel count) more card rest is = absurd (cc)
+no_line cast (Lose channel) more card rest is = absurd (cc)
+
+pub none_stays : (cast : List (Option AppletState)) (lines : List ScriptLine) (card : Option Persistent) → with_lines cast None lines ≡ Ok card → is_some card ≡ false
+none_stays cast [] card is = cc
+none_stays cast (line ∷ more) card is = no_line cast line more card (none_stays cast more) is
+
+-- a section that describes no card is that of a card that is opened, and one that describes a card isn't
+first_none : (cast : List (Option AppletState)) (first : Option Persistent) (section : List ScriptLine) → with_lines cast first section ≡ Ok None → first ≡ None
+first_none cast (Some bare) section described = let some = some_stays cast section bare None described in absurd (cc)
+first_none cast None section described = refl
+
+first_some : (cast : List (Option AppletState)) (first : Option Persistent) (section : List ScriptLine) (card : Option Persistent) → with_lines cast first section ≡ Ok card → is_some card ≡ true → first ≡ None → ⊥
+first_some cast first section card described some none =
+    let no_card = none_stays cast section card (ap (λ f. with_lines cast f section) (sym none) ∙ described) in cc
+
+-- ---- what a memory stands for
+
+pub stands_found : (mark : ℕ) (told : Option (List ℕ)) (found : Result Persistent ℕ) → option_map (stands_for mark) told ≡ Some found → standing mark told ≡ result_ok found
+unfolding standing
+stands_found mark None found is = absurd (cc)
+stands_found mark (Some content) found is = let same : stands_for mark content ≡ found = cc in ap result_ok same
+
+ok_of : (found : Result Persistent ℕ) (start : Persistent) → result_ok found ≡ Some start → found ≡ Ok start
+ok_of (Ok state) start is = let same : state ≡ start = cc in ap Ok same
+ok_of (Err at) start is = absurd (cc)
+
+found_standing : (mark : ℕ) (told : Option (List ℕ)) (start : Persistent) → standing mark told ≡ Some start → option_map (stands_for mark) told ≡ Some (Ok start)
+unfolding standing
+found_standing mark None start is = absurd (cc)
+found_standing mark (Some content) start is = ap Some (ok_of (stands_for mark content) start is)
+
+found_in : (mark : ℕ) (told : Option (List ℕ)) → is_some told ≡ true → (found : Result Persistent ℕ) × (option_map (stands_for mark) told ≡ Some found)
+found_in mark None tells = absurd (cc)
+found_in mark (Some content) tells = (stands_for mark content, refl)
+
+pub memory_tells : (mark : ℕ) (told : Option (List ℕ)) (found : Result Persistent ℕ) → option_map (stands_for mark) told ≡ Some found → is_some told ≡ true
+memory_tells mark None found is = absurd (cc)
+memory_tells mark (Some content) found is = refl
+
+found_no_card : (mark : ℕ) (told : Option (List ℕ)) (at : ℕ) → is_some told ≡ true → IfSome told (λ content. stands_for mark content ≡ Err at) → option_map (stands_for mark) told ≡ Some (Err at)
+found_no_card mark None at tells is = absurd (cc)
+found_no_card mark (Some content) at tells is = ap Some is
+
+-- a card that lacks a box
+missing_in : (boxes : List (Option AppletState)) (shelf : ℕ) (found : Result Persistent ℕ) → IsOkAnd found (λ state. IsFirstWithoutBox state.rows boxes shelf)
+    → (start : Persistent) × (found ≡ Ok start) × IsFirstWithoutBox start.rows boxes shelf
+missing_in boxes shelf (Ok state) is = (state, refl, is)
+missing_in boxes shelf (Err at) is = absurd is
+
+found_missing : (boxes : List (Option AppletState)) (shelf mark : ℕ) (told : Option (List ℕ)) → is_some told ≡ true → IfSome told (λ content. IsOkAnd (stands_for mark content) (λ state. IsFirstWithoutBox state.rows boxes shelf))
+    → (start : Persistent) × (option_map (stands_for mark) told ≡ Some (Ok start)) × IsFirstWithoutBox start.rows boxes shelf
+found_missing boxes shelf mark None tells is = absurd (cc)
+found_missing boxes shelf mark (Some content) tells is = let found = missing_in boxes shelf (stands_for mark content) is in (found.0, ap Some found.1, found.2)
+
+-- after a fault
+pub still : (mark : ℕ) (told told_then : Option (List ℕ)) (memory : Result Persistent ℕ) → option_map (stands_for mark) told ≡ Some memory → IsLeftMigrated mark told told_then → IsMigratedAtMost memory (standing mark told_then)
+still mark told told_then (Ok state) is left =
+    if_some_at (standing mark told) (λ s. (standing mark told_then ≡ Some s) ⊎ (standing mark told_then ≡ Some (migrated s))) state left.card (stands_found mark told (Ok state) is)
+still mark told told_then (Err at) is left = let none = stands_found mark told (Err at) is in ap (λ t. standing mark t) (left.no_card none) ∙ none
+
+still_made : (card : Persistent) (mark : ℕ) (told told_then : Option (List ℕ)) → is_some told ≡ true → ((found : Result Persistent ℕ) → option_map (stands_for mark) told ≡ Some found → found ≡ Ok card) → IsLeftMigrated mark told told_then
+    → IsMigratedAtMost (Ok card) (standing mark told_then)
+still_made card mark told told_then tells made left =
+    let found = found_in mark told tells in
+    still mark told told_then (Ok card) (found.1 ∙ ap Some (made found.0 found.1)) left
+
+-- ---- formatting
+
+-- what a formatted store stands for
+formatted : (mark : ℕ) (told : Option (List ℕ)) (state : Persistent) (found : Result Persistent ℕ) → IfSome told (λ content. stands_for mark content ≡ Ok state) → option_map (stands_for mark) told ≡ Some found → found ≡ Ok state
+formatted mark None state found stands is = absurd (cc)
+formatted mark (Some content) state found stands is = let same : stands_for mark content ≡ found = cc in sym same ∙ stands
+
+opens_with : (given : Given) (section : List ScriptLine) (state start : Persistent) → (first : Option Persistent) → with_lines given.boxes first section ≡ Ok (Some state) → state ≡ start → IsOpened given.boxes first given.memory section start
+opens_with given section state start (Some bare) described same = described ∙ ap (λ s. Ok (Some s)) same
+opens_with given section state start None described same = let none = none_stays given.boxes section (Some state) described in absurd (cc)
+
+opens_without : (given : Given) (section : List ScriptLine) (start : Persistent) → (first : Option Persistent) → with_lines given.boxes first section ≡ Ok None → given.memory ≡ Ok start → IsOpened given.boxes first given.memory section start
+opens_without given section start (Some bare) described holds = let some = some_stays given.boxes section bare None described in absurd (cc)
+opens_without given section start None described holds = (described, holds)
+
+-- the store was made ready, or left as it was
+pub made_so : {Failed Lost : Type 0} → (given : Given) (script : ScriptReader) (left taken : Option (List ℕ)) (card : Option Persistent) (mark mark_then : ℕ) (told told_then : Option (List ℕ)) (old new : Meter) (boxes : List (Option AppletState))
+    → AtStart given.boxes given.first given.text script left card → taken ≡ Some given.before → option_map (stands_for mark) told ≡ Some given.memory → old ≡ given.meter → boxes ≡ given.boxes
+    → makes card mark told told_then → mark_then ≡ mark → Caused old new Failed Lost → (Failed → ⊥) → (Lost → ⊥) → IsMade given script left taken (option_map (stands_for mark_then) told_then) new boxes
+made_so given script left taken (Some state) mark mark_then told told_then old new boxes at taken_is memory meter boxes_are makes_so same caused no_failure no_loss =
+    let now : (found : Result Persistent ℕ) → option_map (stands_for mark_then) told_then ≡ Some found → found ≡ Ok state =
+    λ found is. formatted mark told_then state found makes_so (ap (λ m. option_map (stands_for m) told_then) (sym same) ∙ is) in
+    record {
+      card = Some state;
+      at = at;
+      opens = λ start is. let found = now (Ok start) is in let one : state ≡ start = cc in opens_with given at.section state start given.first at.described one;
+      described = λ other found same is. now found is ∙ ap Ok (let one : state ≡ other = cc in one);
+      no_card = λ place is. let none = now (Err place) is in absurd (cc);
+      kept = λ none. absurd (first_some given.boxes given.first at.section (Some state) at.described refl none);
+      taken_is = taken_is;
+      counted = subst (λ m. IsCounted m new [] []) meter (caused_counted old new caused no_failure no_loss);
+      boxes_are = boxes_are;
+    }
+made_so given script left taken None mark mark_then told told_then old new boxes at taken_is memory meter boxes_are makes_so same caused no_failure no_loss =
+    let now : option_map (stands_for mark_then) told_then ≡ Some given.memory = ap (λ m. option_map (stands_for m) told_then) same ∙ ap (λ t. option_map (stands_for mark) t) makes_so ∙ memory in
+    record {
+      card = None;
+      at = at;
+      opens = λ start is. let holds : given.memory ≡ Ok start = cc in opens_without given at.section start given.first at.described holds;
+      described = λ other found same is. absurd (cc);
+      no_card = λ place is. first_none given.boxes given.first at.section at.described;
+      kept = λ none. now;
+      taken_is = taken_is;
+      counted = subst (λ m. IsCounted m new [] []) meter (caused_counted old new caused no_failure no_loss);
+      boxes_are = boxes_are;
+    }
+
+-- ---- opening
+
+pub some_of : {A : Type 0} → (o : Option A) → is_some o ≡ true → (x : A) × (o ≡ Some x)
+some_of None is = absurd (cc)
+some_of (Some x) is = (x, refl)
+
+-- the card was opened
+pub starts : (given : Given) (script : ScriptReader) (left taken : Option (List ℕ)) (mark : ℕ) (told : Option (List ℕ)) (meter : Meter) (boxes : List (Option AppletState)) (parts : CardParts) → CountsJoin
+    → IsMade given script left taken (option_map (stands_for mark) told) meter boxes → is_some (standing mark told) ≡ true → card_of parts ≡ opened (standing mark told) boxes → parts.is_on ≡ true → parts.is_due ≡ false → IfSome (card_of parts) IsGood → Caused meter parts.meter ⊥ ⊥
+    → IsStarted given script left (moment parts taken NONE)
+starts given script left taken mark told meter boxes parts join made holds is on rests good caused =
+    let start = some_of (standing mark told) holds in
+    let card : card_of parts ≡ Some (woken (migrated start.0) (with_all_shelves given.boxes)) =
+    is ∙ ap (λ h. opened h boxes) start.1 ∙ ap (λ b. Some (woken (migrated start.0) (with_all_shelves b))) made.boxes_are in
+    record {
+      found = made.at.given;
+      section = made.at.section;
+      start = start.0;
+      lines = record {
+        read = made.at.read;
+        opened = made.opens start.0 (found_standing mark told start.0 start.1);
+        good = if_some_at (card_of parts) IsGood (woken (migrated start.0) (with_all_shelves given.boxes)) good card;
+        in_place = All-nil (λ line. may_stand given.is_served line ≡ true);
+      };
+      follows = made.at.follows;
+      begins = record {
+        told = is_machine parts (woken (migrated start.0) (with_all_shelves given.boxes)) true card on;
+        written = made.taken_is;
+        counted = join given.meter meter parts.meter [] [] [] [] made.counted (caused_counted meter parts.meter caused (λ so. so) (λ so. so));
+        waits = refl;
+        rests = rests;
+      };
+    }
+
+-- it was not
+abbrev pub not_opened : (given : Given) (script : ScriptReader) (left taken : Option (List ℕ)) (card held_then : Option Persistent) (meter_then : Meter) (boxes_then : List (Option AppletState)) → AtStart given.boxes given.first given.text script left card → taken ≡ Some given.before
+    → IsUnplanned given.meter meter_then → IsNotOpened given left (record { held = held_then; taken = taken; meter = meter_then; boxes = boxes_then })
+not_opened given script left taken card held_then meter_then boxes_then at is counted = record {
+  found = at.given;
+  more = lines_within script.reader.room (pending script.reader at.follows.reads.rest);
+  section = at.section;
+  card = card;
+  begins = at.follows.reads.lines_are;
+  read = at.read;
+  described = at.described;
+  reach = at.reach;
+  written = is;
+  counted = counted;
+}
+
+abbrev holds_start : (given : Given) (script : ScriptReader) (left taken : Option (List ℕ)) (memory : Option (Result Persistent ℕ)) (held_then : Option Persistent) (meter meter_then : Meter) (boxes boxes_then : List (Option AppletState)) (start : Persistent)
+    → IsMade given script left taken memory meter boxes → IsCounted given.meter meter_then [] [] → memory ≡ Some (Ok start) → held_then ≡ Some start → HoldsStart given left (record { held = held_then; taken = taken; meter = meter_then; boxes = boxes_then })
+holds_start given script left taken memory held_then meter meter_then boxes boxes_then start made counted is holds = record {
+  not_opened = not_opened given script left taken made.card held_then meter_then boxes_then made.at made.taken_is (counted_kept given.meter meter_then counted);
+  start = start;
+  opened = made.opens start is;
+  memory_kept = holds;
+}
+
+-- there was no memory to begin with, and the card's is as it was
+no_memory : (given : Given) (script : ScriptReader) (left taken : Option (List ℕ)) (memory : Option (Result Persistent ℕ)) (held_then : Option Persistent) (meter meter_then : Meter) (boxes boxes_then : List (Option AppletState)) (found : Result Persistent ℕ)
+    → IsMade given script left taken memory meter boxes → IsCounted given.meter meter_then [] [] → memory ≡ Some found → held_then ≡ result_ok found → HasNoMemory given left (record { held = held_then; taken = taken; meter = meter_then; boxes = boxes_then })
+no_memory given script left taken memory held_then meter meter_then boxes boxes_then (Ok start) made counted is holds =
+    record { written = made.taken_is; counted = counted; begun_at_most = inr (not_opened given script left taken made.card held_then meter_then boxes_then made.at made.taken_is (counted_kept given.meter meter_then counted)); memory_kept = inr (holds_start given script left taken memory held_then meter meter_then boxes boxes_then start made counted is holds) }
+no_memory given script left taken memory held_then meter meter_then boxes boxes_then (Err place) made counted is holds =
+    let was = made.kept (made.no_card place is) in
+    let same : Err place ≡ given.memory = cc in
+    record { written = made.taken_is; counted = counted; begun_at_most = inr (not_opened given script left taken made.card held_then meter_then boxes_then made.at made.taken_is (counted_kept given.meter meter_then counted)); memory_kept = inl (holds ∙ ap result_ok same) }
+
+pub refused : (given : Given) (script : ScriptReader) (left taken : Option (List ℕ)) (mark mark_then : ℕ) (told told_then : Option (List ℕ)) (meter meter_then : Meter) (boxes boxes_then : List (Option AppletState)) (why : OpenFault)
+    → CountsJoin → is_some told ≡ true → Finds why mark told (with_all_shelves boxes) → FaultLeaves why mark told told_then → mark_then ≡ mark → Caused meter meter_then (why ≡ fault.Failed) (why ≡ fault.PowerLost)
+    → IsMade given script left taken (option_map (stands_for mark) told) meter boxes
+    → Comes given left (ending_for why) (record { held = standing mark_then told_then; taken = taken; meter = meter_then; boxes = boxes_then })
+refused given script left taken mark mark_then told told_then meter meter_then boxes boxes_then (fault.NotACard at) join tells finds leaves same caused made =
+    let found = found_no_card mark told at tells (read_told told _ finds) in
+    let first = made.no_card at found in
+    let was = made.kept first in
+    record {
+      not_opened = not_opened given script left taken made.card _ meter_then boxes_then made.at made.taken_is (kept_on given.meter meter meter_then made.counted caused);
+      no_section = first;
+      first_failed = cc;
+      memory_kept = ap (λ m. standing m told_then) same ∙ ap (λ t. standing mark t) leaves ∙ stands_found mark told (Err at) found;
+      counted = join given.meter meter meter_then [] [] [] [] made.counted (caused_counted meter meter_then caused (λ so. cc) (λ so. cc));
+    }
+refused given script left taken mark mark_then told told_then meter meter_then boxes boxes_then (fault.NoBox shelf) join tells finds leaves same caused made =
+    let found = found_missing (with_all_shelves boxes) shelf mark told tells (read_told told _ finds) in
+    record {
+      holds = holds_start given script left taken _ _ meter meter_then boxes boxes_then found.0 made (join given.meter meter meter_then [] [] [] [] made.counted (caused_counted meter meter_then caused (λ so. cc) (λ so. cc))) found.1
+          (ap (λ m. standing m told_then) same ∙ ap (λ t. standing mark t) leaves ∙ stands_found mark told (Ok found.0) found.1);
+      first_missing = subst (λ b. IsFirstWithoutBox found.0.rows (with_all_shelves b) shelf) made.boxes_are found.2;
+      counted = join given.meter meter meter_then [] [] [] [] made.counted (caused_counted meter meter_then caused (λ so. cc) (λ so. cc));
+    }
+refused given script left taken mark mark_then told told_then meter meter_then boxes boxes_then fault.Failed join tells finds leaves same caused made = record {
+  not_opened = not_opened given script left taken made.card _ meter_then boxes_then made.at made.taken_is (kept_on given.meter meter meter_then made.counted caused);
+  made_at_most = λ card is. subst (λ m. IsMigratedAtMost (Ok card) (standing m told_then)) (sym same) (still_made card mark told told_then tells (λ found. made.described card found is) leaves);
+  migrated_at_most = λ first. subst (λ m. IsMigratedAtMost given.memory (standing m told_then)) (sym same) (still mark told told_then given.memory (made.kept first) leaves);
+}
+refused given script left taken mark mark_then told told_then meter meter_then boxes boxes_then fault.PowerLost join tells finds leaves same caused made = record {
+  not_opened = not_opened given script left taken made.card _ meter_then boxes_then made.at made.taken_is (kept_on given.meter meter meter_then made.counted caused);
+  made_at_most = λ card is. subst (λ m. IsMigratedAtMost (Ok card) (standing m told_then)) (sym same) (still_made card mark told told_then tells (λ found. made.described card found is) leaves);
+  migrated_at_most = λ first. subst (λ m. IsMigratedAtMost given.memory (standing m told_then)) (sym same) (still mark told told_then given.memory (made.kept first) leaves);
+}
+refused given script left taken mark mark_then told told_then meter meter_then boxes boxes_then fault.Memory join tells finds leaves same caused made =
+    let found = found_in mark told tells in
+    no_memory given script left taken _ _ meter meter_then boxes boxes_then found.0 made (join given.meter meter meter_then [] [] [] [] made.counted (caused_counted meter meter_then caused (λ so. cc) (λ so. cc))) found.1
+    (ap (λ m. standing m told_then) same ∙ ap (λ t. standing mark t) leaves ∙ stands_found mark told found.0 found.1)
+
+-- a fault of a memory that holds no card leaves the bytes as they were
+fault_keeps : (mark : ℕ) (told told_then : Option (List ℕ)) (held : Option Persistent) → standing mark told ≡ held → IsLeftMigrated mark told told_then → KeepsBytes EepromFailed held → told_then ≡ told
+fault_keeps mark told told_then None stands leaves is = leaves.no_card stands
+fault_keeps mark told told_then (Some card) stands leaves is = absurd is
+
+-- and so does a refusal
+pub refusal_keeps : (why : OpenFault) (mark : ℕ) (told told_then : Option (List ℕ)) → FaultLeaves why mark told told_then → KeepsBytes (ending_for why) (standing mark told) → told_then ≡ told
+refusal_keeps (fault.NotACard at) mark told told_then leaves is = leaves
+refusal_keeps (fault.NoBox shelf) mark told told_then leaves is = leaves
+refusal_keeps fault.Failed mark told told_then leaves is = fault_keeps mark told told_then (standing mark told) refl leaves is
+refusal_keeps fault.PowerLost mark told told_then leaves is = fault_keeps mark told told_then (standing mark told) refl leaves is
+refusal_keeps fault.Memory mark told told_then leaves is = leaves
+
+-- what is kept of a memory is kept of one that stands for the same
+pub keeps_so : (ending : Ending) (mark mark_then : ℕ) (told told_then : Option (List ℕ)) → mark_then ≡ mark → told_then ≡ told → KeepsBytes ending (standing mark told) → KeepsBytes ending (standing mark_then told_then)
+keeps_so ending mark mark_then told told_then same_mark same keeps =
+    subst (λ m. KeepsBytes ending (standing m told_then)) (sym same_mark) (subst (λ t. KeepsBytes ending (standing mark t)) (sym same) keeps)
+
+-- what was made stays where there was no memory to open it
+pub stays_made : (ending : Ending) (described : Persistent) (mark : ℕ) (made last : Option (List ℕ)) (held : Option Persistent) → ending ≡ NoMemory → IfSome made (λ content. stands_for mark content ≡ Ok described)
+    → (KeepsBytes ending held → last ≡ made) → IfSome last (λ content. stands_for mark content ≡ Ok described)
+stays_made ending described mark made last held is stands keeps =
+    let kept : KeepsBytes ending held = subst (λ e. KeepsBytes e held) (sym is) tt in
+    subst (λ t. IfSome t (λ content. stands_for mark content ≡ Ok described)) (sym (keeps kept)) stands
+
+-- where no card is described, nothing is made
+pub made_none : (card : Option Persistent) (mark : ℕ) (told told_then : Option (List ℕ)) → card ≡ None → makes card mark told told_then → told_then ≡ told
+made_none None mark told told_then is made = made
+made_none (Some card) mark told told_then is made = absurd (cc)
+
+pub none_is_some : (card : Option Persistent) → card ≡ None → is_some card ≡ true → ⊥
+none_is_some None is some = absurd (cc)
+none_is_some (Some card) is some = absurd (cc)
+
+-- lines that were added to no card describe none
+pub describes_none : (cast : List (Option AppletState)) (text : List ℕ) (script : ScriptReader) (left : Option (List ℕ)) (card : Option Persistent) → AtStart cast None text script left card → card ≡ None
+describes_none cast text script left None at = refl
+describes_none cast text script left (Some state) at = let none = none_stays cast at.section (Some state) at.described in absurd (cc)
+
+-- the memory could not be formatted
+pub not_made : {Failed Lost : Type 0} → (given : Given) (script : ScriptReader) (left taken : Option (List ℕ)) (card held_then : Option Persistent) (meter meter_then : Meter) (boxes_then : List (Option AppletState)) → AtStart given.boxes given.first given.text script left card → taken ≡ Some given.before
+    → is_some card ≡ true → meter ≡ given.meter → Caused meter meter_then Failed Lost → FailsToFormat given left (record { held = held_then; taken = taken; meter = meter_then; boxes = boxes_then })
+not_made given script left taken card held_then meter meter_then boxes_then at is some was caused =
+    let state = some_of card some in
+    record {
+      not_opened = not_opened given script left taken card held_then meter_then boxes_then at is (subst (λ m. IsUnplanned m meter_then) was (caused_kept meter meter_then caused));
+      card = state.0;
+      described = state.1;
+    }
+
+-- nothing was done
+pub none_counted : (given : Given) (meter : Meter) → meter ≡ given.meter → IsCounted given.meter meter [] []
+none_counted given meter same =
+    subst (λ m. IsCounted given.meter m [] []) (sym same) (record { failures = refl; cuts = refl; plans = refl; latest = refl; no_plan = λ none. none })
+
+-- the script was not begun
+pub not_begun : (given : Given) (left taken : Option (List ℕ)) (mark : ℕ) (told : Option (List ℕ)) (meter : Meter) (boxes boxes_then : List (Option AppletState)) → left ≡ Some given.text → IsGiven given taken (option_map (stands_for mark) told) meter boxes
+    → HasNoMemory given left (record { held = standing mark told; taken = taken; meter = meter; boxes = boxes_then })
+not_begun given left taken mark told meter boxes boxes_then text is = record {
+  written = is.before_is;
+  counted = none_counted given meter is.meter_is;
+  begun_at_most = inl text;
+  memory_kept = inl (stands_found mark told given.memory is.memory_is);
+}
+
+-- ---- closing
+
+-- the device of a card that was given back stands for what the card did
+pub given_back : (given : Given) (left taken : Option (List ℕ)) (end : PlayEnd) (parts : CardParts) (mark : ℕ) (told : Option (List ℕ)) (meter : Meter) (boxes : List (Option AppletState)) → mark ≡ parts.store_mark → told ≡ parts.told → meter ≡ parts.meter → boxes ≡ parts.boxes
+    → ComesTo given left end (record { held = held_by parts; taken = taken; meter = parts.meter; boxes = parts.boxes }) → ComesTo given left end (record { held = standing mark told; taken = taken; meter = meter; boxes = boxes })
+given_back given left taken end parts mark told meter boxes same_mark same_told same_meter same_boxes comes =
+    let Held : Option Persistent → Meter → List (Option AppletState) → Leaves = λ h m b. record { held = h; taken = taken; meter = m; boxes = b } in
+    subst (ComesTo given left end)
+    (ap (λ b. Held (held_by parts) parts.meter b) (sym same_boxes) ∙ ap (λ m. Held (held_by parts) m boxes) (sym same_meter) ∙ ap (λ t. Held (standing parts.store_mark t) meter boxes) (sym same_told) ∙ ap (λ k. Held (standing k told) meter boxes) (sym same_mark)) comes
+
+-- ---- the beginning
+
+-- before the first line
+pub at_first : (cast : List (Option AppletState)) (first : Option Persistent) (text : List ℕ) (script : ScriptReader) (left : Option (List ℕ)) (card : Option Persistent) → script.reader ≡ at_start → script.number ≡ 0 → first ≡ card → left ≡ Some text
+    → InSection cast first text script left card
+at_first cast first text script left card fresh zero same told = record {
+  section = [];
+  given = [];
+  read = tt;
+  described = ap Ok same;
+  follows = record { reads = HasRead-start text script.reader left fresh told; counts = zero };
+}
+
+-- with the same boxes
+pub at_start_of : (boxes cast : List (Option AppletState)) (first : Option Persistent) (text : List ℕ) (script : ScriptReader) (left : Option (List ℕ)) (card : Option Persistent) → boxes ≡ cast → AtStart boxes first text script left card → AtStart cast first text script left card
+at_start_of boxes cast first text script left card same at = subst (λ b. AtStart b first text script left card) same at
+
+-- ---- a making that failed
+
+pub described_some : (cast : List (Option AppletState)) (first : Option Persistent) (section : List ScriptLine) (card : Option Persistent) → with_lines cast first section ≡ Ok card → is_some first ≡ true → (state : Persistent) × (card ≡ Some state)
+described_some cast (Some bare) section card described some = some_of card (some_stays cast section bare card described)
+described_some cast None section card described some = absurd (cc)
+
+-- a card that can't be opened was formatted before, if one was to be
+pub formatted_then : (why : OpenFault) → ending_for why ≡ FormatFailed → ⊥
+formatted_then (fault.NotACard at) is = cc
+formatted_then (fault.NoBox shelf) is = cc
+formatted_then fault.Failed is = cc
+formatted_then fault.PowerLost is = cc
+formatted_then fault.Memory is = cc
+
+-- `start` was read
+abbrev pub reached : (given : Given) (script : ScriptReader) (left : Option (List ℕ)) (card : Option Persistent) → AtStart given.boxes given.first given.text script left card → ReachesStart given card
+reached given script left card at = record {
+  found = at.given;
+  more = lines_within script.reader.room (pending script.reader at.follows.reads.rest);
+  section = at.section;
+  parted = at.follows.reads.lines_are;
+  said = Say-from_read at.given (at.section ++ Start ∷ []) at.read;
+  described = at.described;
+}
+
+-- ---- where no card was open
+
+pub unplanned_then : (first middle last : Meter) → IsUnplanned first middle → IsUnplanned middle last → IsUnplanned first last
+unplanned_then first middle last one two = record {
+  faults_kept = let a = one.faults_kept in let b = two.faults_kept in omega arith;
+  cuts_kept = let a = one.cuts_kept in let b = two.cuts_kept in omega arith;
+  plans_kept = two.plans_kept ∙ one.plans_kept;
+  latest_kept = two.latest_kept ∙ one.latest_kept;
+  no_plan = λ none. two.no_plan (one.no_plan none);
+}
+
+pub unplanned_still : (meter : Meter) → IsUnplanned meter meter
+unplanned_still meter = record { faults_kept = omega arith; cuts_kept = omega arith; plans_kept = refl; latest_kept = refl; no_plan = λ none. none }

@@ -1,0 +1,667 @@
+-- What an undisturbed run comes to, by its script and the card that is to be opened.
+use Rattle.std.proofs.Common.{◌≡◌, ℕ, ◌+◌, ◌<◌, Bool, true, false, List, [], ◌∷◌, ◌++◌, length, Option, Some, None, is_some, Result, Ok, Err, refl, sym, ap, ◌∙◌, inl, inr, ⊎_elim, arith, subst, ◌⊎◌, All, IfSome, if◌then◌else◌, append-nil}
+use Rattle.std.specs.Io.KnownBytes.{append_known}
+use Rattle.std.proofs.lemmas.Bool.{cases_order}
+use Rattle.std.proofs.lemmas.List.Elements.{All-contains, All-nil}
+use Rattle.byte_streams.specs.Lines.{LineList, lines}
+use Rattle.byte_streams.specs.Reading.{IsTakenFor}
+use Rattle.script_form.specs.Forms.{IsLine}
+use Rattle.script_form.specs.Traces.{trace_text}
+use Rattle.script_form.specs.declared.lines.ScriptLine.{ScriptLine}
+use Rattle.script_form.specs.declared.lines.ScriptLine.TheVariants.{Start}
+use Rattle.script_form.specs.declared.trace.TraceLine.TheVariants as line
+use Rattle.script_reader.proofs.AreReadLemmas.{Say-from_read}
+use Rattle.script_reader.specs.Said.{Say}
+use Rattle.script_reader.specs.declared.behind.PlayEnd.{PlayEnd}
+use Rattle.script_reader.specs.declared.behind.PlayEnd.TheVariants as play
+use Rattle.script_reader.specs.declared.faults.ScriptFault.TheVariants as script
+use Rattle.card_state.specs.Persistent.{Persistent, Registration}
+use Rattle.applet_trait.specs.Minds.{AppletState}
+use Rattle.card_model.specs.States.{HasBox, IsGood}
+use Rattle.card_core.specs.Openings.{with_all_shelves}
+use Rattle.card_core.specs.Boxes.{IsFirstWithoutBox}
+use Rattle.section_lines.specs.SectionReading.{EndsInSection}
+use Rattle.section_lines.specs.RowLaws.{AreOfTheirBoxes}
+use Rattle.section_lines.proofs.RowsHaveBoxesLemmas.{rows_have_boxes}
+use Rattle.section_lines.specs.Script.{with_lines}
+use Rattle.bip_runs.proofs.IsLineLemmas.{Only, only_first, only_last, only_says, says_itself}
+use Rattle.uicc_run.specs.Endings.{IsUnshown, status_for}
+use Rattle.uicc_run.specs.Headline.{Closes, Comes, IsNoCard, IsNotOpened, LacksBox, last_text}
+use Rattle.uicc_run.specs.Playing.{EndsSo, Given, IsOpened, IsPlayed, Leaves, StopsPlaying}
+use Rattle.uicc_run.specs.Reading.{AreReadInPlace, EndsBehind, HasStarted, ReadsTo}
+use Rattle.uicc_run.specs.Serving.{ComesTo, EndsServing}
+use Rattle.uicc_run.specs.Runs.{first_machine}
+use Rattle.uicc_run.specs.Steps.{may_stand}
+use Rattle.uicc_run.specs.Scripts.{AreInPlace, CanOpen, CannotOpen, HoldsWholeCard, IsFirstBad, IsFirstTooMuch, IsGoodScript, MeetsBad, NoBoxOn, NoCardAt, ReachesStart, Refusal, RefusesAndTells, StopsAndTells, StopsAtStart, StopsBehind, TellsNext, TellsWhy, refusal_line}
+use Rattle.uicc_run.specs.declared.endings.Ending.{Ending}
+use Rattle.uicc_run.specs.declared.endings.Ending.TheVariants.{Usage, NoMemory, Section, FormatFailed, EepromFailed, NotACard, NoApplet, Played, Counted, LoadFailed}
+use Rattle.uicc_run.proofs.HasBoxLemmas.{IsBoxed, have_boxes}
+use Rattle.uicc_run.proofs.HasKindsOfLemmas.{boxes_there}
+use Rattle.uicc_run.proofs.OpeningLemmas.{none_stays, some_of}
+use Rattle.uicc_run.proofs.WithLineLemmas.{Before, Behind, Rules, Stage, Stops, Walks, one_card, one_stop, passes_stop, walks_section, walks_whole, whole_no_stop}
+
+abbrev rules_of : Given → Rules
+rules_of given = record { cast = given.boxes; may = may_stand given.is_served }
+
+-- ---- the card that is opened
+
+opened_card : (cast : List (Option AppletState)) (first : Option Persistent) (memory : Result Persistent ℕ) (section : List ScriptLine) (start : Persistent) → IsOpened cast first memory section start
+    → (card : Option Persistent) × (with_lines cast first section ≡ Ok card)
+opened_card cast (Some bare) memory section start opened = (Some start, opened)
+opened_card cast None memory section start opened = (None, opened.0)
+
+-- where none is described it is the memory's
+memory_holds : (cast : List (Option AppletState)) (first : Option Persistent) (memory : Result Persistent ℕ) (section : List ScriptLine) (start : Persistent) → with_lines cast first section ≡ Ok None → IsOpened cast first memory section start → memory ≡ Ok start
+memory_holds cast (Some bare) memory section start is opened = absurd (cc)
+memory_holds cast None memory section start is opened = opened.1
+
+is_none : (card : Option Persistent) → is_some card ≡ false → card ≡ None
+is_none None none = refl
+is_none (Some card) none = absurd (cc)
+
+one_start : (memory : Result Persistent ℕ) (start other : Persistent) → memory ≡ Ok start → memory ≡ Ok other → start ≡ other
+one_start memory start other is so = cc
+
+-- where a run stands behind `start` and no card was described, the memory held one that could be opened
+abbrev pub OpensAt : Given → Stage → Type 0
+OpensAt given (Before card) = Unit {0}
+OpensAt given (Behind None) = HoldsWholeCard given
+OpensAt given (Behind (Some described)) = Unit {0}
+
+-- the card that was opened was there to be opened
+was_to_open : (given : Given) (section : List ScriptLine) (start : Persistent) (card : Option Persistent) → with_lines given.boxes given.first section ≡ Ok card → IsOpened given.boxes given.first given.memory section start → IsGood (first_machine start given.boxes).card → OpensAt given (Behind card)
+was_to_open given section start (Some described) is opened good = tt
+was_to_open given section start None is opened good = record {
+  start = start;
+  is = memory_holds given.boxes given.first given.memory section start is opened;
+  boxes = boxes_there start given.boxes good;
+}
+
+-- why it can't be opened
+cannot_open : (given : Given) (why : Refusal) → CannotOpen given why → HoldsWholeCard given → ⊥
+cannot_open given (NoCardAt at) cannot can = let holds = can.is in cc
+cannot_open given (NoBoxOn shelf) cannot can =
+    let boxes = subst (λ (s : Persistent). All (HasBox (with_all_shelves given.boxes)) s.rows) (one_start given.memory can.start cannot.start can.is cannot.is) can.boxes in
+    cannot.first_missing.lacks (All-contains (HasBox (with_all_shelves given.boxes)) cannot.start.rows cannot.first_missing.row boxes cannot.first_missing.there)
+
+-- and there is one cause alone
+not_below : (rows : List Registration) (boxes : List (Option AppletState)) (shelf other : ℕ) → IsFirstWithoutBox rows boxes shelf → IsFirstWithoutBox rows boxes other → shelf < other → ⊥
+not_below rows boxes shelf other first second less =
+    first.lacks (All-contains (λ row. row.shelf < other → HasBox boxes row) rows first.row second.before first.there (let on = first.on_shelf in omega arith))
+
+one_shelf : (rows : List Registration) (boxes : List (Option AppletState)) (shelf other : ℕ) → IsFirstWithoutBox rows boxes shelf → IsFirstWithoutBox rows boxes other → shelf ≡ other
+one_shelf rows boxes shelf other first second = elim (cases_order shelf other) [
+  | inl same ↦ same
+  | inr (inl less) ↦ absurd (not_below rows boxes shelf other first second less)
+  | inr (inr more) ↦ absurd (not_below rows boxes other shelf second first more)
+]
+
+one_place : (memory : Result Persistent ℕ) (at other : ℕ) → memory ≡ Err at → memory ≡ Err other → at ≡ other
+one_place memory at other is so = cc
+
+one_cause : (given : Given) (why other : Refusal) → CannotOpen given why → CannotOpen given other → why ≡ other
+one_cause given (NoCardAt at) (NoCardAt place) cannot could = ap NoCardAt (one_place given.memory at place cannot could)
+one_cause given (NoCardAt at) (NoBoxOn shelf) cannot could = let holds = could.is in absurd (cc)
+one_cause given (NoBoxOn shelf) (NoCardAt at) cannot could = let holds = cannot.is in absurd (cc)
+one_cause given (NoBoxOn shelf) (NoBoxOn other) cannot could =
+    let start = one_start given.memory cannot.start could.start cannot.is could.is in
+    ap NoBoxOn (one_shelf could.start.rows (with_all_shelves given.boxes) shelf other (subst (λ (s : Persistent). IsFirstWithoutBox s.rows (with_all_shelves given.boxes) shelf) start cannot.first_missing) could.first_missing)
+
+-- ---- where a run stops
+
+-- the whole script was carried out
+pub record Finishes (given : Given) (status : ℕ) : Type 0 where
+  pub zero : status ≡ 0
+  pub card : Option Persistent
+  pub walk : Walks (rules_of given) Only (Before given.first) (lines given.text) (Behind card)
+  pub good : IsGoodScript given
+
+abbrev pub IsStop : Given → Bool → LineList → Type 0
+IsStop given false found = IsFirstBad given found
+IsStop given true found = IsFirstTooMuch given found
+
+abbrev pub stop_status : Bool → ℕ
+stop_status why = if why then 8 else 2
+
+-- it stopped at a line
+pub record Stopped (given : Given) (status : ℕ) (left taken : Option (List ℕ)) : Type 0 where
+  pub why : Bool
+  pub is : status ≡ stop_status why
+  pub found : LineList
+  pub next : LineList
+  pub to : Stage
+  pub parted : lines given.text ≡ found ++ next
+  pub walk : Walks (rules_of given) Only (Before given.first) found to
+  pub stops : Stops (rules_of given) to next why
+  pub place : IsStop given why found
+  pub tells : TellsNext found taken
+  pub reach : IsTakenFor given.text found left
+
+no_zero : (why : Bool) → 0 ≡ stop_status why → ⊥
+no_zero false is = cc
+no_zero true is = cc
+
+why_two : (why : Bool) → 2 ≡ stop_status why → why ≡ false
+why_two false is = refl
+why_two true is = absurd (cc)
+
+why_eight : (why : Bool) → 8 ≡ stop_status why → why ≡ true
+why_eight false is = absurd (cc)
+why_eight true is = refl
+
+-- the last line gives the number
+tells_it : (before taken : Option (List ℕ)) (front : List ℕ) (found : LineList) (number : ℕ) → before ≡ Some front → number ≡ length found + 1 → taken ≡ append_known before (trace_text (line.Line number) ++ []) → TellsNext found taken
+tells_it before taken front found number was is told =
+    (front, told ∙ ap (λ b. append_known b (trace_text (line.Line number) ++ [])) was ∙ ap (λ t. Some (front ++ t)) (append-nil (trace_text (line.Line number))) ∙ ap (λ n. Some (front ++ trace_text (line.Line n))) is)
+
+-- before `start`
+abbrev stopped_before : (given : Given) (status number : ℕ) (before taken left : Option (List ℕ)) (front : List ℕ) (ends : EndsInSection given.boxes given.first given.text left (script.BadLine number)) → status ≡ 2 → before ≡ Some front
+    → taken ≡ append_known before (trace_text (line.Line number) ++ []) → Stopped given status left taken
+stopped_before given status number before taken left front ends is was told = record {
+  why = false;
+  is = is;
+  found = ends.given;
+  next = ends.cause.next;
+  to = Before ends.card;
+  parted = ends.cause.parted;
+  walk = walks_section (rules_of given) Only ends.given ends.section given.first ends.card ends.read ends.described;
+  stops = ends.cause.is;
+  place = inl (record {
+    section = ends.section;
+    card = ends.card;
+    next = ends.cause.next;
+    parted = ends.cause.parted;
+    said = Say-from_read ends.given ends.section ends.read;
+    described = ends.described;
+    is = ends.cause.is;
+  });
+  tells = tells_it before taken front ends.given number was ends.cause.counted told;
+  reach = ends.cause.reach;
+}
+
+abbrev stopped_full : (given : Given) (status number : ℕ) (before taken left : Option (List ℕ)) (front : List ℕ) (ends : EndsInSection given.boxes given.first given.text left (script.NoRoom number)) → status ≡ 8 → before ≡ Some front
+    → taken ≡ append_known before (trace_text (line.Line number) ++ []) → Stopped given status left taken
+stopped_full given status number before taken left front ends is was told = record {
+  why = true;
+  is = is;
+  found = ends.given;
+  next = ends.cause.next;
+  to = Before ends.card;
+  parted = ends.cause.parted;
+  walk = walks_section (rules_of given) Only ends.given ends.section given.first ends.card ends.read ends.described;
+  stops = ends.cause.is;
+  place = record {
+    section = ends.section;
+    card = ends.card;
+    next = ends.cause.next;
+    parted = ends.cause.parted;
+    said = Say-from_read ends.given ends.section ends.read;
+    described = ends.described;
+    is = ends.cause.is;
+  };
+  tells = tells_it before taken front ends.given number was ends.cause.counted told;
+  reach = ends.cause.reach;
+}
+
+-- behind it
+are_in_place : (given : Given) (found : LineList) (section played : List ScriptLine) (card : Option Persistent) → AreReadInPlace given found section played card → AreInPlace given found section played card
+are_in_place given found section played card are = record { said = Say-from_read found (section ++ Start ∷ played) are.read; described = are.described; in_place = are.in_place }
+
+walks_read : (given : Given) (found : LineList) (section played : List ScriptLine) (card : Option Persistent) → AreReadInPlace given found section played card → Walks (rules_of given) Only (Before given.first) found (Behind card)
+walks_read given found section played card are = walks_whole (rules_of given) Only found section played given.first card are.read are.described are.in_place
+
+abbrev stopped_behind : (given : Given) (status number : ℕ) (before taken left : Option (List ℕ)) (front : List ℕ) (ends : EndsBehind given left (play.BadLine number)) → status ≡ 2 → before ≡ Some front
+    → taken ≡ append_known before (trace_text (line.Line number) ++ []) → Stopped given status left taken
+stopped_behind given status number before taken left front ends is was told = record {
+  why = false;
+  is = is;
+  found = ends.found;
+  next = ends.cause.next;
+  to = Behind ends.card;
+  parted = ends.cause.parted;
+  walk = walks_read given ends.found ends.section ends.played ends.card ends.lines_are;
+  stops = ends.cause.is;
+  place = inr (record {
+    section = ends.section;
+    played = ends.played;
+    card = ends.card;
+    next = ends.cause.next;
+    parted = ends.cause.parted;
+    good = are_in_place given ends.found ends.section ends.played ends.card ends.lines_are;
+    is = ends.cause.is;
+  });
+  tells = tells_it before taken front ends.found number was ends.cause.counted told;
+  reach = ends.cause.reach;
+}
+
+-- the whole script was read
+abbrev finished : (given : Given) (status : ℕ) (left : Option (List ℕ)) → EndsBehind given left play.Finished → status ≡ 0 → Finishes given status
+finished given status left ends is =
+    let all = ends.cause.lines_are in
+    record {
+      zero = is;
+      card = ends.card;
+      walk = subst (λ l. Walks (rules_of given) Only (Before given.first) l (Behind ends.card)) (sym all) (walks_read given ends.found ends.section ends.played ends.card ends.lines_are);
+      good = record {
+        section = ends.section;
+        played = ends.played;
+        card = ends.card;
+        good = subst (λ l. AreInPlace given l ends.section ends.played ends.card) (sym all) (are_in_place given ends.found ends.section ends.played ends.card ends.lines_are);
+      };
+    }
+
+-- ---- what a run comes to by its lines, whatever its memory
+
+-- it ended behind them; or there was no memory to begin with, or a card that could not be opened at `start`
+abbrev pub LineVerdict : Given → ℕ → Option (List ℕ) → Option (List ℕ) → Type 0
+LineVerdict given status left taken = (status ≡ 5) ⊎ ((Finishes given status × (left ≡ Some [])) ⊎ (Stopped given status left taken ⊎ ((status ≡ 7) × HasStarted given)))
+
+line_verdict_of : (given : Given) (left before taken : Option (List ℕ)) (front : List ℕ) (ending : Ending) (status : ℕ) → status ≡ status_for ending → before ≡ Some front → taken ≡ append_known before (last_text ending) → ReadsTo given left ending
+    → (ending ≡ Usage → ⊥) → (status_for ending ≡ 3 → ⊥) → (status_for ending ≡ 4 → ⊥) → (status_for ending ≡ 6 → ⊥) → LineVerdict given status left taken
+line_verdict_of given left before taken front Usage status is was told reads used three four six = absurd (used refl)
+line_verdict_of given left before taken front NoMemory status is was told reads used three four six = inl is
+line_verdict_of given left before taken front (Section (script.BadLine number)) status is was told reads used three four six = inr (inr (inl (stopped_before given status number before taken left front reads is was told)))
+line_verdict_of given left before taken front (Section (script.NoRoom number)) status is was told reads used three four six = inr (inr (inl (stopped_full given status number before taken left front reads is was told)))
+line_verdict_of given left before taken front (Section script.ReadFailed) status is was told reads used three four six = absurd (three refl)
+line_verdict_of given left before taken front FormatFailed status is was told reads used three four six = absurd (six refl)
+line_verdict_of given left before taken front EepromFailed status is was told reads used three four six = absurd (six refl)
+line_verdict_of given left before taken front (NotACard at) status is was told reads used three four six = inr (inr (inr (is, reads)))
+line_verdict_of given left before taken front (NoApplet shelf) status is was told reads used three four six = inr (inr (inr (is, reads)))
+line_verdict_of given left before taken front (Played play.Finished) status is was told reads used three four six = inr (inl (finished given status left reads is, reads.cause.told))
+line_verdict_of given left before taken front (Played (play.BadLine number)) status is was told reads used three four six = inr (inr (inl (stopped_behind given status number before taken left front reads is was told)))
+line_verdict_of given left before taken front (Played play.ReadFailed) status is was told reads used three four six = absurd (three refl)
+line_verdict_of given left before taken front (Played play.SinkFailed) status is was told reads used three four six = absurd (four refl)
+line_verdict_of given left before taken front (Played play.ResetFailed) status is was told reads used three four six = absurd (six refl)
+line_verdict_of given left before taken front (Counted lines counts) status is was told reads used three four six = absurd reads
+line_verdict_of given left before taken front LoadFailed status is was told reads used three four six = absurd reads
+
+-- the run of a program, but for one with another status
+pub line_verdict : (given : Given) (left before taken : Option (List ℕ)) (ending : Ending) (status : ℕ) → Closes ending before taken status → is_some before ≡ true → ReadsTo given left ending
+    → (status ≡ 1 → ⊥) → (status ≡ 3 → ⊥) → (status ≡ 4 → ⊥) → (status ≡ 6 → ⊥) → LineVerdict given status left taken
+line_verdict given left before taken ending status closes tells reads one three four six =
+    let front = some_of before tells in
+    elim closes [
+      | inl whole ↦ line_verdict_of given left before taken front.0 ending status whole.0 front.1 whole.1 reads (λ same. one (whole.0 ∙ ap status_for same)) (λ is. three (whole.0 ∙ is)) (λ is. four (whole.0 ∙ is)) (λ is. six (whole.0 ∙ is))
+      | inr broken ↦ absurd (four broken.0)
+    ]
+
+-- a good script is carried out to its end
+pub good_ends : (given : Given) (status : ℕ) (left taken : Option (List ℕ)) → LineVerdict given status left taken → IsGoodScript given → (status ≡ 0) ⊎ ((status ≡ 5) ⊎ (status ≡ 7))
+good_ends given status left taken (inl lacks) good = inr (inl lacks)
+good_ends given status left taken (inr (inl finishes)) good = inl finishes.0.zero
+good_ends given status left taken (inr (inr (inl stopped))) good =
+    absurd (whole_no_stop (rules_of given) Only IsLine only_first says_itself stopped.found stopped.next (Before given.first) stopped.to stopped.why good.card stopped.walk stopped.stops
+    (subst (λ l. Walks (rules_of given) IsLine (Before given.first) l (Behind good.card)) stopped.parted (walks_whole (rules_of given) IsLine (lines given.text) good.section good.played given.first good.card good.good.said good.good.described good.good.in_place)))
+good_ends given status left taken (inr (inr (inr refused))) good = inr (inr refused.0)
+
+tells_same : (found other : LineList) (taken : Option (List ℕ)) → found ≡ other → TellsNext found taken → TellsNext other taken
+tells_same found other taken same tells = subst (λ l. TellsNext l taken) same tells
+
+-- at a line at which it has to stop it does, if the card can be opened
+stops_by : (given : Given) (status : ℕ) (left taken : Option (List ℕ)) (found next : LineList) (to : Stage) (why : Bool) → Walks (rules_of given) IsLine (Before given.first) found to → Stops (rules_of given) to next why → lines given.text ≡ found ++ next
+    → LineVerdict given status left taken → ((status ≡ stop_status why) × TellsNext found taken) ⊎ ((status ≡ 5) ⊎ ((status ≡ 7) × HasStarted given))
+stops_by given status left taken found next to why walk stops parted (inl lacks) = inr (inl lacks)
+stops_by given status left taken found next to why walk stops parted (inr (inl finishes)) =
+    absurd (whole_no_stop (rules_of given) IsLine Only only_last only_says found next (Before given.first) to why finishes.0.card walk stops (subst (λ l. Walks (rules_of given) Only (Before given.first) l (Behind finishes.0.card)) parted finishes.0.walk))
+stops_by given status left taken found next to why walk stops parted (inr (inr (inl stopped))) =
+    let same = one_stop (rules_of given) Only IsLine only_first only_says says_itself stopped.found found stopped.next next (Before given.first) stopped.to to stopped.why why stopped.walk stopped.stops walk stops (sym stopped.parted ∙ parted) in
+    inl (stopped.is ∙ ap stop_status same.cause, tells_same stopped.found found taken same.place stopped.tells)
+stops_by given status left taken found next to why walk stops parted (inr (inr (inr refused))) = inr (inr refused)
+
+-- a run that comes to `start` has met no such line
+passed_over : (given : Given) (found next : LineList) (card : Option Persistent) (why : Bool) → Walks (rules_of given) IsLine (Before given.first) found (Before card) → Stops (rules_of given) (Before card) next why → lines given.text ≡ found ++ next → HasStarted given → ⊥
+passed_over given found next card why walk stops parted started =
+    passes_stop (rules_of given) Only IsLine only_first only_says started.found started.more found next (Before given.first) why started.card card (walks_read given started.found started.section [] started.card started.lines_are) walk stops (sym started.parted ∙ parted)
+
+stops_before : (given : Given) (status : ℕ) (left taken : Option (List ℕ)) (found next : LineList) (section : List ScriptLine) (card : Option Persistent) (why : Bool) → Say found section → with_lines given.boxes given.first section ≡ Ok card → Stops (rules_of given) (Before card) next why
+    → lines given.text ≡ found ++ next → LineVerdict given status left taken → ((status ≡ stop_status why) × TellsNext found taken) ⊎ (status ≡ 5)
+stops_before given status left taken found next section card why said described stops parted verdict =
+    let walk = walks_section (rules_of given) IsLine found section given.first card said described in
+    elim (stops_by given status left taken found next (Before card) why walk stops parted verdict) [
+      | inl here ↦ inl here
+      | inr (inl lacks) ↦ inr lacks
+      | inr (inr refused) ↦ absurd (passed_over given found next card why walk stops parted refused.1)
+    ]
+
+stops_behind : (given : Given) (status : ℕ) (left taken : Option (List ℕ)) (found : LineList) → StopsBehind given found → LineVerdict given status left taken → ((status ≡ 2) × TellsNext found taken) ⊎ ((status ≡ 5) ⊎ ((status ≡ 7) × HasStarted given))
+stops_behind given status left taken found behind verdict =
+    stops_by given status left taken found behind.next (Behind behind.card) false (walks_whole (rules_of given) IsLine found behind.section behind.played given.first behind.card behind.good.said behind.good.described behind.good.in_place) behind.is behind.parted verdict
+
+pub bad_stops : (given : Given) (status : ℕ) (left taken : Option (List ℕ)) (found : LineList) → IsFirstBad given found → LineVerdict given status left taken → ((status ≡ 2) × TellsNext found taken) ⊎ ((status ≡ 5) ⊎ ((status ≡ 7) × StopsBehind given found))
+bad_stops given status left taken found (inl before) verdict =
+    elim (stops_before given status left taken found before.next before.section before.card false before.said before.described before.is before.parted verdict) [
+      | inl here ↦ inl here
+      | inr lacks ↦ inr (inl lacks)
+    ]
+bad_stops given status left taken found (inr behind) verdict =
+    elim (stops_behind given status left taken found behind verdict) [
+      | inl here ↦ inl here
+      | inr (inl lacks) ↦ inr (inl lacks)
+      | inr (inr refused) ↦ inr (inr (refused.0, behind))
+    ]
+
+pub full_stops : (given : Given) (status : ℕ) (left taken : Option (List ℕ)) (found : LineList) → IsFirstTooMuch given found → LineVerdict given status left taken → ((status ≡ 8) × TellsNext found taken) ⊎ (status ≡ 5)
+full_stops given status left taken found before verdict = stops_before given status left taken found before.next before.section before.card true before.said before.described before.is before.parted verdict
+
+-- ---- what a status says of the script
+
+pub zero_is_good : (given : Given) (status : ℕ) (left taken : Option (List ℕ)) → LineVerdict given status left taken → status ≡ 0 → IsGoodScript given
+zero_is_good given status left taken (inl lacks) is = absurd (omega arith)
+zero_is_good given status left taken (inr (inl finishes)) is = finishes.0.good
+zero_is_good given status left taken (inr (inr (inl stopped))) is = absurd (no_zero stopped.why (sym is ∙ stopped.is))
+zero_is_good given status left taken (inr (inr (inr refused))) is = let seven = refused.0 in absurd (omega arith)
+
+stop_at : (given : Given) (why wanted : Bool) (found : LineList) → why ≡ wanted → IsStop given why found → IsStop given wanted found
+stop_at given why wanted found same place = subst (λ w. IsStop given w found) same place
+
+pub two_is_bad : (given : Given) (status : ℕ) (left taken : Option (List ℕ)) → LineVerdict given status left taken → status ≡ 2 → StopsAndTells (IsFirstBad given) given.text left taken
+two_is_bad given status left taken (inl lacks) is = absurd (omega arith)
+two_is_bad given status left taken (inr (inl finishes)) is = let zero = finishes.0.zero in absurd (omega arith)
+two_is_bad given status left taken (inr (inr (inl stopped))) is = record {
+  found = stopped.found;
+  is = stop_at given stopped.why false stopped.found (why_two stopped.why (sym is ∙ stopped.is)) stopped.place;
+  tells = stopped.tells;
+  reach = stopped.reach;
+}
+two_is_bad given status left taken (inr (inr (inr refused))) is = let seven = refused.0 in absurd (omega arith)
+
+pub eight_is_full : (given : Given) (status : ℕ) (left taken : Option (List ℕ)) → LineVerdict given status left taken → status ≡ 8 → StopsAndTells (IsFirstTooMuch given) given.text left taken
+eight_is_full given status left taken (inl lacks) is = absurd (omega arith)
+eight_is_full given status left taken (inr (inl finishes)) is = let zero = finishes.0.zero in absurd (omega arith)
+eight_is_full given status left taken (inr (inr (inl stopped))) is = record {
+  found = stopped.found;
+  is = stop_at given stopped.why true stopped.found (why_eight stopped.why (sym is ∙ stopped.is)) stopped.place;
+  tells = stopped.tells;
+  reach = stopped.reach;
+}
+eight_is_full given status left taken (inr (inr (inr refused))) is = let seven = refused.0 in absurd (omega arith)
+
+-- nothing of the script is left
+pub zero_reads_out : (given : Given) (status : ℕ) (left taken : Option (List ℕ)) → LineVerdict given status left taken → status ≡ 0 → left ≡ Some []
+zero_reads_out given status left taken (inl lacks) is = absurd (omega arith)
+zero_reads_out given status left taken (inr (inl finishes)) is = finishes.1
+zero_reads_out given status left taken (inr (inr (inl stopped))) is = absurd (no_zero stopped.why (sym is ∙ stopped.is))
+zero_reads_out given status left taken (inr (inr (inr refused))) is = let seven = refused.0 in absurd (omega arith)
+
+no_seven : (why : Bool) → 7 ≡ stop_status why → ⊥
+no_seven false is = cc
+no_seven true is = cc
+
+-- `start` was read
+pub seven_starts : (given : Given) (status : ℕ) (left taken : Option (List ℕ)) → LineVerdict given status left taken → status ≡ 7 → (card : Option Persistent) × ReachesStart given card
+seven_starts given status left taken (inl lacks) is = absurd (omega arith)
+seven_starts given status left taken (inr (inl finishes)) is = let zero = finishes.0.zero in absurd (omega arith)
+seven_starts given status left taken (inr (inr (inl stopped))) is = absurd (no_seven stopped.why (sym is ∙ stopped.is))
+seven_starts given status left taken (inr (inr (inr refused))) is =
+    let started = refused.1 in (
+      started.card,
+      record {
+        found = started.found;
+        more = started.more;
+        section = started.section;
+        parted = started.parted;
+        said = Say-from_read started.found (started.section ++ Start ∷ []) started.lines_are.read;
+        described = started.lines_are.described;
+      },
+    )
+
+-- ---- where the memory tells its bytes
+
+-- its card could not be opened
+pub record Refused (given : Given) (status : ℕ) (taken : Option (List ℕ)) : Type 0 where
+  pub seven : status ≡ 7
+  pub reaches : ReachesStart given None
+  pub why : Refusal
+  pub cannot : CannotOpen given why
+  pub tells : TellsWhy given why taken
+
+-- a run that went beyond `start` had a card to open
+abbrev pub Verdict : Given → ℕ → Option (List ℕ) → Option (List ℕ) → Type 0
+Verdict given status left taken =
+    (status ≡ 5) ⊎ (((finishes : Finishes given status) × OpensAt given (Behind finishes.card)) ⊎ (((stopped : Stopped given status left taken) × OpensAt given stopped.to) ⊎ Refused given status taken))
+
+-- the last line says why
+tells_why : (given : Given) (before taken : Option (List ℕ)) (why : Refusal) → before ≡ Some given.before → taken ≡ append_known before (trace_text (refusal_line why) ++ []) → TellsWhy given why taken
+tells_why given before taken why was told =
+    told ∙ ap (λ b. append_known b (trace_text (refusal_line why) ++ [])) was ∙ ap (λ t. Some (given.before ++ t)) (append-nil (trace_text (refusal_line why)))
+
+refused_so : (given : Given) (status : ℕ) (left taken : Option (List ℕ)) (leaves : Leaves) (why : Refusal) → status ≡ 7 → (refused : IsNotOpened given left leaves) → refused.card ≡ None → CannotOpen given why → taken ≡ append_known leaves.taken (trace_text (refusal_line why) ++ []) → Refused given status taken
+refused_so given status left taken leaves why is refused none cannot told = record {
+  seven = is;
+  reaches = record {
+    found = refused.found;
+    more = refused.more;
+    section = refused.section;
+    parted = refused.begins;
+    said = Say-from_read refused.found (refused.section ++ Start ∷ []) refused.read;
+    described = refused.described ∙ ap Ok none;
+  };
+  why = why;
+  cannot = cannot;
+  tells = tells_why given leaves.taken taken why refused.written told;
+}
+
+describes_none : (given : Given) (left : Option (List ℕ)) (leaves : Leaves) (refused : IsNotOpened given left leaves) → given.first ≡ None → refused.card ≡ None
+describes_none given left leaves refused none =
+    is_none refused.card (none_stays given.boxes refused.section refused.card (ap (λ f. with_lines given.boxes f refused.section) (sym none) ∙ refused.described))
+
+no_card_so : (given : Given) (status at : ℕ) (left taken : Option (List ℕ)) (leaves : Leaves) → status ≡ 7 → IsNoCard given at left leaves → taken ≡ append_known leaves.taken (last_text (NotACard at)) → Refused given status taken
+no_card_so given status at left taken leaves is none told =
+    refused_so given status left taken leaves (NoCardAt at) is none.not_opened (describes_none given left leaves none.not_opened none.no_section) none.first_failed told
+
+-- a card that is described lacks no box
+lacks_none : (cast : List (Option AppletState)) (first : Option Persistent) (memory : Result Persistent ℕ) (section : List ScriptLine) (start : Persistent) (shelf : ℕ) → ((IfSome first (AreOfTheirBoxes cast) → ⊥) → ⊥)
+    → IsOpened cast first memory section start → IsFirstWithoutBox start.rows (with_all_shelves cast) shelf → first ≡ None
+lacks_none cast None memory section start shelf boxed opened missing = refl
+lacks_none cast (Some bare) memory section start shelf boxed opened missing =
+    absurd (boxed (λ all. missing.lacks (All-contains (HasBox (with_all_shelves cast)) start.rows missing.row (have_boxes cast start.rows (rows_have_boxes cast section bare start all opened)) missing.there)))
+
+no_box_so : (given : Given) (status shelf : ℕ) (left taken : Option (List ℕ)) (leaves : Leaves) → ((IsBoxed given → ⊥) → ⊥) → status ≡ 7 → LacksBox given shelf left leaves → taken ≡ append_known leaves.taken (last_text (NoApplet shelf)) → Refused given status taken
+no_box_so given status shelf left taken leaves boxed is lacks told =
+    let held = lacks.holds in
+    let none = describes_none given left leaves held.not_opened (lacks_none given.boxes given.first given.memory held.not_opened.section held.start shelf boxed held.opened lacks.first_missing) in
+    refused_so given status left taken leaves (NoBoxOn shelf) is held.not_opened none (record {
+      start = held.start;
+      is = memory_holds given.boxes given.first given.memory held.not_opened.section held.start (held.not_opened.described ∙ ap Ok none) held.opened;
+      first_missing = lacks.first_missing;
+    }) told
+
+-- the lines that were read behind `start`, be they for the card or for a handset, and the card that was opened
+record EndsInLines (given : Given) (left : Option (List ℕ)) (end : PlayEnd) (leaves : Leaves) : Type 0 where
+  ends : EndsBehind given left end
+  opens : OpensAt given (Behind ends.card)
+  front : List ℕ
+  written : leaves.taken ≡ Some front
+
+played_so : (given : Given) (left : Option (List ℕ)) (end : PlayEnd) (leaves : Leaves) (found : LineList) (section played : List ScriptLine) (start : Persistent) (front : List ℕ) → IsPlayed given found section played start → StopsPlaying given found left end
+    → leaves.taken ≡ Some front → EndsInLines given left end leaves
+played_so given left end leaves found section played start front are cause written =
+    let card = opened_card given.boxes given.first given.memory section start are.opened in
+    record {
+      ends = record { found = found; section = section; played = played; card = card.0; lines_are = record { read = are.read; described = card.1; in_place = are.in_place }; cause = cause };
+      opens = was_to_open given section start card.0 card.1 are.opened are.good;
+      front = front;
+      written = written;
+    }
+
+ends_in_lines : (given : Given) (left : Option (List ℕ)) (end : PlayEnd) (leaves : Leaves) → EndsSo given left end leaves ⊎ EndsServing given left end leaves → EndsInLines given left end leaves
+ends_in_lines given left end leaves (inl ends) = played_so given left end leaves ends.found ends.section ends.played ends.start _ ends.lines ends.cause ends.written
+ends_in_lines given left end leaves (inr ends) = played_so given left end leaves ends.found ends.section ends.played ends.start _ ends.lines_are ends.cause ends.written
+
+behind_end : (given : Given) (left : Option (List ℕ)) (leaves : Leaves) → ComesTo given left play.Finished leaves → EndsSo given left play.Finished leaves ⊎ EndsServing given left play.Finished leaves
+behind_end given left leaves (inl card) = inl card.1
+behind_end given left leaves (inr served) = inr served.1
+
+behind_bad : (given : Given) (left : Option (List ℕ)) (number : ℕ) (leaves : Leaves) → ComesTo given left (play.BadLine number) leaves → EndsSo given left (play.BadLine number) leaves ⊎ EndsServing given left (play.BadLine number) leaves
+behind_bad given left number leaves (inl card) = inl card.1
+behind_bad given left number leaves (inr served) = inr served.1
+
+finished_so : (given : Given) (status : ℕ) (left : Option (List ℕ)) (leaves : Leaves) → EndsInLines given left play.Finished leaves → status ≡ 0 → (finishes : Finishes given status) × OpensAt given (Behind finishes.card)
+finished_so given status left leaves came is = (finished given status left came.ends is, came.opens)
+
+stopped_so : (given : Given) (status number : ℕ) (left taken : Option (List ℕ)) (leaves : Leaves) → EndsInLines given left (play.BadLine number) leaves → status ≡ 2 → taken ≡ append_known leaves.taken (trace_text (line.Line number) ++ [])
+    → (stopped : Stopped given status left taken) × OpensAt given stopped.to
+stopped_so given status number left taken leaves came is told = (stopped_behind given status number leaves.taken taken left came.front came.ends is came.written told, came.opens)
+
+verdict_of : (given : Given) (left taken : Option (List ℕ)) (ending : Ending) (leaves : Leaves) (status : ℕ) → status ≡ status_for ending → taken ≡ append_known leaves.taken (last_text ending) → Comes given left ending leaves
+    → (status ≡ 7 → (IsBoxed given → ⊥) → ⊥) → (ending ≡ Usage → ⊥) → (status_for ending ≡ 3 → ⊥) → (status_for ending ≡ 4 → ⊥) → (status_for ending ≡ 6 → ⊥) → Verdict given status left taken
+verdict_of given left taken Usage leaves status is told comes boxed used sound four six = absurd (used refl)
+verdict_of given left taken NoMemory leaves status is told comes boxed used sound four six = inl is
+verdict_of given left taken (Section (script.BadLine number)) leaves status is told comes boxed used sound four six = inr (inr (inl (stopped_before given status number leaves.taken taken left given.before comes.0 is comes.1 told, tt)))
+verdict_of given left taken (Section (script.NoRoom number)) leaves status is told comes boxed used sound four six = inr (inr (inl (stopped_full given status number leaves.taken taken left given.before comes.0 is comes.1 told, tt)))
+verdict_of given left taken (Section script.ReadFailed) leaves status is told comes boxed used sound four six = absurd (sound refl)
+verdict_of given left taken FormatFailed leaves status is told comes boxed used sound four six = absurd (six refl)
+verdict_of given left taken EepromFailed leaves status is told comes boxed used sound four six = absurd (six refl)
+verdict_of given left taken (NotACard at) leaves status is told comes boxed used sound four six = inr (inr (inr (no_card_so given status at left taken leaves is comes told)))
+verdict_of given left taken (NoApplet shelf) leaves status is told comes boxed used sound four six = inr (inr (inr (no_box_so given status shelf left taken leaves (boxed is) is comes told)))
+verdict_of given left taken (Played play.Finished) leaves status is told comes boxed used sound four six = inr (inl (finished_so given status left leaves (ends_in_lines given left play.Finished leaves (behind_end given left leaves comes)) is))
+verdict_of given left taken (Played (play.BadLine number)) leaves status is told comes boxed used sound four six = inr (inr (inl (stopped_so given status number left taken leaves (ends_in_lines given left (play.BadLine number) leaves (behind_bad given left number leaves comes)) is told)))
+verdict_of given left taken (Played play.ReadFailed) leaves status is told comes boxed used sound four six = absurd (sound refl)
+verdict_of given left taken (Played play.SinkFailed) leaves status is told comes boxed used sound four six = absurd (four refl)
+verdict_of given left taken (Played play.ResetFailed) leaves status is told comes boxed used sound four six = absurd (six refl)
+verdict_of given left taken (Counted lines counts) leaves status is told comes boxed used sound four six = absurd comes
+verdict_of given left taken LoadFailed leaves status is told comes boxed used sound four six = absurd comes
+
+pub verdict : (given : Given) (left taken : Option (List ℕ)) (ending : Ending) (leaves : Leaves) (status : ℕ) → Closes ending leaves.taken taken status → Comes given left ending leaves
+    → (status ≡ 7 → (IsBoxed given → ⊥) → ⊥) → (status ≡ 1 → ⊥) → (status ≡ 3 → ⊥) → (status ≡ 4 → ⊥) → (status ≡ 6 → ⊥) → Verdict given status left taken
+verdict given left taken ending leaves status closes comes boxed one three four six =
+    elim closes [
+      | inl whole ↦ verdict_of given left taken ending leaves status whole.0 whole.1 comes boxed (λ same. one (whole.0 ∙ ap status_for same)) (λ is. three (whole.0 ∙ is)) (λ is. four (whole.0 ∙ is)) (λ is. six (whole.0 ∙ is))
+      | inr broken ↦ absurd (four broken.0)
+    ]
+
+-- ---- status 7
+
+reached_by : (given : Given) (why : Refusal) → (stops : StopsAtStart given why) → Walks (rules_of given) IsLine (Before given.first) stops.reaches.found (Behind None)
+reached_by given why stops = walks_whole (rules_of given) IsLine stops.reaches.found stops.reaches.section [] given.first None stops.reaches.said stops.reaches.described (All-nil (λ l. may_stand given.is_served l ≡ true))
+
+-- a run that went beyond `start` had a card to open
+not_opened_there : (given : Given) (why : Refusal) (found next : LineList) (card : Option Persistent) → (stops : StopsAtStart given why) → Walks (rules_of given) Only (Before given.first) found (Behind card) → OpensAt given (Behind card) → lines given.text ≡ found ++ next → ⊥
+not_opened_there given why found next card stops walk can parted =
+    let same = one_card (rules_of given) IsLine Only only_last stops.reaches.found stops.reaches.more found next (Before given.first) None card (reached_by given why stops) walk (sym stops.reaches.parted ∙ parted) in
+    cannot_open given why stops.cannot (subst (λ c. OpensAt given (Behind c)) (sym same) can)
+
+no_stop : (given : Given) (why : Refusal) (found next : LineList) (to : Stage) (cause : Bool) → (stops : StopsAtStart given why) → Walks (rules_of given) Only (Before given.first) found to → Stops (rules_of given) to next cause → OpensAt given to → lines given.text ≡ found ++ next → ⊥
+no_stop given why found next (Before card) cause stops walk stop can parted =
+    passes_stop (rules_of given) IsLine Only only_last says_itself stops.reaches.found stops.reaches.more found next (Before given.first) cause None card (reached_by given why stops) walk stop (sym stops.reaches.parted ∙ parted)
+no_stop given why found next (Behind card) cause stops walk stop can parted = not_opened_there given why found next card stops walk can parted
+
+-- where the card can't be opened it is refused, and the last line says why
+pub refuses : (given : Given) (status : ℕ) (left taken : Option (List ℕ)) (why : Refusal) → StopsAtStart given why → Verdict given status left taken → ((status ≡ 7) × TellsWhy given why taken) ⊎ (status ≡ 5)
+refuses given status left taken why stops (inl lacks) = inr lacks
+refuses given status left taken why stops (inr (inl finishes)) = absurd (not_opened_there given why (lines given.text) [] finishes.0.card stops finishes.0.walk finishes.1 (sym (append-nil (lines given.text))))
+refuses given status left taken why stops (inr (inr (inl stopped))) = absurd (no_stop given why stopped.0.found stopped.0.next stopped.0.to stopped.0.why stops stopped.0.walk stopped.0.stops stopped.1 stopped.0.parted)
+refuses given status left taken why stops (inr (inr (inr refused))) =
+    inl (refused.seven, subst (λ w. TellsWhy given w taken) (one_cause given refused.why why refused.cannot stops.cannot) refused.tells)
+
+pub seven_refuses : (given : Given) (status : ℕ) (left taken : Option (List ℕ)) → Verdict given status left taken → status ≡ 7 → RefusesAndTells given taken
+seven_refuses given status left taken (inl lacks) is = absurd (omega arith)
+seven_refuses given status left taken (inr (inl finishes)) is = let zero = finishes.0.zero in absurd (omega arith)
+seven_refuses given status left taken (inr (inr (inl stopped))) is = absurd (no_seven stopped.0.why (sym is ∙ stopped.0.is))
+seven_refuses given status left taken (inr (inr (inr refused))) is = record {
+  why = refused.why;
+  stops = record { reaches = refused.reaches; cannot = refused.cannot };
+  tells = refused.tells;
+}
+
+-- where it can be opened, it is
+not_refused : (given : Given) (taken : Option (List ℕ)) → RefusesAndTells given taken → CanOpen given → ⊥
+not_refused given taken refused can = cannot_open given refused.why refused.stops.cannot (can refused.stops.reaches)
+
+pub completes : (given : Given) (status : ℕ) (left taken : Option (List ℕ)) → LineVerdict given status left taken → (status ≡ 7 → RefusesAndTells given taken) → IsGoodScript given → CanOpen given → (status ≡ 0) ⊎ (status ≡ 5)
+completes given status left taken verdict seven good can =
+    elim (good_ends given status left taken verdict good) [
+      | inl zero ↦ inl zero
+      | inr (inl lacks) ↦ inr lacks
+      | inr (inr refused) ↦ absurd (not_refused given taken (seven refused) can)
+    ]
+
+pub stops_bad : (given : Given) (status : ℕ) (left taken : Option (List ℕ)) (found : LineList) → MeetsBad given found → LineVerdict given status left taken → (status ≡ 7 → RefusesAndTells given taken) → ((status ≡ 2) × TellsNext found taken) ⊎ (status ≡ 5)
+stops_bad given status left taken found (inl before) verdict seven = stops_before given status left taken found before.next before.section before.card false before.said before.described before.is before.parted verdict
+stops_bad given status left taken found (inr met) verdict seven =
+    elim (stops_behind given status left taken found met.0 verdict) [
+      | inl here ↦ inl here
+      | inr (inl lacks) ↦ inr lacks
+      | inr (inr refused) ↦ absurd (not_refused given taken (seven refused.0) met.1)
+    ]
+
+-- ---- want of memory
+
+five_of : (ending : Ending) → status_for ending ≡ 5 → ending ≡ NoMemory
+five_of Usage is = absurd (cc is)
+five_of NoMemory is = refl
+five_of (Section (script.BadLine number)) is = absurd (cc is)
+five_of (Section script.ReadFailed) is = absurd (cc is)
+five_of (Section (script.NoRoom number)) is = absurd (cc is)
+five_of FormatFailed is = absurd (cc is)
+five_of EepromFailed is = absurd (cc is)
+five_of (NotACard at) is = absurd (cc is)
+five_of (NoApplet shelf) is = absurd (cc is)
+five_of (Played play.Finished) is = absurd (cc is)
+five_of (Played (play.BadLine number)) is = absurd (cc is)
+five_of (Played play.ReadFailed) is = absurd (cc is)
+five_of (Played play.SinkFailed) is = absurd (cc is)
+five_of (Played play.ResetFailed) is = absurd (cc is)
+five_of (Counted lines counts) is = absurd (cc is)
+five_of LoadFailed is = absurd (cc is)
+
+-- a run that ends with 5 ends for that, also where a failing sink would end it with 4
+pub five_is : (ending : Ending) (status : ℕ) → (status ≡ status_for ending) ⊎ (status ≡ 4) → status ≡ 5 → ending ≡ NoMemory
+five_is ending status closed is = ⊎_elim {C = ending ≡ NoMemory} (λ own. five_of ending (sym own ∙ is)) (λ four. absurd (omega (arith, four, is))) closed
+
+-- a run that ends with 7 was asked for
+pub not_usage : (ending : Ending) (status : ℕ) → (status ≡ status_for ending) ⊎ (status ≡ 4) → status ≡ 7 → ending ≡ Usage → ⊥
+not_usage ending status closed seven usage =
+    ⊎_elim {C = ⊥} (λ own. let one : status ≡ 1 = own ∙ ap status_for usage in omega (arith, seven, one)) (λ four. omega (arith, seven, four)) closed
+
+one_of : (ending : Ending) → status_for ending ≡ 1 → ending ≡ Usage
+one_of Usage is = refl
+one_of NoMemory is = absurd (cc is)
+one_of (Section (script.BadLine number)) is = absurd (cc is)
+one_of (Section script.ReadFailed) is = absurd (cc is)
+one_of (Section (script.NoRoom number)) is = absurd (cc is)
+one_of FormatFailed is = absurd (cc is)
+one_of EepromFailed is = absurd (cc is)
+one_of (NotACard at) is = absurd (cc is)
+one_of (NoApplet shelf) is = absurd (cc is)
+one_of (Played play.Finished) is = absurd (cc is)
+one_of (Played (play.BadLine number)) is = absurd (cc is)
+one_of (Played play.ReadFailed) is = absurd (cc is)
+one_of (Played play.SinkFailed) is = absurd (cc is)
+one_of (Played play.ResetFailed) is = absurd (cc is)
+one_of (Counted lines counts) is = absurd (cc is)
+one_of LoadFailed is = absurd (cc is)
+
+-- a run that ends with 1 ends for its words
+pub one_is : (ending : Ending) (status : ℕ) → (status ≡ status_for ending) ⊎ (status ≡ 4) → status ≡ 1 → ending ≡ Usage
+one_is ending status closed is = ⊎_elim {C = ending ≡ Usage} (λ own. one_of ending (sym own ∙ is)) (λ four. absurd (omega (arith, four, is))) closed
+
+-- ---- status 6
+
+six_of : (ending : Ending) → status_for ending ≡ 6 → (ending ≡ Played play.ResetFailed) ⊎ (IsUnshown ending × (last_text ending ≡ last_text EepromFailed))
+six_of Usage is = absurd (cc is)
+six_of NoMemory is = absurd (cc is)
+six_of (Section (script.BadLine number)) is = absurd (cc is)
+six_of (Section script.ReadFailed) is = absurd (cc is)
+six_of (Section (script.NoRoom number)) is = absurd (cc is)
+six_of FormatFailed is = inr (tt, refl)
+six_of EepromFailed is = inr (tt, refl)
+six_of (NotACard at) is = absurd (cc is)
+six_of (NoApplet shelf) is = absurd (cc is)
+six_of (Played play.Finished) is = absurd (cc is)
+six_of (Played (play.BadLine number)) is = absurd (cc is)
+six_of (Played play.ReadFailed) is = absurd (cc is)
+six_of (Played play.SinkFailed) is = absurd (cc is)
+six_of (Played play.ResetFailed) is = inl refl
+six_of (Counted lines counts) is = absurd (cc is)
+six_of LoadFailed is = inr (tt, refl)
+
+-- a fault was counted in a reset, or nothing was shown but the last line
+pub six_shows : (ending : Ending) (start before taken : Option (List ℕ)) (status : ℕ) (HasFault : Type 0) → Closes ending before taken status → (ending ≡ Played play.ResetFailed → HasFault) → (IsUnshown ending → before ≡ start) → status ≡ 6
+    → HasFault ⊎ (taken ≡ append_known start (last_text EepromFailed))
+six_shows ending start before taken status HasFault (inr broken) fault unshown six = let four = broken.0 in absurd (omega arith)
+six_shows ending start before taken status HasFault (inl whole) fault unshown six =
+    elim (six_of ending (sym whole.0 ∙ six)) [
+      | inl reset ↦ inl (fault reset)
+      | inr alone ↦ inr (whole.1 ∙ ap (append_known before) alone.1 ∙ ap (λ b. append_known b (last_text EepromFailed)) (unshown alone.0))
+    ]

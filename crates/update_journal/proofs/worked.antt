@@ -1,0 +1,3 @@
+-- Definitions, worked out on examples.
+mod Entries
+mod Places

@@ -1,0 +1,158 @@
+"""oFono as the terminal, and ModemManager: what tries make of an exchange, and where Debian's packages are here, sessions with them."""
+import os
+import subprocess
+import sys
+import unittest
+
+from common import TOOLS
+from uicc import Card, NotBuilt, modemmanager, ofono, ofono_tries, process, sim
+
+
+def is_built():
+    try:
+        return bool(process.program())
+    except NotBuilt:
+        return False
+
+
+MISSING = ofono.why_not()
+
+
+class Judged(unittest.TestCase):
+    """What comes of a response, by the exchange in which it was sent."""
+    FETCHED = ["> 801200001F", "< D01D81030224008202818285045069636B8F0501546578748F0502546F6E659000"]
+    # the data of TERMINAL RESPONSE, and what is said of them; None where they are as they should be
+    RESPONSES = [
+        ("810302240082028281830100900102", None), ("810302240082028281830110", None),
+        ("810301240082028281830100900102", "the details of the response are 012400, and not 022400"),
+        ("810302250082028281830100900102", "the details of the response are 022500"), ("82028281830100900102", "the details of the response are "),
+        ("810302240082028182830100900102", "the devices of the response"), ("8103022400830100900102", "the devices of the response"),
+        ("8103022400820282819001 02".replace(" ", ""), "the response has no result"), ("8103022400820282818300", "the response has no result"),
+        ("81030224", "the response is no list of objects"),
+    ]
+
+    def one(self, data):
+        content = bytes.fromhex(data)
+        lines = [*self.FETCHED, f"> 80140000{len(content):02X}{data}", "< 9000"]
+        (found,) = ofono_tries.proactive_in(ofono_tries.exchanges_in(lines))
+        return found
+
+    def test_responses(self):
+        for data, why in self.RESPONSES:
+            with self.subTest(data=data):
+                if why is None:
+                    self.assertEqual(ofono_tries.judged(self.one(data)).kind, 0x24)
+                else:
+                    with self.assertRaisesRegex(ofono_tries.Wrong, why):
+                        ofono_tries.judged(self.one(data))
+
+    def test_what_is_not_supported(self):
+        for result in ("30", "31"):
+            with self.assertRaisesRegex(ofono_tries.Unsupported, f"the answer is {result}"):
+                ofono_tries.judged(self.one(f"8103022400820282818301{result}"))
+
+    def test_a_command_that_nobody_answers(self):
+        (found,) = ofono_tries.proactive_in(ofono_tries.exchanges_in(self.FETCHED))
+        self.assertIsNone(found.response)
+
+    def test_the_form_of_what_is_sent(self):
+        ofono_tries.well_formed(["> 801400000C810302240082028281830110", "< 9000", "> 80C2000009D30782020181900102", "< 9000"])
+        for line in ("> 801400000C810302240082028281830210", "> 80C2000008D307820201819001", "> 8014000003810302"):
+            with self.assertRaises(ofono_tries.Wrong):
+                ofono_tries.well_formed([line, "< 9000"])
+
+    def test_what_is_known_of_a_version(self):
+        verdicts = [ofono_tries.Verdict("SET UP EVENT LIST", ofono_tries.UNSUPPORTED), ofono_tries.Verdict("MORE TIME", ofono_tries.PASSED)]
+        self.assertEqual(ofono_tries.surprises(verdicts, "1.31"), [])
+        self.assertEqual(ofono_tries.surprises(verdicts, "0.1"), [])
+        verdicts = [ofono_tries.Verdict("SET UP EVENT LIST", ofono_tries.PASSED), ofono_tries.Verdict("MORE TIME", ofono_tries.FAILED)]
+        self.assertEqual(len(ofono_tries.surprises(verdicts, "1.31")), 2)
+
+    def test_a_try_that_fails_is_a_verdict(self):
+        report = ofono_tries.Report()
+        report.attempt("one", lambda: ofono_tries.expect(1, 2, "it"))
+        report.attempt("two", lambda: ofono_tries.refused(lambda: None, "it"))
+        report.attempt("three", lambda: None)
+        self.assertEqual([(verdict.outcome, verdict.why) for verdict in report.verdicts],
+                         [("failed", "it is 1, and not 2"), ("failed", "it is taken"), ("passed", "")])
+
+    @unittest.skipUnless(is_built(), "the program isn't built")
+    def test_what_is_played_again(self):
+        lines = []
+        with Card(ofono_tries.TELEPHONE) as card:
+            recorded = sim.Recorded(card, lines.append)
+            recorded.transmit(bytes.fromhex("80100000082900BF6171000013"))
+            recorded.reset()
+            recorded.transmit(bytes.fromhex("0020000103313233"))
+        self.assertEqual(lines[-1], "< 6700")
+        ofono_tries.played_again(lines)
+        with self.assertRaisesRegex(ofono_tries.Wrong, "line 5 of the trace"):
+            ofono_tries.played_again([*lines[:-1], "< 9000"])
+
+
+@unittest.skipIf(MISSING, f"oFono isn't here: {MISSING}")
+@unittest.skipUnless(is_built(), "the program isn't built")
+class Telephone(unittest.TestCase):
+    def test_a_session(self):
+        """The PIN, the IMSI, the menu, and an entry of it; then the card is gone, and what it said is told."""
+        with Card(ofono_tries.TELEPHONE) as card, ofono_tries.Session(card) as session:
+            session.begin()
+            self.assertEqual(session.phone.sim["SubscriberIdentity"], ofono_tries.IMSI)
+            self.assertEqual(session.phone.menu, ofono_tries.MENU)
+            ofono_tries.picked(session, "Menu", [1, None], ofono_tries.play_tone)()
+            with self.assertRaisesRegex(ofono_tries.Wrong, "what was played is"):
+                ofono_tries.picked(session, "Menu", [0, None], lambda *given: ofono_tries.expect(
+                    session.asked()[1], ["PlayTone", "general-beep", "", 0], "what was played"))()
+            with self.assertRaises(ofono.OfonoError):
+                session.phone.ask("call", "org.ofono.SimManager", "EnterPin", "pin", "0000")
+            ofono_tries.well_formed(session.lines)
+
+    def test_the_prompt(self):
+        lines = "sim\npin 0000\npin 1234\nanswer Milk\nonline\nanswer 5 seen\npick Key\npick None\npick\nunblock 1\nanswer \"\nhello\n"
+        ran = subprocess.run([sys.executable, "-B", os.path.join(TOOLS, "ofono"), ofono_tries.TELEPHONE], input=lines, capture_output=True,
+                             text=True, timeout=300, check=False)
+        self.assertEqual((ran.returncode, ran.stderr), (1, ""))
+        said = [line.strip() for line in ran.stdout.splitlines()]
+        for part in ("PinRequired: pin", "org.ofono.Error.Failed: Operation failed", "asks: Note? (0 to 20 characters)", "SET UP MENU: 00 done",
+                     "asks: ? (a key)", "shows: K", "GET INKEY: 00 done", "DISPLAY TEXT: 00 done",
+                     "the menu has no entry `None`: Menu, Note, Key, Local, Again, Reset", "the form of the line is: pick ENTRY",
+                     "the form of the line is: unblock VALUE NEW", "No closing quotation: answer ANSWER..",
+                     "no word `hello` is known: sim, pin, unblock, online, menu, pick, answer, events, power, cut"):
+            self.assertIn(part, said)
+
+
+NO_MANAGER = modemmanager.why_not()
+
+
+@unittest.skipIf(NO_MANAGER, f"ModemManager isn't here: {NO_MANAGER}")
+@unittest.skipUnless(is_built(), "the program isn't built")
+class Manager(unittest.TestCase):
+    def test_the_sim_and_its_pin(self):
+        with Card(ofono_tries.TELEPHONE) as card, modemmanager.ModemManager(card) as phone:
+            self.assertTrue(phone.until_known())
+            self.assertEqual((phone.sim["iccid"], phone.sim["operator-name"]), (ofono_tries.ICCID, "Example Mobile"))
+            modemmanager.wrong_pin(phone)
+            with self.assertRaises(ofono_tries.Wrong):
+                modemmanager.refused(phone, "-m", "any")
+            modemmanager.unlocked(phone, "--pin=" + ofono_tries.PIN)
+            self.assertEqual(phone.sim["imsi"], ofono_tries.IMSI)
+
+
+class Tool(unittest.TestCase):
+    def ran(self, *words, **environment):
+        words = [sys.executable, "-B", os.path.join(TOOLS, "ofono"), *words]
+        return subprocess.run(words, input="", capture_output=True, text=True, timeout=300, check=False, env={**os.environ, **environment})
+
+    def test_what_is_refused(self):
+        self.assertIn("--keep is for what is tried", self.ran("card.script", "--keep", "x").stderr)
+
+    @unittest.skipIf(MISSING, f"oFono isn't here: {MISSING}")
+    def test_no_card(self):
+        ran = self.ran("nowhere.script")
+        self.assertEqual(ran.returncode, 2)
+        self.assertIn("ofono: ", ran.stderr)
+        self.assertNotIn("Traceback", ran.stderr)
+
+
+if __name__ == "__main__":
+    unittest.main()

@@ -1,0 +1,111 @@
+"""tools/shell: what is typed, what is told, and what the card holds then."""
+import os
+import subprocess
+import sys
+import tempfile
+import unittest
+
+from common import TOOLS
+from uicc import Card, contents, image, process, texts
+
+USIM = os.path.join(process.TOP, "examples", "usim.script")
+ADM = "verify adm 88888888\n"
+
+
+def is_built():
+    try:
+        return bool(process.program())
+    except process.NotBuilt:
+        return False
+
+
+def shell(text, *words):
+    return subprocess.run([sys.executable, "-B", os.path.join(TOOLS, "shell"), *words], input=text, capture_output=True, text=True, timeout=120,
+                          check=False)
+
+
+@unittest.skipUnless(is_built(), "the program isn't built")
+class Shell(unittest.TestCase):
+    # lines, the status, and parts of what is told
+    TABLE = [
+        (ADM + "update EF.SPN text Nord licht\nread EF.SPN\n", 0, ["014E6F7264206C69636874", "Nord licht (the network's name is shown too)"]),
+        (ADM + "select EF.SPN\nupdate text Foo\ntree\n", 0, ["Foo (the network's name is shown too)"]),
+        ("verify pin1 1234\nupdate EF.ADN 3 text Berta\nread EF.ADN 3\ntree\n", 0, ["Berta: +999901005550", "3: Berta: +999901005550"]),
+        ("verify PIN1 1234\n", 0, ["9000"]), ("verify pin1 0000\ntree\n", 1, ["63C2", "PIN 1: 1234, enabled, 2 tries left"]),
+        ("verify PIN3 1234\n", 1, ["no PIN is called `PIN3`: pin1, pin2 and adm are"]),
+        ("verify pin1 12\n", 1, ["a PIN is four to eight digits, or eight bytes as 16 hexadecimal digits, and not `12`"]),
+        ("verify pin1 abcd\n", 1, ["and not `abcd`"]),
+        ("update EF.SPN xyz\n", 1, ["`xyz` is no HEX"]), ("update EF.IMSI text abc\n", 1, ["this file holds no text"]),
+        (ADM + "update EF.SPN text A name that is too long\n", 1, ["has 23 bytes, and there is room for 16"]),
+        ("update\n", 1, ["update [FILE] [RECORD] HEX, or update [FILE] [RECORD] text TEXT"]), ("update text\n", 1, ["no EF is selected"]),
+        ("resize 6F46 x\n", 1, ["SIZE is a number, and not `x`"]), ("pick one\n", 1, ["N is a number, and not `one`"]),
+        ("respond zz\n", 1, ["RESULT is a number, and not `zz`"]), ("cut 0\n", 1, ["K is 1 to"]), ("apdu 0\n", 1, ["`0` is no HEX"]),
+        ("read EF.IMSI\n", 1, ["rule 2F06:2 asks for PIN 1 to read; PIN 1 isn't verified"]),
+        ("apdu 00A4080C047F206F07\napdu 00B0000009\n", 0, ["6982  the access rule isn't satisfied: rule 2F06:2 asks for PIN 1 to read"]),
+        (ADM + "create ef 6F50 t 4 - -\nselect MF\ndelete 6F50\ntree\n", 0, ["9000"]),
+    ]
+
+    def test_lines(self):
+        for text, status, parts in self.TABLE:
+            with self.subTest(text=text):
+                done = shell(text, USIM)
+                self.assertEqual((done.returncode, done.stderr), (status, ""), done.stdout)
+                for part in parts:
+                    self.assertIn(part, done.stdout)
+
+    def test_the_tree_is_what_is_held_now(self):
+        """Also after a loss of power, which leaves what was before or what is after."""
+        done = shell(ADM + "select EF.SPN\ncut 1\nupdate EF.SPN text Foo\nreset\ntree\n", USIM)
+        self.assertIn("Example Mobile", done.stdout)
+        with Card(USIM) as card:
+            card.verify(1, "1234")
+            card.select("EF.ADN")
+            card.update_record(5, b"Eve".ljust(28, b"\xFF"))
+            with self.assertRaises(Exception):
+                card.verify(1, "4321")
+            held = card.now
+            self.assertEqual((held.files[card.current].record(5)[:3], held.pins[1].tries), (b"Eve", 2))
+            path = card._image
+        self.assertFalse(os.path.exists(path))
+
+    # the content of an image, the words after --image, and what is said
+    IMAGES = [
+        (None, [], "isn't there: with a script beside it, it is made"), (b"", [], "it has 0 bytes"),
+        (b"UICC\x02\x00".ljust(image.JOURNAL_SIZE, b"\xFF"), ["--store", "pages"], "is opened without --store pages"),
+        (b"UICC\x02\x01".ljust(image.PAGES_SIZE, b"\xFF"), [], "--store pages opens it"),
+    ]
+
+    def test_images_that_hold_no_card(self):
+        """They are refused, and stay as they are."""
+        with tempfile.TemporaryDirectory() as folder:
+            path = os.path.join(folder, "card.img")
+            for content, words, why in self.IMAGES:
+                with self.subTest(why=why):
+                    if content is not None:
+                        with open(path, "wb") as out:
+                            out.write(content)
+                    done = shell("tree\n", "--image", path, *words)
+                    self.assertEqual((done.returncode, done.stdout), (2, ""))
+                    self.assertIn(why, done.stderr)
+                    self.assertEqual(os.path.exists(path), content is not None)
+                    if content is not None:
+                        with open(path, "rb") as left:
+                            self.assertEqual(left.read(), content)
+
+
+class Texts(unittest.TestCase):
+    # the kind of a content, its bytes, a text, and the bytes with that
+    TABLE = [
+        ("spn", "FF" * 8, "Foo", "01466F6FFFFFFFFF"), ("spn", "00" + "41" * 7, "Foo", "00466F6FFFFFFFFF"), (None, "AABBCCDD", "Hi", "4869FFFF"),
+        ("dialling", "41FFFF" + "FF" * 14, "Bob", "426F62" + "FF" * 14), ("spn", "01" + "FF" * 7, "\u00e4", "018000E4FFFFFFFF"),
+    ]
+
+    def test_texts(self):
+        for kind, content, text, written in self.TABLE:
+            self.assertEqual(texts.with_text(kind, bytes.fromhex(content), text).hex().upper(), written)
+        for kind, content, text in (("imsi", "FF" * 9, "x"), ("spn", "FF" * 4, "Foobar")):
+            self.assertRaises(contents.BadContent, texts.with_text, kind, bytes.fromhex(content), text)
+
+
+if __name__ == "__main__":
+    unittest.main()

@@ -1,0 +1,212 @@
+"""Terminals under test that are other programs: the proved handset, programs of AT commands and of PC/SC, and oFono."""
+import os
+import socket
+import struct
+import threading
+import unittest
+
+import common  # noqa: F401 (the path)
+from uicc import Answer, Card, Terminal, decode, grammar, handset, ofono, process, sending, sequence, undertest, verdict
+from uicc.undertest_modem import AtClient, OfOfono
+from uicc.undertest_reader import OfReader
+
+EXAMPLES = os.path.join(process.TOP, "examples")
+IN_THE_BOX = os.path.join(EXAMPLES, "sequences")
+USIM = os.path.join(EXAMPLES, "usim.script")
+SECONDS = 30
+
+
+def in_the_box(*names):
+    found = []
+    for name in sorted(os.listdir(IN_THE_BOX)):
+        with open(os.path.join(IN_THE_BOX, name), encoding="utf-8") as text:
+            found += sequence.read(text.read(), name)
+    return found if not names else [one for one in found if one.name in names]
+
+
+def verdicts(terminal, found, seconds=None):
+    """The verdict and the reason of each sequence, by its name."""
+    told = {}
+    for one in found:
+        with Card(USIM) as card:
+            outcome = verdict.judged(one, terminal, card, seconds)
+            told[one.name] = outcome.verdict, outcome.why
+            terminal.end()
+    return told
+
+
+class TheHandset(unittest.TestCase):
+    # the objects of a command, and the rows by which the card sends it
+    ROWS = [
+        (("DISPLAY TEXT qualifier 80 text A", "PLAY TONE tone 10"), ["row 6 1 014100410141410210"]),
+        (("MORE TIME", "GET INKEY qualifier 01 text ?", "REFRESH qualifier 04"), ["row 6 1 01410041030041063F410504"]),
+        (("PROVIDE LOCAL INFORMATION qualifier 03", "SET UP IDLE MODE TEXT text x"), ["row 6 1 0141004104034109" "78"]),
+        (("DISPLAY TEXT qualifier 80 text \"Milk\"",), ["row 5 1 0140004D696C6B"]),
+        (("GET INPUT qualifier 01 text \"Note?\" length 0 20",), ["row 5 1 014000"]),
+        (("SET UP MENU title Menu item 1 A item 3 B",), ["row 0 1 000141", "row 2 1 000142"]),
+        (("SET UP EVENT LIST events location",), ["row 6 1 010300"]),
+        (("POLL INTERVAL duration 30 seconds",), ["row 6 1 014100"]),
+        (("TIMER MANAGEMENT qualifier 00 timer 1 time 00:05:00",), ["row 2 1 014000"]),
+        (("DISPLAY TEXT qualifier 00 text A",), None), (("DISPLAY TEXT qualifier 80 text AB icon 00 1",), None),
+        (("DISPLAY TEXT qualifier 80 text \"Milk\"", "MORE TIME"), None), (("SET UP MENU title Menu item 3 A item 1 B",), None),
+        (("SET UP MENU title Menu item none", "MORE TIME"), None), (("SET UP EVENT LIST events user-activity",), None),
+        (("SET UP EVENT LIST events none",), None), (("REFRESH qualifier 01",), None), (("bytes D0",), None), (("FE",), None),
+    ]
+
+    def test_rows_that_send_commands(self):
+        for commands, rows in self.ROWS:
+            with self.subTest(commands=commands):
+                lines = "".join(f"command {one}\n" for one in commands)
+                found = sequence.read("sequence one\n" + lines, "a")[0].commands()
+                self.assertEqual(sending.rows_for([one.raw for one in found]), rows)
+
+    def test_it_is_judged_as_the_one_in_python(self):
+        found = in_the_box()
+        by_phone = {name: told for name, told in verdicts(undertest.OfPhone(), found).items() if told[0] != verdict.UNSUPPORTED}
+        in_python = verdicts(undertest.InPython(), found)
+        self.assertGreaterEqual(len(by_phone), 20)
+        self.assertEqual(by_phone, {name: in_python[name] for name in by_phone})
+
+    def test_lines_of_its_script(self):
+        for line in ("user ok", "user type a b", "user type ", "user pick 3", "user dial 123", "net place 00F110", "net poll", "time 300"):
+            self.assertEqual(undertest.line_of(grammar.read_line(line)), line)
+
+
+class Client(threading.Thread):
+    """A program that speaks AT commands, with a user who isn't there: it answers what wants no user."""
+
+    def __init__(self, port):
+        super().__init__(daemon=True)
+        self.link = socket.create_connection(("127.0.0.1", port))
+        self.link.settimeout(SECONDS)
+        self.start()
+
+    def run(self):
+        try:
+            self.link.sendall(b"ATE0\rAT+CFUN=1\r")
+            for line in self.link.makefile("rb"):
+                if line.startswith(b"+CUSATP: "):
+                    self.answer(bytes.fromhex(line[9:].decode().strip()))
+        except OSError:
+            pass
+
+    def answer(self, raw):
+        details = handset.details_of(raw)
+        if details[1] == handset.MORE_TIME:
+            data = handset.response_to(details, handset.DONE)
+        elif details[1] == handset.INKEY:
+            data = handset.response_to(details, handset.NO_RESPONSE)
+        else:
+            return
+        self.link.sendall(b"AT+CUSATT=" + decode.hexed(data).encode() + b"\r")
+
+
+class AtCommands(unittest.TestCase):
+    def test_a_client(self):
+        told = []
+        terminal = AtClient(0, told.append)
+        self.addCleanup(terminal.close)
+        self.assertIn("toolkit begins at AT+CFUN=1", told[0])
+        client = Client(terminal.line.address[1])
+        self.addCleanup(client.link.close)
+        found = in_the_box("MORE TIME", "GET INKEY, any character", "DISPLAY TEXT, the user has read it", "MORE TIME, and then a text")
+        self.assertEqual(verdicts(terminal, found[-2:-1], SECONDS)["MORE TIME"], (verdict.PASSED, ""))
+        told_of = verdicts(terminal, found, 2)
+        self.assertEqual({name: kind for name, (kind, _) in told_of.items()}, {
+            "MORE TIME": verdict.PASSED, "GET INKEY, any character": verdict.INCONCLUSIVE,
+            "DISPLAY TEXT, the user has read it": verdict.INCONCLUSIVE, "MORE TIME, and then a text": verdict.INCONCLUSIVE})
+        self.assertIn("says", told_of["GET INKEY, any character"][1])
+        self.assertIn("did nothing within 2 seconds", told_of["DISPLAY TEXT, the user has read it"][1])
+        self.assertIn("  please type `q`", told)
+        self.assertIn("  please say yes, or that it was seen", told)
+        self.assertIn("  it must show now: text Toolkit Test 1", told)
+
+    def test_a_port_that_is_taken(self):
+        with socket.create_server(("127.0.0.1", 0)) as other, self.assertRaisesRegex(undertest.Lost, "no modem can be at port"):
+            AtClient(other.getsockname()[1], lambda text: None)
+
+
+class Pcsc(threading.Thread):
+    """Stands in for the virtual reader, with a program behind it that is the handset and polls."""
+
+    def __init__(self):
+        super().__init__(daemon=True)
+        self.server = socket.create_server(("localhost", 0))
+        self.trace, self.cards = [], 0
+        self.start()
+
+    def run(self):
+        while True:
+            try:
+                self.link = self.server.accept()[0]
+            except OSError:
+                return
+            self.cards += 1
+            try:
+                self.send(b"\x01")
+                terminal = Terminal(self)
+                terminal.start()
+                while True:
+                    terminal.poll()
+            except (OSError, EOFError):
+                self.link.close()
+
+    def send(self, content):
+        self.link.sendall(struct.pack(">H", len(content)) + content)
+
+    def receive(self, count):
+        content = b""
+        while len(content) < count:
+            part = self.link.recv(count - len(content))
+            if not part:
+                raise EOFError
+            content += part
+        return content
+
+    def transmit(self, command):
+        self.send(command)
+        answer = self.receive(struct.unpack(">H", self.receive(2))[0])
+        return Answer(answer[:-2], decode.hexed(answer[-2:]))
+
+    def reset(self):
+        self.send(b"\x02")
+
+
+class InAReader(unittest.TestCase):
+    def test_a_program(self):
+        program, told = Pcsc(), []
+        self.addCleanup(program.server.close)
+        terminal = OfReader(program.server.getsockname()[1], told.append)
+        self.addCleanup(terminal.close)
+        found = in_the_box("MORE TIME", "POLL INTERVAL, 30 seconds", "REFRESH, the card is reset", "GET INKEY, a digit")
+        self.assertEqual({name: kind for name, (kind, _) in verdicts(terminal, found, SECONDS).items()}, {
+            "MORE TIME": verdict.PASSED, "POLL INTERVAL, 30 seconds": verdict.PASSED, "REFRESH, the card is reset": verdict.PASSED,
+            "GET INKEY, a digit": verdict.FAILED})
+        self.assertEqual(program.cards, len(found))
+        self.assertIn("  please type `5`", told)
+
+    def test_no_reader(self):
+        with socket.create_server(("localhost", 0)) as server:
+            port = server.getsockname()[1]
+        with Card(USIM) as card, self.assertRaisesRegex(undertest.Lost, "nothing listens at port"):
+            verdict.judged(in_the_box("MORE TIME")[0], OfReader(port, lambda text: None), card)
+
+
+@unittest.skipIf(ofono.why_not(), f"oFono: {ofono.why_not()}")
+class WithOfono(unittest.TestCase):
+    def test_ofono(self):
+        """What it passes; what it answers otherwise than it must, which isn't mended away; and what its user can't do."""
+        wanted = {
+            "DISPLAY TEXT, the user has read it": verdict.PASSED, "DISPLAY TEXT, the user goes back": verdict.PASSED,
+            "GET INKEY, any character": verdict.PASSED, "GET INPUT, digits": verdict.PASSED, "SELECT ITEM, the second of four": verdict.PASSED,
+            "SET UP MENU, an entry is picked": verdict.PASSED, "SET UP IDLE MODE TEXT": verdict.PASSED, "PLAY TONE, a general beep": verdict.PASSED,
+            "a command whose objects are cut short": verdict.FAILED, "GET INKEY, the user doesn't respond": verdict.INCONCLUSIVE,
+            "SET UP EVENT LIST": verdict.UNSUPPORTED}
+        terminal = OfOfono()
+        self.addCleanup(terminal.close)
+        told = verdicts(terminal, in_the_box(*wanted))
+        self.assertEqual({name: kind for name, (kind, _) in told.items()}, wanted, told)
+
+
+if __name__ == "__main__":
+    unittest.main()

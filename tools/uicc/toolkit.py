@@ -1,0 +1,501 @@
+"""What the toolkit of a card is doing, worked out from its registered applets and from the commands of a trace: which applet is idle,
+asked or waiting, for what; which events come late; which timers are held; which applets an event wakes, and in which order.
+
+    from uicc import Card, toolkit
+
+    with Card("examples/day.script") as card:
+        rows = dict(card.holds.rows)
+        card.profile()
+        for line in toolkit.followed(rows, card.trace).lines():
+            print(f"{line.label}: {line.text}")"""
+import dataclasses
+
+from . import decode, layout, names, process, tlv, trace
+from .decode import DELETE, ENVELOPE, FETCH, INSTALL, PROFILE, RESPONSE, STATUS
+
+REFRESH, MORE_TIME, POLL_INTERVAL, SET_UP_EVENT_LIST = 0x01, 0x02, 0x03, 0x05
+PLAY_TONE, DISPLAY_TEXT, GET_INKEY, GET_INPUT, SELECT_ITEM, SET_UP_MENU = 0x20, 0x21, 0x22, 0x23, 0x24, 0x25
+PROVIDE_LOCAL_INFORMATION, TIMER_MANAGEMENT, SET_UP_IDLE_TEXT = 0x26, 0x27, 0x28
+# where in a terminal's profile a command stands: a byte and a bit, both from 1 on
+IN_PROFILE = {
+    REFRESH: (3, 8), MORE_TIME: (3, 4), POLL_INTERVAL: (3, 6), SET_UP_EVENT_LIST: (5, 1), PLAY_TONE: (3, 5), DISPLAY_TEXT: (3, 1),
+    GET_INKEY: (3, 2), GET_INPUT: (3, 3), SELECT_ITEM: (4, 1), SET_UP_MENU: (4, 6), PROVIDE_LOCAL_INFORMATION: (4, 7),
+    TIMER_MANAGEMENT: (8, 1), SET_UP_IDLE_TEXT: (8, 5),
+}
+# the same of the events that a terminal downloads
+EVENTS_IN_PROFILE = {
+    0x00: (5, 2), 0x01: (5, 3), 0x02: (5, 4), 0x03: (5, 5), 0x04: (5, 6), 0x05: (5, 7), 0x07: (6, 1), 0x09: (6, 3), 0x0A: (6, 4),
+}
+OF_THE_CARD = (SET_UP_MENU, SET_UP_EVENT_LIST, POLL_INTERVAL)
+PROFILE_DOWNLOAD, STATUS_COMMAND, MENU_SELECTION, TIMER_EXPIRATION, CALL_CONTROL = 0x40, 0x41, 0x43, 0x44, 0x45
+LOCATION_STATUS, USER_ACTIVITY, IDLE_SCREEN = 0x03, 0x04, 0x05
+REPORTED_ONCE = (USER_ACTIVITY, IDLE_SCREEN)
+TO_CARD, TO_DISPLAY, TO_EARPIECE = 0x82, 0x02, 0x03
+BY_USER, WITH_LETTERS, START = 0x80, 0x01, 0x00
+ADDRESS, RESULT, TEXT, ITEM, LOCATION, EVENT_LIST, TIMER = 0x06, 0x03, 0x0D, 0x10, 0x13, 0x19, 0x24
+MENU, CALL, EVENT, EXPIRATION = 0xD3, 0xD4, 0xD6, 0xD7
+KINDS = 7
+TIMERS = range(1, 9)
+MOST_ACTS = 32
+LONGEST_KEEP = 32
+LONGEST_COMMAND = 255
+HIGHEST_NUMBER = 254
+GOOD = 0x10
+SECONDS, FIVE_MINUTES = 0x01, bytes((0x00, 0x50, 0x00))
+POLLED_EACH = 30
+MEMORY_PROBLEM = "6581"
+OTHER_APPLETS = "a command was fetched that these applets don't send"
+NOT_SETTLED = "a command was cut or failed, and what applets keep is as before or as after it"
+
+
+@dataclasses.dataclass(frozen=True)
+class Command:
+    """A proactive command, but for its number."""
+    kind: int
+    qualifier: int = 0
+    destination: int = TO_CARD
+    objects: bytes = b""
+
+    def spelled(self, number):
+        content = bytes((0x81, 3, number, self.kind, self.qualifier, 0x82, 2, 0x81, self.destination)) + self.objects
+        return tlv.written(decode.PROACTIVE, content, flag=False)
+
+    @property
+    def name(self):
+        return names.of_toolkit("commands", self.kind, f"type {self.kind:02X}")
+
+
+def text_object(text):
+    return tlv.written(TEXT, b"\x04" + text)
+
+
+def show(text):
+    return Command(DISPLAY_TEXT, BY_USER, TO_DISPLAY, text_object(text))
+
+
+def ask(text, most, letters):
+    return Command(GET_INPUT, WITH_LETTERS if letters else 0, TO_CARD, text_object(text) + bytes((0x91, 2, 0, most)))
+
+
+def idle_text(text):
+    return Command(SET_UP_IDLE_TEXT, 0, TO_CARD, text_object(text))
+
+
+def choice(kind, title, items):
+    """A command with items, each a number and a text."""
+    listed = b"".join(tlv.written(0x0F, bytes((number,)) + text) for number, text in items)
+    return Command(kind, 0, TO_CARD, tlv.written(0x05, title) + (listed or tlv.written(0x0F, b"")))
+
+
+# what an applet does next
+
+@dataclasses.dataclass(frozen=True)
+class Act:
+    """`name` is send, keep, register, deregister, take, free or answer; None is done."""
+    name: str | None = None
+    value: object = None
+
+
+DONE = Act()
+
+
+@dataclasses.dataclass(frozen=True)
+class Stimulus:
+    """What an applet is told: `name` is event (with its code and body), response (with its objects), timer, went or refused."""
+    name: str
+    code: int = 0
+    body: bytes = b""
+
+
+WENT, REFUSED = Stimulus("went"), Stimulus("refused")
+
+
+def value_in(content, tag):
+    """The value of the first object with a tag; None where there is none, or the bytes are no objects."""
+    try:
+        return tlv.first(content, tag)
+    except tlv.BadTlv:
+        return None
+
+
+class Applet:
+    """A registered applet, and where it is in what it does."""
+
+    def __init__(self, row, sequence):
+        self.row, self.sequence = row, sequence
+        self.events, self.kept = set(row.events), bytes(row.kept)
+        self.wake()
+
+    def wake(self):
+        self.phase = self.held = self.code = 0
+        self.wanted = None
+
+    @property
+    def shelf(self):
+        return self.row.shelf
+
+    def step(self, stimulus):
+        """What the applet does next."""
+        if stimulus == WENT and self.wanted is not None:
+            self.kept = self.wanted
+        self.wanted = None
+        phase, act = BEHAVIOURS[self.shelf % KINDS](self, stimulus) or (0, DONE)
+        self.phase = 0 if act == DONE else phase
+        if act.name == "keep":
+            self.wanted = act.value
+        return act
+
+    # each kind: the next phase, and what is done; None is done
+
+    def greeter(self, told):
+        if self.phase == 0 and told.name == "event" and told.code == PROFILE_DOWNLOAD:
+            return 1, Act("send", show(b"Hi"))
+        return None
+
+    def menu(self, told):
+        if self.phase == 0 and told.name == "event" and told.code == MENU_SELECTION:
+            return 1, Act("send", choice(SELECT_ITEM, b"Pick", [(1, b"Text"), (2, b"Tone")]))
+        item = value_in(told.body, ITEM) if self.phase == 1 and is_good(told) else None
+        return {b"\x01": (2, Act("send", show(b"Text"))), b"\x02": (2, Act("send", tone(0x10)))}.get(item)
+
+    def clock(self, told):
+        if self.phase == 0 and told.name == "event" and told.code == PROFILE_DOWNLOAD:
+            return 1, Act("take")
+        if self.phase == 1 and told.name == "timer":
+            value = bytes((0xA4, 1, told.code, 0xA5, 3)) + FIVE_MINUTES
+            return 2, Act("send", Command(TIMER_MANAGEMENT, START, TO_CARD, value))
+        if self.phase == 0 and told.name == "event" and told.code == TIMER_EXPIRATION and len(told.body) == 1:
+            self.held = told.body[0]
+            return 3, Act("send", show(b"Tick"))
+        if self.phase == 3 and told.name in ("response", "refused"):
+            return 4, Act("free", self.held)
+        return None
+
+    def watcher(self, told):
+        if self.phase == 1 and told == WENT:
+            return 2, Act("send", show(b"Moved"))
+        if self.phase != 0 or told.name != "event":
+            return None
+        if told.code == LOCATION_STATUS:
+            place = value_in(told.body, LOCATION)
+            known = place is not None and len(place) <= LONGEST_KEEP
+            return (1, Act("keep", place)) if known else (2, Act("send", show(b"Lost")))
+        return {USER_ACTIVITY: (2, Act("send", show(b"Active"))), IDLE_SCREEN: (2, Act("send", idle_text(b"Idle")))}.get(told.code)
+
+    def barrier(self, told):
+        if self.phase == 0 and told.name == "event" and told.code == CALL_CONTROL:
+            barred = bool(self.kept) and digits(told.body).startswith(self.kept)
+            return 4, Act("answer", not barred)
+        if self.phase == 0 and told.name == "event" and told.code == MENU_SELECTION:
+            return 1, Act("send", ask(b"Bar?", 10, letters=False))
+        return self.keep_text(told)
+
+    def notebook(self, told):
+        if self.phase == 0 and told.name == "event" and told.code == PROFILE_DOWNLOAD and self.kept:
+            return 2, Act("send", show(self.kept))
+        if self.phase == 0 and told.name == "event" and told.code in (PROFILE_DOWNLOAD, MENU_SELECTION):
+            return 1, Act("send", ask(b"Note?", 20, letters=True))
+        return self.keep_text(told)
+
+    def keep_text(self, told):
+        """What the user typed is kept."""
+        if self.phase != 1 or not is_good(told):
+            return None
+        text = value_in(told.body, TEXT) or b""
+        return 2, Act("keep", text[1:][:LONGEST_KEEP])
+
+    def table(self, told):
+        if self.phase == 0 and told.name != "event":
+            return None
+        first, self.code = (0, told.code) if self.phase == 0 else (self.held + 1, self.code)
+        for number in range(first, len(self.kept) // 3):
+            event, action, value = self.kept[3 * number:3 * number + 3]
+            if event == self.code:
+                self.held = number
+                return 1, ACTIONS.get(action, lambda _: DONE)(value)
+        return None
+
+
+def is_good(told):
+    result = value_in(told.body, RESULT) if told.name == "response" else None
+    return bool(result) and result[0] < GOOD
+
+
+def tone(number):
+    return Command(PLAY_TONE, 0, TO_EARPIECE, bytes((0x8E, 1, number)))
+
+
+def digits(address):
+    """The digits of an address, as text."""
+    halves = [half for byte in address[1:] for half in (byte & 15, byte >> 4)]
+    end = halves.index(15) if 15 in halves else len(halves)
+    return bytes(0x30 + half for half in halves[:end])
+
+
+BEHAVIOURS = (Applet.greeter, Applet.menu, Applet.clock, Applet.watcher, Applet.barrier, Applet.notebook, Applet.table)
+ACTIONS = {
+    0x01: lambda value: Act("send", show(bytes((value,)))), 0x02: lambda value: Act("send", tone(value)),
+    0x03: lambda _: Act("send", Command(MORE_TIME)), 0x04: lambda value: Act("send", Command(PROVIDE_LOCAL_INFORMATION, value)),
+    0x05: lambda value: Act("send", Command(REFRESH, value)),
+    0x06: lambda value: Act("send", Command(GET_INKEY, WITH_LETTERS, TO_CARD, text_object(bytes((value,))))),
+    0x07: lambda value: Act("register", value), 0x08: lambda value: Act("deregister", value),
+    0x09: lambda value: Act("send", idle_text(bytes((value,)))), 0x0A: lambda _: Act("take"),
+}
+
+
+@dataclasses.dataclass
+class Outstanding:
+    """The command that the terminal has to answer; `owner` is the shelf of its applet, None for one of the card itself."""
+    owner: int | None
+    command: Command
+    number: int
+    fetched: bool = False
+
+
+class Toolkit:
+    """The toolkit of a card with these rows, by their shelves, as it is switched on; `take` is given what it is sent."""
+
+    def __init__(self, rows):
+        self.sequence = 0
+        self.applets = {}
+        # why what is worked out may not be so
+        self.doubt = None
+        for row in sorted(rows.values(), key=lambda row: getattr(row, "sequence", 0)):
+            self._register(row)
+        self.reset()
+
+    def _register(self, row):
+        self.sequence += 1
+        self.applets[row.shelf] = Applet(row, self.sequence)
+
+    def reset(self):
+        """The card is reset: what is registered and kept stays."""
+        self.profile, self.out, self.waiting, self.late, self.timers = None, None, [], [], {}
+        self.announced_events, self.announced_menu, self.has_poll, self.number = (), (), False, 0
+        for applet in self.applets.values():
+            applet.wake()
+
+    def lose(self):
+        """The power was lost in a command, or it met a memory problem."""
+        self.reset()
+        self.doubt = NOT_SETTLED
+
+    # what is sent to the card
+
+    def take(self, apdu, data, status):
+        """Takes note of a command that was answered so."""
+        if not apdu.ok or not status.startswith(("90", "91", "61")):
+            return
+        if apdu.on_applets:
+            self._change(apdu)
+        elif apdu.ins == FETCH:
+            self._fetched(data)
+        elif apdu.ins in TAKEN:
+            TAKEN[apdu.ins](self, apdu.data)
+            self._drive()
+
+    def _change(self, apdu):
+        if apdu.ins == INSTALL:
+            given = layout.installation(apdu.data)
+            self._register(layout.Registered(apdu.p2, apdu.p1, given.events, given.text, given.kept))
+        elif apdu.ins == DELETE:
+            self.applets.pop(apdu.p2, None)
+            self.timers = {timer: shelf for timer, shelf in self.timers.items() if shelf != apdu.p2}
+        self._drive()
+
+    def _fetched(self, data):
+        if self.out is None or data != self.out.command.spelled(self.out.number):
+            self.doubt = OTHER_APPLETS
+        if self.out:
+            self.out.fetched = True
+
+    def _told_profile(self, profile):
+        self.profile = profile
+        self._trigger(self.order(PROFILE_DOWNLOAD), PROFILE_DOWNLOAD, profile)
+
+    def _polled(self, _):
+        self._trigger(self.order(STATUS_COMMAND), STATUS_COMMAND, b"")
+
+    def _responded(self, response):
+        owner, self.out = self.out.owner if self.out else None, None
+        if owner in self.applets:
+            self._run(self.applets[owner], Stimulus("response", body=response), resumed=True)
+
+    def _enveloped(self, envelope):
+        try:
+            tag, content = tlv.template(envelope)
+        except tlv.BadTlv:
+            return
+        value = value_in(content, {MENU: ITEM, CALL: ADDRESS, EVENT: EVENT_LIST, EXPIRATION: TIMER}.get(tag))
+        if not value:
+            return
+        if tag == MENU:
+            entry = self.applets.get(value[0] - 1)
+            self._trigger([entry] if entry and entry.row.text else [], MENU_SELECTION, value, late=True)
+        elif tag == EXPIRATION:
+            owner = self.applets.get(self.timers.get(value[0]))
+            self._trigger([owner] if owner else [], TIMER_EXPIRATION, value, late=True)
+        elif tag == CALL:
+            self._trigger(self.order(CALL_CONTROL), CALL_CONTROL, value, late=True)
+        elif tag == EVENT:
+            if value[0] in REPORTED_ONCE:
+                self.announced_events = tuple(code for code in self.announced_events if code != value[0])
+            self._trigger(self.order(value[0]), value[0], content, late=True)
+
+    # what comes of it
+
+    def order(self, code):
+        """The applets that are registered for an event, in the order in which it wakes them."""
+        found = [applet for applet in self.applets.values() if code in applet.events]
+        return sorted(found, key=lambda applet: (applet.row.priority, -applet.sequence))
+
+    def is_idle(self, shelf):
+        return not (self.out and self.out.owner == shelf) and all(waits != shelf for waits, _ in self.waiting)
+
+    def _trigger(self, applets, code, body, late=False):
+        for applet in applets:
+            if self.is_idle(applet.shelf):
+                self._run(applet, Stimulus("event", code, body))
+            elif late:
+                self.late.append((applet.shelf, code, body))
+
+    def _run(self, applet, told, resumed=False):
+        calls = told.name == "event" and told.code == CALL_CONTROL
+        for _ in range(MOST_ACTS):
+            act = applet.step(told)
+            if act == DONE:
+                return
+            if act.name == "send" and self._admits(applet, act.value, calls):
+                self._send(applet, act.value, resumed)
+                return
+            told = REFUSED if act.name == "send" else self._done(applet, act)
+        applet.wake()
+
+    def _done(self, applet, act):
+        """Carries out an act that sends nothing, and answers what the applet is told."""
+        if act.name == "keep":
+            return WENT if len(act.value) <= LONGEST_KEEP else REFUSED
+        if act.name in ("register", "deregister"):
+            return self._change_events(applet, act)
+        if act.name == "take":
+            free = next((timer for timer in TIMERS if timer not in self.timers), None)
+            if free is None:
+                return REFUSED
+            self.timers[free] = applet.shelf
+            return Stimulus("timer", free)
+        if act.name == "free":
+            return WENT if self.timers.get(act.value) == applet.shelf and self.timers.pop(act.value) is not None else REFUSED
+        return WENT
+
+    def _change_events(self, applet, act):
+        others = [other for other in self.order(CALL_CONTROL) if other is not applet]
+        if act.value not in layout.EVENTS or act.name == "register" and act.value == CALL_CONTROL and others:
+            return REFUSED
+        (applet.events.add if act.name == "register" else applet.events.discard)(act.value)
+        return WENT
+
+    def _allows(self, place):
+        byte, bit = place
+        return self.profile is not None and len(self.profile) >= byte and bool(self.profile[byte - 1] >> (bit - 1) & 1)
+
+    def _admits(self, applet, command, calls):
+        if calls or command.kind in OF_THE_CARD or not self._allows(IN_PROFILE[command.kind]):
+            return False
+        if command.kind == REFRESH and command.qualifier not in (0x03, 0x04):
+            return False
+        if command.kind == TIMER_MANAGEMENT and self.timers.get(command.objects[2]) != applet.shelf:
+            return False
+        return len(command.spelled(1)) <= LONGEST_COMMAND
+
+    def _send(self, applet, command, resumed):
+        if resumed:
+            self._put_out(applet.shelf, command)
+        else:
+            self.waiting.append((applet.shelf, command))
+
+    def _put_out(self, owner, command):
+        self.number = self.number % HIGHEST_NUMBER + 1
+        self.out = Outstanding(owner, command, self.number)
+
+    def _drive(self):
+        while True:
+            at = next((number for number, (shelf, _, _) in enumerate(self.late) if self.is_idle(shelf)), None)
+            if at is None:
+                break
+            shelf, code, body = self.late.pop(at)
+            self._run(self.applets[shelf], Stimulus("event", code, body))
+        if self.out is None:
+            command = self._of_the_card()
+            if command:
+                self._put_out(None, command)
+            elif self.waiting:
+                self._put_out(*self.waiting.pop(0))
+
+    def _of_the_card(self):
+        """The command that the card itself has next for the terminal; None where it has none."""
+        events = tuple(code for code, place in EVENTS_IN_PROFILE.items() if self.order(code) and self._allows(place))
+        if events != self.announced_events and self._allows(IN_PROFILE[SET_UP_EVENT_LIST]):
+            self.announced_events = events
+            return Command(SET_UP_EVENT_LIST, objects=tlv.written(EVENT_LIST, bytes(events)))
+        menu = tuple((applet.shelf + 1, applet.row.text) for applet in self.by_shelf() if applet.row.text)
+        if menu != self.announced_menu and self._allows(IN_PROFILE[SET_UP_MENU]):
+            self.announced_menu = menu
+            return choice(SET_UP_MENU, b"Menu", menu)
+        if self.order(STATUS_COMMAND) and not self.has_poll and self._allows(IN_PROFILE[POLL_INTERVAL]):
+            self.has_poll = True
+            return Command(POLL_INTERVAL, objects=bytes((0x84, 2, SECONDS, POLLED_EACH)))
+        return None
+
+    def by_shelf(self):
+        return [applet for _, applet in sorted(self.applets.items())]
+
+    # in words
+
+    def state_of(self, shelf):
+        """What an applet is doing."""
+        if self.out and self.out.owner == shelf:
+            return f"asked: waits for the response to {self.out.command.name}"
+        place = next((number for number, (waits, _) in enumerate(self.waiting, 1) if waits == shelf), None)
+        return f"waiting: has {self.waiting[place - 1][1].name} to send, as number {place} of {len(self.waiting)}" if place else "idle"
+
+    def lines(self):
+        """What the toolkit is doing, in lines that have a depth, a label and a text."""
+        line = decode.Line
+        found = [line(0, "terminal profile", "received" if self.profile is not None else "none since the reset")]
+        found.append(line(0, "outstanding command", self._out_words()))
+        for applet in self.by_shelf():
+            kind = names.table("toolkit")["kinds"][str(applet.shelf % KINDS)]
+            found.append(line(0, f"applet on shelf {applet.shelf} ({kind}, priority {applet.row.priority})", self.state_of(applet.shelf)))
+        found += [line(0, f"late event {number}", f"{decode.event(code)} for the applet on shelf {shelf}")
+                  for number, (shelf, code, _) in enumerate(self.late, 1)]
+        found += [line(0, f"timer {timer}", f"held by the applet on shelf {shelf}") for timer, shelf in sorted(self.timers.items())]
+        for code in layout.EVENTS:
+            shelves = ", ".join(f"shelf {applet.shelf} (priority {applet.row.priority})" for applet in self.order(code))
+            found += [line(0, f"event {decode.event(code)}", f"wakes {shelves}")] if shelves else []
+        if self.doubt:
+            found.append(line(0, "not sure", self.doubt))
+        return found
+
+    def _out_words(self):
+        if self.out is None:
+            return "none"
+        whose = "the card itself" if self.out.owner is None else f"the applet on shelf {self.out.owner}"
+        state = "fetched, waits for its response" if self.out.fetched else "waits to be fetched"
+        return f"{self.out.command.name}, number {self.out.number}, of {whose}: {state}"
+
+
+TAKEN = {PROFILE: Toolkit._told_profile, STATUS: Toolkit._polled, RESPONSE: Toolkit._responded, ENVELOPE: Toolkit._enveloped}
+
+
+def followed(rows, lines):
+    """The toolkit of a card with these rows, by their shelves, after the lines of a trace."""
+    toolkit = Toolkit(rows)
+    for part in trace.parts(lines):
+        if isinstance(part, trace.Mark):
+            if part.text == process.RESET:
+                toolkit.reset()
+        elif part.answer is None or part.status == MEMORY_PROBLEM:
+            toolkit.lose()
+        else:
+            toolkit.take(decode.Apdu(part.command), part.answer[:-2], part.status)
+    return toolkit
