@@ -11,12 +11,12 @@ TOP = os.path.dirname(TOOLS)
 # what has a use without the sources of the program
 WORDS = ("capture", "cuts", "expect", "explain", "lint", "modem", "ofono", "profile", "reader", "sequence", "shell")
 # what a tool starts as a process of its own
-HELPERS = ("ofono_client.py",)
+HELPERS = ("modemmanager_client.py", "ofono_client.py")
 LAUNCHER, PROGRAM, PAGE, LIST = "uicc_run", "dist/uicc_program", "dist/uicc_run.html", "dist/release.txt"
 # what is read where it is, and where the same text would be changed by being installed
 DOCUMENTS = ("README.md", "CHANGELOG.md", "docs/APPLETS.md", "docs/CARDS.md", "docs/CASES.md", "docs/GLOSSARY.md", "docs/HANDSET.md",
              "docs/MODULE.md", "docs/SCRIPT.md", "docs/SEQUENCES.md", "docs/THEOREM.md", "docs/TOOLS.md")
-CALLED = re.compile(rf"(?<![\w./$])tools/(check|{'|'.join(WORDS)})(?![\w/.])")
+CALLED = re.compile(rf"(?<![\w./$])tools/(check|{'|'.join(WORDS)})(?![\w/]|\.\w)")
 STARTED = re.compile(r"(?<![\w/$])\./uicc_run\b")
 INTERPRETER = "#!/usr/bin/env python3\n"
 VERSION = re.compile(r'^__version__ = "([0-9.]+)"$', re.MULTILINE)

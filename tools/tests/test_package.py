@@ -117,6 +117,8 @@ class Texts(unittest.TestCase):
         ("./uicc_run play < SCRIPT | tools/explain", "uicc_run play < SCRIPT | uicc explain"),
         ("tools/uicc/data/*.json", "tools/uicc/data/*.json"),
         ("tools/check", "uicc check"),
+        ("for tools/capture.", "for uicc capture."),
+        ("tools/lint.py", "tools/lint.py"),
         ("tools/page/check", "tools/page/check"),
         ("/work/tools/lint", "/work/tools/lint"),
         ("tools/release", "tools/release"),

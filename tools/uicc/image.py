@@ -108,6 +108,11 @@ def through_map(image):
     return image[:FIRST_MAPPED * PAGE] + b"".join(image[entry * PAGE:(entry + 1) * PAGE] for entry in entries)
 
 
+def is_image(content):
+    """Whether a file's bytes are those of an image that holds a card, and not of a text."""
+    return len(content) >= JOURNAL_SIZE and content[:4] == b"UICC"
+
+
 def card_in(image):
     """The card that an image holds."""
     content = stable(image)

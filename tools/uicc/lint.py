@@ -175,10 +175,15 @@ def read(text, mode="play"):
 def described(path):
     """The script in a file, for who wants the card alone that it describes: BadScript, where one of the lines up to `start` is bad."""
     with open(path, encoding=process.ENCODING, newline="\n") as text:
-        script = read(text.read())
+        return described_in(text.read(), path)
+
+
+def described_in(text, name):
+    """The same of a script's text, which is called so."""
+    script = read(text)
     bad = script.first()
     if bad and bad.line <= len(process.card_section(script.lines)[0]):
-        raise BadScript(f"{path}, line {bad.line}: {bad.reason}")
+        raise BadScript(f"{name}, line {bad.line}: {bad.reason}")
     return script
 
 
