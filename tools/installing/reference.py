@@ -41,6 +41,8 @@ def told(annotation):
 
 
 def parameter(given):
+    if given.kind is given.VAR_KEYWORD:
+        return "**" + given.name
     typed = "" if given.annotation is given.empty else f": {told(given.annotation)}"
     if given.default is given.empty:
         return given.name + typed

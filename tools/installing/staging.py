@@ -13,9 +13,8 @@ WORDS = ("capture", "cuts", "expect", "explain", "lint", "modem", "ofono", "prof
 # what a tool starts as a process of its own
 HELPERS = ("modemmanager_client.py", "ofono_client.py")
 LAUNCHER, PROGRAM, PAGE, LIST = "uicc_run", "dist/uicc_program", "dist/uicc_run.html", "dist/release.txt"
-# what is read where it is, and where the same text would be changed by being installed
-DOCUMENTS = ("README.md", "CHANGELOG.md", "docs/APPLETS.md", "docs/CARDS.md", "docs/CASES.md", "docs/GLOSSARY.md", "docs/HANDSET.md",
-             "docs/MODULE.md", "docs/SCRIPT.md", "docs/SEQUENCES.md", "docs/THEOREM.md", "docs/TOOLS.md")
+# what tells of the sources alone
+OF_SOURCES = ("docs/ARCHITECTURE.md", "docs/DECISIONS.md", "docs/TABLES.md")
 CALLED = re.compile(rf"(?<![\w./$])tools/(check|{'|'.join(WORDS)})(?![\w/]|\.\w)")
 STARTED = re.compile(r"(?<![\w/$])\./uicc_run\b")
 INTERPRETER = "#!/usr/bin/env python3\n"
@@ -73,8 +72,9 @@ def examples():
 
 
 def documents():
-    """The documents, by their places; those that are written by hand and not here yet are left out."""
-    return {path: text_of(path) for path in DOCUMENTS if os.path.exists(os.path.join(TOP, path))}
+    """The documents, by their places, but for those that tell of the sources."""
+    paths = ["README.md", "CHANGELOG.md", *(path for path in below("docs") if path not in OF_SOURCES)]
+    return {path: text_of(path) for path in paths}
 
 
 def is_program(content):

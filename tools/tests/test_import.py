@@ -8,7 +8,7 @@ import tomllib
 import unittest
 
 from common import TOOLS
-from uicc import importing, lint, profile
+from uicc import importing, lint, profile, rules
 
 # control parameters: transparent, linear fixed, cyclic, and a file of objects
 IMSI_FCP = "62178202412183026F078A01058B032F0601800200098801" + "38"
@@ -37,13 +37,30 @@ def exported_before(path, *lines, identifiers="", structure=""):
         f"select {path}\n", "".join(f"select {part}\n" for part in path.split("/")))
 
 
+def parameters(structure, length, count=1, short=None, rule=None):
+    """The control parameters of a file."""
+    descriptor = bytes(({"t": 0x41, "l": 0x42, "c": 0x46}[structure], 0x21))
+    if structure != "t":
+        descriptor += bytes((0, length, count))
+    fcp = b"\x82" + bytes((len(descriptor),)) + descriptor + b"\x80\x02" + (length * count).to_bytes(2, "big")
+    fcp += b"\x88\x01" + bytes((short << 3,)) if short else b"\x88\x00"
+    if rule:
+        fcp += b"\x8B\x03" + bytes.fromhex(rule[0]) + bytes((rule[1],))
+    return (b"\x62" + bytes((len(fcp),)) + fcp).hex()
+
+
 def imported(text):
     """The card of the profile that a dump becomes, that profile, and what is left out."""
     done = importing.Import(text)
     given = tomllib.loads(done.profile())
     script = lint.read("".join(line + "\n" for line in profile.build(profile.merged({}, given))))
-    assert not script.findings, script.findings
+    assert not script.first(), script.findings
     return script.card, given, done.faults
+
+
+def but_rules(faults):
+    """What is said of a dump without an EF_ARR, but that it doesn't tell the rules which its files name."""
+    return [fault for fault in faults if not fault.endswith("its rule 2F06:1 isn't told")]
 
 
 class Reading(unittest.TestCase):
@@ -102,7 +119,7 @@ class Reading(unittest.TestCase):
                 self.assertEqual(file.content.hex().upper()[:len(content)], content)
                 table, = (value for name, value in given.items() if name not in ("pins", "default"))
                 self.assertEqual([key for key in table if key not in profile.OF_FILE], [word] if word else [])
-                self.assertEqual(faults, [])
+                self.assertEqual(but_rules(faults), [])
 
     # the path of a file, the JSON that its content is decoded to, and the bytes
     DECODED = [
@@ -132,7 +149,7 @@ class Reading(unittest.TestCase):
     def test_decoded_records(self):
         lines = [f"update_record_decoded {number} '{json.dumps(value)}'" for number, value in enumerate((self.NO_NUMBER, self.NUMBER), 1)]
         card, _, faults = imported(exported("MF/DF.TELECOM/EF.ADN", *lines, fcp=ADN_FCP))
-        self.assertEqual((card.files[self.ADN].content.hex().upper(), faults), (BLANK + ANNA + BLANK, []))
+        self.assertEqual((card.files[self.ADN].content.hex().upper(), but_rules(faults)), (BLANK + ANNA + BLANK, []))
 
     # a dump in JSON, and the files that it becomes
     JSON = [
@@ -149,16 +166,14 @@ class Reading(unittest.TestCase):
         for given, wanted in self.JSON:
             card, _, faults = imported(json.dumps(given))
             found = {path: file.content.hex().upper() for path, file in card.files.items() if not file.is_df and path != profile.ARR}
-            self.assertEqual((found, faults), (wanted, []))
+            self.assertEqual((found, but_rules(faults)), (wanted, []))
 
 
 class LeavingOut(unittest.TestCase):
     ICCID = exported("MF/EF.ICCID", "update_binary 989909010000103254f0")
     # what stands in a dump beside that, and what is said of it, a part each; None: nothing is
     TABLE = [
-        (exported("MF/EF.ARR", "update_record 1 8001019000"), ["MF/EF.ARR: access rules are words"]),
-        (exported("MF/ADF.USIM/EF.ARR", "update_record 1 80", identifiers="3f00/a0/6f06"), ["MF/ADF.USIM/EF.ARR: access rules are words"]),
-        (exported("MF/ADF.ISIM/EF.IMPI", "update_binary 00"), ["MF/ADF.ISIM/EF.IMPI: a card here has no place for the files of ADF.ISIM"]),
+        (exported("MF/ADF.CSIM/EF.IMPI", "update_binary 00"), ["MF/ADF.CSIM/EF.IMPI: a card here has no place for the files of ADF.CSIM"]),
         (exported("MF/ADF.USIM/EF.IMSI", "update_binary 082926108967452301") + exported("MF/DF.GSM/EF.LI", "update_binary 656e"),
          ["MF/DF.GSM/EF.LI: the files of ADF.USIM lie in the folder of DF.GSM here"]),
         (exported("MF/DF.TELECOM/EF.NEW", "update_binary 00"), ["MF/DF.TELECOM/EF.NEW: no identifier is told for EF.NEW"]),
@@ -171,10 +186,11 @@ class LeavingOut(unittest.TestCase):
         (exported("MF/7F10/6F99", "update_binary_decoded '{'"), ["MF/7F10/6F99: its JSON can't be read"]),
         (exported("MF/7F10/6F99"), ["MF/7F10/6F99: nothing is told of what it holds"]),
         (exported("MF/7F10/6F99", fcp="620482024121"), ["MF/7F10/6F99: nothing is told of what it holds"]),
-        (exported("MF/7F10/6F99", "update_binary 00", fcp="62"), ["line 16, MF/7F10/6F99: its control parameters can't be read"]),
         (exported("MF/7F10/6F99", "update_binary " + "00" * 40_000), ["MF/7F10/6F99: SIZE is 1 to 32767, not 40000"]),
         (exported("MF/7F10/6F99", "update_binary 0102030405060708090A", fcp=IMSI_FCP), ["it has 9 bytes, and 10 are told"]),
         (exported("MF/7F10/6F99", f"update_record 4 {ANNA}", fcp=ADN_FCP), ["it has 3 records of 28 bytes, and a record 4 of 28"]),
+        (exported("MF/7F21/6F98", "update_binary 00", fcp="6212820241218A01048B032F06078002000188" + "00"),
+         ["MF/7F21/6F98: is deactivated there", "MF/7F21/6F98: its rule 2F06:7 isn't told"]),
         (exported("MF/7F10/6F99", "update_record 1 00", structure="transparent"), ["it is transparent, and records are told"]),
         (exported("MF/7F10/6F99", "update_binary 00", structure="cyclic"), ["it has records, and one content is told"]),
         (exported("MF/7F10/6F99", "update_record 1 " + "00" * 256), ["LENGTH is 1 to 255, not 256"]),
@@ -212,7 +228,7 @@ class LeavingOut(unittest.TestCase):
         card, _, faults = imported(exported("MF/ADF.USIM/EF.IMSI", "update_binary 082926108967452301", fcp=IMSI_FCP)
                                    + exported("MF/ADF.USIM/6F99", "update_binary 00", fcp=fcp))
         self.assertEqual([card.files[("7F20", name)].short for name in ("6F07", "6F99")], [7, None])
-        self.assertEqual(faults, ["MF/ADF.USIM/6F99: comes without its short identifier 7, which 7F20/6F07 EF.IMSI has"])
+        self.assertEqual(faults[:1], ["MF/ADF.USIM/6F99: comes without its short identifier 7, which 7F20/6F07 EF.IMSI has"])
 
     def test_as_many_files_as_there_is_room_for(self):
         """127 beside the MF, EF_ARR and the folder with them."""
@@ -258,31 +274,81 @@ class LeavingOut(unittest.TestCase):
             self.assertIn(f"MF/7F10/6F99: {why}", faults[0].replace("it is neither", "neither"))
 
 
+class Rules(unittest.TestCase):
+    """EF_ARR, and the rules that files name."""
+    PATH = ("7F10", "6F99")
+    # records of EF_ARR: words, no words (UPDATE BINARY by its instruction), and one that no file names
+    ARR = exported("MF/EF.ARR", "update_record 1 800101A406830101950108800102A40683010A950108", "update_record 2 8401D69000", "update_record 3 8001039700",
+                   fcp=parameters("l", 30, 4, 6, ("2F06", 3)))
+
+    def file(self, number, path="MF/DF.TELECOM/6F99", arr="2F06"):
+        return exported(path, "update_binary 00", fcp=parameters("t", 1, rule=(arr, number)))
+
+    def test_words(self):
+        """In the order of the dump or after it; the record is the one that it was."""
+        for text in (self.ARR + self.file(1), self.file(1) + self.ARR):
+            card, given, faults = imported(text)
+            table = given["7F10/6F99"]
+            self.assertEqual((table["read"], table["update"], "rule" in table, faults), ("pin1", "adm", False, []))
+            self.assertEqual(card.files[self.PATH].rule, ("2F06", 1))
+            self.assertEqual([record.rstrip(b"\xFF").hex().upper() for record in card.files[profile.ARR].records()[:3]],
+                             ["800101A406830101950108800102A40683010A950108", "8401D69000", "8001039700"])
+            self.assertEqual(card.files[profile.ARR].rule, ("2F06", 3))
+
+    def test_without_words(self):
+        card, given, faults = imported(self.ARR + self.file(2))
+        self.assertEqual((given["7F10/6F99"]["rule"], card.files[self.PATH].rule, faults), ("2F06:2", ("2F06", 2), []))
+
+    def test_of_a_folder(self):
+        """The EF_ARR of a folder stays one, and the words of its files are found in it."""
+        arr = exported("MF/ADF.USIM/EF.ARR", "update_record 2 800101A406830101950108", fcp=parameters("l", 11, 2))
+        card, given, faults = imported(self.ARR + arr + self.file(2, "MF/ADF.USIM/6F99", "6F06"))
+        self.assertEqual((given["7F20/6F99"]["read"], card.files[("7F20", "6F99")].rule, faults), ("pin1", ("6F06", 2), []))
+
+    def test_a_file_without_a_rule_beside_others(self):
+        """It gets the words that hold where nothing is told, and no other file does."""
+        card, given, faults = imported(self.ARR + self.file(1) + exported("MF/EF.ICCID", "update_binary 989909010000103254f0"))
+        self.assertEqual((given["EF_ICCID"]["update"], "default" in given, faults), ("adm", False, []))
+        file = card.files[("2FE2",)]
+        self.assertEqual(rules.shown(card.rule_file(file).record(file.rule[1])), "read: always; update, deactivate, activate: adm")
+
+    def test_conditions_of_a_sim(self):
+        """Read with CHV 1, update by an administrator, invalidate never, rehabilitate always."""
+        answer = "000000096F200400" + "1411" + "0F" + "01020000"
+        card, given, faults = imported(exported("MF/DF.GSM/EF.Kc", "update_binary ffffffffffffffff07", fcp=answer))
+        table = given["7F20/EF_Kc"] if "7F20/EF_Kc" in given else given["EF_Kc"]
+        self.assertEqual(({key: table[key] for key in ("read", "update", "deactivate", "activate")}, faults),
+                         ({"read": "pin1", "update": "adm", "deactivate": "never", "activate": "always"}, []))
+
+    def test_parameters_that_cannot_be_read(self):
+        """The file keeps its bytes."""
+        for text in (exported("MF/7F10/6F99", "update_binary 0102", fcp="62"), exported("MF/7F10/6F99", "update_binary 0102", fcp="zz"),
+                     json.dumps({"files": {"MF/7F10/6F99": {"fcp_raw": "62", "body": "0102"}}})):
+            card, _, faults = imported(text)
+            self.assertEqual(card.files[self.PATH].content, b"\x01\x02")
+            self.assertEqual(len(faults), 1)
+            self.assertRegex(faults[0], "^MF/7F10/6F99: .*: its shape is that of what it holds$")
+
+
 class RoundTrip(unittest.TestCase):
     def test_templates(self):
         """What a template builds, written as a dump is, becomes the same card again."""
         for kind in ("usim", "sim"):
             card = lint.read("".join(line + "\n" for line in profile.build(profile.template(kind)))).card
             again, _, faults = imported("".join(as_export(file) for file in card.files.values() if not file.is_df))
-            self.assertEqual(faults, ["MF/2F06: access rules are words in a profile, from which EF_ARR is written"])
-            self.assertEqual({path: facts(file) for path, file in again.files.items() if path != profile.ARR},
-                             {path: facts(file) for path, file in card.files.items() if path != profile.ARR})
+            self.assertEqual(faults, [])
+            self.assertEqual({path: facts(file) for path, file in again.files.items()}, {path: facts(file) for path, file in card.files.items()})
 
 
 def facts(file):
-    return file.structure, file.length, file.count, file.short, bytes(file.content)
+    return file.structure, file.length, file.count, file.short, bytes(file.content), file.rule
 
 
 def as_export(file):
     """A file as `export` writes it, by identifiers."""
-    descriptor = bytes(({"t": 0x41, "l": 0x42, "c": 0x46}[file.structure], 0x21))
-    if file.structure != "t":
-        descriptor += bytes((0, file.length, file.count))
-    fcp = b"\x82" + bytes((len(descriptor),)) + descriptor + b"\x80\x02" + file.size.to_bytes(2, "big")
-    fcp += b"\x88\x01" + bytes((file.short << 3,)) if file.short else b"\x88\x00"
     lines = [f"update_binary {file.content.hex()}"] if file.structure == "t" else [
         f"update_record {number} {record.hex()}" for number, record in enumerate(file.records(), 1)]
-    return exported("/".join(("MF", *file.path)), *lines, fcp=(b"\x62" + bytes((len(fcp),)) + fcp).hex())
+    return exported("/".join(("MF", *file.path)), *lines, fcp=parameters(file.structure, file.length, file.count, file.short, file.rule))
 
 
 class Command(unittest.TestCase):
@@ -293,15 +359,17 @@ class Command(unittest.TestCase):
     def test_from_a_dump_to_a_tree(self):
         text = exported("MF/ADF.USIM/EF.IMSI", "update_binary 082926108967452301", fcp=IMSI_FCP)
         text += exported("MF/DF.TELECOM/EF.ADN", f"update_record 1 {ANNA}", fcp=ADN_FCP)
-        text += exported("MF/ADF.ISIM/EF.IMPI", "update_binary 00")
+        text += exported("MF/ADF.CSIM/EF.IMPI", "update_binary 00")
         with tempfile.TemporaryDirectory() as folder:
             dump, given, script = (os.path.join(folder, name) for name in ("card.dump", "card.toml", "card.script"))
             with open(dump, "w", encoding="utf-8") as out:
                 out.write(text)
             done = self.tool("profile", "import", dump, "-o", given)
-            self.assertEqual((done.returncode, done.stdout), (0, ""))
-            left_out, counted = done.stderr.splitlines()
-            self.assertIn("MF/ADF.ISIM/EF.IMPI: ", left_out)
+            # something is lost
+            self.assertEqual((done.returncode, done.stdout), (1, ""))
+            left_out, rule, counted = done.stderr.splitlines()
+            self.assertIn("MF/ADF.CSIM/EF.IMPI: ", left_out)
+            self.assertEqual(rule, "MF/ADF.USIM/EF.IMSI: its rule 2F06:1 isn't told (and one more file goes by it)")
             self.assertTrue(counted.startswith("2 files, "), counted)
             for words in (("profile", "build", given, "-o", script), ("lint", script)):
                 done = self.tool(*words)
@@ -311,13 +379,19 @@ class Command(unittest.TestCase):
                 self.assertIn(part, shown)
 
     def test_a_file_that_is_no_dump(self):
+        """It is refused in a line, and nothing is written."""
         with tempfile.TemporaryDirectory() as folder:
             dump, given = os.path.join(folder, "card.dump"), os.path.join(folder, "card.toml")
-            with open(dump, "wb") as out:
-                out.write(b"\xFF\x00nothing\n")
-            done = self.tool("profile", "import", dump, "-o", given)
-            self.assertEqual((done.returncode, os.path.exists(given)), (2, False))
-            self.assertIn("has no file that a card here can hold", done.stderr)
+            for content, reason in ((b"\xFF\x00nothing\n", "it is a binary file"), (b"UICC" + bytes(65_532), "it is an image of a card"),
+                                    (b"\xFF" * 71_680, "it is an image of a card"), (b"\x7FELF\x00", "it is a binary file"),
+                                    (b"pin 01 31\nstart\n", "it is a script of uicc_run"), (b"nothing\n", "has no file that a card here can hold")):
+                with open(dump, "wb") as out:
+                    out.write(content)
+                done = self.tool("profile", "import", dump, "-o", given)
+                self.assertEqual((done.returncode, os.path.exists(given)), (2, False))
+                self.assertIn(reason, done.stderr)
+                self.assertNotIn("Traceback", done.stderr)
+                self.assertTrue(done.stderr.count("\n") == 1 or content == b"nothing\n", done.stderr)
             self.assertEqual(self.tool("profile", "import", os.path.join(folder, "none")).returncode, 2)
 
 

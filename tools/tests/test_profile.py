@@ -27,7 +27,7 @@ class Building(unittest.TestCase):
         ('[EF_ICCID]\niccid = "8999901000000123450"', ("2FE2",), ("t", 10, 1), "989909010000103254F0"),
         ('[EF_SPN]\nspn = "Example"', ("7F20", "6F46"), ("t", 17, 1), "014578616D706C65FF"),
         ('[EF_FPLMN]\nplmns = ["262-01"]\nsize = 12', ("7F20", "6F7B"), ("t", 12, 1), "62F210FFFFFF"),
-        ('[EF_PLMNwAcT]\nplmns = ["262-01 by GSM"]', ("7F20", "6F60"), ("t", 5, 1), "62F2100080"),
+        ('[EF_PLMNwAcT]\nplmns = ["262-01 by GSM"]', ("7F20", "6F60"), ("t", 40, 1), "62F2100080FFFFFF"),
         ('[EF_ADN]\nentries = [{ name = "Anna", number = "+999901005550" }]\ncount = 3', ("7F10", "6F3A"), ("l", 28, 3),
          "416E6E61FFFFFFFFFFFFFFFFFFFF0791999910005505FFFFFFFFFFFF"),
         ('[EF_LND]\nentries = []\ncount = 10', ("7F10", "6F44"), ("c", 28, 10), "FFFF"),
@@ -132,6 +132,7 @@ class Mistakes(unittest.TestCase):
                                             "joined by `or` or `and`"]),
         ('[EF_SPN]\nspn = "A"\nshort = 7', ["line 2: [EF_SPN]: the short identifier 7 is taken by 7F20/6F07"]),
         ('[EF_SPN]\nspn = "A"\nsize = 100000', ["line 4: [EF_SPN] size is 100000, and has to be a number from 1 to 32767: size = 17"]),
+        ('["7F10/6F99"]\nsize = 5\ncyclic = true', ['line 2: ["7F10/6F99"]: `cyclic` is of files with records, and `size` of those without']),
         ('[EF_SPN]\niccid = "1"', ["line 3: [EF_SPN] iccid is nothing that EF.SPN holds: `spn = \"Nordlicht\"` is"]),
         ('[[applet]]\nkind = "menu"\n[[applet]]\nkind = "menu"\nmenue = "x"', ["line 6: [[applet]] menue isn't known: `menu` is"]),
         ('[[applet]]\nkind = "table"\non = { locaton = ["show A"] }', ["line 2: [[applet]]: the applet on shelf 6: `locaton` is no event, but "

@@ -97,7 +97,7 @@ class References(unittest.TestCase):
                 with self.subTest(kind=kind.__name__, name=name):
                     self.assertTrue(reference.text_of(function))
                     parts = [part for part in reference.inspect.signature(function).parameters.values() if part.name not in ("self", "cls")]
-                    self.assertFalse([part.name for part in parts if part.annotation is part.empty])
+                    self.assertFalse([part.name for part in parts if part.annotation is part.empty and part.kind is not part.VAR_KEYWORD])
                     self.assertIsNot(reference.inspect.signature(function).return_annotation, reference.inspect.Signature.empty)
 
 

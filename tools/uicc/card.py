@@ -11,7 +11,7 @@ A command that isn't answered 9000, 91XX or a warning raises StatusError, which 
 import dataclasses
 import os
 
-from . import decode, described, image, kept, layout, lint, names, process, profile, refusals, tlv
+from . import decode, described, fields, image, kept, layout, lint, names, process, profile, refusals, tlv
 from .follow import Follower
 from .status import Status
 
@@ -334,6 +334,45 @@ class Card:
     def activate(self) -> Answer:
         """ACTIVATE FILE, of the current EF."""
         return self._command(0x44, 0, 0)
+
+    # what files hold, said as a profile says it
+
+    def write(self, name: str, record: int | None = None, **said) -> None:
+        """Selects a file and writes what one key says of it: card.write("EF.SPN", spn="Example"). A list of entries is written from record 1
+        on; with `record` one entry is: card.write("EF.ADN", 3, entries={"name": "Anna", "number": "110"})."""
+        if len(said) != 1:
+            raise ValueError("one key says what a file holds")
+        (key, value), = said.items()
+        file = self._selected(name)
+        content = fields.written(key, value, self._entry(file), file.length, record)
+        if (file.structure == "t") != isinstance(content, bytes):
+            raise ValueError(f"{key} is of files {'with' if file.structure == 't' else 'without'} records, and {names.shown(file.path)} is none")
+        if file.structure == "t":
+            for at in range(0, len(content), MOST - 1):
+                self.update_binary(content[at:at + MOST - 1], at)
+        elif file.structure == "c":
+            for one in reversed(content):
+                self.add_record(one)
+        else:
+            for number, one in enumerate(content, record or 1):
+                self.update_record(number, one)
+
+    def say(self, name: str, record: int | None = None) -> dict:
+        """Selects a file, and answers what it holds as a profile says it: {"spn": "Example"}. Of a file with records that is of one."""
+        file = self._selected(name)
+        content = self.read_binary() if file.structure == "t" else self.read_record(record or 1)
+        return dict([fields.said(content, self._entry(file))])
+
+    def _selected(self, name):
+        self.select(name)
+        file = self.holds.files.get(self.current)
+        if file is None or file.is_df:
+            raise NoSuchFile(f"{name} is no file that holds bytes")
+        return file
+
+    def _entry(self, file):
+        entry = names.file(file.path, self._follower.usim)
+        return entry if entry and entry.get("structure", file.structure) == file.structure else None
 
     # files made, resized and deleted, in the current DF; with the key ADM1
 

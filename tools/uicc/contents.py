@@ -5,7 +5,7 @@ import difflib
 
 from . import rules, structured
 from .coding import (
-    DIALLED, UPDATES, BadContent, coded_text, decode_plmn, dialled_digits, digits_of, encode_plmn, exact_bytes, is_blank, is_digits,
+    UPDATES, BadContent, coded_text, decode_plmn, dialled_digits, digits_of, encode_plmn, exact_bytes, is_blank, is_digits,
     packed, text_of)
 from .names import table
 
@@ -130,15 +130,8 @@ def encode_dialling(entry, length):
     """`entry` has a name and a number, which begins with + where it is international."""
     if length < 14:
         raise BadContent(f"a record of numbers has at least 14 bytes, and not {length}")
-    number = str(entry.get("number", ""))
-    international, digits = number.startswith("+"), number.lstrip("+")
-    if any(digit not in DIALLED[:14] for digit in digits) or len(digits) > 20:
-        raise BadContent(f"`{number}` is no number of at most 20 digits")
     name = coded_text(entry.get("name", ""), length - 14).ljust(length - 14, b"\xFF")
-    digits += "F" * (len(digits) % 2)
-    coded = bytes(DIALLED.index(digits[n + 1]) << 4 | DIALLED.index(digits[n]) for n in range(0, len(digits), 2))
-    head = bytes((1 + len(coded), 0x91 if international else 0x81)) if coded else b"\xFF\xFF"
-    return name + (head + coded).ljust(12, b"\xFF") + b"\xFF\xFF"
+    return name + structured.address(str(entry.get("number", "")), False) + b"\xFF\xFF"
 
 
 def decode_spn(content):

@@ -16,7 +16,7 @@ BY_DESCRIPTOR = {1: "t", 2: "l", 6: "c"}
 BY_SIM = {0: "t", 1: "l", 3: "c"}
 NOT_FOUND = "6a82"
 # where the card here has the files of an application
-FOLDERS = {"ADF.USIM": "7F20"}
+FOLDERS = {"ADF.USIM": "7F20", "ADF.ISIM": "7FF2"}
 FOREIGN = "foreign"
 
 
@@ -26,12 +26,16 @@ class Unread(Exception):
 
 @dataclasses.dataclass
 class Shape:
-    """As far as it is told. `short` is 0 where the card says that the file has none."""
+    """As far as it is told. `short` is 0 where the card says that the file has none. `rule` is the identifier of an EF_ARR and the number
+    of a record, `words` are the conditions of a SIM."""
     structure: str | None = None
     size: int | None = None
     length: int | None = None
     count: int | None = None
     short: int | None = None
+    rule: tuple | None = None
+    words: dict | None = None
+    is_deactivated: bool = False
 
 
 @dataclasses.dataclass
@@ -52,8 +56,11 @@ class DumpedFile:
     def path(self):
         """The identifiers from the MF, with the folder of the card here in place of an application. Unread where it has none."""
         parts = self.name.split("/")
-        told = self.identifiers or ("",) * len(parts)
-        return tuple(identifier(*each) for each in zip(parts, told) if each[0].upper() not in ("MF", "3F00"))
+        found = ()
+        for part, told in zip(parts, self.identifiers or ("",) * len(parts)):
+            if part.upper() not in ("MF", "3F00"):
+                found += (identifier(part, told, found),)
+        return found
 
 
 def hexadecimal(text):
@@ -74,7 +81,8 @@ def is_identifier(word):
     return bool(re.fullmatch("[0-9A-Fa-f]{4}", word))
 
 
-def identifier(part, told):
+def identifier(part, told, folder):
+    """The identifier of a part of a name: the one that is told, or that of the standard file of this name in a folder."""
     if part in FOLDERS:
         return FOLDERS[part]
     if part.startswith("ADF."):
@@ -85,7 +93,7 @@ def identifier(part, told):
     found = names.by_name(part)
     if not found:
         raise Unread(f"no identifier is told for {part}, and no standard file known here is called so")
-    return found[0]["id"]
+    return names.in_folder(found, folder)["id"]
 
 
 # the shape by what the card said of the file
@@ -108,11 +116,33 @@ def shape_by_parameters(fcp):
         shape.length, shape.count = int.from_bytes(descriptor[2:4], "big"), descriptor[4]
     if 0x88 in found:
         shape.short = found[0x88][0] >> 3 if found[0x88] else 0
+    shape.rule = rule_of(found.get(0x8B, b""))
+    shape.is_deactivated = found.get(0x8A, b"")[:1] in (b"\x04", b"\x06")
     return shape
+
+
+def rule_of(value):
+    """The EF_ARR and the record that control parameters name: one record, or one for each security environment, of which the first."""
+    if len(value) == 3:
+        return value[:2].hex().upper(), value[2]
+    return (value[:2].hex().upper(), value[3]) if len(value) > 3 else None
+
+
+# the conditions of a SIM by half bytes (3GPP TS 51.011, 9.3)
+SIM_CONDITIONS = {0: "always", 1: "pin1", 2: "pin2", 15: "never", **{level: "adm" for level in range(4, 15)}}
+
+
+def sim_words(answer, structure):
+    """The words of a SIM's conditions."""
+    halves = {"read": answer[8] >> 4, "update": answer[8] & 15, "deactivate": answer[10] & 15, "activate": answer[10] >> 4}
+    if structure == "c":
+        halves["increase"] = answer[9] >> 4
+    return {operation: SIM_CONDITIONS.get(half, "never") for operation, half in halves.items()}
 
 
 def shape_by_sim(answer):
     shape = Shape(BY_SIM.get(answer[13], FOREIGN), int.from_bytes(answer[2:4], "big"), short=0)
+    shape.words = sim_words(answer, shape.structure)
     if shape.structure in ("l", "c"):
         shape.length = answer[14]
         shape.count = shape.size // shape.length if shape.length else 0
@@ -199,9 +229,12 @@ class Export:
             self.folder = path[:-1]
             self.file = DumpedFile("/".join(path), tuple(self.told.get(part, "") for part in path), self.shape)
             self.files.append(self.file)
-            if self.parameters:
-                self.file.shape = shape_of(hexadecimal(self.parameters))
-            self.shape, self.parameters = Shape(), ""
+            parameters, self.shape, self.parameters = self.parameters, Shape(), ""
+            if parameters:
+                try:
+                    self.file.shape = shape_of(hexadecimal(parameters))
+                except Unread as fault:
+                    self.faults.append(f"{self.file.name}: {fault}: its shape is that of what it holds")
 
     def opened(self):
         if self.file is None:
@@ -242,14 +275,15 @@ def read_fsdump(text):
     files, faults = [], []
     for name, told in given["files"].items():
         try:
-            files += dumped(name, told)
+            files += dumped(name, told, faults)
         except Unread as fault:
             faults.append(f"{name}: {fault}")
     return files, faults
 
 
-def dumped(name, told):
-    """The file that an entry of fsdump tells of, in a list; none where it is a folder, or isn't on the card."""
+def dumped(name, told, faults):
+    """The file that an entry of fsdump tells of, in a list; none where it is a folder, or isn't on the card. What of it isn't read is
+    told among the faults."""
     if not isinstance(told, dict):
         raise Unread("it is no object with a `body`")
     if "error" in told:
@@ -261,12 +295,34 @@ def dumped(name, told):
         return []
     file, body = DumpedFile(name), told["body"]
     if told.get("fcp_raw"):
-        file.shape = shape_of(hexadecimal(told["fcp_raw"]))
+        try:
+            file.shape = shape_of(hexadecimal(told["fcp_raw"]))
+        except Unread as fault:
+            faults.append(f"{name}: {fault}: its shape is that of what it holds")
     if isinstance(body, list) and file.shape.structure != "t":
         file.records = {number: hexadecimal(one) if isinstance(one, str) else one for number, one in enumerate(body, 1)}
     else:
         file.whole = hexadecimal(body) if isinstance(body, str) else body
     return [file]
+
+
+# the words that lines of a script of uicc_run begin with
+SCRIPT_LINE = re.compile(r"(df|ef|fill|rec|pin|row) [0-9A-F]|start$", re.MULTILINE)
+
+
+def text_in(content):
+    """The text of a dump's bytes. Unread, where they are an image or another binary file, or a script."""
+    if content[:4] == b"UICC" or len(content) >= 65_536 and not content[:4].strip(b"\xFF"):
+        raise Unread("it is an image of a card, and no dump: `profile export` makes a profile of it")
+    try:
+        text = content.decode("utf-8-sig")
+    except UnicodeDecodeError:
+        text = "\x00"
+    if "\x00" in text:
+        raise Unread("it is a binary file, and no dump of pySim-shell")
+    if SCRIPT_LINE.match(text):
+        raise Unread("it is a script of uicc_run, and no dump: `profile export` makes a profile of it")
+    return text
 
 
 def read(text):

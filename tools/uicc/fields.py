@@ -181,7 +181,8 @@ KINDS = {
     "routing": Kind("routing", TEXT, '"0123"', lambda value, _: structured.encode_routing(value), structured.routing_of),
     "suci": Kind("suci", TABLE({"schemes": forms.ListOf(TABLE({"scheme": BYTE, "key": BYTE}, ("scheme",)), "tables"),
                                 "keys": forms.ListOf(TABLE({"id": BYTE, "key": TEXT}, ("id", "key")), "tables")}, ("schemes",)),
-                 '{ schemes = [{ scheme = 1, key = 1 }], keys = [{ id = 27, key = "5A8D.." }] }',
+                 '{ schemes = [{ scheme = 1, key = 1 }], keys = [{ id = 27, '
+                 'key = "5A8D38864820197C3394B92613B20B91633CBD897119273BF8E4A6F4EEC0A650" }] }',
                  lambda value, _: structured.encode_concealing(value), structured.concealing_of),
     "supi-nai": Kind("identifiers", TABLE(dict.fromkeys(structured.IDENTIFIERS, TEXT)), '{ network_specific = "user@example.org" }',
                      lambda value, _: structured.encode_identifiers(value), structured.identifiers_of),
@@ -216,3 +217,36 @@ def about_unknown(key, entry):
     if own and meant in (own.key, None):
         return f"isn't known: `{own.key} = {own.example}` is"
     return f"isn't known: `{meant}` is" if meant else f"isn't known: a file is told by one of {', '.join(KEYS)}"
+
+
+def written(key, value, entry, size, record=None):
+    """The bytes that a key and its value say of a file of this size: the whole of a transparent one, or those of each record of this length.
+    With the number of a record the value is one entry. BadContent, where they say none."""
+    if key not in KEYS:
+        raise BadContent(f"{key} {about_unknown(key, entry or {})}")
+    try:
+        kind = kind_for(key, entry)
+    except BadContent as fault:
+        raise BadContent(f"{key} {fault}") from None
+    given = value if record is None else [value]
+    wrong = kind.form.wrong(given)
+    if wrong:
+        raise BadContent(f"{key} {wrong}: {key} = {kind.example}")
+    content = kind.encoded(given, size)
+    longest = max(map(len, content), default=0) if kind.of_records else len(content)
+    if longest > size:
+        raise BadContent(f"{key} has {longest} bytes, and there is room for {size}")
+    return [part.ljust(size, b"\xFF") for part in content] if kind.of_records else content.ljust(size, b"\xFF")
+
+
+def said(content, entry):
+    """The key and the value by which a profile says what a transparent file or a record holds; in hexadecimal digits where no words do."""
+    kind = KINDS.get(entry.get("content")) if entry else None
+    if kind and kind.value and not contents.is_blank(content):
+        try:
+            value = kind.value(content)
+            if kind.form.wrong([value] if kind.of_records else value) is None:
+                return kind.key, value
+        except (ValueError, KeyError, IndexError):
+            pass
+    return HEX, content.hex().upper()

@@ -4,7 +4,8 @@ The image of a journal has 65,536 bytes, that of pages that move 71,680. A commi
 the card does it when it is opened next."""
 import dataclasses
 
-from .layout import LOWER_SHELVES, SHELVES, Card, File, PinState, Registered
+from .grammar import DEEPEST, PIN_KEYS, RESERVED
+from .layout import LONGEST_KEPT, LONGEST_MENU_TEXT, LOWER_SHELVES, SHELVES, Card, File, PinState, Registered
 
 PAGE = 64
 JOURNAL_SIZE, PAGES_SIZE = 65_536, 71_680
@@ -132,6 +133,41 @@ def card_in(image):
     for number in range(NODE_COUNT):
         add_node(card, paths, number, content)
     return card
+
+
+def sound_card_in(image):
+    """The card that an image holds, where a script could describe it. NoCard, where bytes of it can't be a card's."""
+    try:
+        card = card_in(image)
+    except (ZeroDivisionError, IndexError):
+        raise NoCard("the image holds a file without bytes") from None
+    why = unsound(card)
+    if why:
+        raise NoCard(f"the image holds no card that could be: {why}")
+    return card
+
+
+def unsound(card):
+    """What of a card no script could describe; None where there is nothing."""
+    for key, pin in card.pins.items():
+        if key not in PIN_KEYS or pin.tries > 3 or pin.unblock_tries > 10:
+            return f"a PIN has the key {key:02X} and {pin.tries} and {pin.unblock_tries} tries"
+    for row in card.rows.values():
+        if len(row.text) > LONGEST_MENU_TEXT or len(row.kept) > LONGEST_KEPT or not row.priority:
+            return f"the applet on shelf {row.shelf} has a text of {len(row.text)} bytes, and keeps {len(row.kept)}"
+    for path, file in card.files.items():
+        above = card.files.get(path[:-1])
+        if path and (above is None or not above.is_df or path[-1] in RESERVED or len(path) > DEEPEST):
+            return f"the file {'/'.join(path)} has no place"
+        if not file.is_df and not sound_shape(file):
+            return f"the file {'/'.join(path)} has {file.size} bytes in its records, and {len(file.content)} are there"
+    return None
+
+
+def sound_shape(file):
+    most = 32_767 if file.structure == "t" else 255
+    return (1 <= file.length <= most and 1 <= file.count <= 254 and len(file.content) == file.size and (file.short or 1) <= 30
+            and (not file.rule or 1 <= file.rule[1] <= 254))
 
 
 def pin_at(part):

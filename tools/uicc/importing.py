@@ -1,9 +1,9 @@
 """Makes a profile of a dump (`dump`), as far as its files fit on a card here."""
-from . import dump, fields, grammar, layout, located, names, profile, rules
-from .contents import BadContent
+from . import access, dump, grammar, layout, names, profile, profile_text, rules
+from .coding import BadContent
 from .dump import Unread
 
-# who may do what with a file, and the PINs: what no dump tells
+# who may do what with a file of which no rule is told, and the PINs: what no dump tells
 DEFAULT = {"read": "always", "update": "adm", "deactivate": "adm", "activate": "adm"}
 HEAD = """# no PINs are told: these are examples
 [pins]
@@ -11,48 +11,53 @@ pin1 = { value = "1234", unblock = "12345678" }
 pin2 = { value = "5678", unblock = "87654321" }
 adm = { value = "88888888" }
 
-# what holds for a file that says nothing else
+"""
+DEFAULT_HEAD = """# what holds for a file that says nothing else
 [default]
 """
+OWN = {"read": "always", "update": "adm"}
 NO_SHORT = 0
-BLANK = b"\xFF"
 MOST_RECORDS = 254
-
-
-class Kept:
-    """A file that fits: under which name it was dumped, its shape here, and the bytes of its records; a transparent one has one."""
-
-    def __init__(self, name, shape, records):
-        self.name, self.shape, self.records = name, shape, records
-
-    @property
-    def path(self):
-        return self.shape.path
 
 
 class Import:
     """The files of a dump that fit on a card, and a line for each thing that doesn't, or isn't read."""
 
     def __init__(self, text):
-        self.card, self.kept = layout.Card(), []
+        self.card, self.kept = layout.Card(), {}
         files, self.faults = dump.read(text)
         self.with_usim = any("ADF.USIM" in file.name.split("/") for file in files)
-        self._room_for_rules()
+        # EF_ARR first: it takes up room that others then haven't got
+        arr, others = [], []
         for file in files:
-            try:
-                self._keep(file)
-            except (Unread, BadContent, layout.Wrong) as fault:
-                self.faults.append(f"{file.name}: {fault}")
+            (arr if self._is_arr(file) else others).append(file)
+        for file in arr[:1]:
+            self._keep_or_say(file)
+        if profile.ARR not in self.kept:
+            self._room_for_rules()
+        for file in arr[1:] + others:
+            self._keep_or_say(file)
+        self._rules()
+
+    def _keep_or_say(self, file):
+        try:
+            self._keep(file)
+        except (Unread, BadContent, layout.Wrong) as fault:
+            self.faults.append(f"{file.name}: {fault}")
+
+    def _is_arr(self, file):
+        try:
+            return file.path() == profile.ARR
+        except Unread:
+            return False
 
     def _room_for_rules(self):
         """EF_ARR, as the default rules have it written."""
-        written = [rules.written(words) for words in (DEFAULT, {"read": "always", "update": "adm"})]
+        written = [rules.written(words) for words in (DEFAULT, OWN)]
         self.card.add(grammar.Ef(profile.ARR, "l", max(map(len, written)), len(written), 6, None))
 
     def _keep(self, file):
         path = file.path()
-        if "EF.ARR" in (names.name_of(path), file.name.rpartition("/")[2]):
-            raise Unread("access rules are words in a profile, from which EF_ARR is written")
         if self.with_usim and path[0] == "7F20" and "ADF.USIM" not in file.name.split("/"):
             raise Unread("the files of ADF.USIM lie in the folder of DF.GSM here")
         for depth in range(1, len(path)):
@@ -61,9 +66,37 @@ class Import:
         if path in self.card.files:
             raise Unread(f"{names.shown(path)} is there already")
         shape, records = told_shape(file, path)
+        if path == profile.ARR:
+            # the records of the words for files of which no rule is told may come after these
+            shape = grammar.Ef(path, shape.structure, shape.length, min(shape.count + 2, MOST_RECORDS), shape.short, None)
         shape = self._with_short(file, path, shape)
         self._add(shape)
-        self.kept.append(Kept(file.name, shape, records))
+        kept = self.card.files[path]
+        if path == profile.ARR:
+            kept.count = shape.count - 2
+        kept.content = bytearray(b"".join(record.ljust(shape.length, b"\xFF") for record in records).ljust(kept.size, b"\xFF"))
+        self.kept[path] = file
+        if file.shape.is_deactivated:
+            self.faults.append(f"{file.name}: is deactivated there, and activated in a card that is made of a profile")
+
+    def _rules(self):
+        """The rule that each file names, where the dump tells its EF_ARR, or the words of a SIM's conditions."""
+        untold = {}
+        for path, file in self.kept.items():
+            kept = self.card.files[path]
+            if not file.shape.rule:
+                continue
+            kept.rule = file.shape.rule
+            arr = self.card.rule_file(kept)
+            if arr is None or arr.path not in self.kept or not self._tells(arr, file.shape.rule[1]):
+                kept.rule = None
+                untold.setdefault(file.shape.rule, []).append(file.name)
+        for rule, files in untold.items():
+            self.faults.append(f"{files[0]}: its rule {rule[0]}:{rule[1]} isn't told{access.others(files)}")
+
+    def _tells(self, arr, number):
+        records = self.kept[arr.path].records
+        return number in records if records else number == 1 and arr.structure == "t"
 
     def _with_short(self, file, path, shape):
         """The short identifier that is told, or else the standard's; none where another file of the folder has it."""
@@ -87,12 +120,15 @@ class Import:
 
     def profile(self):
         """The profile's text."""
-        usim = profile.is_usim(kept.path for kept in self.kept)
-        lines = [HEAD + "\n".join(f'{word} = "{who}"' for word, who in DEFAULT.items())]
-        # those in the MF first: their names have no folder
-        for kept in sorted(self.kept, key=lambda kept: len(kept.path) > 1):
-            lines += ["", f"# {dump.printable(kept.name)}", f"[{table_name(kept.path)}]", *table_lines(kept, usim)]
-        return "\n".join(lines) + "\n"
+        kept = layout.Card()
+        kept.files = {path: file for path, file in self.card.files.items() if path in self.kept or file.is_df}
+        by_words = {path: file.shape.words for path, file in self.kept.items() if file.shape.words and not self.card.files[path].rule}
+        comments = {path: file.name for path, file in self.kept.items()}
+        lines = profile_text.word_lines(DEFAULT)
+        if not by_words and not any(file.rule for file in kept.files.values()):
+            head = DEFAULT_HEAD + "\n".join(lines) + "\n\n"
+            return HEAD + head + profile_text.Writer(kept, untold_arr=lines, comments=comments).text()
+        return HEAD + profile_text.Writer(kept, words=by_words, untold=lines, untold_arr=lines, comments=comments).text()
 
 
 def said_lines(shape, card):
@@ -130,76 +166,3 @@ def told_shape(file, path):
         if not 1 <= number <= count or len(content) > length:
             raise Unread(f"it has {count} records of {length} bytes, and a record {number} of {len(content)} is told")
     return grammar.Ef(path, structure, length, count, None, None), [records.get(number, b"") for number in range(1, count + 1)]
-
-
-# the words of a profile
-
-def table_name(path):
-    """The name of a file's table: with the standard name of the file where it has one that leads there."""
-    words = [names.name_of(path).replace(".", "_"), path[-1]]
-    wholes = [name for word in words for name in ((word, "MF/" + word) if len(path) == 1 else ("/".join((*path[:-1], word)),))]
-    whole = next(name for name in wholes if leads_to(name, path))
-    return located.written(whole) if "/" in whole else whole
-
-
-def leads_to(name, path):
-    try:
-        return profile.path_of(name) == path
-    except profile.BadProfile:
-        return False
-
-
-def table_lines(kept, usim):
-    """What the table of a file says: its shape, where the standard doesn't say it already, and what it holds."""
-    shape, entry = kept.shape, names.file(kept.path, usim) or {}
-    lines = list(content_lines(kept, entry, usim))
-    if shape.structure == "t":
-        if entry.get("structure") != "t" or entry.get("length") != shape.length:
-            lines.append(f"size = {shape.length}")
-    else:
-        lines += [f"length = {shape.length}", f"count = {shape.count}"]
-        if (shape.structure == "c") != (entry.get("structure") == "c"):
-            lines.append(f"cyclic = {'true' if shape.structure == 'c' else 'false'}")
-    if (shape.short or NO_SHORT) != entry.get("short", NO_SHORT):
-        lines.append(f"short = {shape.short or NO_SHORT}")
-    return lines
-
-
-def content_lines(kept, entry, usim):
-    """What it holds: in words where these become the same bytes, and else in hexadecimal digits; nothing where it is blank."""
-    shape, records = kept.shape, [content.rstrip(b"\xFF") for content in kept.records]
-    while records and not records[-1]:
-        records.pop()
-    if not records:
-        return
-    words = words_of(kept, entry, usim, len(records)) if entry.get("structure") == shape.structure else None
-    if words:
-        yield words
-    elif shape.structure == "t":
-        yield f'hex = "{records[0].hex().upper()}"'
-    else:
-        yield "records = [" + ", ".join(f'"{(content or BLANK).hex().upper()}"' for content in records) + "]"
-
-
-def words_of(kept, entry, usim, told):
-    """The line that says a file's content in words, that of so many records; None where none becomes the same bytes."""
-    kind = fields.KINDS.get(entry.get("content"))
-    if kind is None or kind.value is None:
-        return None
-    try:
-        value = [kind.value(record) for record in kept.records[:told]] if kind.of_records else kind.value(kept.records[0])
-        if kind.form.wrong(value):
-            return None
-        given = {kind.key: value} | shape_words(kept.shape)
-        _, content = profile.described(kept.path, given, usim)
-    except (KeyError, IndexError, ValueError):
-        return None
-    width = kept.shape.length
-    held = [record.ljust(width, b"\xFF") for record in kept.records]
-    made = [content] if kept.shape.structure == "t" else content
-    made = [record.ljust(width, b"\xFF") for record in made] + [b"\xFF" * width] * (kept.shape.count - len(made))
-    return f"{kind.key} = {located.written(value)}" if made == held else None
-
-
-def shape_words(shape):
-    return {"size": shape.length} if shape.structure == "t" else {"length": shape.length, "count": shape.count}

@@ -75,6 +75,11 @@ def usual_folder(entry):
     return (*usual_folder(above), above["id"])
 
 
+def in_folder(found, folder, usim=True):
+    """Of several standard files that one which lies in a folder; else the first."""
+    return next((entry for place in places(folder, usim) for entry in found if place in entry["in"]), found[0])
+
+
 @functools.cache
 def file(path, usim=True):
     """The standard file at a path from the MF; None where there is none. In 7F20 it is that of a USIM where `usim` is so, else

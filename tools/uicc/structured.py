@@ -52,7 +52,8 @@ def minutes_of(validity):
 def validity_of(minutes):
     found = next((validity for validity in range(256) if minutes_of(validity) == minutes), None)
     if found is None:
-        raise BadContent(f"a validity of {minutes} minutes can't be said: it is 5, 10 .. 720, 750 .. 1440, or whole days up to 30, or weeks up to 63")
+        raise BadContent(f"a validity of {minutes} minutes can't be said: it is 5, 10 .. 720, 750 .. 1440, or whole days up to 30, or weeks "
+                         "up to 63")
     return found
 
 
@@ -110,11 +111,15 @@ def parameters_of(record):
 # names of networks
 
 # the letters of the alphabet of 3GPP TS 23.038 that aren't where ASCII has them, or are there alone
-OTHERS = {"@": 0x00, "\u00a3": 0x01, "$": 0x02, "\u00a5": 0x03, "\u00e8": 0x04, "\u00e9": 0x05, "\u00f9": 0x06, "\u00ec": 0x07, "\u00f2": 0x08, "\u00c7": 0x09,
-          "\u00d8": 0x0B, "\u00f8": 0x0C, "\u00c5": 0x0E, "\u00e5": 0x0F, "_": 0x11, "\u00c6": 0x1C, "\u00e6": 0x1D, "\u00df": 0x1E, "\u00c9": 0x1F, "\u00a4": 0x24,
-          "\u00a1": 0x40, "\u00c4": 0x5B, "\u00d6": 0x5C, "\u00d1": 0x5D, "\u00dc": 0x5E, "\u00a7": 0x5F, "\u00bf": 0x60, "\u00e4": 0x7B, "\u00f6": 0x7C,
-          "\u00f1": 0x7D, "\u00fc": 0x7E, "\u00e0": 0x7F}
-ALPHABET = {chr(code): code for code in range(0x20, 0x7B) if code not in (0x24, 0x40, 0x5B, 0x5C, 0x5D, 0x5E, 0x5F, 0x60)} | OTHERS
+OTHERS = {
+    "@": 0x00, "\u00a3": 0x01, "$": 0x02, "\u00a5": 0x03, "\u00e8": 0x04, "\u00e9": 0x05, "\u00f9": 0x06, "\u00ec": 0x07, "\u00f2": 0x08,
+    "\u00c7": 0x09, "\u00d8": 0x0B, "\u00f8": 0x0C, "\u00c5": 0x0E, "\u00e5": 0x0F, "_": 0x11, "\u00c6": 0x1C, "\u00e6": 0x1D, "\u00df": 0x1E,
+    "\u00c9": 0x1F, "\u00a4": 0x24, "\u00a1": 0x40, "\u00c4": 0x5B, "\u00d6": 0x5C, "\u00d1": 0x5D, "\u00dc": 0x5E, "\u00a7": 0x5F,
+    "\u00bf": 0x60, "\u00e4": 0x7B, "\u00f6": 0x7C, "\u00f1": 0x7D, "\u00fc": 0x7E, "\u00e0": 0x7F,
+}
+# the places of other letters than those of ASCII
+PLACES = (0x24, 0x40, *range(0x5B, 0x61))
+ALPHABET = {chr(code): code for code in range(0x20, 0x7B) if code not in PLACES} | OTHERS
 LETTERS = {code: letter for letter, code in ALPHABET.items()}
 
 
@@ -218,7 +223,8 @@ def packet_location_of(content):
 def encode_location(given, identity, area):
     """A GUTI of so many bytes, and an area whose code has so many."""
     return (exact_bytes(given.get("guti", "FF" * identity), identity, "a GUTI") + encode_plmn(given["plmn"])
-            + exact_bytes(given.get("area", "00" * area), area, "a tracking area") + bytes((status_code(given.get("status", "not updated"), STATUSES),)))
+            + exact_bytes(given.get("area", "00" * area), area, "a tracking area")
+            + bytes((status_code(given.get("status", "not updated"), STATUSES),)))
 
 
 def location_of(content, identity, area):
@@ -232,7 +238,8 @@ def location_of(content, identity, area):
 
 def encode_access_identities(numbers):
     if any(number not in (1, 2) for number in numbers):
-        raise BadContent("an access identity is 1 (multimedia priority) or 2 (mission critical): those from 11 to 15 are access control classes")
+        raise BadContent("an access identity is 1 (multimedia priority) or 2 (mission critical): those from 11 to 15 are access control "
+                         "classes")
     return bytes((sum(1 << number - 1 for number in set(numbers)), 0, 0, 0))
 
 
@@ -257,7 +264,8 @@ def routing_of(content):
 def encode_concealing(given):
     """What the SUCI is calculated by: protection schemes with the place of their key, the most wanted first, and the home network's keys."""
     schemes = b"".join(bytes((one["scheme"], one.get("key", 0))) for one in given.get("schemes", []))
-    keys = b"".join(rules.spelled(0x80, bytes((one["id"],))) + rules.spelled(0x81, hexadecimal(one["key"])) for one in given.get("keys", []))
+    keys = b"".join(rules.spelled(0x80, bytes((one["id"],))) + rules.spelled(0x81, hexadecimal(one["key"]))
+                    for one in given.get("keys", []))
     return rules.spelled(0xA0, schemes) + rules.spelled(0xA1, keys)
 
 

@@ -46,6 +46,12 @@ def meanings(file, usim):
 
 
 def meaning(kind, content):
+    """The decoded content, or its bytes, as far as there is room in a line; None where it is blank."""
+    text = whole_meaning(kind, content)
+    return text and shortened(text)
+
+
+def whole_meaning(kind, content):
     """The decoded content, or its bytes; None where it is blank."""
     if contents.is_blank(content):
         return None
@@ -53,7 +59,7 @@ def meaning(kind, content):
         text = contents.decode(kind, content) if kind else None
     except contents.BadContent as fault:
         text = f"not right ({fault}): {decode.hexed(content)}"
-    return shortened(text or decode.hexed(content.rstrip(b"\xFF")) + " .." * content.endswith(b"\xFF"))
+    return text or decode.hexed(content.rstrip(b"\xFF")) + " .." * content.endswith(b"\xFF")
 
 
 def lines(card, with_contents=True):

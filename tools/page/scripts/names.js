@@ -2,10 +2,11 @@
 import { tables } from "./tables.js";
 import { hexByte } from "./bytes.js";
 
-// which DFs the standard files lie in, by the identifiers that a card of this simulator gives them
+// what the folders at these identifiers hold: on this card the files of a USIM lie in 7F20 with those of GSM
 const APPLICATIONS = {
-    "7F10": "TELECOM", "7F20": "GSM", "7F21": "GSM", "7FF0": "USIM", "7FFF": "USIM", "5F3A": "PHONEBOOK", "5F50": "GRAPHICS",
+    "7F10": ["TELECOM"], "7F20": ["USIM", "GSM"], "7F21": ["GSM"], "7FF0": ["USIM"], "7FF2": ["ISIM"], "7FFF": ["USIM"],
 };
+const PLACES = ["MF", "TELECOM", "USIM", "GSM", "ISIM"];
 
 // A status word of four digits in words.
 export function statusWords(word) {
@@ -54,20 +55,30 @@ export function filesOf(identifier) {
     return tables.files.files.filter((entry) => entry.id === identifier);
 }
 
+// What a folder may hold the standard files of, the likeliest first: those of a DF go by its name.
+function places(folder, usim) {
+    if (!folder.length) {
+        return ["MF"];
+    }
+    const found = APPLICATIONS[folder.at(-1)];
+    if (found) {
+        return usim || found.length === 1 ? found : found.slice(1);
+    }
+    const entry = standardFile(folder, usim);
+    return entry?.name.startsWith("DF.") ? [entry.name.slice(3)] : [];
+}
+
 // The standard file at a path from the MF; undefined where there is none. In 7F20 it is that of a USIM where `usim` is so, else
-// that of GSM.
+// that of GSM. In a folder where no standard has it it is the one file that goes by its identifier.
 export function standardFile(path, usim) {
     if (!path.length) {
         return filesOf("3F00")[0];
     }
     const found = filesOf(path.at(-1));
-    if (path.length === 1) {
-        return found.find((entry) => entry.in.includes("MF"));
-    }
-    const above = path.at(-2);
-    const places = above === "7F20" && usim ? ["USIM", "GSM"] : [APPLICATIONS[above]];
-    const placed = places.map((place) => found.find((entry) => entry.in.includes(place))).find(Boolean);
-    return placed ?? found[0];
+    const placed = places(path.slice(0, -1), usim)
+        .map((place) => found.find((entry) => entry.in.includes(place))).find(Boolean);
+    const alone = found.length === 1 && path.length > 1 && PLACES.includes(found[0].in[0]);
+    return placed ?? (alone ? found[0] : undefined);
 }
 
 // A path with its standard name after it.

@@ -1,0 +1,273 @@
+"""tools/profile export, diff, rules and batch: cards back to profiles, beside each other, and many of one."""
+import csv
+import os
+import subprocess
+import sys
+import tempfile
+import unittest
+
+import fuzz_profile
+from common import TOOLS
+from uicc import access, batch, comparing, contents, image, lint, process, profile, profile_text, rights, stored
+
+EXAMPLES = os.path.join(process.TOP, "examples")
+
+
+def card_of(text):
+    """The card of a script's text."""
+    script = lint.read(text)
+    assert not script.first(), script.findings
+    return script.card
+
+
+def made(text):
+    """The card of a profile's text."""
+    return card_of(profile.made_in(text.encode(), "card.toml").text)
+
+
+def shown(one, other, exactly=False):
+    """How two cards differ, as lines."""
+    return [line for difference in comparing.differences(one, other, exactly) for line in (difference.what, *difference.lines)]
+
+
+class Export(unittest.TestCase):
+    def again(self, card):
+        """The profile of a card; the card that is made of it is the same, record by record."""
+        text = profile_text.of_card(card)
+        self.assertEqual(list(profile_text.lost(card, text)), [])
+        self.assertEqual(shown(card, made(text), exactly=True), [])
+        return text
+
+    def test_templates(self):
+        for kind in ("usim", "sim"):
+            self.again(made(f'like = "{kind}"\n'))
+
+    def test_a_profile_with_all_kinds_of_content(self):
+        text = self.again(made(fuzz_profile.GOOD))
+        for part in ('imsi = "262019876543210"', 'spn = "Nordlicht"', "acc = [0, 9]", '"262-01 by UTRAN+GSM"', "minutes = 60", 'rule = "2F06:1"', "folder = true",
+                     'pin2 = { value = "5678", unblock = "87654321", on = false }', 'events = ["call-control"]', 'menu = "Tools"'):
+            self.assertIn(part, text)
+
+    def test_examples(self):
+        """All examples that describe a card for `play`."""
+        names = [name for name in stored.names_in(EXAMPLES, ".script") if stored.mode_of(stored.read(os.path.join(EXAMPLES, name))) == "play"]
+        self.assertGreater(len(names), 5)
+        for name in names:
+            with self.subTest(name=name):
+                self.again(card_of(stored.read(os.path.join(EXAMPLES, name)).decode(process.ENCODING)))
+
+    def test_records_of_rules_in_another_order(self):
+        """Two rules with words, in an order that the words alone don't give, and one that stands there twice."""
+        lines = ["ef 2F06 l 20 4 6 2F06:2", "rec 2F06 1 8001019700", "rec 2F06 2 8001019000", "rec 2F06 3 8001019700", "ef 6F01 t 1 - 2F06:2",
+                 "ef 6F02 t 1 - 2F06:3", "ef 6F03 t 1 - 2F06:1", "ef 6F04 t 1 - -", "ef 6F05 t 1 - 2F06:9", "start"]
+        text = self.again(card_of("".join(line + "\n" for line in lines)))
+        for part in ('read = "never"', 'rule = "2F06:3"  # read: never', 'rule = "none"', 'rule = "2F06:9"'):
+            self.assertIn(part, text)
+
+    def test_what_no_profile_says(self):
+        """A try that was taken, and a file that is deactivated."""
+        card = made('like = "usim"\n')
+        card.pins[1].tries = 2
+        card.files[("2F05",)].active = False
+        self.assertEqual(list(profile_text.lost(card, profile_text.of_card(card))),
+                         ["2F05 EF.PL is deactivated, which no profile says", "PIN 1 has 2 tries and 10 of its UNBLOCK value left, which no profile says"])
+
+
+class Images(unittest.TestCase):
+    """Images of a card, whole and damaged."""
+
+    def setUp(self):
+        self.place = tempfile.TemporaryDirectory()
+        self.addCleanup(self.place.cleanup)
+        self.path = os.path.join(self.place.name, "card.img")
+        self.text = profile.made_in(b'like = "usim"\n[[applet]]\nkind = "table"\nmenu = "Tools"\nevents = ["location"]\nkeeps = "030141"\n', "card.toml").text
+        process.played(["play", "--image", self.path], self.text)
+
+    def test_an_image_is_the_script_again(self):
+        card = image.sound_card_in(stored.read(self.path))
+        self.assertEqual(shown(card_of(self.text), card, exactly=True), [])
+        self.assertIn('keeps = "030141"', profile_text.of_card(card))
+
+    # a byte that is changed, and why no card is in the image then
+    DAMAGED = [
+        (image.PINS, 0x05, "a PIN has the key 05"),
+        (image.NODES + image.NODE_WIDTH + 14, 0xFF, "the file 2F06 has 255 bytes in its records, and 259 are there"),
+        (image.NODES + 3 * image.NODE_WIDTH + 4, 0x7F, "has no place"),
+        (0, 0x00, "the bytes begin with no card"),
+        (image.ROWS + 6 * image.ROW_STRIDE + 7, 0x30, "the applet on shelf 6 has a text of"),
+    ]
+
+    def test_damaged_images(self):
+        """They are refused with the reason, and no command of the tool has a traceback."""
+        whole = stored.read(self.path)
+        for place, byte, why in self.DAMAGED:
+            with open(self.path, "wb") as out:
+                out.write(whole[:place] + bytes((byte,)) + whole[place + 1:])
+            with self.subTest(why=why), self.assertRaises(image.NoCard) as caught:
+                image.sound_card_in(stored.read(self.path))
+            self.assertIn(why, str(caught.exception))
+        done = subprocess.run([sys.executable, "-B", os.path.join(TOOLS, "profile"), "export", self.path], capture_output=True, text=True, timeout=60, check=False)
+        self.assertEqual(done.returncode, 2)
+        self.assertTrue(done.stderr.startswith("profile: the image holds no card"), done.stderr)
+
+
+class Differing(unittest.TestCase):
+    BASE = 'like = "usim"\n'
+    # what one card has beside the template's, what another one has, and what is said of them
+    TABLE = [
+        ("", "", []),
+        ('[EF_SPN]\nspn = "A"', '[EF_SPN]\nspn = "B"', ["7F20/6F46 EF.SPN", "- holds: A (the network's name is shown too)", "+ holds: B (the network's name is shown too)"]),
+        ('[EF_SPN]\nspn = "A"', '[EF_SPN]\nspn = "A"\nupdate = "pin1"\nsize = 18',
+         ["7F20/6F46 EF.SPN", "- shape: transparent, 17 bytes", "+ shape: transparent, 18 bytes", "- update: adm", "+ update: pin1",
+          "- holds: 0141" + "FF" * 15, "+ holds: 0141" + "FF" * 16]),
+        ('[EF_ADN]\nentries = [{ name = "A", number = "1" }]', "", ["7F10/6F3A EF.ADN", "- record 1: A: 1", "+ record 1: blank"]),
+        ("", '["7F10/6F99"]\nsize = 1', ["7F10/6F99", "+ file, 1 byte, rule 2F06:1"]),
+        ('[pins]\npin1 = { on = false }', "", ["PIN 1", "- 1234, off, unblocked by 12345678", "+ 1234, on, unblocked by 12345678"]),
+        ('[[applet]]\nkind = "greeter"', "", ["applet on shelf 0", "- greets, priority 1, events none, keeps nothing"]),
+        # the other one has the same rules by other numbers
+        ('[EF_PL]\nupdate = "adm"', '[EF_PL]\nupdate = "adm"\n["7F10/6F99"]\nsize = 1\nread = "never"', ["2F06 EF.ARR", "- shape: linear fixed, 6 records of 27", "+ shape: linear fixed, 7 records of 27", "- record 6: read: always; update: adm",
+          "+ record 6: read: never; update, deactivate, activate: adm", "+ record 7: read: always; update: adm", "7F10/6F99",
+          "+ file, 1 byte, rule 2F06:6"]),
+        # a difference that stands far in a long text
+        ("[EF_UST]\nservices = [1, 2, 3, 4, 5, 6, 7, 8, 9, 10, 11, 20]", "[EF_UST]\nservices = [1, 2, 3, 4, 5, 6, 7, 8, 9, 10, 11, 21]",
+         ["7F20/6F38 EF.UST", "- holds: ..ge status reports, 20 user controlled PLMN selector with access technology",
+          "+ holds: ..ge status reports, 21 MSISDN"]),
+        ('["7F10/6F99"]\nhex = "' + "00" * 199 + '01"', '["7F10/6F99"]\nhex = "' + "00" * 199 + '02"',
+         ["7F10/6F99", "- holds: ..000000000000000000001", "+ holds: ..000000000000000000002"]),
+    ]
+
+    def test_differences(self):
+        for one, other, lines in self.TABLE:
+            with self.subTest(one=one, other=other):
+                self.assertEqual(shown(made(self.BASE + one + "\n"), made(self.BASE + other + "\n")), lines)
+
+
+class Rights(unittest.TestCase):
+    TEXT = ('[pins]\npin1 = { value = "1234" }\npin2 = { value = "1234", on = false }\n["7F10/6F99"]\nsize = 1\nread = "always"\nupdate = "pin2"\n'
+            'deactivate = "adm"\nactivate = "pin1 or adm"\n["7F10/EF_ACM"]\ncount = 2\nlength = 3\ncyclic = true\nread = "pin1"\nincrease = "pin1 and pin2"\n'
+            '["7F10/6F98"]\nsize = 1\nrule = "none"\n')
+
+    def test_table(self):
+        rows = dict(rights.rows(made(self.TEXT)))
+        self.assertEqual(rows["7F10/6F99"], ["always", "always (not pin2: PIN 2 is off)", "never (not adm: ADM1 isn't there)",
+                                             "pin1 (not pin1 or adm: ADM1 isn't there)", ""])
+        self.assertEqual(rows["7F10/6F39 EF.ACM"], ["pin1", "never", "never", "never", "pin1 (not pin1 and pin2: PIN 2 is off)"])
+        self.assertEqual(rows["7F10/6F98"], ["always"] * 4 + [""])
+
+    def test_what_is_open_and_what_no_key_opens(self):
+        card = made(self.TEXT)
+        self.assertEqual(dict(rights.outcomes(card, access.EVERYBODY))["update"], ["7F10/6F99", "7F10/6F98"])
+        self.assertEqual(dict(rights.outcomes(card, access.NOBODY))["deactivate"], ["2F06 EF.ARR", "7F10/6F99", "7F10/6F39 EF.ACM"])
+
+    def test_as_csv(self):
+        rows = list(csv.reader(rights.as_csv(made(self.TEXT)).splitlines()))
+        self.assertEqual(rows[0], ["file", "read", "update", "deactivate", "activate", "increase"])
+        self.assertEqual(len(rows), 5)
+
+    def test_the_card_does_so(self):
+        """The program answers each read and update of a template's files as the table has it, before and after VERIFY of PIN 1."""
+        text = profile.made_in(b'like = "usim"\n', "card.toml").text
+        card = card_of(text)
+        asked, lines = [], text.splitlines()
+        for verified in (False, True):
+            lines += ["apdu 0020000108" + "31323334FFFFFFFF"] if verified else []
+            for file in card.files.values():
+                if not file.is_df:
+                    lines += [f"apdu 00A4080C{2 * len(file.path):02X}{''.join(file.path)}",
+                              "apdu 00B0000001" if file.structure == "t" else f"apdu 00B20104{file.length:02X}"]
+                    condition = access.effective(card, access.condition(card, file, "read"))
+                    asked.append(condition == access.EVERYBODY or verified and access.keys_of(condition) == {1})
+        trace, status = process.run(["play"], lines)
+        answers = [line[-4:] for line, before in zip(trace[1:], trace) if before.startswith(("> 00B0", "> 00B2"))]
+        self.assertEqual((status, [answer != "6982" for answer in answers]), (0, asked))
+
+
+def number_of(digits):
+    return digits + contents.luhn(digits)
+
+
+class Batch(unittest.TestCase):
+    HEAD = "iccid,imsi,pin1,puk1,adm\n"
+    GOOD = "".join(f"{number_of(f'89999010000000{n:04d}')},00101000000{n:04d},{1000 + n},{n:08d},{n + 500:08d}\n" for n in range(5))
+    ONE = number_of("899990100000000001")
+    # rows, and what is wrong with them
+    WRONG = [
+        ("iccid,imsy\n", "line 1: no column is called `imsy`, but `imsi` is"),
+        ("imsi\n", "line 1: the column `iccid` is missing"),
+        ("iccid,iccid\n", "line 1: the column `iccid` stands there twice"),
+        ("iccid\n", "list.csv has no row of a card"),
+        ("", "the column `iccid` is missing"),
+        (HEAD + "1\n", "line 2: it has 1 cells, and the first line 5"),
+        (HEAD + ",001010000000001,,,\n", "line 2: it has no iccid"),
+        (HEAD + "8999901000000000015,,,,\n", f"line 2: iccid: the check digit of 8999901000000000015 is 5, and should be {contents.luhn('899990100000000001')}"),
+        (HEAD + "8.99E+18,,,,\n", "line 2: iccid: a card's number has 18 to 20 digits"),
+        (HEAD + GOOD + GOOD.splitlines()[0] + "\n", "line 7: its iccid 8999901000000000005 is that of line 2"),
+        (HEAD + f"{ONE},001010000000000,,,\n" + GOOD.splitlines()[0] + "\n", "line 3: its imsi 001010000000000 is that of line 2"),
+        (HEAD + f"{ONE},1,,,\n", "line 2: [EF_IMSI] imsi: an IMSI has 6 to 15 digits"),
+        (HEAD + f"{ONE},,12,,\n", "line 2: [pins] pin1: a value is 4 to 8 digits"),
+        (HEAD + f'{ONE},"a\n', "line 2: "),
+    ]
+
+    def setUp(self):
+        self.place = tempfile.TemporaryDirectory()
+        self.addCleanup(self.place.cleanup)
+        self.card, self.list, self.folder = (os.path.join(self.place.name, name) for name in ("card.toml", "list.csv", "cards"))
+        self.put(self.card, 'like = "usim"\n[EF_SPN]\nspn = "Nordlicht"\n')
+
+    def put(self, path, text):
+        with open(path, "w", encoding="utf-8", newline="") as out:
+            out.write(text)
+
+    def batch(self, text, *words):
+        self.put(self.list, text)
+        words = [sys.executable, "-B", os.path.join(TOOLS, "profile"), "batch", self.card, self.list, "-o", self.folder, *words]
+        return subprocess.run(words, capture_output=True, text=True, timeout=300, check=False)
+
+    def test_cards(self):
+        done = self.batch(self.HEAD + self.GOOD, "--images")
+        self.assertEqual((done.returncode, done.stderr), (0, ""))
+        self.assertIn("5 cards in ", done.stdout)
+        self.assertEqual(len(os.listdir(self.folder)), 11)
+        number = number_of("899990100000000003")
+        card = card_of(stored.read(os.path.join(self.folder, number + ".script")).decode(process.ENCODING))
+        self.assertEqual(contents.decode("iccid", card.files[("2FE2",)].content), number)
+        self.assertEqual(contents.decode("imsi", card.files[("7F20", "6F07")].content), "001010000000003")
+        # a PIN keeps what the list doesn't say
+        self.assertEqual([(pin.value.rstrip(b"\xFF"), pin.unblock) for pin in card.pins.values()],
+                         [(b"1003", b"00000003"), (b"5678", b"87654321"), (b"00000503", b"00000000")])
+        with open(os.path.join(self.folder, "report.csv"), encoding="utf-8") as text:
+            rows = list(csv.DictReader(text))
+        self.assertEqual([(row["iccid"], row["line"], row["to mend"]) for row in rows][3], (number, "5", ""))
+        # the image holds the same card
+        words = [sys.executable, "-B", os.path.join(TOOLS, "profile"), "diff", *(os.path.join(self.folder, number + ending) for ending in (".script", ".img"))]
+        self.assertEqual(subprocess.run(words, capture_output=True, text=True, timeout=60, check=False).stdout, "the cards hold the same\n")
+        # nothing is written over
+        done = self.batch(self.HEAD + self.GOOD)
+        self.assertEqual(done.returncode, 2)
+        self.assertIn("report.csv is there already: nothing is written (and 5 more are)", done.stderr)
+
+    def test_wrong_lists(self):
+        """Nothing is written where a row is wrong."""
+        for text, why in self.WRONG:
+            with self.subTest(text=text):
+                done = self.batch(text)
+                self.assertEqual((done.returncode, os.path.exists(self.folder)), (2, False))
+                self.assertIn(why, done.stderr)
+                self.assertNotIn("Traceback", done.stderr)
+
+    def test_other_lists(self):
+        """Semicolons, a mark of the byte order, lines of another system; binary bytes."""
+        text = "\ufeff" + (self.HEAD + self.GOOD).replace(",", ";").replace("\n", "\r\n")
+        self.assertEqual(self.batch(text).returncode, 0)
+        with self.assertRaises(batch.BadList):
+            batch.rows_in(b"\x7fELF\x00\xff", "list.csv")
+
+    def test_a_puk_that_two_cards_have_is_a_warning(self):
+        lines = self.GOOD.splitlines()
+        done = self.batch(self.HEAD + lines[0] + "\n" + lines[1].replace(",00000001,", ",00000000,") + "\n")
+        self.assertEqual(done.returncode, 1)
+        self.assertIn("line 3: its puk1 00000000 is that of line 2", done.stderr)
+
+
+if __name__ == "__main__":
+    unittest.main()

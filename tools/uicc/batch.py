@@ -1,0 +1,163 @@
+"""Many cards of one profile: a row of a list for each, with its numbers and PINs."""
+import csv
+import io
+import os
+import subprocess
+
+from . import checking, contents, follow, forms, lint, process, profile
+from .coding import BadContent
+
+# a column of the list, and the keys of a profile that it says
+COLUMNS = {
+    "iccid": ("EF_ICCID", "iccid"), "imsi": ("EF_IMSI", "imsi"), "spn": ("EF_SPN", "spn"),
+    "pin1": ("pins", "pin1", "value"), "puk1": ("pins", "pin1", "unblock"), "pin2": ("pins", "pin2", "value"),
+    "puk2": ("pins", "pin2", "unblock"), "adm": ("pins", "adm", "value"),
+}
+# what two cards may not have alike, and what they should not
+ALIKE, HARDLY_ALIKE = ("iccid", "imsi"), ("puk1", "puk2", "adm")
+REPORT = "report.csv"
+
+
+class BadList(Exception):
+    """What is wrong with a list: a line for each thing."""
+
+
+class Card:
+    """A row of the list, and the card that it becomes."""
+
+    def __init__(self, line, values, made):
+        self.line, self.values, self.made = line, values, made
+        card = lint.read(made.text).card
+        kind = "usim" if follow.is_usim_card(card) else "sim"
+        self.findings = list(checking.findings(card, kind))
+
+    @property
+    def name(self):
+        return self.values["iccid"]
+
+
+def rows_in(content, name):
+    """The rows of a list's bytes, each with its line, and a value for each column that isn't empty. BadList, with all that is wrong."""
+    try:
+        text = content.decode("utf-8-sig")
+    except UnicodeDecodeError as fault:
+        line = content.count(b"\n", 0, fault.start) + 1
+        raise BadList(f"{name}, line {line}: it isn't UTF-8") from None
+    head = text.partition("\n")[0]
+    delimiter = max(",;\t", key=head.count)
+    reader, found, faults = csv.reader(io.StringIO(text, newline=""), delimiter=delimiter), [], []
+    try:
+        columns = [word.strip().lower() for word in next(reader, [])]
+        check_columns(columns, name)
+        for cells in reader:
+            if not any(cell.strip() for cell in cells):
+                continue
+            if len(cells) != len(columns):
+                faults.append(f"{name}, line {reader.line_num}: it has {len(cells)} cells, and the first line {len(columns)}")
+                continue
+            found.append((reader.line_num, {column: cell.strip() for column, cell in zip(columns, cells) if cell.strip()}))
+    except csv.Error as fault:
+        raise BadList(f"{name}, line {reader.line_num}: {fault}") from None
+    faults += list(wrong_rows(found, name))
+    if faults or not found:
+        raise BadList("\n".join(faults) or f"{name} has no row of a card")
+    return found
+
+
+def check_columns(columns, name):
+    for column in columns:
+        if column not in COLUMNS:
+            meant = forms.near(column, list(COLUMNS))
+            raise BadList(f"{name}, line 1: no column is called `{column}`"
+                          + (f", but `{meant}` is" if meant else f": {', '.join(COLUMNS)} are"))
+        if columns.count(column) > 1:
+            raise BadList(f"{name}, line 1: the column `{column}` stands there twice")
+    if "iccid" not in columns:
+        raise BadList(f"{name}, line 1: the column `iccid` is missing, by which the cards are called")
+
+
+def wrong_rows(rows, name):
+    """What is wrong with the numbers of rows, alone and beside each other."""
+    for line, values in rows:
+        if "iccid" not in values:
+            yield f"{name}, line {line}: it has no iccid"
+            continue
+        try:
+            contents.check_iccid(contents.encode_iccid(values["iccid"]))
+        except BadContent as fault:
+            yield f"{name}, line {line}: iccid: {fault}"
+    for column in ALIKE:
+        yield from (f"{name}, {text}" for text in alike(rows, column))
+
+
+def alike(rows, column):
+    """A line for each row that has the same in a column as an earlier one."""
+    first = {}
+    for line, values in rows:
+        value = values.get(column)
+        if value is not None and first.setdefault(value, line) != line:
+            yield f"line {line}: its {column} {value} is that of line {first[value]}"
+
+
+def doubts(rows, name):
+    return [f"{name}, {text}" for column in HARDLY_ALIKE for text in alike(rows, column)]
+
+
+def keys_of(values):
+    """The profile that a row says."""
+    found = {}
+    for column, value in values.items():
+        *above, last = COLUMNS[column]
+        table = found
+        for key in above:
+            table = table.setdefault(key, {})
+        table[last] = value
+    return found
+
+
+def cards(content, name, rows, list_name, step):
+    """The card of each row, over the profile of these bytes. BadList, with all rows that no card can be made of."""
+    base = profile.tables_in(content, name)
+    found, faults = [], []
+    for line, values in rows:
+        try:
+            lines, warnings = profile.made(profile.merged(base, keys_of(values)))
+            found.append(Card(line, values, profile.Made(lines, [fault.reason for fault in warnings])))
+        except profile.BadProfile as bad:
+            faults += [f"{list_name}, line {line}: {fault.reason}" for fault in bad.faults]
+        step()
+    if faults:
+        raise BadList("\n".join(faults))
+    return found
+
+
+def write(made, folder, with_images, step):
+    """A script for each card in a folder, and an image where they are wanted; then the report. Nothing that is there is written over."""
+    os.makedirs(folder, exist_ok=True)
+    endings = (".script", ".img") if with_images else (".script",)
+    wanted = [REPORT, *(card.name + ending for card in made for ending in endings)]
+    there = [name for name in wanted if os.path.exists(os.path.join(folder, name))]
+    if there:
+        raise BadList(f"{os.path.join(folder, there[0])} is there already: nothing is written"
+                      + (f" (and {len(there) - 1} more are)" if there[1:] else ""))
+    for card in made:
+        with open(os.path.join(folder, card.name + ".script"), "x", encoding=process.ENCODING, errors="replace", newline="\n") as out:
+            out.write(card.made.text)
+        if with_images:
+            make_image(card, os.path.join(folder, card.name + ".img"))
+        step()
+    with open(os.path.join(folder, REPORT), "x", encoding="utf-8", newline="") as out:
+        writer = csv.writer(out, lineterminator="\n")
+        writer.writerow(["script", "line", "iccid", "imsi", "files", "to mend"])
+        for card in made:
+            files = sum(line.startswith("ef ") for line in card.made.lines)
+            writer.writerow([card.name + ".script", card.line, card.values["iccid"], card.values.get("imsi", ""), files,
+                             "; ".join(card.findings)])
+
+
+def make_image(card, path):
+    """The file that the memory of a card is in, as the program makes it."""
+    done = subprocess.run([process.program(), "play", "--image", path], input=card.made.text, encoding=process.ENCODING, errors="replace",
+                          stdout=subprocess.DEVNULL, stderr=subprocess.PIPE, check=False)
+    if done.returncode:
+        raise BadList(f"{path} can't be made: uicc_run ended with {done.returncode} {done.stderr.strip()}".rstrip())

@@ -1,0 +1,109 @@
+"""How two cards differ: their files by names, with what they hold and who may do what with them, their PINs and their applets."""
+import dataclasses
+import os
+
+from . import access, decode, names, profile, rules, tree
+from .follow import is_usim_card
+
+ONE, OTHER = "- ", "+ "
+# how much of what is alike stands before a difference in a long text
+BEFORE = 20
+
+
+@dataclasses.dataclass(frozen=True)
+class Difference:
+    """What differs, and a line for each thing of it that one card has (`- `) or the other one (`+ `). It is `of_state` where it is no
+    part of what a card is made with."""
+    what: str
+    lines: tuple
+    of_state: bool = False
+
+
+def differences(one, other, exactly=False):
+    """Where two cards differ. Rules are the same where they say the same; `exactly`: where they are the same records."""
+    usim = is_usim_card(one)
+    for path in dict.fromkeys([*one.files, *other.files]):
+        if path:
+            lines = tuple(of_file(one, other, path, usim, exactly))
+            if lines:
+                yield Difference(names.shown(path, usim), lines)
+            files = one.files.get(path), other.files.get(path)
+            if all(files) and files[0].active != files[1].active:
+                yield Difference(names.shown(path, usim), tuple(pair(*("activated" if file.active else "deactivated" for file in files))), True)
+    for key in sorted({*one.pins, *other.pins}):
+        yield from of_pin(one.pins.get(key), other.pins.get(key), names.key(key))
+    for shelf in sorted({*one.rows, *other.rows}):
+        lines = tuple(pair(row_words(one.rows.get(shelf)), row_words(other.rows.get(shelf))))
+        if lines:
+            yield Difference(f"applet on shelf {shelf}", lines)
+
+
+def pair(one, other, label=""):
+    """The lines of two texts that differ; None is for what isn't there."""
+    if one != other:
+        head = f"{label}: " if label else ""
+        if one is not None:
+            yield f"{ONE}{head}{one}"
+        if other is not None:
+            yield f"{OTHER}{head}{other}"
+
+
+def of_file(one, other, path, usim, exactly):
+    files = [card.files.get(path) for card in (one, other)]
+    if None in files or files[0].is_df or files[1].is_df:
+        yield from pair(*(file and (("folder" if file.is_df else "file") + f", {tree.facts(card, file)}" * (not file.is_df))
+                          for card, file in zip((one, other), files)))
+        return
+    yield from pair(*(f"{tree.STRUCTURES[file.structure]}, {tree.shape(file)}" for file in files), "shape")
+    yield from pair(*(str(file.short or "none") for file in files), "short identifier")
+    if exactly:
+        yield from pair(*(f"{file.rule[0]}:{file.rule[1]}" if file.rule else "none" for file in files), "rule")
+    for operation in access.OPERATIONS:
+        if any(operation in access.operations_on(file) for file in files):
+            yield from pair(*(rules.in_words(access.condition(card, file, operation)) for card, file in zip((one, other), files)), operation)
+    yield from of_content(*files, usim)
+
+
+def of_content(one, other, usim):
+    entry = names.file(one.path, usim) or {}
+    kind = entry.get("content") if entry.get("structure") == one.structure == other.structure else None
+    if one.structure == "t" and other.structure == "t":
+        if one.content != other.content:
+            yield from pair(*texts(kind, bytes(one.content), bytes(other.content)), "holds")
+        return
+    for number in range(1, max(one.count, other.count) + 1):
+        records = [file.record(number) if number <= file.count else None for file in (one, other)]
+        if records[0] != records[1]:
+            yield from pair(*texts(kind, *records), f"record {number}")
+
+
+def texts(kind, *held):
+    """What two contents say, or their bytes where they say the same: from where they differ, where they are long."""
+    said = [content if content is None else tree.whole_meaning(kind, content) or "blank" for content in held]
+    if said[0] == said[1]:
+        said = [decode.hexed(content) for content in held]
+    if None in said:
+        return said
+    begin = len(os.path.commonprefix(said))
+    begin = max(0, begin - BEFORE) if max(map(len, said)) > tree.LONGEST else 0
+    return [".." * bool(begin) + tree.shortened(text[begin:]) for text in said]
+
+
+def of_pin(one, other, name):
+    yield from (Difference(name, lines) for lines in [tuple(pair(pin_words(one), pin_words(other)))] if lines)
+    if one and other and (one.tries, one.unblock_tries) != (other.tries, other.unblock_tries):
+        lines = pair(*(f"{pin.tries} tries left, {pin.unblock_tries} of its UNBLOCK value" for pin in (one, other)))
+        yield Difference(name, tuple(lines), True)
+
+
+def pin_words(pin):
+    return pin and f"{decode.pin_value(pin.value)}, {'on' if pin.enabled else 'off'}, unblocked by {decode.pin_value(pin.unblock)}"
+
+
+def row_words(row):
+    if row is None:
+        return None
+    kind = names.table("toolkit")["kinds"][str(row.shelf % len(profile.KINDS))]
+    text = f", menu entry `{row.text.decode('latin-1')}`" if row.text else ""
+    events = " ".join(f"{code:02X}" for code in row.events) or "none"
+    return f"{kind}, priority {row.priority}, events {events}{text}, keeps {decode.hexed(row.kept) or 'nothing'}"

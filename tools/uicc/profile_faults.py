@@ -1,0 +1,138 @@
+"""What is wrong with a profile before anything is made of it: keys that aren't known, and values that are of another form."""
+from . import dump, fields, forms, layout, names
+from .coding import BadContent
+from .profile_names import OPERATIONS, PIN_KEYS, BadProfile, Fault, path_of, shown_name
+
+# what a table of a file may have beside its content: what it has to be, and how that is written
+OF_FILE = {
+    "size": (forms.Bounded(1, 32_767), "17"),
+    "length": (forms.Bounded(1, 255), "28"),
+    "count": (forms.Bounded(1, 254), "10"),
+    "cyclic": (forms.TRUTH, "true"),
+    "short": (forms.Bounded(0, 30), "7"),
+    "rule": (forms.TEXT, '"2F06:1"'),
+    "folder": (forms.TRUTH, "true"),
+    **{operation: (forms.TEXT, '"pin1 or adm"') for operation in OPERATIONS},
+}
+PIN = forms.TableOf({"value": forms.NUMBER_OR_TEXT, "unblock": forms.NUMBER_OR_TEXT, "on": forms.TRUTH},
+                    slips={"puk": "it is called `unblock`", "pin": "it is called `value`", "off": "`on = false` is"})
+PUK = 'the PUK of a PIN stands with it: pin1 = { value = "1234", unblock = "12345678" }'
+PINS = forms.TableOf(dict.fromkeys(PIN_KEYS, PIN), slips={
+    "adm1": "it is called `adm`", "puk": PUK, "puk1": PUK, "puk2": PUK, "pin": "it is called `pin1`", "chv1": "it is called `pin1`",
+    "chv2": "it is called `pin2`"})
+DEFAULT = forms.TableOf(dict.fromkeys(OPERATIONS, forms.TEXT))
+APPLET = forms.TableOf({"kind": forms.TEXT, "shelf": forms.Bounded(0, layout.SHELVES - 1), "priority": forms.Bounded(1, 255),
+                        "events": forms.TEXTS, "menu": forms.TEXT, "keeps": forms.TEXT, "keeps_text": forms.TEXT,
+                        "on": forms.Form("a table", dict)})
+# the keys at the top of a profile that name no file, and how they are written
+AT_TOP = {
+    "like": (forms.TEXT, 'like = "usim"'),
+    "pins": (PINS, '[pins] and below it pin1 = { value = "1234", unblock = "12345678" }'),
+    "default": (DEFAULT, '[default] and below it read = "always"'),
+    "applet": (forms.ListOf(APPLET, "tables"), '[[applet]] and below it kind = "greeter"'),
+}
+# how the keys in those tables are written
+EXAMPLES = {
+    **{key: '{ value = "1234", unblock = "12345678" }' for key in PIN_KEYS}, **{operation: '"pin1 or adm"' for operation in OPERATIONS},
+    "kind": '"greeter"', "shelf": "6", "priority": "1", "events": '["location"]', "menu": '"Tools"', "keeps": '"0102"',
+    "keeps_text": '"Hello"', "on": '{ location = ["show A"] }',
+}
+
+
+# what is wrong with a profile before anything is made of it
+
+def faults_at_top(profile):
+    for name, value in profile.items():
+        if name in AT_TOP:
+            form, example = AT_TOP[name]
+            yield from faults_of_table(name, value, form, example)
+        elif not isinstance(value, dict):
+            yield Fault((name,), dump.printable(about_top(name, value)))
+
+
+def about_top(name, value):
+    """What is said of a key at the top that is no table."""
+    meant = forms.near(name, list(AT_TOP))
+    if meant:
+        return f"`{name}` isn't known at the top of a profile: `{meant}` is"
+    if name.upper().startswith(("EF", "DF")) or dump.is_identifier(name):
+        return f"`{name}` is {forms.called(value)}, and has to be a table: {shown_name(name)} and below it what the file holds"
+    return f"`{name}` isn't known at the top of a profile: `like`, [pins], [default], [[applet]] and tables of files are"
+
+
+def faults_of_table(name, value, form, example):
+    """What is wrong with a table at the top, or with each of a list of them, a fault for each key."""
+    if isinstance(form, forms.ListOf) and isinstance(value, list):
+        for place, each in enumerate(value):
+            yield from (Fault((name, place, *keys), reason) for keys, reason in faults_of_part(f"[[{name}]]", each, form.one, example))
+    else:
+        yield from (Fault((name, *keys), reason) for keys, reason in faults_of_part(f"[{name}]", value, form, example))
+
+
+def faults_of_part(head, value, form, example):
+    if not isinstance(form, forms.TableOf) or not isinstance(value, dict):
+        wrong = form.wrong(value)
+        if wrong:
+            yield (), dump.printable(f"{head.strip('[]')} {wrong}: {example}")
+        return
+    for key, each in value.items():
+        wrong = form.wrong_key(key) or form.keys[key].wrong(each)
+        if wrong:
+            yield (key,), dump.printable(f"{head} {key} {wrong}" + (f": {key} = {EXAMPLES[key]}" if key in EXAMPLES else ""))
+
+
+def faults_of_file(name, given, usim):
+    """What is wrong with the table of a file."""
+    try:
+        path = path_of(name)
+    except BadProfile as bad:
+        yield Fault((name,), str(bad))
+        return
+    entry = names.file(path, usim)
+    yield from (Fault((name, *keys), f"{shown_name(name)} {reason}") for keys, reason in faults_of_keys(path, given, entry))
+
+
+def faults_of_keys(path, given, entry):
+    folder = is_folder(path, entry)
+    if folder and given != {"folder": True}:
+        yield (), (f"is a folder{f' ({entry_name})' if (entry_name := entry and entry['name']) else ''}: its files have tables of their own, "
+                   f"as [\"{'/'.join(path)}/EF_IMSI\"]; `folder = true` alone makes an empty one")
+        return
+    if "folder" in given and given != {"folder": True}:
+        yield ("folder",), "says `folder`, and a folder has nothing else"
+        return
+    told = [key for key in given if key in fields.KEYS]
+    for key, value in given.items():
+        if key in OF_FILE:
+            form, example = OF_FILE[key]
+            wrong = form.wrong(value)
+        elif key in fields.KEYS:
+            wrong, example = wrong_content(key, value, entry)
+        else:
+            wrong, example = about_key(key, value, entry), None
+        if wrong:
+            yield (key,), dump.printable(f"{key} {wrong}" + (f": {key} = {example}" if example else ""))
+    if len(told) > 1:
+        yield (told[1],), f"says what it holds by {' and '.join(told)}, and one of them does"
+    words = [key for key in OPERATIONS if key in given]
+    if "rule" in given and words:
+        yield ("rule",), f"says who may do what by `rule` and by {', '.join(words)}, and one of them does"
+
+
+def is_folder(path, entry):
+    return entry["name"].startswith(("DF.", "MF")) if entry else path[-1][:2] in ("3F", "5F", "7F")
+
+
+def wrong_content(key, value, entry):
+    try:
+        kind = fields.kind_for(key, entry)
+    except BadContent as fault:
+        return str(fault), None
+    return kind.form.wrong(value), kind.example
+
+
+def about_key(key, value, entry):
+    if isinstance(value, dict):
+        return "is a table in it: a file in a folder is called [\"7F20/EF_IMSI\"], in quotes and with a slash"
+    meant = forms.near(key, list(OF_FILE))
+    return f"isn't known: `{meant}` is" if meant else fields.about_unknown(key, entry)
