@@ -71,6 +71,7 @@ class Packages(unittest.TestCase):
         self.judge(self.run_installed("lnt"), 2, "", "there is no word `lnt`; is it `lint`?")
         self.judge(self.run_installed(), 2, "", "uicc WORD ..")
         self.judge(self.run_installed("--version"), 0, f"uicc {staging.version()}\nprogram: {self.root}")
+        self.judge(self.run_installed("--version"), 0, "formats: scripts 1, images of layouts 1 and 2\n")
 
     def test_tools(self):
         self.judge(self.run_installed("lint", USIM), 0)

@@ -21,7 +21,7 @@ import subprocess
 import sys
 import webbrowser
 
-from . import __version__, process, terminal
+from . import __version__, image, lint, process, terminal
 
 PROGRAM_WORDS = ("play", "open", "phone", "load", "bip")
 OWN_WORDS = ("page",)
@@ -48,12 +48,13 @@ def help_page():
 
 
 def version_page():
-    """Which module this is, and which program it runs."""
+    """Which module this is, which program it runs, and of which versions scripts and images are."""
     lines = [f"uicc {__version__}"]
     try:
         lines.append(f"program: {process.told_of_program()}")
     except process.NotBuilt as fault:
         lines.append(f"program: none; {fault}")
+    lines.append(f"formats: scripts {lint.LANGUAGE}, images of layouts {' and '.join(map(str, image.LAYOUTS))}")
     return "\n".join(lines)
 
 
