@@ -59,8 +59,6 @@ QUESTIONS = {
     "ConfirmLaunchBrowser": ("b", YES), "DisplayAction": ("", NOTHING), "ConfirmOpenChannel": ("b", YES),
 }
 KINDS = {"s": str, "y": int, "b": bool}
-# what they are told, which wants no answer
-NOTES = ("Cancel", "Release")
 
 
 def plain(value):

@@ -264,7 +264,8 @@ class Cuts(unittest.TestCase):
 
     def test_examples_as_they_are(self):
         for name in sorted(os.listdir(EXAMPLES)):
-            if name.endswith(".script") and name != "bip.script":  # which is over no card
+            # bip is over no card, and with telephone nothing is done
+            if name.endswith(".script") and name not in ("bip.script", "telephone.script"):
                 for store in ("journal", "pages"):
                     words = [os.path.join(EXAMPLES, name), "--store", store] + ["--phone"] * (name == "day.script")
                     done = tool("cuts", *words)

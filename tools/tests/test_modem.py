@@ -12,13 +12,13 @@ import threading
 import unittest
 
 from common import TOOLS
-from uicc import Card, NotBuilt, at, process, sim, trace
+from uicc import Card, NotBuilt, at, modem_commands, process, sim, trace
 from uicc.card import Answer
 from uicc.modem import LONGEST_LINE, Modem
 from uicc.modem_line import PtyLine, TcpLine, UnixLine
 
 EXAMPLES = os.path.join(process.TOP, "examples")
-USIM, MENU, DAY = (os.path.join(EXAMPLES, name + ".script") for name in ("usim", "menu", "day"))
+USIM, MENU, DAY, TELEPHONE = (os.path.join(EXAMPLES, name + ".script") for name in ("usim", "menu", "day", "telephone"))
 SECONDS = 60
 
 
@@ -299,22 +299,43 @@ class Power(unittest.TestCase):
 
 @unittest.skipUnless(is_built(), "the program isn't built")
 class AnyBytes(unittest.TestCase):
-    def test_nothing_harms_it(self):
-        """Lines made of pieces of commands and of any bytes, and one that is too long."""
+    PIECES = [b"AT", b"+CRSM=", b"176,28486,0,0,", b'"', b",", b";", b"=?", b"?", b"=", b"+CSIM=", b'10,"00B0000002"', b"\x00", b"\xff", b"\x08",
+              b"+CUSATT=", b"+CUSATE=", b"81", b"D3", b"+CPIN", b'"SC",2', b"999999999999", b"&", b"S", b"D", b"\n", b"+CFUN=", b"1", b"0", b"4"]
+    ARGUMENTS = ['"SC"', '"P2"', "2", "1", "0", "4", "7", '"1234"', '"11111111"', '"A0000000871002"', '""', "14", "10", '"00B0000002"', "176",
+                 "178", "192", "214", "220", "242", "28486", "28474", "12258", '"AA"', '"3F007FFF"', '"7F10"', "28", "255", "256", "999999999",
+                 '"UCS2"', '"SIM PIN"', "D30782020181900102", "810301250082028281830100", '"0g"', "-1", "\xe9", ""]
+    FINAL = re.compile(r"OK|ERROR|NO CARRIER|\+CME ERROR: \d+")
+
+    def test_any_bytes(self):
+        """Lines made of pieces of commands and of any bytes, and one that is too long: the modem answers as before."""
         chance = random.Random(7)
-        pieces = [b"AT", b"+CRSM=", b"176,28486,0,0,", b'"', b",", b";", b"=?", b"?", b"=", b"+CSIM=", b'10,"00B0000002"', b"\x00", b"\xff", b"\x08",
-                  b"+CUSATT=", b"+CUSATE=", b"81", b"D3", b"+CPIN", b"+CLCK", b'"SC",2', b"999999999999", b"&", b"S", b"D", b"\n", b"+CFUN=", b"1",
-                  b"0", b"4", b"+CCHO=", b"+CGLA=", b"+CPWD=", b"+COPS=", b"+CPINR=", b"+CUSATW=", b"+CUSATD=", b"+CMEE="]
         with Card(MENU) as card:
             client = Client(card)
             for _ in range(3000):
-                line = b"".join(chance.choices(pieces, k=chance.randint(1, 8)))
-                if b"Q1" not in line:
-                    client.modem.take(b"AT" * chance.randint(0, 1) + line + b"\r")
+                line = b"".join(chance.choices(self.PIECES, k=chance.randint(1, 8)))
+                client.modem.take(b"AT" * chance.randint(0, 1) + line + b"\r")
             client.modem.take(b"ATE0V1Q0\r")
             self.assertEqual(client.ask("AT"), ["OK"])
             self.assertEqual(client.ask("AT" + "X" * LONGEST_LINE), ["ERROR"])
             self.assertEqual(client.ask("AT"), ["OK"])
+
+    def test_any_arguments(self):
+        """Each command with any arguments has one final result, whatever state the modem is in; clients come and go."""
+        chance = random.Random(8)
+        names = sorted({name for name, _ in modem_commands.COMMANDS} - {"E", "V", "Q"})
+        with Card(TELEPHONE) as card:
+            client = Client(card, is_phonesim=True)
+            for _ in range(3000):
+                line = "AT" + chance.choice(names) + chance.choice(("", "?", "=?", "=", "=", "=", "="))
+                if line.endswith("="):
+                    line += ",".join(chance.choices(self.ARGUMENTS, k=chance.randint(0, 7)))
+                said = client.ask(line)
+                self.assertEqual(sum(bool(self.FINAL.fullmatch(part)) for part in said), 1, (line, said))
+                if chance.random() < 0.02:
+                    client.modem.leave()
+                    client.modem.arrive()
+                    client.modem.poll()
+                    client.ask("ATE0")
 
 
 @unittest.skipUnless(is_built(), "the program isn't built")

@@ -1,5 +1,4 @@
 """Why a card refuses a command: which condition wasn't met, and of what there is no room."""
-
 import unittest
 
 import common  # noqa: F401 (the path)

@@ -1,4 +1,7 @@
 """tools/sequence: how files are read, how a terminal is judged, and that one that is wrong fails just the sequences that it must."""
+import contextlib
+import dataclasses
+import io
 import os
 import random
 import subprocess
@@ -7,10 +10,11 @@ import tempfile
 import threading
 import time
 import unittest
+import unittest.mock
 import xml.etree.ElementTree
 
 import able_terminal
-from common import TOOLS
+from common import TOOLS, load
 from uicc import Answer, Card, PowerLost, decode, handset, process, sequence, tlv, undertest, verdict
 from uicc.player import BOTH, CARD, PLAYER, Player
 from uicc.sequence import Act, BadSequence, Give, Quiet, Respond, Restart, Shown, Tell
@@ -20,9 +24,22 @@ IN_THE_BOX = os.path.join(EXAMPLES, "sequences")
 USIM = os.path.join(EXAMPLES, "usim.script")
 
 
-def tool(*words, text=None):
-    words = [sys.executable, "-B", os.path.join(TOOLS, "sequence"), *words]
-    return subprocess.run(words, input=text, capture_output=True, text=True, timeout=120, check=False)
+@dataclasses.dataclass(frozen=True)
+class Done:
+    returncode: int
+    stdout: str
+    stderr: str
+
+
+def tool(*words):
+    """The command, in this process: to start one for each question takes longer than all the rest."""
+    command, out, err = load("sequence"), io.StringIO(), io.StringIO()
+    with unittest.mock.patch.object(sys, "argv", ["sequence", *words]), contextlib.redirect_stdout(out), contextlib.redirect_stderr(err):
+        try:
+            status = command.main()
+        except SystemExit as end:
+            status = end.code
+    return Done(status, out.getvalue(), err.getvalue())
 
 
 def in_the_box():
@@ -659,6 +676,13 @@ class Tool(unittest.TestCase):
             self.assertIn("* player", lines)
             self.assertEqual(subprocess.run([sys.executable, "-B", os.path.join(TOOLS, "explain"), "-"], input="\n".join(lines) + "\n", text=True,
                                             capture_output=True, check=False).returncode, 0)
+
+    def test_as_a_program(self):
+        with tempfile.TemporaryDirectory() as folder:
+            words = [sys.executable, "-B", os.path.join(TOOLS, "sequence"), self.put(folder, *self.PASSES)]
+            done = subprocess.run(words, capture_output=True, text=True, timeout=300, check=False)
+        self.assertEqual((done.returncode, done.stdout, done.stderr),
+                         (0, "1 sequences on the handset in Python: 1 passed, 0 failed, 0 inconclusive, 0 not supported\n", ""))
 
     def test_the_protocol(self):
         with tempfile.TemporaryDirectory() as folder:

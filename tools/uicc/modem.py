@@ -109,9 +109,10 @@ class Modem:
 
     def leave(self):
         """The client went away: the next one finds the radio off, and what a modem says when it is switched on. The SIM keeps its
-        power."""
+        power; nothing of the toolkit is fetched until a client begins it anew."""
         if self.functionality == FULL:
             self.functionality = RADIO_OFF
+        self.is_told = False
         self._forget_client()
 
     def _carry_out(self, line, is_too_long):
