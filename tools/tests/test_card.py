@@ -1,5 +1,6 @@
 """The module and the prompt over it, `tools/cuts --all` and the rest that wants the built program; skipped where it isn't there."""
 import os
+import pathlib
 import subprocess
 import sys
 import tempfile
@@ -7,7 +8,7 @@ import tomllib
 import unittest
 
 from common import TOOLS
-from uicc import Card, CardError, NoSuchFile, NotBuilt, PowerLost, StatusError, cutting, image, importing, lint, process, profile, terminal
+from uicc import Card, CardError, NoSuchFile, NotBuilt, PowerLost, Status, StatusError, cutting, image, importing, lint, process, profile, terminal
 
 EXAMPLES = os.path.join(process.TOP, "examples")
 USIM, MENU = (os.path.join(EXAMPLES, name + ".script") for name in ("usim", "menu"))
@@ -47,6 +48,56 @@ class Cards(unittest.TestCase):
             card.select("EF.ICCID")
             self.assertEqual(card.read_binary().hex().upper(), "989909010000103254F0")
             self.assertEqual(card.read_binary(2, 8).hex().upper(), "54F0")
+
+    def test_what_a_card_is_made_of(self):
+        """A path, a text, a profile or an image is known for what it is."""
+        with open(USIM, encoding="latin-1") as script:
+            text = script.read()
+        table = {"like": "usim", "EF_SPN": {"spn": "Nordlicht"}}
+        with tempfile.TemporaryDirectory() as folder:
+            given, held, paged = (os.path.join(folder, name) for name in ("card.toml", "card.img", "paged.img"))
+            with open(given, "w", encoding="ascii") as out:
+                out.write('like = "usim"\n[EF_SPN]\nspn = "Nordlicht"\n')
+            # what makes a card, what it says that it was made of, and the network's name
+            made = [
+                (lambda: Card(USIM), f"script {USIM}", b"Example Mobile"),
+                (lambda: Card(pathlib.Path(USIM), image=held), f"script {USIM}", b"Example Mobile"),
+                (lambda: Card(text), "text", b"Example Mobile"),
+                (lambda: Card.from_text(text), "text", b"Example Mobile"),
+                (lambda: Card(given, image=paged, store="pages"), f"profile {given}", b"Nordlicht"),
+                (lambda: Card.from_profile(given), f"profile {given}", b"Nordlicht"),
+                (lambda: Card(table), "profile", b"Nordlicht"),
+                (lambda: Card(held), f"image {held}", b"Example Mobile"),
+                (lambda: Card(USIM, image=held), f"image {held}", b"Example Mobile"),
+                (lambda: Card.open(pathlib.Path(paged)), f"image {paged}", b"Nordlicht"),
+            ]
+            for make, source, name in made:
+                with self.subTest(source=source), make() as card:
+                    self.assertEqual(str(card.source), source)
+                    card.select("EF.SPN")
+                    self.assertEqual(card.read_binary()[1:].rstrip(b"\xFF"), name)
+        for make, said in ((lambda: Card.from_text("df  7F10\n"), "the text, line 1: two spaces"), (lambda: Card({"like": "usin"}), "no such template"),
+                           (lambda: Card.open("none.img"), "none.img isn't there")):
+            with self.assertRaisesRegex(CardError, said):
+                make()
+        with self.assertRaises(ValueError):
+            Card()
+
+    # a status by its digits, the number that it is, and what it means
+    STATUSES = [("9000", 0x9000, "done"), ("6a82", 0x6A82, "file not found"), ("63C2", 0x63C2, "2"), ("910B", 0x910B, "11")]
+
+    def test_statuses(self):
+        for digits, number, meaning in self.STATUSES:
+            with self.subTest(digits=digits):
+                status = Status(digits)
+                self.assertEqual((status, str(status), f"{status}"), (number, digits.upper(), digits.upper()))
+                self.assertTrue(status == digits and not status != digits and status.startswith(digits[0]))
+                self.assertFalse(status == "6F00" or status == 0x6F00)
+                self.assertEqual((status.sw1, status.sw2), divmod(number, 256))
+                self.assertIn(meaning, status.meaning)
+        with Card.from_text("") as card:
+            answer = card.transmit("00A40004027FFF")
+            self.assertEqual((answer.status, repr(answer.status), str(answer)), (0x6A82, "Status(0x6A82)", "6A82"))
 
     def test_pins(self):
         with Card(USIM) as card:

@@ -94,6 +94,7 @@ class Images(unittest.TestCase):
         (image.NODES + image.NODE_WIDTH + 14, 0xFF, "the file 2F06 has 255 bytes in its records, and 259 are there"),
         (image.NODES + 3 * image.NODE_WIDTH + 4, 0x7F, "has no place"),
         (0, 0x00, "the bytes begin with no card"),
+        (4, 0x03, "the image is of layout 3, and layouts 1 and 2 are known here"),
         (image.ROWS + 6 * image.ROW_STRIDE + 7, 0x30, "the applet on shelf 6 has a text of"),
     ]
 

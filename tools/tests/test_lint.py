@@ -147,6 +147,8 @@ class Scripts(unittest.TestCase):
         ("start\nuser ok\ntpdu 00\n", "phone", [(3, "bad", "itself: `tpdu` is for `play` and `open`")]),
         ("start\ntpdu 00\n", "open", []),
         ("tpdu 00\nstart\ntpdu 00C0000014\n", "play", [(1, "bad", "no `start` stands before")]),
+        ("# uicc_run script 1\nstart\n", "play", []),
+        ("# uicc_run script 2\nstart\n", "play", [(1, "warning", "of version 2 of the language of scripts, and this is version 1")]),
         (CARD + "start\n", "play", [(3, "warning", "2F06 is neither in its own DF nor in one above")]),
         ("ef 6F07 t 1 - 2F06:3\nef 2F06 l 4 2 - -\nstart\n", "play", [(1, "warning", "has 2 records, and no record 3")]),
         ("ef 6F07 t 1 - 2F06:2\nef 2F06 l 4 2 - -\nstart\n", "play", [(1, "warning", "record 2 of 2F06 is no rule: it is empty")]),

@@ -70,7 +70,7 @@ class Tree:
         for name, content in FILES.items():
             put(self.path(name), content)
         left_out = shutil.ignore_patterns("out", "tests", "__pycache__")
-        for name in ("page", "uicc"):
+        for name in ("installing", "page", "uicc"):
             shutil.copytree(os.path.join(TOOLS, name), self.path("tools/" + name), ignore=left_out)
         shutil.copy(os.path.join(TOOLS, "release"), self.path("tools/release"))
         put(self.path("uicc_run"), LAUNCHER, stat.S_IRWXU)

@@ -2,5 +2,7 @@
 from .card import Answer, Card, CardError, NoSuchFile, PowerLost, Proactive, StatusError
 from .handset import Reply, Terminal
 from .process import Ended, NotBuilt
+from .status import Status
 
-__all__ = ["Answer", "Card", "CardError", "Ended", "NoSuchFile", "NotBuilt", "PowerLost", "Proactive", "Reply", "StatusError", "Terminal"]
+__all__ = ["Answer", "Card", "CardError", "Ended", "NoSuchFile", "NotBuilt", "PowerLost", "Proactive", "Reply", "Status", "StatusError", "Terminal"]
+__version__ = "0.2.0"

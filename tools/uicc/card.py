@@ -11,8 +11,9 @@ A command that isn't answered 9000, 91XX or a warning raises StatusError, which 
 import dataclasses
 import os
 
-from . import decode, fields, image, kept, layout, lint, names, process, refusals, tlv
+from . import decode, described, fields, image, kept, layout, lint, names, process, profile, refusals, tlv
 from .follow import Follower
+from .status import Status
 
 PROFILE = bytes.fromhex("2900BF6171000013")
 WARNINGS = ("6282", "6283")
@@ -28,7 +29,8 @@ class StatusError(CardError):
     """A command was refused."""
 
     def __init__(self, command, data, status, why=None):
-        super().__init__(f"{decode.title(decode.Apdu(command))} is answered {status}: {names.status(status)}{f': {why}' if why else ''}")
+        status = Status(status)
+        super().__init__(f"{decode.title(decode.Apdu(command))} is answered {status}: {status.meaning}{f': {why}' if why else ''}")
         self.command, self.data, self.status, self.why = command, data, status, why
 
 
@@ -42,8 +44,12 @@ class NoSuchFile(CardError, LookupError):
 
 @dataclasses.dataclass(frozen=True)
 class Answer:
+    """What a card answers: data, and a status, which is given as a number or as its digits."""
     data: bytes
-    status: str
+    status: Status
+
+    def __post_init__(self):
+        object.__setattr__(self, "status", Status(self.status))
 
     def __str__(self):
         return f"{decode.hexed(self.data)} {self.status}".strip()
@@ -59,21 +65,23 @@ class Proactive:
     objects: tuple
 
     @property
-    def name(self):
+    def name(self) -> str:
+        """Which command it is, DISPLAY TEXT say."""
         return names.of_toolkit("commands", self.command, f"type {self.command:02X}")
 
-    def value(self, tag):
+    def value(self, tag: int) -> bytes | None:
         """The value of the first object with a tag; None where there is none."""
         return next((value for found, _, value in self.objects if found == tag), None)
 
     @property
-    def text(self):
+    def text(self) -> str:
         """The text that it shows or asks by; the title of a menu or of a list."""
         value = self.value(0x0D)
         return value[1:].decode("latin-1") if value else (self.value(0x05) or b"").decode("latin-1")
 
     @property
-    def items(self):
+    def items(self) -> dict[int, str]:
+        """What there is to choose from: the texts by their numbers."""
         return {value[0]: value[1:].decode("latin-1") for tag, _, value in self.objects if tag == 0x0F and value}
 
     def __str__(self):
@@ -91,23 +99,27 @@ def pin_bytes(value):
 
 
 class Card:
-    """`script` says what the card holds (the lines before `start`; those after it are passed over); `image` is the file that its
-    memory is in, which is made where a script is given and the file isn't there, and opened otherwise. Without one it is a file of its
-    own, which is gone with the card. `holds` are the files as they were described, and as commands make and delete them since then;
-    `now` has all that the card holds at the moment."""
+    """`source` says what the card holds: the path or the text of a script, whose lines before `start` do (those after it are passed
+    over), a profile (a dict, or the path of a .toml file), or the path of an image, which is opened where it lies. `card.source` says
+    which of them it was. `image` is the file that the card's memory is in, which is made where a source is given and the file isn't
+    there, and opened otherwise. Without one it is a file of its own, which is gone with the card. `holds` are the files as they were
+    described, and as commands make and delete them since then; `now` has all that the card holds at the moment."""
 
-    def __init__(self, script=None, image=None, store=None):
-        if script is None and image is None:
-            raise ValueError("a script or an image is wanted")
-        self._words = ["--store", store] if store else []
-        self._path, self._opened = image, False
-        self.holds = layout.Card()
-        section = []
-        if script is not None and not (image and os.path.exists(image)):
-            section = self._described(script)
-        elif image:
-            self._opened = True
+    def __init__(self, source: "str | os.PathLike | dict | described.Source | None" = None, image: str | None = None, store: str | None = None):
+        if source is None and image is None:
+            raise ValueError("a script, a profile or an image is wanted")
+        is_made = source is not None and not (image and os.path.exists(image))
+        self.source = _made(described.of, source) if is_made else described.Source(described.IMAGE, os.fspath(image))
+        self._opened = self.source.kind == described.IMAGE
+        if self._opened:
+            if image not in (None, self.source.name):
+                raise ValueError(f"{self.source.name} is an image itself, and is opened in no other one")
+            store = store if image else store or described.store_of(self.source.name)
+            image, section = self.source.name, []
             self.holds = _card_in(image, store)
+        else:
+            section = self._described()
+        self._words = ["--store", store] if store else []
         self._folder = None if image else kept.folder()
         self._image = os.path.abspath(image) if image else os.path.join(self._folder.name, "image")
         self._words += ["--image", self._image]
@@ -130,7 +142,7 @@ class Card:
             self._folder.cleanup()
 
     @property
-    def now(self):
+    def now(self) -> layout.Card:
         """What the card holds at the moment, as its memory has it: its files with their contents, its PINs and applets."""
         try:
             with open(self._image, "rb") as content:
@@ -138,11 +150,23 @@ class Card:
         except (OSError, image.NoCard):
             return self.holds
 
-    def _described(self, script):
-        try:
-            read = lint.described(script)
-        except lint.BadScript as fault:
-            raise CardError(str(fault)) from None
+    @classmethod
+    def from_text(cls, text: str, image: str | None = None, store: str | None = None) -> "Card":
+        """A card of a script's text, also of one with no line."""
+        return cls(described.of_text(text), image, store)
+
+    @classmethod
+    def from_profile(cls, profile: "dict | str | os.PathLike", image: str | None = None, store: str | None = None) -> "Card":
+        """A card of a profile: a dict with its tables, or the path of its file."""
+        return cls(_made(described.of_profile, profile), image, store)
+
+    @classmethod
+    def open(cls, image: "str | os.PathLike", store: str | None = None) -> "Card":
+        """The card that an image holds, which stays in it."""
+        return cls(described.Source(described.IMAGE, os.fspath(image)), None, store)
+
+    def _described(self):
+        read = _made(described.script_of, self.source)
         self.holds = read.card
         return process.card_section(read.lines)[0]
 
@@ -152,7 +176,7 @@ class Card:
     def __exit__(self, *_):
         self.close()
 
-    def close(self):
+    def close(self) -> int:
         """Ends the simulator, and answers its status."""
         status = self._simulator.close()
         self._remove()
@@ -160,11 +184,11 @@ class Card:
 
     # commands
 
-    def transmit(self, command):
+    def transmit(self, command: bytes | str) -> Answer:
         """Sends the bytes of a command, and answers whatever the card does."""
         return self._exchange(as_bytes(command), "apdu")
 
-    def transmit_tpdu(self, tpdu):
+    def transmit_tpdu(self, tpdu: bytes | str) -> Answer:
         """Sends a TPDU of T=0, and answers what the link to the card does: data are fetched by GET RESPONSE, as many as 61XX says."""
         return self._exchange(as_bytes(tpdu), "tpdu")
 
@@ -178,7 +202,7 @@ class Card:
             self._has_power = False
             raise PowerLost("the power is off" if self.trace[-1] == process.OFF else "the power was lost in the command")
         self.trace.append("< " + decode.hexed(answer))
-        answer = Answer(answer[:-2], decode.hexed(answer[-2:]))
+        answer = Answer(answer[:-2], int.from_bytes(answer[-2:], "big"))
         self._note(command, answer)
         return answer
 
@@ -190,11 +214,11 @@ class Card:
         if apdu.ok and apdu.ins == decode.CHANNEL and apdu.p1 == 0 and answer.status == "9000":
             self._follower.opened_as(answer.data[0] if answer.data else apdu.p2, apdu.channel)
         if answer.status.startswith("91"):
-            self.pending = int(answer.status[2:], 16) or MOST
+            self.pending = answer.status.sw2 or MOST
         elif answer.status == "9000":
             self.pending = None
 
-    def send(self, command):
+    def send(self, command: bytes | str) -> Answer:
         """Sends a command; StatusError where it is refused."""
         answer = self.transmit(command)
         if answer.status != "9000" and not answer.status.startswith("91") and answer.status not in WARNINGS:
@@ -204,7 +228,7 @@ class Card:
     def _refusal(self, command, answer):
         return StatusError(command, answer.data, answer.status, self.why(command, answer.status))
 
-    def why(self, command, status):
+    def why(self, command: bytes, status: Status) -> str | None:
         """Why a command was refused with 6982, 6985 or 6A84, before any other one is sent; None where that isn't known."""
         return refusals.reason(self._follower, decode.Apdu(command), status, self.now) if status in refusals.STATUSES else None
 
@@ -216,7 +240,7 @@ class Card:
 
     # files
 
-    def path(self, name):
+    def path(self, name: str) -> tuple[str, ...]:
         """The path of a file by identifiers and names from the MF: "MF/DF.TELECOM/EF.ADN", "7F10/6F3A", or a name alone that one
         file of the card has."""
         parts = [part for part in name.replace("\\", "/").split("/") if part]
@@ -246,7 +270,7 @@ class Card:
             raise NoSuchFile(f"{part}: {len(found) or 'no'} files are called so" + "".join(f", {names.shown(path)}" for path in found))
         return found[0]
 
-    def select(self, name="MF", channel=0):
+    def select(self, name: str = "MF", channel: int = 0) -> dict[str, str]:
         """Selects a file, and answers its control parameters."""
         path = self.path(name) if name.upper() not in ("MF", "3F00") else ()
         if path:
@@ -256,12 +280,12 @@ class Card:
         return {line.label: line.text for line in decode.fcp(answer.data)[1:]}
 
     @property
-    def current(self):
+    def current(self) -> tuple[str, ...]:
         """The path of the current EF, or else of the current DF."""
         df, ef = self._follower.of(decode.Apdu(bytes(4)))
         return df if ef is None else ef
 
-    def read_binary(self, length=None, offset=0):
+    def read_binary(self, length: int | None = None, offset: int = 0) -> bytes:
         """So many bytes of the current EF from an offset on; without a length up to its end."""
         if length is not None:
             return self._command(decode.READ_BINARY, offset >> 8, offset & 0xFF, le=length).data
@@ -278,37 +302,42 @@ class Card:
             if len(part.data) < MOST:
                 return found
 
-    def update_binary(self, content, offset=0):
+    def update_binary(self, content: bytes | str, offset: int = 0) -> Answer:
+        """Writes bytes of the current EF from an offset on."""
         return self._command(decode.UPDATE_BINARY, offset >> 8, offset & 0xFF, as_bytes(content))
 
-    def read_record(self, number):
+    def read_record(self, number: int) -> bytes:
+        """A record of the current EF; the first one is 1."""
         return self._command(decode.READ_RECORD, number, 4, le=MOST).data
 
-    def update_record(self, number, content):
+    def update_record(self, number: int, content: bytes | str) -> Answer:
+        """Writes a whole record of the current EF."""
         return self._command(decode.UPDATE_RECORD, number, 4, as_bytes(content))
 
-    def add_record(self, content):
+    def add_record(self, content: bytes | str) -> Answer:
         """Writes over the oldest record of a cyclic EF, which becomes record 1."""
         return self._command(decode.UPDATE_RECORD, 0, 3, as_bytes(content))
 
-    def search_record(self, content, first=1):
+    def search_record(self, content: bytes | str, first: int = 1) -> list[int]:
         """The numbers of the records that hold these bytes, from a record on."""
         return list(self._command(decode.SEARCH_RECORD, first, 4, as_bytes(content)).data)
 
-    def increase(self, amount, width=3):
+    def increase(self, amount: int, width: int = 3) -> int:
         """Adds to record 1 of a cyclic EF, and answers the sum."""
         answer = self._command(decode.INCREASE, 0, 0, amount.to_bytes(width, "big"), toolkit=True)
         return int.from_bytes(answer.data[:-width], "big")
 
-    def deactivate(self):
+    def deactivate(self) -> Answer:
+        """DEACTIVATE FILE, of the current EF."""
         return self._command(0x04, 0, 0)
 
-    def activate(self):
+    def activate(self) -> Answer:
+        """ACTIVATE FILE, of the current EF."""
         return self._command(0x44, 0, 0)
 
     # what files hold, said as a profile says it
 
-    def write(self, name, record=None, **said):
+    def write(self, name: str, record: int | None = None, **said) -> None:
         """Selects a file and writes what one key says of it: card.write("EF.SPN", spn="Example"). A list of entries is written from record 1
         on; with `record` one entry is: card.write("EF.ADN", 3, entries={"name": "Anna", "number": "110"})."""
         if len(said) != 1:
@@ -328,7 +357,7 @@ class Card:
             for number, one in enumerate(content, record or 1):
                 self.update_record(number, one)
 
-    def say(self, name, record=None):
+    def say(self, name: str, record: int | None = None) -> dict:
         """Selects a file, and answers what it holds as a profile says it: {"spn": "Example"}. Of a file with records that is of one."""
         file = self._selected(name)
         content = self.read_binary() if file.structure == "t" else self.read_record(record or 1)
@@ -347,11 +376,12 @@ class Card:
 
     # files made, resized and deleted, in the current DF; with the key ADM1
 
-    def create_df(self, identifier):
+    def create_df(self, identifier: str) -> Answer:
         """Makes a DF, which is the current one then."""
         return self._create(decode.NewFile(decode.KIND_OF[None], identifier, None, 0, 0, None, None))
 
-    def create_ef(self, identifier, structure="t", length=1, count=1, short=None, rule=None):
+    def create_ef(self, identifier: str, structure: str = "t", length: int = 1, count: int = 1, short: int | None = None,
+                  rule: tuple[str, int] | None = None) -> Answer:
         """Makes an EF, which is the current one then: of so many records of a length, or transparent, of that length. `rule` is the
         identifier of an EF_ARR and the number of a record."""
         return self._create(decode.NewFile(decode.KIND_OF[structure], identifier, structure, length, count, short, rule))
@@ -359,10 +389,11 @@ class Card:
     def _create(self, made):
         return self._command(decode.CREATE_FILE, 0, 0, decode.template_of(made))
 
-    def delete_file(self, identifier):
+    def delete_file(self, identifier: str) -> Answer:
+        """Deletes a file of the current DF."""
         return self._command(decode.DELETE_FILE, 0, 0, bytes.fromhex(identifier))
 
-    def resize_file(self, identifier, size):
+    def resize_file(self, identifier: str, size: int) -> Answer:
         """Gives a transparent EF another size: it keeps its first bytes, and those that come are FF."""
         if not 0 <= size < 1 << 16:
             raise ValueError(f"a size is told by two bytes: {size}")
@@ -370,10 +401,11 @@ class Card:
 
     # PINs
 
-    def verify(self, key, value):
+    def verify(self, key: int, value: str | bytes) -> Answer:
+        """Presents the value of a PIN: keys 0x01 and 0x81 are PIN 1 and 2, 0x0A is ADM1."""
         return self._command(0x20, 0, key, pin_bytes(value))
 
-    def tries(self, key):
+    def tries(self, key: int) -> int:
         """How many tries of a PIN are left."""
         command = bytes((0, 0x20, 0, key))
         answer = self.transmit(command)
@@ -381,27 +413,31 @@ class Card:
             return 0
         if not answer.status.startswith("63C"):
             raise self._refusal(command, answer)
-        return int(answer.status[3], 16)
+        return answer.status.sw2 & 0x0F
 
-    def change_pin(self, key, value, new):
+    def change_pin(self, key: int, value: str | bytes, new: str | bytes) -> Answer:
+        """CHANGE PIN, from a value to a new one."""
         return self._command(0x24, 0, key, pin_bytes(value) + pin_bytes(new))
 
-    def disable_pin(self, key, value):
+    def disable_pin(self, key: int, value: str | bytes) -> Answer:
+        """DISABLE PIN: what asks for it is free."""
         return self._command(0x26, 0, key, pin_bytes(value))
 
-    def enable_pin(self, key, value):
+    def enable_pin(self, key: int, value: str | bytes) -> Answer:
+        """ENABLE PIN, which takes DISABLE PIN back."""
         return self._command(0x28, 0, key, pin_bytes(value))
 
-    def unblock_pin(self, key, unblock, new):
+    def unblock_pin(self, key: int, unblock: str | bytes, new: str | bytes) -> Answer:
+        """UNBLOCK PIN: presents the unblock value, and gives the PIN a new one."""
         return self._command(0x2C, 0, key, pin_bytes(unblock) + pin_bytes(new))
 
     # toolkit
 
-    def profile(self, content=PROFILE):
+    def profile(self, content: bytes | str = PROFILE) -> Answer:
         """TERMINAL PROFILE, with what a handset of the simulator knows."""
         return self._command(decode.PROFILE, 0, 0, as_bytes(content), toolkit=True)
 
-    def fetch(self):
+    def fetch(self) -> Proactive | None:
         """The proactive command that is to be fetched; None where none is."""
         if self.pending is None:
             return None
@@ -412,7 +448,7 @@ class Card:
         self._fetched = Proactive(raw, number, command, qualifier, found)
         return self._fetched
 
-    def respond(self, result=0x00, text=None, item=None, objects=b""):
+    def respond(self, result: int = 0x00, text: str | None = None, item: int | None = None, objects: bytes | str = b"") -> Answer:
         """TERMINAL RESPONSE to the command that was fetched last: a result, and a text, an item, or objects as they are."""
         if self._fetched is None:
             raise CardError("no command was fetched that could be responded to")
@@ -424,33 +460,38 @@ class Card:
             content += tlv.written(0x10, bytes((item,)))
         return self._command(decode.RESPONSE, 0, 0, content + as_bytes(objects), toolkit=True)
 
-    def envelope(self, content):
+    def envelope(self, content: bytes | str) -> Answer:
+        """ENVELOPE, with the bytes of an event."""
         return self._command(decode.ENVELOPE, 0, 0, as_bytes(content), toolkit=True)
 
-    def pick(self, item):
+    def pick(self, item: int) -> Answer:
         """The user picks an entry of the card's menu."""
         return self.envelope(b"\xD3\x07\x82\x02\x01\x81" + tlv.written(0x10, bytes((item,))))
 
-    def install(self, shelf, priority, content):
+    def install(self, shelf: int, priority: int, content: bytes | str) -> Answer:
+        """INSTALL: registers the applet of a shelf, with the data of its installation."""
         return self.send(bytes((0xF0, decode.INSTALL, priority, shelf, len(as_bytes(content)))) + as_bytes(content))
 
-    def delete(self, shelf):
+    def delete(self, shelf: int) -> Answer:
+        """DELETE: the applet of a shelf is registered no more."""
         return self.send(bytes((0xF0, decode.DELETE, 0, shelf)))
 
     # faults
 
-    def cut(self, call, kept=0, rest=0xFF):
+    def cut(self, call: int, kept: int = 0, rest: int = 0xFF) -> None:
         """Plans a loss of power in a memory write of the next command or reset: so many bytes of it are written, the others become
         `rest`."""
         self._simulator.say(f"cut {call} {kept} {rest:02X}")
 
-    def fail(self, call, rest=0xFF):
+    def fail(self, call: int, rest: int = 0xFF) -> None:
+        """Plans a memory write of the next command or reset that fails, and leaves its bytes `rest`."""
         self._simulator.say(f"fail {call} {rest:02X}")
 
-    def fail_reading(self, call):
+    def fail_reading(self, call: int) -> None:
+        """Plans a read of the memory that fails."""
         self._simulator.say(f"readfail {call}")
 
-    def reset(self):
+    def reset(self) -> None:
         """Resets the card, which gives it power again. PowerLost, where it loses it in that."""
         self._follower.reset()
         self.pending = self._fetched = None
@@ -458,6 +499,14 @@ class Card:
         self.trace.append(process.RESET if self._has_power else process.CUT)
         if not self._has_power:
             raise PowerLost("the power was lost in the reset")
+
+
+def _made(make, given):
+    """What is made of something; a CardError says what is wrong with it."""
+    try:
+        return make(given)
+    except (lint.BadScript, profile.BadProfile) as fault:
+        raise CardError(str(fault)) from None
 
 
 def _card_in(path, store):

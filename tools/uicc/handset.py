@@ -252,60 +252,65 @@ class Terminal:
 
     # what happens at the handset
 
-    def start(self):
+    def start(self) -> None:
         """The handset is switched on: it selects the MF and tells its profile."""
         self._line(self._begin)
 
-    def reset(self):
+    def reset(self) -> None:
         """The handset resets the card, and begins anew. The clock and the location stay."""
         self.is_silent = False
         self._line(self._restart)
 
-    def ok(self):
+    def ok(self) -> None:
         """The text that is shown is done with."""
         self._line(lambda: self._respond(DONE) if self._holds(TEXT) else None)
 
-    def end(self):
+    def end(self) -> None:
+        """The user ends the session."""
         self._line(lambda: self._end(ENDED))
 
-    def back(self):
+    def back(self) -> None:
+        """The user goes back."""
         self._line(lambda: self._end(BACK))
 
-    def none(self):
+    def none(self) -> None:
         """The user doesn't respond in time."""
         self._line(lambda: self._end(NO_RESPONSE))
 
-    def type(self, text):
+    def type(self, text: str) -> None:
         """The user types what the card asks for; nothing happens where its length doesn't fit."""
         self._line(lambda: self._type(text.encode("ascii")))
 
-    def pick(self, item):
+    def pick(self, item: int) -> None:
         """The user picks an item of what there is to choose from, or else of the menu."""
         self._line(lambda: self._pick(item))
 
-    def press(self):
+    def press(self) -> None:
+        """The user presses a key: the event user activity, where it is registered."""
         self._line(lambda: self._tell_once(ACTIVITY_EVENT, TERMINAL))
 
-    def idle(self):
+    def idle(self) -> None:
+        """The screen becomes idle."""
         self._line(lambda: self._tell_once(IDLE_EVENT, DISPLAY) if self.held is None else None)
 
-    def dial(self, digits):
+    def dial(self, digits: str) -> None:
         """The user sets up a call, of which the card is asked."""
         self._line(lambda: self._dial(digits))
 
-    def tell_place(self, content):
+    def tell_place(self, content: bytes | str) -> None:
         """The network tells where the handset is."""
         self.place = as_bytes(content)
         self._line(self._tell_place)
 
-    def poll(self):
+    def poll(self) -> None:
+        """The handset sends STATUS."""
         self._line(lambda: self._send(STATUS))
 
-    def wait(self, seconds):
+    def wait(self, seconds: int) -> None:
         """So many seconds pass: each timer that is due meanwhile is reported."""
         self._line(lambda: None, seconds)
 
-    def happen(self, said):
+    def happen(self, said: Reset | Plan | Handset) -> None:
         """What a line of a handset's script says, as it was read."""
         if isinstance(said, Reset):
             self.reset()
@@ -316,7 +321,7 @@ class Terminal:
         else:
             raise Wrong("this line is for no handset")
 
-    def line(self, text):
+    def line(self, text: str) -> None:
         """A line of a handset's script, `user ok` say. Wrong, where it is in no form."""
         said = read_line(text)
         if said is not None:
@@ -338,7 +343,7 @@ class Terminal:
         """Carries on with what an answer leads to, and in time that passes with the timers that are due meanwhile."""
         while True:
             while answer is not None and answer.status.startswith("91"):
-                answer = self._fetch(int(answer.status[2:], 16))
+                answer = self._fetch(answer.status.sw2)
             if self._due() is None:
                 return
             answer = self._report(self._due())
@@ -384,11 +389,11 @@ class Terminal:
             return self._respond(fault.reply, details)
         return self.carry_out(self.held) if is_known(self.held, self.profile) else self._respond(BEYOND)
 
-    def understood(self, raw):
+    def understood(self, raw: bytes) -> Command:
         """The command that was fetched. Unread, where the handset can't do it."""
         return read(raw)
 
-    def carry_out(self, command):
+    def carry_out(self, command: Command) -> "Answer | None":
         """Does what a command asks for; the answer to what is sent then, None where the user is to do something first."""
         return CARRIED_OUT[command.kind](self, command)
 

@@ -18,7 +18,8 @@ PINS, PIN_WIDTH = 832, 20
 ROWS, ROW_STRIDE, UPPER_ROWS, KEPT_APART = 896, 64, 63_488, 64_512
 NODES, NODE_WIDTH, NODE_COUNT = 1_920, 16, 128
 DF, STRUCTURES = 0x78, {0x41: "t", 0x42: "l", 0x46: "c"}
-NARROW, WIDE = 1, 2
+# the layouts that an image may be of: its byte 4
+LAYOUTS = NARROW, WIDE = 1, 2
 EVENT_BITS = (0x00, 0x01, 0x02, 0x03, 0x04, 0x05, 0x07, 0x09, 0x0A, 0x40, 0x41, 0x45)
 
 
@@ -109,11 +110,18 @@ def through_map(image):
     return image[:FIRST_MAPPED * PAGE] + b"".join(image[entry * PAGE:(entry + 1) * PAGE] for entry in entries)
 
 
+def is_image(content):
+    """Whether a file's bytes are those of an image that holds a card, and not of a text."""
+    return len(content) >= JOURNAL_SIZE and content[:4] == b"UICC"
+
+
 def card_in(image):
     """The card that an image holds."""
     content = stable(image)
-    if content[:4] != b"UICC" or content[4] not in (NARROW, WIDE):
+    if content[:4] != b"UICC":
         raise NoCard("the bytes begin with no card")
+    if content[4] not in LAYOUTS:
+        raise NoCard(f"the image is of layout {content[4]}, and layouts {LAYOUTS[0]} and {LAYOUTS[-1]} are known here")
     card = Card()
     for slot in range(3):
         pin = pin_at(content[PINS + PIN_WIDTH * slot:PINS + PIN_WIDTH * (slot + 1)])

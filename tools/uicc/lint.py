@@ -1,5 +1,6 @@
 """What is wrong with the lines of a script. The first bad line is the one that the program names, for the same cause."""
 import dataclasses
+import re
 
 from . import access, layout, process
 from .grammar import OF_CARD, OF_TERMINAL, Apdu, Handset, Start, Tpdu, Wrong, read_line
@@ -9,6 +10,9 @@ MOST_BYTES = 16_777_216
 MODES = ("play", "phone", "open", "bip")
 BAD, NO_ROOM, WARNING = "bad", "no room", "warning"
 STATUSES = {BAD: 2, NO_ROOM: 8}
+# the version of the language of scripts, and the comment in which the first line of a script may say of which one it is
+LANGUAGE = 1
+OF_LANGUAGE = re.compile(r"#\s*uicc_run script (\d+)\s*")
 
 
 class BadScript(Exception):
@@ -151,6 +155,10 @@ class Reading:
         self.findings.sort(key=lambda finding: finding.line)
 
     def _warnings(self):
+        said = OF_LANGUAGE.fullmatch(self.lines[0]) if self.lines else None
+        if said and int(said[1]) != LANGUAGE:
+            yield Finding(1, WARNING, f"it is of version {said[1]} of the language of scripts, and this is version {LANGUAGE}: lines may mean "
+                                      "something else")
         for file in self.card.files.values():
             if file.rule:
                 why = self.card.about_rule(file)
@@ -175,10 +183,15 @@ def read(text, mode="play"):
 def described(path):
     """The script in a file, for who wants the card alone that it describes: BadScript, where one of the lines up to `start` is bad."""
     with open(path, encoding=process.ENCODING, newline="\n") as text:
-        script = read(text.read())
+        return described_in(text.read(), path)
+
+
+def described_in(text, name):
+    """The same of a script's text, which is called so."""
+    script = read(text)
     bad = script.first()
     if bad and bad.line <= len(process.card_section(script.lines)[0]):
-        raise BadScript(f"{path}, line {bad.line}: {bad.reason}")
+        raise BadScript(f"{name}, line {bad.line}: {bad.reason}")
     return script
 
 

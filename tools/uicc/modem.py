@@ -209,7 +209,7 @@ class Modem:
     def _note(self, apdu, answer):
         """What an exchange says of PINs, of the command that is to be fetched, and of the one that was."""
         if answer.status.startswith("91"):
-            self.pending = int(answer.status[2:], 16) or MOST
+            self.pending = answer.status.sw2 or MOST
         elif answer.status == "9000":
             self.pending = None
         if not apdu.ok:
@@ -291,7 +291,7 @@ class Modem:
     def tries(self, ins, key):
         """How many tries a PIN (VERIFY) or its unblock value (UNBLOCK PIN) has left; None where there is no such PIN."""
         status = self.exchange(bytes((0, ins, 0, key))).status
-        return int(status[3], 16) if status.startswith("63C") else 0 if status == "6983" else None
+        return status.sw2 & 0x0F if status.startswith("63C") else 0 if status == "6983" else None
 
     def pin_state(self):
         """What +CPIN says that the SIM waits for."""

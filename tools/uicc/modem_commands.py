@@ -343,7 +343,7 @@ def counted(given, place):
 
 def response_to(modem, content):
     answer = modem.exchange(content)
-    digits = decode.hexed(answer.data) + answer.status
+    digits = decode.hexed(answer.data) + str(answer.status)
     return f"{len(digits)},{quoted(digits)}"
 
 
@@ -427,8 +427,7 @@ def on_file(kind, p1, p2, p3, data):
 
 
 def crsm(answer):
-    first, second = bytes.fromhex(answer.status)
-    return f"+CRSM: {first},{second}" + (f",{quoted(decode.hexed(answer.data))}" if answer.data else "")
+    return f"+CRSM: {answer.status.sw1},{answer.status.sw2}" + (f",{quoted(decode.hexed(answer.data))}" if answer.data else "")
 
 
 def selected(modem, file, folder):

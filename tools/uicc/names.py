@@ -18,7 +18,8 @@ def table(name):
 
 
 def status(word):
-    """A status word of four digits in words."""
+    """A status word in words, by its four digits, or as the number that prints so."""
+    word = str(word)
     for pattern, text in table("status")["words"]:
         if re.fullmatch(pattern.replace("X", "[0-9A-F]"), word):
             return text.format(low=int(word[2:], 16) or 256, digit=int(word[3], 16))

@@ -134,7 +134,7 @@ class Player:
                 self.exchanges.append(Exchange(CARD, command, None))
                 raise
             self.exchanges.append(Exchange(whose, command, answer))
-            self.trace.append("< " + decode.hexed(answer.data) + answer.status)
+            self.trace.append("< " + decode.hexed(answer.data) + str(answer.status))
             self._changed.notify_all()
         return answer
 

@@ -8,7 +8,10 @@ import sys
 import tempfile
 import threading
 
-TOP = os.path.dirname(os.path.dirname(os.path.dirname(os.path.abspath(__file__))))
+PACKAGE = os.path.dirname(os.path.abspath(__file__))
+# what a clone has at its top stands beside an installed module, in a folder or a link of this name
+TREE = os.path.join(PACKAGE, "tree")
+TOP = os.path.realpath(TREE) if os.path.isdir(TREE) else os.path.dirname(os.path.dirname(PACKAGE))
 LAUNCHER = os.path.join(TOP, "uicc_run")
 BUILT = os.path.join(TOP, "crates", "uicc_program", "out", "uicc_program")
 RELEASED = os.path.join(TOP, "dist", "uicc_program")
@@ -75,6 +78,15 @@ def program():
     if runs(RELEASED):
         return RELEASED
     raise NotBuilt
+
+
+def told_of_program():
+    """The program that is to be started, in words: where it lies, its version, and which one it is."""
+    path = program()
+    version = subprocess.run([path, "--version"], stdin=subprocess.DEVNULL, stdout=subprocess.PIPE, stderr=subprocess.DEVNULL, text=True,
+                             check=False).stdout.strip()
+    which = {BUILT: "built here", RELEASED: "the released one"}.get(path, "named by UICC_RUN")
+    return f"{path}, {version or 'of no version'}, {which}"
 
 
 def page():

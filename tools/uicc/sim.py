@@ -48,7 +48,7 @@ class Recorded:
         except PowerLost:
             self.keep(process.CUT)
             raise
-        self.keep("< " + decode.hexed(answer.data) + answer.status)
+        self.keep("< " + decode.hexed(answer.data) + str(answer.status))
         return answer
 
     def reset(self):

@@ -33,7 +33,7 @@ class AsSimulator:
             answer = self.player.transmit(command)
         except PowerLost:
             return None
-        return answer.data + bytes.fromhex(answer.status)
+        return answer.data + answer.status.to_bytes(2, "big")
 
     def reset(self):
         try:

@@ -1,0 +1,6 @@
+"""`python3 -m uicc` is the command `uicc`."""
+import sys
+
+from .command import main
+
+sys.exit(main())
