@@ -1,6 +1,5 @@
 //! The registered applets: what registers one, unregisters it, and changes the events that it is registered for, with the refusals
-//! in their order; the menu; which applets an event triggers, and in which order; and an index of that, kept at hand and changed as
-//! the rows change. Nothing is written here: what a caller commits is what these answer.
+//! in their order; and the menu. Nothing is written here: what a caller commits is what these answer.
 #![tactic(auto)]
 
 mod events;

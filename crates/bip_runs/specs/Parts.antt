@@ -1,7 +1,7 @@
 -- What a line of the script is for a terminal: one row a line.
 use Rattle.std.specs.Prelude.{List, [], ◌∷◌}
 use Rattle.script_form.specs.declared.lines.ScriptLine.{ScriptLine}
-use Rattle.script_form.specs.declared.lines.ScriptLine.TheVariants.{Passed, Start, Reset, Df, Transparent, Linear, Cyclic, Fill, Rec, Pin, Row, Apdu, Cut, Fail, ReadFail, Handset, Cmd, Echo, Lose, Tpdu}
+use Rattle.script_form.specs.declared.lines.ScriptLine.TheVariants.{Passed, Start, Reset, Df, Transparent, Linear, Cyclic, Fill, Rec, Pin, Row, Apdu, Cut, Fail, ReadFail, UserOk, UserEnd, UserBack, UserNone, UserType, UserPick, UserPress, UserIdle, UserDial, NetPlace, NetPoll, Time, Cmd, Echo, Lose, Tpdu}
 use Rattle.bip_channels.specs.Traffic.{Occurrence, Commands, Echoes, Cuts}
 use Rattle.bip_runs.specs.declared.effects.Effect.{Effect}
 use Rattle.bip_runs.specs.declared.effects.Effect.TheVariants.{Nothing, Starts, Happens, OutOfPlace}
@@ -34,7 +34,18 @@ part_of (Apdu bytes) = Foreign
 part_of (Cut cut) = Foreign
 part_of (Fail fail) = Foreign
 part_of (ReadFail call) = Foreign
-part_of (Handset line) = Foreign
+part_of UserOk = Foreign
+part_of UserEnd = Foreign
+part_of UserBack = Foreign
+part_of UserNone = Foreign
+part_of (UserType text) = Foreign
+part_of (UserPick id) = Foreign
+part_of UserPress = Foreign
+part_of UserIdle = Foreign
+part_of (UserDial digits) = Foreign
+part_of (NetPlace place) = Foreign
+part_of NetPoll = Foreign
+part_of (Time seconds) = Foreign
 part_of (Tpdu bytes) = Foreign
 
 -- what happens by a part

@@ -62,7 +62,18 @@ pub fn effect_of(line: &ScriptLine) -> Effect<'_>
         | ScriptLine::Cut(_)
         | ScriptLine::Fail(_)
         | ScriptLine::ReadFail(_)
-        | ScriptLine::Handset(_)
+        | ScriptLine::UserOk
+        | ScriptLine::UserEnd
+        | ScriptLine::UserBack
+        | ScriptLine::UserNone
+        | ScriptLine::UserType(_)
+        | ScriptLine::UserPick(_)
+        | ScriptLine::UserPress
+        | ScriptLine::UserIdle
+        | ScriptLine::UserDial(_)
+        | ScriptLine::NetPlace(_)
+        | ScriptLine::NetPoll
+        | ScriptLine::Time(_)
         | ScriptLine::Tpdu(_) => Effect::OutOfPlace,
     }
 }

@@ -73,7 +73,7 @@ fn serve(phone: &mut Phone, link: &mut Link, end: &mut NotingEnd, answer: &mut A
     let mut apdu = ApduBytes::new();
     let mut note = Note::Call;
     for _ in 0..MOST_STEPS {
-        match phone.next(&mut apdu, &mut note) {
+        match phone.next_into(&mut apdu, &mut note) {
             Next::Send => {
                 if !is_carried(apdu.as_slice())
                     || link.command(end, apdu.as_slice(), answer).is_err()
@@ -97,7 +97,7 @@ fn say(phone: &mut Phone, line: &HandsetLine) -> bool
 {
     let is_early = phone.clock() < 1_000_000;
     if is_early {
-        phone.input(line);
+        phone.hear(line);
     }
     is_early
 }
@@ -174,7 +174,7 @@ fn polled<S: Store + Drop, B: Applet, W: Sink>(
         .ok()?;
     let length = answer.status.0.checked_sub(0x6100)?;
     let get_response = [0x00, 0xC0, 0x00, 0x00, (length % 256) as u8];
-    let poll = PhoneMove::Hears(&HandsetLine::NetPoll);
+    let poll = PhoneMove::Hears(HandsetLine::NetPoll);
     if is_linked {
         let mut carrier = Carrier::Link(link);
         play_on_phone(card, &mut carrier, &mut phone, poll, &mut places, trace).ok()?;

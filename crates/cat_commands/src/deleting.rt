@@ -23,7 +23,7 @@ use card_commits::{remove_row, tables_tell_states};
 use card_state::sizes::ROW_COUNT;
 use card_state::{Loaded, states_are_of_entries};
 use event_dispatch::{Index, commits_are_those_of_sessions};
-use proactive_handler::{Session, drive, rows_are_listed, sessions_are_served};
+use proactive_handler::{Session, drive_in_place, rows_are_listed, sessions_are_served};
 use store_form::{Store, StoreFault};
 use toolkit_model::sessions_stay_in_order;
 use uicc_types::{Answer, Shelf, StatusWord};
@@ -122,7 +122,7 @@ fn remove<S: Store, B: Applet>(
         (scene (memory S.Store store.new loaded.new) index.new session.new (minds_of B.mind cast.new)) result }
 {
     let applet = unregister(store, loaded, index, cast, session, shelf)?;
-    match drive(store, loaded, index, cast, session) {
+    match drive_in_place(store, loaded, index, cast, session) {
         Ok(()) => Ok(()),
         Err(fault) => {
             put_back(cast, shelf, applet);

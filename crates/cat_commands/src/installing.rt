@@ -26,7 +26,7 @@ use card_commits::{install_row, tables_tell_states};
 use card_state::sizes::ROW_COUNT;
 use card_state::{Loaded, Row, standing_is_sound, states_are_of_entries};
 use event_dispatch::{Index, commits_are_those_of_sessions, installations_are_followed};
-use proactive_handler::{Session, drive, rows_are_listed, sessions_are_served};
+use proactive_handler::{Session, drive_in_place, rows_are_listed, sessions_are_served};
 use store_form::{Store, StoreFault};
 use toolkit_model::{installations_are_accepted, installed_rows_are_sound, sessions_stay_in_order};
 use uicc_types::{Answer, Shelf, StatusWord};
@@ -147,7 +147,7 @@ fn add<S: Store, B: Applet>(
     tables_tell_states();
     commits_are_those_of_sessions();
     register(store, loaded, index, cast, session, shelf, row)?;
-    drive(store, loaded, index, cast, session)
+    drive_in_place(store, loaded, index, cast, session)
 }
 
 /// INSTALL: registers the applet on the shelf P2 with the priority P1 and the data, which wakes; its row takes the next sequence

@@ -16,7 +16,7 @@ use applet_trait::Applet;
 use card_commits::tables_tell_states;
 use card_state::Loaded;
 use event_dispatch::Index;
-use proactive_handler::{Session, respond, sessions_are_served};
+use proactive_handler::{Session, respond_and_drive, sessions_are_served};
 use store_form::{Store, StoreFault};
 use toolkit_model::sessions_stay_in_order;
 use uicc_types::{Answer, StatusWord};
@@ -60,7 +60,7 @@ pub fn take_response<S: Store, B: Applet>(
     out.body.clear();
     match try_response(session.fetched(), command) {
         Ok(response) => {
-            respond(store, loaded, index, cast, session, &response)?;
+            respond_and_drive(store, loaded, index, cast, session, &response)?;
             out.status = StatusWord::DONE;
             Ok(())
         }

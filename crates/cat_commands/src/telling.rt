@@ -14,10 +14,10 @@ ghost use Rattle.proactive_handler.specs.Scenes.{IsInService, KeepsScene};
 use applet_trait::Applet;
 use card_state::Loaded;
 use event_dispatch::{Index, Shelves};
-use proactive_handler::{Session, drive, trigger};
+use proactive_handler::{Session, drive_in_place, trigger_in_place};
 use store_form::{Store, StoreFault};
 
-/// An event for the applets on these shelves, as by `trigger`, and then the end of the command, as by `drive`.
+/// An event for the applets on these shelves, as by `trigger_in_place`, and then the end of the command, as by `drive_in_place`.
 pub(crate) fn tell<S: Store, B: Applet>(
     store: &mut S,
     loaded: &mut Loaded,
@@ -46,7 +46,7 @@ pub(crate) fn tell<S: Store, B: Applet>(
         (scene (memory S.Store store.old loaded.old) index.old session.old (minds_of B.mind cast.old))
         (scene (memory S.Store store.new loaded.new) index.new session.new (minds_of B.mind cast.new)) result }
 {
-    let answer = trigger(store, loaded, index, cast, session, to, code, body, kept)?;
-    drive(store, loaded, index, cast, session)?;
+    let answer = trigger_in_place(store, loaded, index, cast, session, to, code, body, kept)?;
+    drive_in_place(store, loaded, index, cast, session)?;
     Ok(answer)
 }

@@ -5,11 +5,12 @@ ghost use Rattle.handset_model.specs.Legal.{IsBounded};
 
 use byte_streams::{Failed, ListSink};
 use script_form::{
-    HandsetLine, Note, ScriptLine, TraceLine, read_line, write_command, write_note, write_trace,
+    HandsetLine, ScriptLine, TraceLine, handset_line, read_line, write_command, write_note,
+    write_trace,
 };
 use std::alloc::Global;
-use terminal_side::{Next, Phone};
-use uicc_types::{Answer, ApduBytes, StatusWord};
+use terminal_side::{Phone, PhoneStep};
+use uicc_types::{Answer, StatusWord};
 
 // The room for the longest line of a trace.
 const ROOM: usize = 600;
@@ -31,9 +32,7 @@ impl Trial {
 
     /// Whether the handset rests.
     pub fn rests(&mut self) -> bool {
-        let mut apdu = ApduBytes::new();
-        let mut note = Note::Call;
-        matches!(self.phone.next(&mut apdu, &mut note), Next::Nothing)
+        self.phone.next().is_none()
     }
 
     /// Whether it goes as this line says.
@@ -74,16 +73,14 @@ impl Trial {
 
     // Writes what the handset does next. Where that is a reset, it is carried out.
     fn show_next(&mut self, sink: &mut ListSink) -> Result<(), Failed> {
-        let mut apdu = ApduBytes::new();
-        let mut note = Note::Call;
-        match self.phone.next(&mut apdu, &mut note) {
-            Next::Send => write_command(sink, apdu.as_slice()),
-            Next::Show => write_note(sink, &note),
-            Next::Reset => {
+        match self.phone.next() {
+            Some(PhoneStep::Send(apdu)) => write_command(sink, apdu.as_slice()),
+            Some(PhoneStep::Note(note)) => write_note(sink, &note),
+            Some(PhoneStep::Reset) => {
                 self.phone.start();
                 write_trace(sink, &TraceLine::Reset)
             }
-            Next::Nothing => Ok(()),
+            None => Ok(()),
         }
     }
 
@@ -91,19 +88,21 @@ impl Trial {
     fn hears(&mut self, line: &[u8]) -> bool {
         self.rests()
             && match read_line(line, 1) {
-                Ok(ScriptLine::Handset(said)) => self.is_told(&said),
-                Ok(ScriptLine::Reset) => self.is_told(&HandsetLine::Reset),
-                _ => false,
+                Ok(line) => self.is_told(&line),
+                Err(_) => false,
             }
     }
 
-    // Tells the handset, where what is said is within its bounds; whether it was told.
-    fn is_told(&mut self, said: &HandsetLine) -> bool {
-        let end = self.phone.clock().saturating_add(u64::from(span_of(said)));
-        if !is_bounded(said) || end >= 1 << 63 {
+    // Tells the handset, where the line says something to one that is within its bounds; whether it was told.
+    fn is_told(&mut self, line: &ScriptLine) -> bool {
+        let Some(said) = handset_line(line) else {
+            return false;
+        };
+        let end = self.phone.clock().saturating_add(u64::from(span_of(&said)));
+        if !is_bounded(&said) || end >= 1 << 63 {
             return false;
         }
-        self.phone.input(said);
+        self.phone.input(line);
         true
     }
 }

@@ -1,7 +1,6 @@
 -- The lines of a script, carried out by a handset.
 use Rattle.std.specs.Prelude.{◌≡◌, ℕ, ◌+◌, ◌<◌, ◌^◌, [], Some, false}
 use Rattle.uicc_types.specs.declared.plans.TheConstants.Plan.{NONE}
-use Rattle.script_form.specs.declared.handset.HandsetLine.TheVariants.{Reset}
 use Rattle.card_model.specs.Counts.{IsCounted}
 use Rattle.handset_model.specs.History.{span_of}
 use Rattle.handset_model.specs.Legal.{IsBounded}
@@ -13,20 +12,17 @@ use Rattle.phone_runs.specs.declared.playing.PhoneMove.TheVariants as move
 
 -- the line that it is
 abbrev pub line_of : PhoneMove → PhoneLine
-line_of (move.Hears line) = Hears line.now
-line_of move.Reset = Hears Reset
+line_of (move.Hears line) = Hears line
 line_of (move.Plans plan) = Arms plan
 
 -- how much time it lets pass
 abbrev pub span_of_move : PhoneMove → ℕ
-span_of_move (move.Hears line) = span_of line.now
-span_of_move move.Reset = 0
+span_of_move (move.Hears line) = span_of line
 span_of_move (move.Plans plan) = 0
 
 -- its values keep to their bounds, and the clock stays far from the end of 64 bits
 abbrev pub IsFit : ℕ → PhoneMove → Type 0
-IsFit clock (move.Hears line) = IsBounded line.now × (clock + span_of line.now < 2 ^ 63)
-IsFit clock move.Reset = clock < 2 ^ 63
+IsFit clock (move.Hears line) = IsBounded line × (clock + span_of line < 2 ^ 63)
 IsFit clock (move.Plans plan) = Unit {0}
 
 -- nothing has happened yet of which the counts tell, and no fault is planned or to be mended

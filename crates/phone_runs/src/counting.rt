@@ -10,7 +10,7 @@ ghost use Rattle.phone_runs.specs.Playing.{Begins};
 ghost use Rattle.phone_runs.specs.Runs.{Beginning};
 ghost use Rattle.phone_runs.specs.Serving.{IsAtRest};
 
-use crate::playing::{PhoneMove, play_on_phone, start_phone};
+use crate::playing::{hear_line, start_phone};
 use crate::serving::Places;
 use applet_trait::Applet;
 use long_runs::{CountingSink, Counts, LoadLines};
@@ -107,7 +107,7 @@ fn serve_next<S: Store, B: Applet>(
     match lines.next() {
         None => Ok(false),
         Some(line) => {
-            match play_on_phone(card, carrier, phone, PhoneMove::Hears(&line), places, sink) {
+            match hear_line(card, carrier, phone, &line, places, sink) {
                 Ok(()) => Ok(true),
                 Err(StepEnd::ResetFailed) => Err(MemoryFailed),
                 Err(StepEnd::SinkFailed) => unreachable!(),

@@ -5,33 +5,31 @@ ghost use Rattle.phone_runs.specs.Effects.{FitsIn, IsEffect, span_of_effect};
 ghost use Rattle.phone_runs.specs.declared.effects.TheConstants.{LONGEST_SPAN};
 
 use crate::playing::PhoneMove;
-use script_form::ScriptLine;
+use script_form::{ScriptLine, handset_line};
 use uicc_types::Plan;
 
 /// The most seconds that a line of a script lets pass.
 pub const LONGEST_SPAN: u32 = 999_999_999;
 
 /// What a line after `start` is for the handset.
-#[derive(Clone, Copy, Debug)]
-pub enum PhoneEffect<'a> {
+#[derive(Debug, Drop)]
+pub enum PhoneEffect {
     /// It does nothing.
     Nothing,
     /// It does this.
-    Takes(PhoneMove<'a>),
+    Takes(PhoneMove),
     /// It may not stand there.
     OutOfPlace,
 }
 
 /// What a line after `start` is for the handset. A command of its own a script may not send there.
-pub fn effect_on_phone(line: &ScriptLine) -> PhoneEffect<'_>
+pub fn effect_on_phone(line: &ScriptLine) -> PhoneEffect
     ensures effect { IsEffect line.now result }
     ensures fits { (clock : ℕ) → IsBounded line.now → clock + LONGEST_SPAN < 2 ^ 63 → FitsIn clock result }
     ensures short { IsBounded line.now → span_of_effect result ≤ LONGEST_SPAN }
 {
     match line {
         ScriptLine::Passed => PhoneEffect::Nothing,
-        ScriptLine::Handset(line) => PhoneEffect::Takes(PhoneMove::Hears(line)),
-        ScriptLine::Reset => PhoneEffect::Takes(PhoneMove::Reset),
         ScriptLine::Cut(cut) => PhoneEffect::Takes(PhoneMove::Plans(Plan {
             cut: Some(*cut),
             ..Plan::NONE
@@ -44,19 +42,9 @@ pub fn effect_on_phone(line: &ScriptLine) -> PhoneEffect<'_>
             read_fail: Some(*call),
             ..Plan::NONE
         })),
-        ScriptLine::Apdu(_)
-        | ScriptLine::Tpdu(_)
-        | ScriptLine::Start
-        | ScriptLine::Df { .. }
-        | ScriptLine::Transparent { .. }
-        | ScriptLine::Linear { .. }
-        | ScriptLine::Cyclic { .. }
-        | ScriptLine::Fill { .. }
-        | ScriptLine::Rec { .. }
-        | ScriptLine::Pin { .. }
-        | ScriptLine::Row { .. }
-        | ScriptLine::Cmd(_)
-        | ScriptLine::Echo { .. }
-        | ScriptLine::Lose(_) => PhoneEffect::OutOfPlace,
+        _ => match handset_line(line) {
+            Some(said) => PhoneEffect::Takes(PhoneMove::Hears(said)),
+            None => PhoneEffect::OutOfPlace,
+        },
     }
 }

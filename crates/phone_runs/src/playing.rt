@@ -23,12 +23,10 @@ use terminal_side::Phone;
 use uicc_types::Plan;
 
 /// What a line is for the handset.
-#[derive(Clone, Copy, Debug)]
-pub enum PhoneMove<'a> {
+#[derive(Debug, Drop)]
+pub enum PhoneMove {
     /// Something happens at it.
-    Hears(&'a HandsetLine),
-    /// It is to reset the card.
-    Reset,
+    Hears(HandsetLine),
     /// Faults are planned for the next command or reset.
     Plans(Plan),
 }
@@ -62,7 +60,7 @@ pub fn play_on_phone<S: Store, B: Applet, W: Sink>(
     card: &mut CardEnd<S, B>,
     carrier: &mut Carrier,
     phone: &mut Phone,
-    line: PhoneMove<'_>,
+    line: PhoneMove,
     places: &mut Places,
     trace: &mut W,
 ) -> Result<(), StepEnd>
@@ -70,14 +68,14 @@ pub fn play_on_phone<S: Store, B: Applet, W: Sink>(
     requires fit { IsFit phone.old.known.clock line }
     ensures plays { (given : Beginning) (log : List Event)
         → IsAt given log phone.old (moment_at card.old (W.taken trace.old))
-        → Settles given (line_of line.entry ∷ lines_back log) phone.new (moment_at card.new (W.taken trace.new))
+        → Settles given (line_of line ∷ lines_back log) phone.new (moment_at card.new (W.taken trace.new))
         result }
     ensures shows { (given : Outset) (log : List Event)
         → IsShowing given log phone.old (moment_at card.old (W.taken trace.old))
-        → ShowsSettled given (line_of line.entry ∷ lines_back log) phone.new
+        → ShowsSettled given (line_of line ∷ lines_back log) phone.new
         (moment_at card.new (W.taken trace.new)) result }
     ensures rest { OnOk result (IsAtRest phone.new) }
-    ensures clock { OnOk result (phone.new.known.clock ≡ phone.old.known.clock + span_of_move line.entry) }
+    ensures clock { OnOk result (phone.new.known.clock ≡ phone.old.known.clock + span_of_move line) }
     ensures failed { result ≡ Err StepEnd.ResetFailed
         → Rose card.old.parts.meter.faults card.new.parts.meter.faults }
     ensures tallies { Tallies (tally W.Sink card.old trace.old) (tally W.Sink card.new trace.new)
@@ -85,8 +83,7 @@ pub fn play_on_phone<S: Store, B: Applet, W: Sink>(
 {
     plans_are_set_in_order();
     match line {
-        PhoneMove::Hears(line) => hear_line(card, carrier, phone, line, places, trace),
-        PhoneMove::Reset => hear_line(card, carrier, phone, &HandsetLine::Reset, places, trace),
+        PhoneMove::Hears(line) => hear_line(card, carrier, phone, &line, places, trace),
         PhoneMove::Plans(plan) => {
             card.plan(plan);
             Ok(())
@@ -95,7 +92,7 @@ pub fn play_on_phone<S: Store, B: Applet, W: Sink>(
 }
 
 /// Hands a line to the handset, and does all that it asks for then.
-fn hear_line<S: Store, B: Applet, W: Sink>(
+pub fn hear_line<S: Store, B: Applet, W: Sink>(
     card: &mut CardEnd<S, B>,
     carrier: &mut Carrier,
     phone: &mut Phone,
@@ -121,6 +118,6 @@ fn hear_line<S: Store, B: Applet, W: Sink>(
     ensures tallies { Tallies (tally W.Sink card.old trace.old) (tally W.Sink card.new trace.new)
         (result ≡ Err StepEnd.SinkFailed) }
 {
-    phone.input(line);
+    phone.hear(line);
     settle(card, carrier, phone, places, trace)
 }

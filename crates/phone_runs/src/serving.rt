@@ -99,7 +99,7 @@ fn serve<S: Store, B: Applet, W: Sink>(
     runs_are_counted();
     plans_are_set_in_order();
     lines_end();
-    match phone.next(&mut places.apdu, &mut places.note) {
+    match phone.next_into(&mut places.apdu, &mut places.note) {
         Next::Nothing => Ok(false),
         Next::Send => {
             let apdu = places.apdu.as_slice();

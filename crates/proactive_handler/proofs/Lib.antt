@@ -14,6 +14,7 @@ mod HasRowOnLemmas
 mod InTurnLemmas
 pub mod IsSameItemLemmas
 mod IsSessionServedLemmas
+mod LentLemmas
 pub mod MovedLemmas
 pub mod OutstandingLemmas
 pub mod PendingLemmas

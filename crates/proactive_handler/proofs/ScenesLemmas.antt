@@ -1,5 +1,5 @@
 -- What a step of the toolkit needs of a scene, and what it keeps of it.
-use Rattle.std.proofs.Common.{◌∙◌, ap, subst, ◌≡◌, ℕ, List, Option, Result, Ok, Err, IsErrAnd, IsErr}
+use Rattle.std.proofs.Common.{◌∙◌, ap, subst, ◌≡◌, ℕ, List, length, Option, Result, Ok, Err, OnOk, IsErrAnd, IsErr}
 use Rattle.store_form.specs.declared.store.StoreFault.{StoreFault}
 use Rattle.card_state.specs.declared.entries.Loaded.{Loaded}
 use Rattle.card_state.specs.Memory.{Memory, Keeps}
@@ -9,7 +9,7 @@ use Rattle.applet_trait.specs.Minds.{AppletState}
 use Rattle.proactive_handler.specs.Boxes.{kinds_of, LeavesOthers}
 use Rattle.proactive_handler.proofs.BoxesLemmas.{others_then}
 use Rattle.proactive_handler.specs.Steps.{Scene}
-use Rattle.proactive_handler.specs.Scenes.{KeepsScene}
+use Rattle.proactive_handler.specs.Scenes.{IsInService, KeepsScene}
 
 -- a step that met no fault, and then another
 pub scene_then : {T U : Type 0} (first second third : Scene) (value : T) (result : Result U StoreFault) → KeepsScene first second (Ok value) → KeepsScene second third result → KeepsScene first third result
@@ -63,3 +63,13 @@ scene_fault {T} {U} first second fault (Err other) err same before = record {
   kept = before.kept;
   keeps = fault_keeps first.memory second.memory fault (Err other) err same before.keeps;
 }
+
+-- after Ok the applets can run again, with as many shelves
+pub service_again : {X B : Type 0} (old new : Scene) (cast left : List (Option B)) (result : Result X StoreFault) → IsInService old cast → length left ≡ length cast → KeepsScene old new result → OnOk result (IsInService new left)
+service_again old new cast left (Ok value) was long keeps = record {
+  mounted = keeps.keeps.mounted;
+  indexed = keeps.indexed;
+  shelves = long ∙ was.shelves;
+  served = keeps.served;
+}
+service_again old new cast left (Err fault) was long keeps = tt

@@ -21,7 +21,7 @@ impl Session {
     }
 
     /// Takes out the first late trigger whose applet waits for no answer. `None`, and no change, where there is none.
-    pub fn take_late(&mut self) -> Option<KeptTrigger>
+    pub(crate) fn take_late(&mut self) -> Option<KeptTrigger>
         ensures { Catches self.old self.new result }
     {
         match self.first_idle() {

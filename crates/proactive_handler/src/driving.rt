@@ -1,5 +1,5 @@
 //! What ends a command that moved the toolkit: what came late is caught up with, and a command becomes outstanding.
-ghost use Rattle.std.specs.Prelude.{ℕ};
+ghost use Rattle.std.specs.Prelude.{ℕ, OnOk};
 ghost use Rattle.card_state.specs.Memory.{memory};
 ghost use Rattle.applet_trait.specs.Minds.{minds_of};
 ghost use Rattle.toolkit_model.specs.Driving.{caught_up, driven};
@@ -87,14 +87,8 @@ fn catch_up<S: Store, B: Applet>(
     catch_each(store, loaded, index, cast, session, count)
 }
 
-/// Ends a command that moved the toolkit. Applets that wait for no answer any more catch up with the events that came late for
-/// them, in the order in which these came. Then, where nothing is outstanding, the command that the card itself has to send
-/// becomes so, or else the first that waits. The boxes of applets for which nothing came late are left as they are, also where a
-/// commit meets a fault.
-///
-/// Where a commit meets a fault, the table has the rows before that commit, and the memory these or those after it; of the index,
-/// the session and the minds of the applets that took a turn before it nothing is said then. The other boxes are as they were.
-pub fn drive<S: Store, B: Applet>(
+/// `Session::drive`, over boxes in a slice.
+pub fn drive_in_place<S: Store, B: Applet>(
     store: &mut S,
     loaded: &mut Loaded,
     index: &mut Index,
@@ -122,4 +116,39 @@ pub fn drive<S: Store, B: Applet>(
     rows_are_listed();
     session.settle(loaded, index);
     Ok(())
+}
+
+impl Session {
+    /// Ends a command that moved the toolkit. Applets that wait for no answer any more catch up with the events that came late for
+    /// them, in the order in which these came. Then, where nothing is outstanding, the command that the card itself has to send
+    /// becomes so, or else the first that waits. The boxes of applets for which nothing came late are left as they are, also where a
+    /// commit meets a fault.
+    ///
+    /// Where a commit meets a fault, the table has the rows before that commit, and the memory these or those after it; of the index,
+    /// the session and the minds of the applets that took a turn before it nothing is said then. The other boxes are as they were.
+    pub fn drive<S: Store, B: Applet>(
+        &mut self,
+        store: &mut S,
+        loaded: &mut Loaded,
+        index: &mut Index,
+        cast: &mut Vec<Option<B>>,
+    ) -> Result<(), StoreFault>
+        requires service { IsInService
+            (scene (memory S.Store store.old loaded.old) index.old self.old (minds_of B.mind cast.old.items)) cast.old.items }
+        ensures moves { Moves driven
+            (scene (memory S.Store store.old loaded.old) index.old self.old (minds_of B.mind cast.old.items))
+            (scene (memory S.Store store.new loaded.new) index.new self.new (minds_of B.mind cast.new.items)) result }
+        ensures turns { TurnsOnly driven
+            (scene (memory S.Store store.old loaded.old) index.old self.old (minds_of B.mind cast.old.items))
+            (scene (memory S.Store store.new loaded.new) index.new self.new (minds_of B.mind cast.new.items))
+            cast.old.items cast.new.items result }
+        ensures untold { (other : ℕ) → AreForOthers other self.old.late → IsSameBox other cast.old.items cast.new.items }
+        ensures keeps { KeepsScene
+            (scene (memory S.Store store.old loaded.old) index.old self.old (minds_of B.mind cast.old.items))
+            (scene (memory S.Store store.new loaded.new) index.new self.new (minds_of B.mind cast.new.items)) result }
+        ensures ready { OnOk result (IsInService
+            (scene (memory S.Store store.new loaded.new) index.new self.new (minds_of B.mind cast.new.items)) cast.new.items) }
+    {
+        drive_in_place(store, loaded, index, cast, self)
+    }
 }

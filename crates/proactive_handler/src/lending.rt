@@ -8,7 +8,7 @@ impl Session {
     ghost use Rattle.proactive_handler.specs.Lending.{LendsTimers};
 
     /// Who holds the timers, for the run of an applet that may take and free some.
-    pub fn timers(&mut self) -> &mut Timers
+    pub(crate) fn timers(&mut self) -> &mut Timers
         ensures* lends { sem 𝓛 (LendsTimers self.entry result) }
         ensures value { result.now ≡ self.old.timers }
     {

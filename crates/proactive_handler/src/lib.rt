@@ -24,8 +24,8 @@ mod settling;
 mod triggering;
 mod wanting;
 
-pub use driving::drive;
+pub use driving::drive_in_place;
 pub use laws::{rows_are_listed, sessions_are_served};
-pub use responding::respond;
+pub use responding::respond_and_drive;
 pub use session::Session;
-pub use triggering::trigger;
+pub use triggering::trigger_in_place;

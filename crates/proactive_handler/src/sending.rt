@@ -54,7 +54,7 @@ impl Session {
 
     /// The applet on this shelf sent a command, which is admitted. Where it was resumed by the response to its command
     /// before, this one becomes outstanding at once; otherwise it goes behind those that wait, of which there are at most 31.
-    pub fn send(&mut self, shelf: Shelf, is_resumed: bool, command: &Proactive)
+    pub(crate) fn send(&mut self, shelf: Shelf, is_resumed: bool, command: &Proactive)
         requires sendable { CanBeSent command.now }
         requires room { is_resumed ≡ false → length self.old.waiting < Waiting.MOST }
         ensures { self.new ≡ sending shelf.0 is_resumed (Some command.now) self.old }
@@ -68,7 +68,7 @@ impl Session {
 
     /// An event came for the applet on this shelf while it waits for an answer. It goes behind those that came late before,
     /// of which there are at most 15.
-    pub fn keep_late(&mut self, shelf: Shelf, code: u8, body: &Octets)
+    pub(crate) fn keep_late(&mut self, shelf: Shelf, code: u8, body: &Octets)
         requires { length self.old.late < late_places }
         ensures { self.new ≡ record self.old { late = self.old.late ++ trigger_for code body.now shelf.0 ∷ [] } }
     {

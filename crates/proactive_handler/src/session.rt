@@ -167,7 +167,7 @@ impl Session {
 
     /// A response to the command that was fetched was accepted: nothing is outstanding any more. Answers the shelf of the
     /// applet that sent the command, which the response is for; none where the card itself did.
-    pub fn answered(&mut self) -> Option<Shelf>
+    pub(crate) fn answered(&mut self) -> Option<Shelf>
         requires { is_some (unanswered self.old) ≡ true }
         ensures owner { IfSome (unanswered self.old) (λ command. shelf_of result ≡ command.owner) }
         ensures state { self.new ≡ record self.old { out = None } }

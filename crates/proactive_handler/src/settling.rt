@@ -74,7 +74,7 @@ impl Session {
     /// or the polling, whatever the handset has to hear of first. Where the card has none, it is the first command that
     /// waits. The rows of the table have texts of at most 10 bytes, and at most 16 of them have one.
     #[tactic(auto, using(crate::proofs::FilledLemmas::filled_stays, crate::proofs::FilledLemmas::filled_next))]
-    pub fn settle(&mut self, loaded: &Loaded, index: &Index)
+    pub(crate) fn settle(&mut self, loaded: &Loaded, index: &Index)
         requires few { count_by has_text (rows_of loaded.now) ≤ MENU_LIMIT }
         requires texts { All (λ row. length row.text ≤ 10) (rows_of loaded.now) }
         requires stands { StandsFor index.now (rows_of loaded.now) }

@@ -122,17 +122,8 @@ fn trigger_each<S: Store, B: Applet>(
     }
 }
 
-/// An event for the applets on these shelves, one after the other: each runs on it that is idle. Where the event is one that
-/// an envelope brought, it is kept for those that wait for an answer, and otherwise these are not told of it. Answers the last
-/// answer to call control that they gave, none where they gave none. The boxes on all other shelves are left as they are, also
-/// where a commit meets a fault; then those of applets too that took no turn before it, as those behind the one that met it.
-///
-/// The shelves are different ones, with rows; there is room among the late triggers for each that is kept. What is told has at most
-/// 255 bytes.
-///
-/// Where a commit meets a fault, the table has the rows before that commit, and the memory these or those after it; of the index,
-/// the session and the minds of the applets that took a turn nothing is said then. Applets without a row stay as they are.
-pub fn trigger<S: Store, B: Applet>(
+/// `Session::trigger`, over boxes in a slice and bytes that stay where they are.
+pub fn trigger_in_place<S: Store, B: Applet>(
     store: &mut S,
     loaded: &mut Loaded,
     index: &mut Index,
@@ -176,4 +167,55 @@ pub fn trigger<S: Store, B: Applet>(
         kept,
         &mut does,
     )
+}
+
+impl Session {
+    /// An event for the applets on these shelves, one after the other: each runs on it that is idle. Where the event is one that
+    /// an envelope brought, it is kept for those that wait for an answer, and otherwise these are not told of it. Answers the last
+    /// answer to call control that they gave, none where they gave none. The boxes on all other shelves are left as they are, also
+    /// where a commit meets a fault; then those of applets too that took no turn before it, as those behind the one that met it.
+    ///
+    /// The shelves are different ones, with rows; there is room among the late triggers for each that is kept.
+    ///
+    /// Where a commit meets a fault, the table has the rows before that commit, and the memory these or those after it; of the index,
+    /// the session and the minds of the applets that took a turn nothing is said then. Applets without a row stay as they are.
+    pub fn trigger<S: Store, B: Applet>(
+        &mut self,
+        store: &mut S,
+        loaded: &mut Loaded,
+        index: &mut Index,
+        cast: &mut Vec<Option<B>>,
+        to: &Shelves,
+        code: u8,
+        body: &Octets,
+        kept: bool,
+    ) -> Result<Option<bool>, StoreFault>
+        requires service { IsInService
+            (scene (memory S.Store store.old loaded.old) index.old self.old (minds_of B.mind cast.old.items)) cast.old.items }
+        requires rows { All (HasRowOn loaded.old) to.now }
+        requires apart { AllPairs (λ a b. a ≢ b) to.now }
+        requires room { kept ≡ true → HasPlaces self.old to.now }
+        ensures tells { Tells (in_turn (triggered_one kept code body.now) to.now)
+            (scene (memory S.Store store.old loaded.old) index.old self.old (minds_of B.mind cast.old.items))
+            (scene (memory S.Store store.new loaded.new) index.new self.new (minds_of B.mind cast.new.items))
+            cast.old.items cast.new.items result }
+        ensures untold { (other : ℕ) → All (λ shelf. shelf ≢ other) to.now → IsSameBox other cast.old.items cast.new.items }
+        ensures keeps { KeepsScene
+            (scene (memory S.Store store.old loaded.old) index.old self.old (minds_of B.mind cast.old.items))
+            (scene (memory S.Store store.new loaded.new) index.new self.new (minds_of B.mind cast.new.items)) result }
+        ensures ready { OnOk result (IsInService
+            (scene (memory S.Store store.new loaded.new) index.new self.new (minds_of B.mind cast.new.items)) cast.new.items) }
+    {
+        trigger_in_place(
+            store,
+            loaded,
+            index,
+            cast,
+            self,
+            to,
+            code,
+            body.as_slice(),
+            kept,
+        )
+    }
 }

@@ -2,7 +2,6 @@
 use Rattle.std.proofs.Common.{◌≡◌, ℕ, ◌*◌, ◌≤◌, Bool, true, false, List, [], ◌∷◌, length, Option, Some, None, MatchBool, arith, lit≤, refl}
 use Rattle.uicc_types.specs.declared.identifiers.FileId.{FileId}
 use Rattle.uicc_types.specs.declared.keys.TheConstants.{ADM_1}
-use Rattle.script_form.specs.declared.handset.HandsetLine.TheVariants.{UserOk, UserEnd, UserBack, UserNone, UserPick, UserPress, UserIdle, UserDial, NetPlace, NetPoll, Time}
 use Rattle.script_form.specs.declared.keywords.Keyword.{Keyword}
 use Rattle.script_form.specs.declared.keywords.Keyword.TheVariants as keyword
 use Rattle.script_form.specs.declared.keywords.NetworkAct.{NetworkAct}
@@ -12,7 +11,7 @@ use Rattle.script_form.specs.declared.keywords.Structure.TheVariants as structur
 use Rattle.script_form.specs.declared.keywords.UserAct.{UserAct}
 use Rattle.script_form.specs.declared.keywords.UserAct.TheVariants as user
 use Rattle.script_form.specs.declared.lines.ScriptLine.{ScriptLine}
-use Rattle.script_form.specs.declared.lines.ScriptLine.TheVariants.{Passed, Start, Reset, Df, Transparent, Linear, Cyclic, Fill, Rec, Pin, Row, Apdu, Tpdu, Cut, Fail, ReadFail, Handset, Cmd, Echo, Lose}
+use Rattle.script_form.specs.declared.lines.ScriptLine.TheVariants.{Passed, Start, Reset, Df, Transparent, Linear, Cyclic, Fill, Rec, Pin, Row, Apdu, Tpdu, Cut, Fail, ReadFail, UserOk, UserEnd, UserBack, UserNone, UserType, UserPick, UserPress, UserIdle, UserDial, NetPlace, NetPoll, Time, Cmd, Echo, Lose}
 use Rattle.script_form.specs.Forms.{Ends, IsLine, IsStatement, IsTyping, cut_form, cut_whole, file_form, form_of, is_passed, network_form, record_form, user_form}
 use Rattle.script_form.proofs.PathLemmas.{length-path}
 use Rattle.script_form.specs.Values.{IsPath, IsRule, IsShort, IsSwitch, path_bytes}
@@ -76,24 +75,24 @@ typing_bounded : (all : List (List ℕ)) (line : ScriptLine) → IsTyping all li
 typing_bounded all line typing = rw typing.is (typing.typed.fits, typing.typed.printable)
 
 user_bounded : (act : UserAct) (all : List (List ℕ)) (line : ScriptLine) → user_form act all line → IsBounded line
-user_bounded user.Confirm all line end = at_end (Handset UserOk) line all end tt
-user_bounded user.End all line end = at_end (Handset UserEnd) line all end tt
-user_bounded user.Back all line end = at_end (Handset UserBack) line all end tt
-user_bounded user.Wait all line end = at_end (Handset UserNone) line all end tt
+user_bounded user.Confirm all line end = at_end UserOk line all end tt
+user_bounded user.End all line end = at_end UserEnd line all end tt
+user_bounded user.Back all line end = at_end UserBack line all end tt
+user_bounded user.Wait all line end = at_end UserNone line all end tt
 user_bounded user.Enter all line typing = typing_bounded all line typing
 user_bounded user.Pick all line id =
-    at_end (Handset (UserPick id.value)) line id.others id.rest (id.first.above, id.first.below)
-user_bounded user.Press all line end = at_end (Handset UserPress) line all end tt
-user_bounded user.Idle all line end = at_end (Handset UserIdle) line all end tt
+    at_end (UserPick id.value) line id.others id.rest (id.first.above, id.first.below)
+user_bounded user.Press all line end = at_end UserPress line all end tt
+user_bounded user.Idle all line end = at_end UserIdle line all end tt
 user_bounded user.Dial all line digits =
     let dialled = digits.first in
-    at_end (Handset (UserDial digits.value)) line digits.others digits.rest
+    at_end (UserDial digits.value) line digits.others digits.rest
     (rw dialled.same ((dialled.some, dialled.fits), dialled.decimal))
 
 network_bounded : (act : NetworkAct) (all : List (List ℕ)) (line : ScriptLine) → network_form act all line → IsBounded line
 network_bounded network.Place all line place =
-    at_end (Handset (NetPlace place.value)) line place.others place.rest (place.first.some, place.first.fits)
-network_bounded network.Poll all line end = at_end (Handset NetPoll) line all end tt
+    at_end (NetPlace place.value) line place.others place.rest (place.first.some, place.first.fits)
+network_bounded network.Poll all line end = at_end NetPoll line all end tt
 network_bounded network.Echo all line channel =
     let count = channel.rest in
     at_end (Echo channel.value count.value) line count.others count.rest
@@ -142,7 +141,7 @@ form_bounded keyword.ReadFail all line call = at_end (ReadFail call.value) line 
 form_bounded keyword.User all line act = user_bounded act.value act.others line act.rest
 form_bounded keyword.Net all line act = network_bounded act.value act.others line act.rest
 form_bounded keyword.Time all line seconds =
-    at_end (Handset (Time seconds.value)) line seconds.others seconds.rest seconds.first.below
+    at_end (Time seconds.value) line seconds.others seconds.rest seconds.first.below
 form_bounded keyword.Cmd all line bytes =
     at_end (Cmd bytes.value) line bytes.others bytes.rest (bytes.first.some, bytes.first.fits)
 

@@ -10,10 +10,9 @@ use Rattle.hex.specs.Hex.{decode_of, is_hex_digit}
 use Rattle.hex.proofs.HexLemmas.{decode_of-ok}
 use Rattle.uicc_types.specs.declared.byte_lists.TheConstants.{LONGEST_COMMAND}
 use Rattle.byte_streams.specs.declared.limits.TheConstants.{LONGEST_LINE}
-use Rattle.script_form.specs.declared.handset.HandsetLine.TheVariants.{UserType}
 use Rattle.script_form.specs.declared.keywords.Keyword.TheVariants as keyword
 use Rattle.script_form.specs.declared.lines.ScriptLine.{ScriptLine}
-use Rattle.script_form.specs.declared.lines.ScriptLine.TheVariants.{Apdu, Handset}
+use Rattle.script_form.specs.declared.lines.ScriptLine.TheVariants.{Apdu, UserType}
 use Rattle.script_form.specs.declared.keywords.Keyword.{Keyword}
 use Rattle.script_form.specs.Forms.{IsCommandLine, IsLine, IsTyping, form_of}
 use Rattle.script_form.specs.Reads.{IsOnly, ReadsInto}
@@ -104,12 +103,12 @@ untyped rest all left none line typing =
     let same = text_is rest all line left typing in
     none rest (rw (← same) typing.typed)
 
-pub typing_read : (rest text : List ℕ) (all : List (List ℕ)) → all ≡ words rest → IsOnly (IsTyped rest) text → IsOnly (IsTyping all) (Handset (UserType text))
+pub typing_read : (rest text : List ℕ) (all : List (List ℕ)) → all ≡ words rest → IsOnly (IsTyped rest) text → IsOnly (IsTyping all) (UserType text)
 typing_read rest text all left typed =
     let same : text ≡ rest = typed.so.same in
     record {
       so = record { text = text; behind = rw same left; typed = rw (← same) at typed.so; is = refl };
-      only = λ other typing. typing.is ∙ ap (λ (t : List ℕ). Handset (UserType t)) (text_is rest all other left typing ∙ sym same);
+      only = λ other typing. typing.is ∙ ap (λ (t : List ℕ). UserType t) (text_is rest all other left typing ∙ sym same);
     }
 
 -- ---- the word `apdu` and a space at the front of a line

@@ -5,12 +5,9 @@ use Rattle.std.specs.List.{list_all}
 use Rattle.uicc_types.specs.declared.byte_lists.TheConstants.{LONGEST_COMMAND}
 use Rattle.uicc_types.specs.declared.identifiers.FileId.{FileId}
 use Rattle.uicc_types.specs.declared.keys.TheConstants.{ADM_1}
-use Rattle.script_form.specs.declared.handset.HandsetLine.{HandsetLine}
-use Rattle.script_form.specs.declared.handset.HandsetLine.TheVariants as handset
-use Rattle.script_form.specs.declared.handset.HandsetLine.TheVariants.{UserType, UserPick, UserDial, NetPlace, Time}
 use Rattle.script_form.specs.declared.lines.TheConstants.{DEEPEST}
 use Rattle.script_form.specs.declared.lines.ScriptLine.{ScriptLine}
-use Rattle.script_form.specs.declared.lines.ScriptLine.TheVariants.{Passed, Start, Reset, Df, Transparent, Linear, Cyclic, Fill, Rec, Pin, Row, Apdu, Tpdu, Cut, Fail, ReadFail, Handset, Cmd, Echo, Lose}
+use Rattle.script_form.specs.declared.lines.ScriptLine.TheVariants.{Passed, Start, Reset, Df, Transparent, Linear, Cyclic, Fill, Rec, Pin, Row, Apdu, Tpdu, Cut, Fail, ReadFail, UserOk, UserEnd, UserBack, UserNone, UserType, UserPick, UserPress, UserIdle, UserDial, NetPlace, NetPoll, Time, Cmd, Echo, Lose}
 use Rattle.script_form.specs.Values.{IsFree, IsKey, is_printable}
 
 -- what the path of a file keeps to
@@ -34,16 +31,6 @@ AreBoundedRecords length count = (1 ≤ length) × (length ≤ 255) × (1 ≤ co
 abbrev pub IsBoundedText : ℕ → List ℕ → Type 0
 IsBoundedText most bytes = (0 < length bytes) × (length bytes ≤ most)
 
--- what the values of a handset's line keep to; a reset is a line of its own
-abbrev pub IsBoundedHandset : HandsetLine → Type 0
-IsBoundedHandset (UserType text) = (length text ≤ 30) × (list_all is_printable text ≡ true)
-IsBoundedHandset (UserPick id) = (1 ≤ id) × (id ≤ 255)
-IsBoundedHandset (UserDial digits) = IsBoundedText 20 digits × (list_all is_ascii_digit digits ≡ true)
-IsBoundedHandset (NetPlace place) = IsBoundedText 32 place
-IsBoundedHandset (Time seconds) = seconds ≤ 999999999
-IsBoundedHandset handset.Reset = ⊥
-IsBoundedHandset _ = Unit {0}
-
 -- what the values of a line keep to
 abbrev pub IsBounded : ScriptLine → Type 0
 IsBounded Passed = Unit {0}
@@ -65,7 +52,18 @@ IsBounded (Tpdu bytes) = IsBoundedText LONGEST_COMMAND bytes
 IsBounded (Cut cut) = (1 ≤ cut.call) × (cut.call ≤ 999999999) × (cut.kept ≤ 64)
 IsBounded (Fail fail) = (1 ≤ fail.call) × (fail.call ≤ 999999999)
 IsBounded (ReadFail call) = (1 ≤ call) × (call ≤ 999999999)
-IsBounded (Handset line) = IsBoundedHandset line
+IsBounded UserOk = Unit {0}
+IsBounded UserEnd = Unit {0}
+IsBounded UserBack = Unit {0}
+IsBounded UserNone = Unit {0}
+IsBounded (UserType text) = (length text ≤ 30) × (list_all is_printable text ≡ true)
+IsBounded (UserPick id) = (1 ≤ id) × (id ≤ 255)
+IsBounded UserPress = Unit {0}
+IsBounded UserIdle = Unit {0}
+IsBounded (UserDial digits) = IsBoundedText 20 digits × (list_all is_ascii_digit digits ≡ true)
+IsBounded (NetPlace place) = IsBoundedText 32 place
+IsBounded NetPoll = Unit {0}
+IsBounded (Time seconds) = seconds ≤ 999999999
 IsBounded (Cmd bytes) = IsBoundedText 255 bytes
 IsBounded (Echo channel count) = (1 ≤ channel) × (channel ≤ 7) × (1 ≤ count) × (count ≤ 4096)
 IsBounded (Lose channel) = (1 ≤ channel) × (channel ≤ 7)

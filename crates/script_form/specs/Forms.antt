@@ -7,13 +7,12 @@ use Rattle.script_form.specs.declared.keywords.Keyword.{Keyword}
 use Rattle.script_form.specs.declared.keywords.Keyword.TheVariants as keyword
 use Rattle.script_form.specs.declared.keywords.Structure.{Structure}
 use Rattle.script_form.specs.declared.keywords.Structure.TheVariants as structure
-use Rattle.script_form.specs.declared.handset.HandsetLine.TheVariants.{UserOk, UserEnd, UserBack, UserNone, UserType, UserPick, UserPress, UserIdle, UserDial, NetPlace, NetPoll, Time}
 use Rattle.script_form.specs.declared.keywords.NetworkAct.{NetworkAct}
 use Rattle.script_form.specs.declared.keywords.NetworkAct.TheVariants as network
 use Rattle.script_form.specs.declared.keywords.UserAct.{UserAct}
 use Rattle.script_form.specs.declared.keywords.UserAct.TheVariants as user
 use Rattle.script_form.specs.declared.lines.ScriptLine.{ScriptLine}
-use Rattle.script_form.specs.declared.lines.ScriptLine.TheVariants.{Passed, Start, Reset, Df, Transparent, Linear, Cyclic, Fill, Rec, Pin, Row, Apdu, Tpdu, Cut, Fail, ReadFail, Handset, Cmd, Echo, Lose}
+use Rattle.script_form.specs.declared.lines.ScriptLine.TheVariants.{Passed, Start, Reset, Df, Transparent, Linear, Cyclic, Fill, Rec, Pin, Row, Apdu, Tpdu, Cut, Fail, ReadFail, UserOk, UserEnd, UserBack, UserNone, UserType, UserPick, UserPress, UserIdle, UserDial, NetPlace, NetPoll, Time, Cmd, Echo, Lose}
 use Rattle.script_form.specs.Values.{IsKeyword, IsStructure, IsUserAct, IsNetworkAct, IsByte, IsNumber, IsHex, IsPath, IsPinKey, IsPinValue, IsShort, IsSwitch, IsRule, IsTyped, IsDialled}
 use Rattle.script_form.specs.Words.{words}
 
@@ -77,30 +76,30 @@ pub record IsTyping (all : List (List ℕ)) (line : ScriptLine) : Type 0 where
   pub text : List ℕ
   pub behind : all ≡ words text
   pub typed : IsTyped text text
-  pub is : line ≡ Handset (UserType text)
+  pub is : line ≡ UserType text
 
 -- what stands behind the word for what the user does
 abbrev pub user_form : UserAct → List (List ℕ) → ScriptLine → Type 0
-user_form user.Confirm = Ends (Handset UserOk)
-user_form user.End = Ends (Handset UserEnd)
-user_form user.Back = Ends (Handset UserBack)
-user_form user.Wait = Ends (Handset UserNone)
+user_form user.Confirm = Ends UserOk
+user_form user.End = Ends UserEnd
+user_form user.Back = Ends UserBack
+user_form user.Wait = Ends UserNone
 user_form user.Enter = IsTyping
 user_form user.Pick = do
   id ← IsNumber 1 255
-  Ends (Handset (UserPick id))
-user_form user.Press = Ends (Handset UserPress)
-user_form user.Idle = Ends (Handset UserIdle)
+  Ends (UserPick id)
+user_form user.Press = Ends UserPress
+user_form user.Idle = Ends UserIdle
 user_form user.Dial = do
   digits ← IsDialled
-  Ends (Handset (UserDial digits))
+  Ends (UserDial digits)
 
 -- what stands behind the word for what the network does
 abbrev pub network_form : NetworkAct → List (List ℕ) → ScriptLine → Type 0
 network_form network.Place = do
   place ← IsHex 32
-  Ends (Handset (NetPlace place))
-network_form network.Poll = Ends (Handset NetPoll)
+  Ends (NetPlace place)
+network_form network.Poll = Ends NetPoll
 network_form network.Echo = do
   channel ← IsNumber 1 7
   count ← IsNumber 1 4096
@@ -165,7 +164,7 @@ form_of keyword.Net = do
   network_form act
 form_of keyword.Time = do
   seconds ← IsNumber 0 999999999
-  Ends (Handset (Time seconds))
+  Ends (Time seconds)
 form_of keyword.Cmd = do
   bytes ← IsHex 255
   Ends (Cmd bytes)

@@ -1,5 +1,6 @@
 pub mod Bounds
 pub mod Forms
+pub mod Handset
 pub mod Reads
 pub mod Traces
 pub mod Values

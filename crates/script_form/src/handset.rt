@@ -1,5 +1,8 @@
 //! What a script says to a handset, and what the handset notes in the trace.
+ghost use Rattle.std.specs.Prelude.{◌≡◌};
+ghost use Rattle.script_form.specs.Handset.{handset_line};
 
+use crate::lines::ScriptLine;
 use uicc_types::Octets;
 
 /// What happens at a handset: the user, the network and the clock do something, or the card is reset.
@@ -54,4 +57,43 @@ pub enum Note {
     Barred,
     /// The card was busy, and what was reported to it is given up.
     Busy,
+}
+
+/// What happens at a handset by this line of a script; None exactly where the line is of another kind.
+pub fn handset_line(line: &ScriptLine) -> Option<HandsetLine>
+    ensures { result ≡ handset_line line.now }
+{
+    match line {
+        ScriptLine::UserOk => Some(HandsetLine::UserOk),
+        ScriptLine::UserEnd => Some(HandsetLine::UserEnd),
+        ScriptLine::UserBack => Some(HandsetLine::UserBack),
+        ScriptLine::UserNone => Some(HandsetLine::UserNone),
+        ScriptLine::UserType(text) => Some(HandsetLine::UserType(text.copy())),
+        ScriptLine::UserPick(id) => Some(HandsetLine::UserPick(*id)),
+        ScriptLine::UserPress => Some(HandsetLine::UserPress),
+        ScriptLine::UserIdle => Some(HandsetLine::UserIdle),
+        ScriptLine::UserDial(digits) => Some(HandsetLine::UserDial(digits.copy())),
+        ScriptLine::NetPlace(place) => Some(HandsetLine::NetPlace(place.copy())),
+        ScriptLine::NetPoll => Some(HandsetLine::NetPoll),
+        ScriptLine::Time(seconds) => Some(HandsetLine::Time(*seconds)),
+        ScriptLine::Reset => Some(HandsetLine::Reset),
+        ScriptLine::Passed
+        | ScriptLine::Start
+        | ScriptLine::Df { .. }
+        | ScriptLine::Transparent { .. }
+        | ScriptLine::Linear { .. }
+        | ScriptLine::Cyclic { .. }
+        | ScriptLine::Fill { .. }
+        | ScriptLine::Rec { .. }
+        | ScriptLine::Pin { .. }
+        | ScriptLine::Row { .. }
+        | ScriptLine::Apdu(_)
+        | ScriptLine::Tpdu(_)
+        | ScriptLine::Cut(_)
+        | ScriptLine::Fail(_)
+        | ScriptLine::ReadFail(_)
+        | ScriptLine::Cmd(_)
+        | ScriptLine::Echo { .. }
+        | ScriptLine::Lose(_) => None,
+    }
 }

@@ -5,7 +5,6 @@ ghost use Rattle.script_form.specs.Reads.{Reads, ReadsInto};
 ghost use Rattle.script_form.specs.Values.{IsHex};
 
 use crate::cursor::Words;
-use crate::handset::HandsetLine;
 use crate::keywords::{Keyword, NetworkAct, UserAct, network_act_of, user_act_of};
 use crate::lines::ScriptLine;
 use crate::reading::last;
@@ -38,14 +37,14 @@ fn user_line(act: UserAct, words: &mut Words<'_>, line: &mut ScriptLine) -> Opti
     ensures { ReadsInto (user_form act words.old) result line.new }
 {
     match act {
-        UserAct::Confirm => last(words, line, ScriptLine::Handset(HandsetLine::UserOk)),
-        UserAct::End => last(words, line, ScriptLine::Handset(HandsetLine::UserEnd)),
-        UserAct::Back => last(words, line, ScriptLine::Handset(HandsetLine::UserBack)),
-        UserAct::Wait => last(words, line, ScriptLine::Handset(HandsetLine::UserNone)),
+        UserAct::Confirm => last(words, line, ScriptLine::UserOk),
+        UserAct::End => last(words, line, ScriptLine::UserEnd),
+        UserAct::Back => last(words, line, ScriptLine::UserBack),
+        UserAct::Wait => last(words, line, ScriptLine::UserNone),
         UserAct::Enter => typing(words, line),
         UserAct::Pick => pick(words, line),
-        UserAct::Press => last(words, line, ScriptLine::Handset(HandsetLine::UserPress)),
-        UserAct::Idle => last(words, line, ScriptLine::Handset(HandsetLine::UserIdle)),
+        UserAct::Press => last(words, line, ScriptLine::UserPress),
+        UserAct::Idle => last(words, line, ScriptLine::UserIdle),
         UserAct::Dial => dial(words, line),
     }
 }
@@ -56,7 +55,7 @@ fn typing(words: &Words<'_>, line: &mut ScriptLine) -> Option<()>
 {
     let rest = words.rest()?;
     let text = typed_of(rest)?;
-    *line = ScriptLine::Handset(HandsetLine::UserType(text));
+    *line = ScriptLine::UserType(text);
     Some(())
 }
 
@@ -66,7 +65,7 @@ fn pick(words: &mut Words<'_>, line: &mut ScriptLine) -> Option<()>
     let word = words.word()?;
     let id = number_of(word, 1, 255)?;
     let id = id as u8;
-    last(words, line, ScriptLine::Handset(HandsetLine::UserPick(id)))
+    last(words, line, ScriptLine::UserPick(id))
 }
 
 fn dial(words: &mut Words<'_>, line: &mut ScriptLine) -> Option<()>
@@ -74,11 +73,7 @@ fn dial(words: &mut Words<'_>, line: &mut ScriptLine) -> Option<()>
 {
     let word = words.word()?;
     let digits = dialled_of(word)?;
-    last(
-        words,
-        line,
-        ScriptLine::Handset(HandsetLine::UserDial(digits)),
-    )
+    last(words, line, ScriptLine::UserDial(digits))
 }
 
 /// What the network does.
@@ -96,7 +91,7 @@ fn network_line(act: NetworkAct, words: &mut Words<'_>, line: &mut ScriptLine) -
 {
     match act {
         NetworkAct::Place => place(words, line),
-        NetworkAct::Poll => last(words, line, ScriptLine::Handset(HandsetLine::NetPoll)),
+        NetworkAct::Poll => last(words, line, ScriptLine::NetPoll),
         NetworkAct::Echo => echo(words, line),
         NetworkAct::Lose => lose(words, line),
     }
@@ -115,11 +110,7 @@ fn place(words: &mut Words<'_>, line: &mut ScriptLine) -> Option<()>
 {
     let word = words.word()?;
     let place = place_of(word)?;
-    last(
-        words,
-        line,
-        ScriptLine::Handset(HandsetLine::NetPlace(place)),
-    )
+    last(words, line, ScriptLine::NetPlace(place))
 }
 
 fn echo(words: &mut Words<'_>, line: &mut ScriptLine) -> Option<()>
@@ -157,5 +148,5 @@ pub fn time(words: &mut Words<'_>, line: &mut ScriptLine) -> Option<()>
 {
     let word = words.word()?;
     let seconds = number_of(word, 0, MOST_SECONDS)?;
-    last(words, line, ScriptLine::Handset(HandsetLine::Time(seconds)))
+    last(words, line, ScriptLine::Time(seconds))
 }

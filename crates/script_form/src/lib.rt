@@ -14,7 +14,7 @@ mod trace;
 mod values;
 
 pub use byte_streams::{Failed, InputSource, ListSink, OutputSink, Sink, SliceSource, Source};
-pub use handset::{HandsetLine, Note};
+pub use handset::{HandsetLine, Note, handset_line};
 pub use lines::{DEEPEST, LineFault, Path, ScriptLine};
 pub use reading::{read_line, read_line_into};
 pub use trace::{TraceLine, write_answer, write_command, write_note, write_trace};

@@ -1,7 +1,6 @@
 //! What a line of a script says.
 ghost use Rattle.std.specs.Prelude.{◌≡◌, ◌≤◌, ◌<◌, ◌++◌, ◌∷◌, [], length};
 
-use crate::handset::HandsetLine;
 use std::marker::Model;
 use uicc_types::{ApduBytes, CutAt, FailAt, FileId, Octets, Pin8};
 
@@ -131,8 +130,30 @@ pub enum ScriptLine {
     Fail(FailAt),
     /// The read call with this number of the next command or reset is to fail.
     ReadFail(u32),
-    /// Something happens at a handset, other than a reset.
-    Handset(HandsetLine),
+    /// The user has read a text.
+    UserOk,
+    /// The user ends the card's session.
+    UserEnd,
+    /// The user goes back.
+    UserBack,
+    /// The user does nothing for a long time.
+    UserNone,
+    /// The user types a text of at most 30 bytes from 20 to 7E.
+    UserType(Octets),
+    /// The user picks the item with this identifier, from 1 to 255, of a choice or of the card's menu.
+    UserPick(u8),
+    /// The user presses a key.
+    UserPress,
+    /// The screen becomes idle.
+    UserIdle,
+    /// The user dials 1 to 20 decimal digits, which stand here as they are written.
+    UserDial(Octets),
+    /// The network tells a new location, of 1 to 32 bytes.
+    NetPlace(Octets),
+    /// The handset is to ask the card whether it wants anything.
+    NetPoll,
+    /// So many seconds pass.
+    Time(u32),
     /// A terminal is given a proactive command.
     Cmd(Octets),
     /// The far end of a channel, from 1 to 7, sends back so many bytes, from 1 to 4,096.

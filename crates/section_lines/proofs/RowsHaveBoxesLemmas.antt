@@ -3,7 +3,7 @@ use Rattle.std.proofs.Common.{◌≡◌, ℕ, List, [], ◌∷◌, ◌++◌, Boo
 use Rattle.std.proofs.lemmas.List.Elements.{All-append, All-cons, All-filter}
 use Rattle.uicc_types.specs.declared.identifiers.FileId.{FileId}
 use Rattle.script_form.specs.declared.lines.ScriptLine.{ScriptLine}
-use Rattle.script_form.specs.declared.lines.ScriptLine.TheVariants.{Passed, Start, Reset, Df, Transparent, Linear, Cyclic, Fill, Rec, Pin, Row, Apdu, Tpdu, Cut, Fail, ReadFail, Handset, Cmd, Echo, Lose}
+use Rattle.script_form.specs.declared.lines.ScriptLine.TheVariants.{Passed, Start, Reset, Df, Transparent, Linear, Cyclic, Fill, Rec, Pin, Row, Apdu, Tpdu, Cut, Fail, ReadFail, UserOk, UserEnd, UserBack, UserNone, UserType, UserPick, UserPress, UserIdle, UserDial, NetPlace, NetPoll, Time, Cmd, Echo, Lose}
 use Rattle.card_state.specs.NewFiles.{rule_from}
 use Rattle.card_state.specs.Persistent.{Contents, Files, Bytes, Records, File, Registration, Persistent, Rule}
 use Rattle.card_state.specs.Sections.{Installation, bytes_filled, df_added, df_for, ef_added, id_for, if_df, if_file, if_good, if_installed, new_df, new_ef, record_filled, row_added, with_file, with_row}
@@ -88,7 +88,18 @@ described_kept cast state (Tpdu bytes) all = tt
 described_kept cast state (Cut cut) all = tt
 described_kept cast state (Fail fail) all = tt
 described_kept cast state (ReadFail call) all = tt
-described_kept cast state (Handset line) all = tt
+described_kept cast state UserOk all = tt
+described_kept cast state UserEnd all = tt
+described_kept cast state UserBack all = tt
+described_kept cast state UserNone all = tt
+described_kept cast state (UserType text) all = tt
+described_kept cast state (UserPick id) all = tt
+described_kept cast state UserPress all = tt
+described_kept cast state UserIdle all = tt
+described_kept cast state (UserDial digits) all = tt
+described_kept cast state (NetPlace place) all = tt
+described_kept cast state NetPoll all = tt
+described_kept cast state (Time seconds) all = tt
 described_kept cast state (Cmd bytes) all = tt
 described_kept cast state (Echo channel count) all = tt
 described_kept cast state (Lose channel) all = tt

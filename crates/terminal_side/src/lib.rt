@@ -10,4 +10,5 @@ mod spelling;
 mod stages;
 mod timers;
 
+pub use handset_model::PhoneStep;
 pub use phone::{Next, Phone};

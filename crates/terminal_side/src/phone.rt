@@ -1,5 +1,6 @@
 //! The handset, step by step.
-ghost use Rattle.std.specs.Prelude.{◌≡◌, ◌∷◌, ◌+◌, ◌<◌, ◌≤◌, ◌^◌, List, [], length, true, ℕ};
+ghost use Rattle.std.specs.Prelude.{◌≡◌, ◌∷◌, ◌+◌, ◌<◌, ◌≤◌, ◌^◌, List, [], length, true, ℕ, IfSome, None};
+ghost use Rattle.script_form.specs.Handset.{handset_line};
 ghost use Rattle.script_form.specs.declared.handset.Note.TheVariants.{Text};
 ghost use Rattle.toolkit_commands.specs.Reading.{details_found, proactive_of};
 ghost use Rattle.handset_model.specs.History.{Happened, Said, Answered, Restarted, PowerCut, FoundOff, span_of};
@@ -16,8 +17,8 @@ use crate::reactions::said_at;
 use crate::sessions::{after_call, carried_out, followed, noted, refused};
 use crate::spelling::{spell_command, spell_fetch, spell_result, spell_status};
 use crate::stages::Stage;
-use handset_model::{Command, Duty, Held, Known, LastSent};
-use script_form::{HandsetLine, Note};
+use handset_model::{Command, Duty, Held, Known, LastSent, PhoneStep};
+use script_form::{HandsetLine, Note, ScriptLine, handset_line};
 use std::marker::Model;
 use std::mem;
 use toolkit_commands::{Details, Items, Proactive, read_command};
@@ -97,8 +98,22 @@ impl Phone {
         self.begin()
     }
 
-    /// A line of the script was read. With it the spans of time of all lines are less than 2^63 seconds.
-    pub fn input(&mut self, line: &HandsetLine)
+    /// A line of the script was read. What it says to a handset happens, and a line of another kind does nothing. With it the
+    /// spans of time of all lines are less than 2^63 seconds.
+    pub fn input(&mut self, line: &ScriptLine)
+        requires bounded { IfSome (handset_line line.now) IsBounded }
+        requires time { IfSome (handset_line line.now) (λ said. self.old.known.clock + span_of said < 2 ^ 63) }
+        ensures heard { (h : List Happened) → self.old ≡ kept h
+            → IfSome (handset_line line.now) (λ said. self.new ≡ kept (Said said ∷ h)) }
+        ensures others { handset_line line.now ≡ None → self.new ≡ self.old }
+    {
+        if let Some(said) = handset_line(line) {
+            self.hear(&said);
+        }
+    }
+
+    /// Something happens at the handset, as `input` has it. With it the spans of time of all lines are less than 2^63 seconds.
+    pub fn hear(&mut self, line: &HandsetLine)
         requires bounded { IsBounded line.now }
         requires time { self.old.known.clock + span_of line.now < 2 ^ 63 }
         ensures { (h : List Happened) → self.old ≡ kept h → self.new ≡ kept (Said line.now ∷ h) }
@@ -106,10 +121,26 @@ impl Phone {
         self.react(line)
     }
 
-    /// What is to be done next for this line: a command, which then stands in `apdu`, a reset, or a note, which stands in `note`; or
-    /// nothing, where the line is done. After a command the handset wants to be told the answer, or that there is no power; after a
-    /// reset, that it was carried out, or that power was lost in it.
-    pub fn next(&mut self, apdu: &mut ApduBytes, note: &mut Note) -> Next
+    /// What is to be done next for this line: to send a command, to reset the card or to write a note; None where the line is
+    /// done. After a command the handset wants to be told the answer, or that there is no power; after a reset, that it was
+    /// carried out, or that power was lost in it.
+    pub fn next(&mut self) -> Option<PhoneStep>
+        ensures item { (h : List Happened) → self.old ≡ kept h → result ≡ next_item h }
+        ensures after { (h : List Happened) → self.old ≡ kept h → self.new ≡ kept (with_next h) }
+    {
+        let mut apdu = ApduBytes::new();
+        let mut note = Note::Call;
+        match self.next_into(&mut apdu, &mut note) {
+            Next::Nothing => None,
+            Next::Send => Some(PhoneStep::Send(apdu)),
+            Next::Reset => Some(PhoneStep::Reset),
+            Next::Show => Some(PhoneStep::Note(note)),
+        }
+    }
+
+    /// The same as `next`, in places of the caller's: a command then stands in `apdu`, and a note in `note`. What stands there for
+    /// one command is used again for the next.
+    pub fn next_into(&mut self, apdu: &mut ApduBytes, note: &mut Note) -> Next
         ensures item { (h : List Happened) → self.old ≡ kept h → step_of result apdu.new note.new ≡ next_item h }
         ensures after { (h : List Happened) → self.old ≡ kept h → self.new ≡ kept (with_next h) }
     {

@@ -2,7 +2,9 @@
 
 use crate::shown::{put_bytes, put_comma, put_number, put_text};
 use crate::written::text_of;
-use script_form::{HandsetLine, LineFault, Path, ScriptLine, read_line, read_line_into};
+use script_form::{
+    HandsetLine, LineFault, Path, ScriptLine, handset_line, read_line, read_line_into,
+};
 use std::alloc::{AllocError, Global};
 use uicc_types::FileId;
 use unit_tables::Failure;
@@ -48,14 +50,16 @@ pub fn put_line(shown: &mut String, line: &ScriptLine) -> Result<(), AllocError>
             put_bytes(shown, " rest ", &[fail.rest])
         }
         ScriptLine::ReadFail(call) => put_number(shown, "read failure ", u64::from(*call)),
-        ScriptLine::Handset(happening) => put_happening(shown, happening),
         ScriptLine::Cmd(command) => put_bytes(shown, "proactive ", command.as_slice()),
         ScriptLine::Echo { channel, count } => {
             put_number(shown, "channel ", u64::from(*channel))?;
             put_number(shown, " echoes ", u64::from(*count))
         }
         ScriptLine::Lose(channel) => put_number(shown, "loses channel ", u64::from(*channel)),
-        _ => put_described(shown, line),
+        _ => match handset_line(line) {
+            Some(happening) => put_happening(shown, &happening),
+            None => put_described(shown, line),
+        },
     }
 }
 

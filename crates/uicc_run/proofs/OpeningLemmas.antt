@@ -9,7 +9,7 @@ use Rattle.byte_streams.proofs.ReadingLemmas.{HasRead-start}
 use Rattle.byte_streams.specs.Lines.{lines_within}
 use Rattle.byte_streams.specs.Reading.{at_start, pending}
 use Rattle.script_form.specs.declared.lines.ScriptLine.{ScriptLine}
-use Rattle.script_form.specs.declared.lines.ScriptLine.TheVariants.{Passed, Start, Reset, Df, Transparent, Linear, Cyclic, Fill, Rec, Pin, Row, Apdu, Tpdu, Cut, Fail, ReadFail, Handset, Cmd, Echo, Lose}
+use Rattle.script_form.specs.declared.lines.ScriptLine.TheVariants.{Passed, Start, Reset, Df, Transparent, Linear, Cyclic, Fill, Rec, Pin, Row, Apdu, Tpdu, Cut, Fail, ReadFail, UserOk, UserEnd, UserBack, UserNone, UserType, UserPick, UserPress, UserIdle, UserDial, NetPlace, NetPoll, Time, Cmd, Echo, Lose}
 use Rattle.script_reader.proofs.AreReadLemmas.{Say-from_read}
 use Rattle.script_reader.specs.declared.behind.PlayEnd.{PlayEnd}
 use Rattle.script_reader.specs.declared.reader.ScriptReader.{ScriptReader}
@@ -108,7 +108,18 @@ no_line cast (Tpdu bytes) more card rest is = absurd (cc)
 no_line cast (Cut cut) more card rest is = absurd (cc)
 no_line cast (Fail fail) more card rest is = absurd (cc)
 no_line cast (ReadFail call) more card rest is = absurd (cc)
-no_line cast (Handset said) more card rest is = absurd (cc)
+no_line cast UserOk more card rest is = absurd (cc)
+no_line cast UserEnd more card rest is = absurd (cc)
+no_line cast UserBack more card rest is = absurd (cc)
+no_line cast UserNone more card rest is = absurd (cc)
+no_line cast (UserType text) more card rest is = absurd (cc)
+no_line cast (UserPick id) more card rest is = absurd (cc)
+no_line cast UserPress more card rest is = absurd (cc)
+no_line cast UserIdle more card rest is = absurd (cc)
+no_line cast (UserDial digits) more card rest is = absurd (cc)
+no_line cast (NetPlace place) more card rest is = absurd (cc)
+no_line cast NetPoll more card rest is = absurd (cc)
+no_line cast (Time seconds) more card rest is = absurd (cc)
 no_line cast (Cmd bytes) more card rest is = absurd (cc)
 no_line cast (Echo channel count) more card rest is = absurd (cc)
 no_line cast (Lose channel) more card rest is = absurd (cc)

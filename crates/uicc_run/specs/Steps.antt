@@ -5,7 +5,7 @@ use Rattle.uicc_types.specs.declared.byte_lists.TheConstants.{LONGEST_COMMAND}
 use Rattle.uicc_types.specs.declared.plans.TheConstants.Plan.{NONE}
 use Rattle.uicc_types.specs.declared.runs.Step.TheVariants as step
 use Rattle.script_form.specs.declared.lines.ScriptLine.{ScriptLine}
-use Rattle.script_form.specs.declared.lines.ScriptLine.TheVariants.{Passed, Start, Reset, Df, Transparent, Linear, Cyclic, Fill, Rec, Pin, Row, Apdu, Tpdu, Cut, Fail, ReadFail, Handset, Cmd, Echo, Lose}
+use Rattle.script_form.specs.declared.lines.ScriptLine.TheVariants.{Passed, Start, Reset, Df, Transparent, Linear, Cyclic, Fill, Rec, Pin, Row, Apdu, Tpdu, Cut, Fail, ReadFail, UserOk, UserEnd, UserBack, UserNone, UserType, UserPick, UserPress, UserIdle, UserDial, NetPlace, NetPoll, Time, Cmd, Echo, Lose}
 use Rattle.run_steps.specs.Moves.{IsShort, step_of}
 use Rattle.phone_runs.specs.Effects.{may_be_heard}
 use Rattle.uicc_run.specs.Accounts.{Deed, Takes, Transfers}
@@ -30,7 +30,18 @@ may_follow (Fill path offset bytes) = false
 may_follow (Rec path number bytes) = false
 may_follow (Pin key value enabled unblock) = false
 may_follow (Row shelf priority content) = false
-may_follow (Handset line) = false
+may_follow UserOk = false
+may_follow UserEnd = false
+may_follow UserBack = false
+may_follow UserNone = false
+may_follow (UserType text) = false
+may_follow (UserPick id) = false
+may_follow UserPress = false
+may_follow UserIdle = false
+may_follow (UserDial digits) = false
+may_follow (NetPlace place) = false
+may_follow NetPoll = false
+may_follow (Time seconds) = false
 may_follow (Cmd bytes) = false
 may_follow (Echo channel count) = false
 may_follow (Lose channel) = false
@@ -58,7 +69,18 @@ deeds_of (Fill path offset bytes) = []
 deeds_of (Rec path number bytes) = []
 deeds_of (Pin key value enabled unblock) = []
 deeds_of (Row shelf priority content) = []
-deeds_of (Handset line) = []
+deeds_of UserOk = []
+deeds_of UserEnd = []
+deeds_of UserBack = []
+deeds_of UserNone = []
+deeds_of (UserType text) = []
+deeds_of (UserPick id) = []
+deeds_of UserPress = []
+deeds_of UserIdle = []
+deeds_of (UserDial digits) = []
+deeds_of (NetPlace place) = []
+deeds_of NetPoll = []
+deeds_of (Time seconds) = []
 deeds_of (Cmd bytes) = []
 deeds_of (Echo channel count) = []
 deeds_of (Lose channel) = []

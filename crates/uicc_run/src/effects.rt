@@ -48,7 +48,18 @@ pub fn effect_of(line: &ScriptLine) -> Effect<'_>
         | ScriptLine::Rec { .. }
         | ScriptLine::Pin { .. }
         | ScriptLine::Row { .. }
-        | ScriptLine::Handset(_)
+        | ScriptLine::UserOk
+        | ScriptLine::UserEnd
+        | ScriptLine::UserBack
+        | ScriptLine::UserNone
+        | ScriptLine::UserType(_)
+        | ScriptLine::UserPick(_)
+        | ScriptLine::UserPress
+        | ScriptLine::UserIdle
+        | ScriptLine::UserDial(_)
+        | ScriptLine::NetPlace(_)
+        | ScriptLine::NetPoll
+        | ScriptLine::Time(_)
         | ScriptLine::Cmd(_)
         | ScriptLine::Echo { .. }
         | ScriptLine::Lose(_) => Effect::OutOfPlace,

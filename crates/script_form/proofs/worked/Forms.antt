@@ -2,12 +2,11 @@
 use Rattle.std.proofs.Common.{◌≡◌, [], ◌∷◌, ◌++◌, lit<, lit≤, refl, sym, codes}
 use Rattle.std.proofs.lemmas.Fmt.{decimal_digit}
 use Rattle.hex.specs.Hex.{decode_pairs, encode_with}
-use Rattle.script_form.specs.declared.handset.HandsetLine.TheVariants.{UserDial, UserType}
 use Rattle.script_form.specs.declared.handset.Note.TheVariants.{Ask}
 use Rattle.script_form.specs.declared.keywords.Keyword.TheVariants as keyword
 use Rattle.script_form.specs.declared.keywords.NetworkAct.TheVariants as network
 use Rattle.script_form.specs.declared.keywords.UserAct.TheVariants as user
-use Rattle.script_form.specs.declared.lines.ScriptLine.TheVariants.{Cut, Fail, Handset, Tpdu, Cmd, Echo, Lose}
+use Rattle.script_form.specs.declared.lines.ScriptLine.TheVariants.{Cut, Fail, UserType, UserDial, Tpdu, Cmd, Echo, Lose}
 use Rattle.script_form.specs.declared.trace.TraceLine.TheVariants.{Note, Response, Event}
 use Rattle.script_form.specs.Forms.{IsLine}
 use Rattle.script_form.specs.Traces.{message}
@@ -65,7 +64,7 @@ fails = record {
 }
 
 -- the user types a text that begins with a space and has another
-types : IsLine (codes "user type  a b") (Handset (UserType (codes " a b")))
+types : IsLine (codes "user type  a b") (UserType (codes " a b"))
 unfolding words
 types = record {
   fits = lit≤ tt;
@@ -92,7 +91,7 @@ types = record {
 }
 
 -- a dialled number keeps its leading zeros
-dials : IsLine (codes "user dial 00") (Handset (UserDial (codes "00")))
+dials : IsLine (codes "user dial 00") (UserDial (codes "00"))
 unfolding words
 dials = record {
   fits = lit≤ tt;

@@ -7,7 +7,7 @@ use Rattle.phone_runs.proofs.counting.serve_next.Goals as goal
 
 pub returns-in-Ok-clause-served : goal.returns-in-Ok-clause-served
 returns-in-Ok-clause-served g c = λ made given loading.
-    loads_on made given c.args.lines.now c.next.new.self c.in-Some.line c.args.phone.now c.play_on_phone.new.phone _ _ c.in-Some.ensures.taken loading (c.in-Ok.ensures.plays given loading.log loading.at)
+    loads_on made given c.args.lines.now c.next.new.self c.in-Some.line c.args.phone.now c.hear_line.new.phone _ _ c.in-Some.ensures.taken loading (c.in-Ok.ensures.plays given loading.log loading.at)
 
 pub returns-in-Err-ResetFailed-clause-served : goal.returns-in-Err-ResetFailed-clause-served
 returns-in-Err-ResetFailed-clause-served g c = λ made given loading.

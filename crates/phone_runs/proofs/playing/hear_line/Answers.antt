@@ -10,21 +10,21 @@ use Rattle.phone_runs.proofs.playing.hear_line.Goals as goal
 
 pub settle-requires : goal.settle-requires
 settle-requires g c = record {
-  served = said_served c.input.new.self c.requires.rest.served.history c.args.line.now c.requires.rest.served.orderly (rest_of c.args.phone.now c.requires.rest.served.history c.requires.rest.served.keeps c.requires.rest.rests)
-      (c.input.ensures c.requires.rest.served.history c.requires.rest.served.keeps);
+  served = said_served c.hear.new.self c.requires.rest.served.history c.args.line.now c.requires.rest.served.orderly (rest_of c.args.phone.now c.requires.rest.served.history c.requires.rest.served.keeps c.requires.rest.rests)
+      (c.hear.ensures c.requires.rest.served.history c.requires.rest.served.keeps);
 }
 
 pub returns-clause-plays : goal.returns-clause-plays
 returns-clause-plays g c = λ given log at.
     c.settle.ensures.settles given (Happens (Said c.args.line.now) ∷ log)
-    (hears_line given log c.args.line.now c.args.phone.now c.input.new.self _ (rest_of c.args.phone.now _ at.keeps c.requires.rest.rests) (c.input.ensures _ at.keeps) at)
+    (hears_line given log c.args.line.now c.args.phone.now c.hear.new.self _ (rest_of c.args.phone.now _ at.keeps c.requires.rest.rests) (c.hear.ensures _ at.keeps) at)
 
 pub returns-clause-clock : goal.returns-clause-clock
 returns-clause-clock g c =
-    on_ok_weaker c.settle.result (λ same. same ∙ said_clock c.args.phone.now c.input.new.self c.requires.rest.served.history c.args.line.now c.requires.rest.served.keeps (c.input.ensures c.requires.rest.served.history c.requires.rest.served.keeps))
+    on_ok_weaker c.settle.result (λ same. same ∙ said_clock c.args.phone.now c.hear.new.self c.requires.rest.served.history c.args.line.now c.requires.rest.served.keeps (c.hear.ensures c.requires.rest.served.history c.requires.rest.served.keeps))
     c.settle.ensures.clock
 
 pub returns-clause-shows : goal.returns-clause-shows
 returns-clause-shows g c = λ given log at.
     c.settle.ensures.shows given (Happens (Said c.args.line.now) ∷ log)
-    (line_heard given log c.args.line.now c.args.phone.now c.input.new.self _ (rest_of c.args.phone.now _ at.keeps c.requires.rest.rests) (c.input.ensures _ at.keeps) at)
+    (line_heard given log c.args.line.now c.args.phone.now c.hear.new.self _ (rest_of c.args.phone.now _ at.keeps c.requires.rest.rests) (c.hear.ensures _ at.keeps) at)

@@ -9,58 +9,58 @@ use Rattle.phone_runs.proofs.serving.serve.Goals as goal
 
 pub returns-in-Nothing-clause-further : goal.returns-in-Nothing-clause-further
 returns-in-Nothing-clause-further g c = λ given log at.
-    none_further c.args.phone.now c.next.new.self given log _ (record { item = c.in-Nothing.ensures.item; after = c.in-Nothing.ensures.after }) c.requires.served at
+    none_further c.args.phone.now c.next_into.new.self given log _ (record { item = c.in-Nothing.ensures.item; after = c.in-Nothing.ensures.after }) c.requires.served at
 
 pub returns-in-Nothing-clause-rests : goal.returns-in-Nothing-clause-rests
-returns-in-Nothing-clause-rests g c = λ same. none_rests c.args.phone.now c.next.new.self (record { item = c.in-Nothing.ensures.item; after = c.in-Nothing.ensures.after }) c.requires.served
+returns-in-Nothing-clause-rests g c = λ same. none_rests c.args.phone.now c.next_into.new.self (record { item = c.in-Nothing.ensures.item; after = c.in-Nothing.ensures.after }) c.requires.served
 
 pub returns-in-Nothing-clause-same : goal.returns-in-Nothing-clause-same
-returns-in-Nothing-clause-same g c = λ same. none_same c.args.phone.now c.next.new.self (record { item = c.in-Nothing.ensures.item; after = c.in-Nothing.ensures.after }) c.requires.served
+returns-in-Nothing-clause-same g c = λ same. none_same c.args.phone.now c.next_into.new.self (record { item = c.in-Nothing.ensures.item; after = c.in-Nothing.ensures.after }) c.requires.served
 
 pub returns-in-Ok-clause-further : goal.returns-in-Ok-clause-further
 returns-in-Ok-clause-further g c = λ given log at.
-    sent_further c.runs_are_counted.ensures.join c.plans_are_set_in_order.ensures c.args.phone.now c.next.new.self c.hear.new.phone _ c.as_slice-apdu.result.now c.in-Ok.reply c.exchange.new.answer given log _ _
-    (record { item = c.next.ensures.item; after = c.next.ensures.after }) (asks_send c.next.result c.next.new.apdu c.as_slice-apdu.result.now c.next.new.note c.in-Send.is c.as_slice-apdu.ensures.value) c.hear.ensures c.in-Ok.ensures.gives at
+    sent_further c.runs_are_counted.ensures.join c.plans_are_set_in_order.ensures c.args.phone.now c.next_into.new.self c.hear.new.phone _ c.as_slice-apdu.result.now c.in-Ok.reply c.exchange.new.answer given log _ _
+    (record { item = c.next_into.ensures.item; after = c.next_into.ensures.after }) (asks_send c.next_into.result c.next_into.new.apdu c.as_slice-apdu.result.now c.next_into.new.note c.in-Send.is c.as_slice-apdu.ensures.value) c.hear.ensures c.in-Ok.ensures.gives at
 
 pub returns-in-Ok-clause-more : goal.returns-in-Ok-clause-more
 returns-in-Ok-clause-more g c = λ same.
-    sent_more c.lines_end.ensures c.args.phone.now c.next.new.self c.hear.new.phone _ c.as_slice-apdu.result.now c.in-Ok.reply c.exchange.new.answer
-    (record { item = c.next.ensures.item; after = c.next.ensures.after }) (asks_send c.next.result c.next.new.apdu c.as_slice-apdu.result.now c.next.new.note c.in-Send.is c.as_slice-apdu.ensures.value) c.hear.ensures c.requires.served
+    sent_more c.lines_end.ensures c.args.phone.now c.next_into.new.self c.hear.new.phone _ c.as_slice-apdu.result.now c.in-Ok.reply c.exchange.new.answer
+    (record { item = c.next_into.ensures.item; after = c.next_into.ensures.after }) (asks_send c.next_into.result c.next_into.new.apdu c.as_slice-apdu.result.now c.next_into.new.note c.in-Send.is c.as_slice-apdu.ensures.value) c.hear.ensures c.requires.served
 
 pub returns-in-Err-clause-further : goal.returns-in-Err-clause-further
 returns-in-Err-clause-further g c = λ given log at.
-    sent_ends c.runs_are_counted.ensures.join c.args.phone.now c.next.new.self _ c.as_slice-apdu.result.now c.in-Err.end given log _ _
-    (record { item = c.next.ensures.item; after = c.next.ensures.after }) (asks_send c.next.result c.next.new.apdu c.as_slice-apdu.result.now c.next.new.note c.in-Send.is c.as_slice-apdu.ensures.value) c.in-Err.ensures.gives at
+    sent_ends c.runs_are_counted.ensures.join c.args.phone.now c.next_into.new.self _ c.as_slice-apdu.result.now c.in-Err.end given log _ _
+    (record { item = c.next_into.ensures.item; after = c.next_into.ensures.after }) (asks_send c.next_into.result c.next_into.new.apdu c.as_slice-apdu.result.now c.next_into.new.note c.in-Send.is c.as_slice-apdu.ensures.value) c.in-Err.ensures.gives at
 
 pub returns-in-Ok-restart-clause-further : goal.returns-in-Ok-restart-clause-further
 returns-in-Ok-restart-clause-further g c = λ given log at.
-    reset_further c.runs_are_counted.ensures.join c.plans_are_set_in_order.ensures c.args.phone.now c.next.new.self c.begin_anew.new.phone _ c.in-Ok-restart.restarted given log _ _
-    (record { item = c.next.ensures.item; after = c.next.ensures.after }) (asks_reset c.next.result c.next.new.apdu c.next.new.note c.in-Reset.is) c.begin_anew.ensures c.in-Ok-restart.ensures.gives at
+    reset_further c.runs_are_counted.ensures.join c.plans_are_set_in_order.ensures c.args.phone.now c.next_into.new.self c.begin_anew.new.phone _ c.in-Ok-restart.restarted given log _ _
+    (record { item = c.next_into.ensures.item; after = c.next_into.ensures.after }) (asks_reset c.next_into.result c.next_into.new.apdu c.next_into.new.note c.in-Reset.is) c.begin_anew.ensures c.in-Ok-restart.ensures.gives at
 
 pub returns-in-Ok-restart-clause-more : goal.returns-in-Ok-restart-clause-more
 returns-in-Ok-restart-clause-more g c = λ same.
-    reset_more c.lines_end.ensures c.args.phone.now c.next.new.self c.begin_anew.new.phone _ c.in-Ok-restart.restarted
-    (record { item = c.next.ensures.item; after = c.next.ensures.after }) (asks_reset c.next.result c.next.new.apdu c.next.new.note c.in-Reset.is) c.begin_anew.ensures c.requires.served
+    reset_more c.lines_end.ensures c.args.phone.now c.next_into.new.self c.begin_anew.new.phone _ c.in-Ok-restart.restarted
+    (record { item = c.next_into.ensures.item; after = c.next_into.ensures.after }) (asks_reset c.next_into.result c.next_into.new.apdu c.next_into.new.note c.in-Reset.is) c.begin_anew.ensures c.requires.served
 
 pub returns-in-Err-restart-clause-further : goal.returns-in-Err-restart-clause-further
 returns-in-Err-restart-clause-further g c = λ given log at.
-    reset_ends c.runs_are_counted.ensures.join c.plans_are_set_in_order.ensures c.args.phone.now c.next.new.self _ c.in-Err-restart.end given log _ _
-    (record { item = c.next.ensures.item; after = c.next.ensures.after }) (asks_reset c.next.result c.next.new.apdu c.next.new.note c.in-Reset.is) c.in-Err-restart.ensures.gives at
+    reset_ends c.runs_are_counted.ensures.join c.plans_are_set_in_order.ensures c.args.phone.now c.next_into.new.self _ c.in-Err-restart.end given log _ _
+    (record { item = c.next_into.ensures.item; after = c.next_into.ensures.after }) (asks_reset c.next_into.result c.next_into.new.apdu c.next_into.new.note c.in-Reset.is) c.in-Err-restart.ensures.gives at
 
 pub returns-in-Ok-write_note-clause-further : goal.returns-in-Ok-write_note-clause-further
 returns-in-Ok-write_note-clause-further g c = λ given log at.
-    note_further c.args.phone.now c.next.new.self _ c.next.new.note given log (moment_at c.args.card.now (g.W.Sink.taken c.args.trace.now)) (g.W.Sink.taken c.write_note.new.sink)
-    (record { item = c.next.ensures.item; after = c.next.ensures.after }) (asks_note c.next.result c.next.new.apdu c.next.new.note c.in-Show.is) c.in-Ok-write_note.ensures.ok at
+    note_further c.args.phone.now c.next_into.new.self _ c.next_into.new.note given log (moment_at c.args.card.now (g.W.Sink.taken c.args.trace.now)) (g.W.Sink.taken c.write_note.new.sink)
+    (record { item = c.next_into.ensures.item; after = c.next_into.ensures.after }) (asks_note c.next_into.result c.next_into.new.apdu c.next_into.new.note c.in-Show.is) c.in-Ok-write_note.ensures.ok at
 
 pub returns-in-Ok-write_note-clause-more : goal.returns-in-Ok-write_note-clause-more
 returns-in-Ok-write_note-clause-more g c = λ same.
-    note_more c.lines_end.ensures c.args.phone.now c.next.new.self _ c.next.new.note
-    (record { item = c.next.ensures.item; after = c.next.ensures.after }) (asks_note c.next.result c.next.new.apdu c.next.new.note c.in-Show.is) c.requires.served
+    note_more c.lines_end.ensures c.args.phone.now c.next_into.new.self _ c.next_into.new.note
+    (record { item = c.next_into.ensures.item; after = c.next_into.ensures.after }) (asks_note c.next_into.result c.next_into.new.apdu c.next_into.new.note c.in-Show.is) c.requires.served
 
 pub returns-in-Err-write_note-clause-further : goal.returns-in-Err-write_note-clause-further
 returns-in-Err-write_note-clause-further g c = λ given log at.
-    note_ends c.args.phone.now c.next.new.self _ c.next.new.note given log (moment_at c.args.card.now (g.W.Sink.taken c.args.trace.now)) (g.W.Sink.taken c.write_note.new.sink)
-    (machine_stands c.args.card.now.parts) (record { item = c.next.ensures.item; after = c.next.ensures.after }) (asks_note c.next.result c.next.new.apdu c.next.new.note c.in-Show.is) c.in-Err-write_note.ensures.err at
+    note_ends c.args.phone.now c.next_into.new.self _ c.next_into.new.note given log (moment_at c.args.card.now (g.W.Sink.taken c.args.trace.now)) (g.W.Sink.taken c.write_note.new.sink)
+    (machine_stands c.args.card.now.parts) (record { item = c.next_into.ensures.item; after = c.next_into.ensures.after }) (asks_note c.next_into.result c.next_into.new.apdu c.next_into.new.note c.in-Show.is) c.in-Err-write_note.ensures.err at
 
 pub returns-in-Ok-write_note-clause-tallies : goal.returns-in-Ok-write_note-clause-tallies
 returns-in-Ok-write_note-clause-tallies g c = record { kept = search rules; sink = search rules; tells = tells_whole _ _ _ c.in-Ok-write_note.ensures.ok }
@@ -72,34 +72,34 @@ returns-in-Err-write_note-clause-tallies g c = record { kept = search rules; sin
 
 pub returns-in-Nothing-clause-shows : goal.returns-in-Nothing-clause-shows
 returns-in-Nothing-clause-shows g c = λ given log at.
-    none_shows c.args.phone.now c.next.new.self given log _ (record { item = c.in-Nothing.ensures.item; after = c.in-Nothing.ensures.after }) c.requires.served at
+    none_shows c.args.phone.now c.next_into.new.self given log _ (record { item = c.in-Nothing.ensures.item; after = c.in-Nothing.ensures.after }) c.requires.served at
 
 pub returns-in-Ok-clause-shows : goal.returns-in-Ok-clause-shows
 returns-in-Ok-clause-shows g c = λ given log at.
-    sent_shows c.runs_are_counted.ensures.join c.plans_are_set_in_order.ensures c.args.phone.now c.next.new.self c.hear.new.phone _ c.as_slice-apdu.result.now c.in-Ok.reply c.exchange.new.answer given log _ _
-    (record { item = c.next.ensures.item; after = c.next.ensures.after }) (asks_send c.next.result c.next.new.apdu c.as_slice-apdu.result.now c.next.new.note c.in-Send.is c.as_slice-apdu.ensures.value) c.hear.ensures c.in-Ok.ensures.shows at
+    sent_shows c.runs_are_counted.ensures.join c.plans_are_set_in_order.ensures c.args.phone.now c.next_into.new.self c.hear.new.phone _ c.as_slice-apdu.result.now c.in-Ok.reply c.exchange.new.answer given log _ _
+    (record { item = c.next_into.ensures.item; after = c.next_into.ensures.after }) (asks_send c.next_into.result c.next_into.new.apdu c.as_slice-apdu.result.now c.next_into.new.note c.in-Send.is c.as_slice-apdu.ensures.value) c.hear.ensures c.in-Ok.ensures.shows at
 
 pub returns-in-Err-clause-shows : goal.returns-in-Err-clause-shows
 returns-in-Err-clause-shows g c = λ given log at.
-    sent_shows_end c.runs_are_counted.ensures.join c.args.phone.now c.next.new.self _ c.as_slice-apdu.result.now c.in-Err.end given log _ _
-    (record { item = c.next.ensures.item; after = c.next.ensures.after }) (asks_send c.next.result c.next.new.apdu c.as_slice-apdu.result.now c.next.new.note c.in-Send.is c.as_slice-apdu.ensures.value) c.in-Err.ensures.shows at
+    sent_shows_end c.runs_are_counted.ensures.join c.args.phone.now c.next_into.new.self _ c.as_slice-apdu.result.now c.in-Err.end given log _ _
+    (record { item = c.next_into.ensures.item; after = c.next_into.ensures.after }) (asks_send c.next_into.result c.next_into.new.apdu c.as_slice-apdu.result.now c.next_into.new.note c.in-Send.is c.as_slice-apdu.ensures.value) c.in-Err.ensures.shows at
 
 pub returns-in-Ok-restart-clause-shows : goal.returns-in-Ok-restart-clause-shows
 returns-in-Ok-restart-clause-shows g c = λ given log at.
-    reset_shows c.runs_are_counted.ensures.join c.plans_are_set_in_order.ensures c.args.phone.now c.next.new.self c.begin_anew.new.phone _ c.in-Ok-restart.restarted given log _ _
-    (record { item = c.next.ensures.item; after = c.next.ensures.after }) (asks_reset c.next.result c.next.new.apdu c.next.new.note c.in-Reset.is) c.begin_anew.ensures c.in-Ok-restart.ensures.shows at
+    reset_shows c.runs_are_counted.ensures.join c.plans_are_set_in_order.ensures c.args.phone.now c.next_into.new.self c.begin_anew.new.phone _ c.in-Ok-restart.restarted given log _ _
+    (record { item = c.next_into.ensures.item; after = c.next_into.ensures.after }) (asks_reset c.next_into.result c.next_into.new.apdu c.next_into.new.note c.in-Reset.is) c.begin_anew.ensures c.in-Ok-restart.ensures.shows at
 
 pub returns-in-Err-restart-clause-shows : goal.returns-in-Err-restart-clause-shows
 returns-in-Err-restart-clause-shows g c = λ given log at.
-    reset_shows_end c.runs_are_counted.ensures.join c.plans_are_set_in_order.ensures c.args.phone.now c.next.new.self _ c.in-Err-restart.end given log _ _
-    (record { item = c.next.ensures.item; after = c.next.ensures.after }) (asks_reset c.next.result c.next.new.apdu c.next.new.note c.in-Reset.is) c.in-Err-restart.ensures.shows at
+    reset_shows_end c.runs_are_counted.ensures.join c.plans_are_set_in_order.ensures c.args.phone.now c.next_into.new.self _ c.in-Err-restart.end given log _ _
+    (record { item = c.next_into.ensures.item; after = c.next_into.ensures.after }) (asks_reset c.next_into.result c.next_into.new.apdu c.next_into.new.note c.in-Reset.is) c.in-Err-restart.ensures.shows at
 
 pub returns-in-Ok-write_note-clause-shows : goal.returns-in-Ok-write_note-clause-shows
 returns-in-Ok-write_note-clause-shows g c = λ given log at.
-    note_shows c.args.phone.now c.next.new.self _ c.next.new.note given log (moment_at c.args.card.now (g.W.Sink.taken c.args.trace.now)) (g.W.Sink.taken c.write_note.new.sink)
-    (record { item = c.next.ensures.item; after = c.next.ensures.after }) (asks_note c.next.result c.next.new.apdu c.next.new.note c.in-Show.is) c.in-Ok-write_note.ensures.ok at
+    note_shows c.args.phone.now c.next_into.new.self _ c.next_into.new.note given log (moment_at c.args.card.now (g.W.Sink.taken c.args.trace.now)) (g.W.Sink.taken c.write_note.new.sink)
+    (record { item = c.next_into.ensures.item; after = c.next_into.ensures.after }) (asks_note c.next_into.result c.next_into.new.apdu c.next_into.new.note c.in-Show.is) c.in-Ok-write_note.ensures.ok at
 
 pub returns-in-Err-write_note-clause-shows : goal.returns-in-Err-write_note-clause-shows
 returns-in-Err-write_note-clause-shows g c = λ given log at.
-    note_shows_end c.args.phone.now c.next.new.self _ c.next.new.note given log (moment_at c.args.card.now (g.W.Sink.taken c.args.trace.now)) (g.W.Sink.taken c.write_note.new.sink)
-    (record { item = c.next.ensures.item; after = c.next.ensures.after }) (asks_note c.next.result c.next.new.apdu c.next.new.note c.in-Show.is) c.in-Err-write_note.ensures.err at
+    note_shows_end c.args.phone.now c.next_into.new.self _ c.next_into.new.note given log (moment_at c.args.card.now (g.W.Sink.taken c.args.trace.now)) (g.W.Sink.taken c.write_note.new.sink)
+    (record { item = c.next_into.ensures.item; after = c.next_into.ensures.after }) (asks_note c.next_into.result c.next_into.new.apdu c.next_into.new.note c.in-Show.is) c.in-Err-write_note.ensures.err at

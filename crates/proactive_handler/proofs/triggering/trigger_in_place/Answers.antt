@@ -3,7 +3,7 @@ use Rattle.list_laws.proofs.MapLemmas.{all_unmapped}
 use Rattle.list_laws.proofs.AllPairsLemmas.{pairs_unmap}
 use Rattle.uicc_types.specs.declared.identifiers.Shelf.{Shelf}
 use Rattle.card_commits.specs.Entries.{HasRowOn}
-use Rattle.proactive_handler.proofs.triggering.trigger.Goals as goal
+use Rattle.proactive_handler.proofs.triggering.trigger_in_place.Goals as goal
 
 pub trigger_each-requires-clause-rows : goal.trigger_each-requires-clause-rows
 trigger_each-requires-clause-rows g c =

@@ -8,7 +8,7 @@ use Rattle.proactive_handler.specs.Steps.{scene}
 use Rattle.proactive_handler.proofs.MovedLemmas.{has_rows}
 use Rattle.proactive_handler.proofs.IsSessionServedLemmas.{awaited, gone_served, owner_row, owner_idle}
 use Rattle.proactive_handler.proofs.AnsweredLemmas.{of_awaited, awaited_of, owner_done, owner_stops, own_done, own_left, owner_left, owner_leaves}
-use Rattle.proactive_handler.proofs.responding.answer.Goals as goal
+use Rattle.proactive_handler.proofs.responding.respond_in_place.Goals as goal
 
 pub run_alone-requires-clause-row : goal.run_alone-requires-clause-row
 run_alone-requires-clause-row g c =

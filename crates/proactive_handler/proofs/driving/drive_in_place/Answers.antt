@@ -9,7 +9,7 @@ use Rattle.proactive_handler.specs.Steps.{toolkit, scene}
 use Rattle.proactive_handler.proofs.MovedLemmas.{has_rows}
 use Rattle.proactive_handler.proofs.CaughtUpLemmas.{driven_stops, driven_done, driven_leaves, driven_left}
 use Rattle.proactive_handler.proofs.IsSessionServedLemmas.{settled_served}
-use Rattle.proactive_handler.proofs.driving.drive.Goals as goal
+use Rattle.proactive_handler.proofs.driving.drive_in_place.Goals as goal
 
 pub returns-in_err-catch_up-clause-moves : goal.returns-in_err-catch_up-clause-moves
 returns-in_err-catch_up-clause-moves g c =
