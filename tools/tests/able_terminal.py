@@ -5,11 +5,11 @@
 It is no telephone: a call is set up, a message is sent and a channel is open as soon as the user allows it."""
 import dataclasses
 
-from uicc import Reply, Terminal, decode, handset, tlv
+from uicc import Reply, Terminal, alphabet, decode, handset, tlv
 from uicc.grammar import Handset
 from uicc.handset import BAD_DATA, DONE, HELP, MISSING, NOT_UNDERSTOOD, Unread, first_of, objects_of
 from uicc.undertest import InPython
-from uicc.wording import LETTERS, packed
+from uicc.wording import packed
 
 # all that sequences need
 PROFILE = bytes.fromhex("29 60 FF FF 7F 3F 00 1F FA 00 00 1F")
@@ -46,8 +46,7 @@ def letters(value):
         return value[1:].decode("utf-16-be")
     if value[:1] != b"\x00":
         return decode.printable(value[1:])
-    bits = int.from_bytes(value[1:], "little")
-    return "".join(LETTERS[bits >> 7 * place & 0x7F] for place in range(len(value[1:]) * 8 // 7))
+    return alphabet.letters_of(alphabet.unpacked(value[1:], len(value[1:]) * 8 // 7))
 
 
 class AbleTerminal(Terminal):

@@ -97,7 +97,8 @@ class Texts(unittest.TestCase):
     # the kind of a content, its bytes, a text, and the bytes with that
     TABLE = [
         ("spn", "FF" * 8, "Foo", "01466F6FFFFFFFFF"), ("spn", "00" + "41" * 7, "Foo", "00466F6FFFFFFFFF"), (None, "AABBCCDD", "Hi", "4869FFFF"),
-        ("dialling", "41FFFF" + "FF" * 14, "Bob", "426F62" + "FF" * 14), ("spn", "01" + "FF" * 7, "\u00e4", "018000E4FFFFFFFF"),
+        ("dialling", "41FFFF" + "FF" * 14, "Bob", "426F62" + "FF" * 14), ("spn", "01" + "FF" * 7, "\u00e4", "017BFFFFFFFFFFFF"),
+        ("spn", "01" + "FF" * 7, "\u0161", "01800161FFFFFFFF"),
     ]
 
     def test_texts(self):

@@ -1,4 +1,5 @@
 """How contents of files are coded: digits, PLMNs and names as bytes (3GPP TS 31.102; ETSI TS 102 221, annex A)."""
+from . import alphabet
 
 
 class BadContent(ValueError):
@@ -60,22 +61,27 @@ def encode_plmn(text):
 
 # names and numbers
 
-def text_of(content):
-    """A name of 7-bit letters, one a byte, up to the first FF; UCS2 behind 80."""
-    if content[:1] == b"\x80":
-        return content[1:].rstrip(b"\xFF").decode("utf-16-be", "replace")
-    content = content.split(b"\xFF")[0]
-    return "".join(chr(byte) if 0x20 <= byte < 0x7F else f"\\{byte:02X}" for byte in content)
+text_of = alphabet.name_of
 
 
-def coded_text(text, most):
-    if not text.isascii() or not text.isprintable():
-        content = b"\x80" + text.encode("utf-16-be")
-    else:
-        content = text.encode()
-    if len(content) > most:
-        raise BadContent(f"`{text}` has {len(content)} bytes, and there is room for {most}")
+def coded_text(text, most=None):
+    """A name in bytes, of which there may be so many."""
+    try:
+        content = alphabet.name_bytes(text)
+    except alphabet.NoLetter as fault:
+        raise BadContent(f"`{text}` can't be written: {fault}") from None
+    if most is not None and len(content) > most:
+        raise BadContent(f"`{text}` has {len(content)} bytes, and there is room for {most}{about_length(text)}")
     return content
+
+
+def about_length(text):
+    """Why a name has more bytes than letters; nothing where it hasn't."""
+    other = alphabet.first_beyond(text)
+    if other is not None:
+        return f": `{other}` isn't in the default alphabet of GSM, so that the whole name has to be in UCS2"
+    escaped = next((letter for letter in text if len(alphabet.CODES[letter]) > 1), None)
+    return f": `{escaped}` takes two" if escaped else ""
 
 
 def dialled_digits(content, kind):

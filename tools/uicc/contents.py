@@ -306,7 +306,7 @@ def decode_application(record):
     if record[0] != 0x61:
         raise BadContent("an application begins with the template 61")
     found = dict(rules.objects(record[2:2 + record[1]]))
-    return f"{found.get(0x50, b'').decode('ascii', 'replace') or 'no label'}, {found.get(0x4F, b'').hex().upper()}"
+    return f"{text_of(found.get(0x50, b'')) or 'no label'}, {found.get(0x4F, b'').hex().upper()}"
 
 
 def decode_rule(record):

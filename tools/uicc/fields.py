@@ -33,7 +33,7 @@ def texts_of(shown):
 
 
 def encode_application(given, length):
-    aid, label = structured.hexadecimal(given["aid"]), given.get("label", "").encode()
+    aid, label = structured.hexadecimal(given["aid"]), contents.coded_text(given.get("label", ""))
     content = rules.spelled(0x4F, aid) + (rules.spelled(0x50, label) if label else b"")
     return rules.spelled(0x61, content).ljust(length or 0, b"\xFF")
 
@@ -42,14 +42,14 @@ def application_of(record):
     if contents.is_blank(record):
         return {}
     found = dict(rules.objects(record[2:2 + record[1]]))
-    label = found.get(0x50, b"").decode("ascii")
+    label = contents.text_of(found.get(0x50, b""))
     return {"aid": found[0x4F].hex().upper()} | ({"label": label} if label else {})
 
 
 def encode_emergency(given, length):
     """A number, or a table with its name and the category of its service."""
     given = given if isinstance(given, dict) else {"number": given}
-    length = length or 4 + len(given.get("name", ""))
+    length = length or 4 + len(contents.coded_text(given.get("name", "")))
     if length < 4:
         raise BadContent(f"a record of emergency numbers has at least 4 bytes, and not {length}")
     name = contents.coded_text(given.get("name", ""), length - 4).ljust(length - 4, b"\xFF")

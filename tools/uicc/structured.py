@@ -4,7 +4,7 @@ and of the 5G system (3GPP TS 31.102, 4.2 and 4.4.11; 3GPP TS 31.103, 4.2; 3GPP 
 Each kind has a function that makes bytes of the fields, `encode_..`, and one that reads them, `.._of`; both raise BadContent."""
 import ipaddress
 
-from . import rules
+from . import alphabet, rules
 from .coding import (
     DIALLED, UPDATES, BadContent, coded_text, decode_plmn, dialled_digits, encode_plmn, exact_bytes, is_blank, is_digits, packed, text_of)
 
@@ -110,37 +110,25 @@ def parameters_of(record):
 
 # names of networks
 
-# the letters of the alphabet of 3GPP TS 23.038 that aren't where ASCII has them, or are there alone
-OTHERS = {
-    "@": 0x00, "\u00a3": 0x01, "$": 0x02, "\u00a5": 0x03, "\u00e8": 0x04, "\u00e9": 0x05, "\u00f9": 0x06, "\u00ec": 0x07, "\u00f2": 0x08,
-    "\u00c7": 0x09, "\u00d8": 0x0B, "\u00f8": 0x0C, "\u00c5": 0x0E, "\u00e5": 0x0F, "_": 0x11, "\u00c6": 0x1C, "\u00e6": 0x1D, "\u00df": 0x1E,
-    "\u00c9": 0x1F, "\u00a4": 0x24, "\u00a1": 0x40, "\u00c4": 0x5B, "\u00d6": 0x5C, "\u00d1": 0x5D, "\u00dc": 0x5E, "\u00a7": 0x5F,
-    "\u00bf": 0x60, "\u00e4": 0x7B, "\u00f6": 0x7C, "\u00f1": 0x7D, "\u00fc": 0x7E, "\u00e0": 0x7F,
-}
-# the places of other letters than those of ASCII
-PLACES = (0x24, 0x40, *range(0x5B, 0x61))
-ALPHABET = {chr(code): code for code in range(0x20, 0x7B) if code not in PLACES} | OTHERS
-LETTERS = {code: letter for letter, code in ALPHABET.items()}
-
-
 def encode_network_name(text):
-    """A name with the byte that says its coding: seven bits a letter where the alphabet has them all, else UCS2."""
-    if any(letter not in ALPHABET for letter in text):
-        return b"\x90" + text.encode("utf-16-be")
-    bits = sum(ALPHABET[letter] << 7 * place for place, letter in enumerate(text))
-    size = (7 * len(text) + 7) // 8
-    return bytes((0x80 | 8 * size - 7 * len(text),)) + bits.to_bytes(size, "little")
+    """A name with the byte that says its coding: seven bits a code where the alphabet has all its letters, else UCS2."""
+    try:
+        if alphabet.first_beyond(text) is not None:
+            return b"\x90" + alphabet.ucs2(text)
+    except alphabet.NoLetter as fault:
+        raise BadContent(f"`{text}` can't be written: {fault}") from None
+    codes = alphabet.codes_of(text)
+    content = alphabet.packed(codes)
+    return bytes((0x80 | 8 * len(content) - 7 * len(codes),)) + content
 
 
 def network_name_of(content):
     scheme, spare = content[0] >> 4 & 7, content[0] & 7
     if scheme == 1:
-        return content[1:].decode("utf-16-be")
+        return alphabet.ucs2_text(content[1:])
     if scheme:
         raise BadContent(f"{content[0]:02X} begins no name of a network")
-    bits = int.from_bytes(content[1:], "little")
-    count = (8 * (len(content) - 1) - spare) // 7
-    return "".join(LETTERS.get(bits >> 7 * place & 0x7F, "?") for place in range(count))
+    return alphabet.letters_of(alphabet.unpacked(content[1:], (8 * (len(content) - 1) - spare) // 7))
 
 
 def encode_names(given, length):

@@ -6,13 +6,10 @@ import dataclasses
 import re
 import shlex
 
-from . import decode, names, tlv
+from . import alphabet, decode, names, tlv
 
 DEVICES = {"keypad": 0x01, "display": 0x02, "earpiece": 0x03, "card": 0x81, "terminal": 0x82, "network": 0x83,
            **{f"channel{number}": 0x20 + number for number in range(1, 8)}}
-# the basic letters of 3GPP TS 23.038, 6.2.1, in the order of their codes; that of 1B leads to other letters, which have none here
-LETTERS = ("@£$¥èéùìòÇ\nØø\rÅåΔ_ΦΓΛΩΠΨΣΘΞ\x1bÆæßÉ !\"#¤%&'()*+,-./0123456789:;<=>?¡ABCDEFGHIJKLMNOPQRSTUVWXYZÄÖÑÜ§¿abcdefghijklmnopqrstuvwxyz"
-           "äöñüà")
 UNITS = {"minutes": 0, "seconds": 1, "tenths": 2}
 SEVEN_BIT, EIGHT_BIT, UCS2 = 0x00, 0x04, 0x08
 # the value of a text, where there may be none: with a coding, or without
@@ -126,12 +123,11 @@ def matches(pattern, value):
 # values
 
 def packed(text):
-    """A text in 7-bit letters, eight in seven bytes (3GPP TS 23.038, 6.1.2.1)."""
-    codes = [LETTERS.find(letter) for letter in text]
-    if -1 in codes:
-        raise Wrong(f"`{text[codes.index(-1)]}` is no letter of the 7-bit alphabet")
-    bits = sum(code << 7 * place for place, code in enumerate(codes))
-    return bits.to_bytes((7 * len(codes) + 7) // 8, "little")
+    """A text in codes of seven bits, eight in seven bytes."""
+    try:
+        return alphabet.packed(alphabet.codes_of(text))
+    except alphabet.NoLetter as fault:
+        raise Wrong(f"`{fault.letter}` is no letter of the 7-bit alphabet") from None
 
 
 def eight_bit(text):

@@ -1,5 +1,6 @@
 // What the bytes of standard files say, by their kinds of content.
-import { bigEndian, hexByte, hexed, isBlank, trimmed } from "./bytes.js";
+import { nameOf } from "./alphabet.js";
+import { bigEndian, hexByte, hexed, isBlank } from "./bytes.js";
 import { services } from "./names.js";
 import { ruleWords, shortObjects } from "./rules.js";
 
@@ -95,16 +96,6 @@ function plmnsByAccess(bytes) {
     return found.join(", ") || "none";
 }
 
-// A name of 7-bit letters, one a byte, up to the first FF; UCS2 after 80.
-function nameOf(bytes) {
-    if (bytes[0] === 0x80) {
-        return parts(trimmed(bytes.slice(1)), 2).map((pair) => String.fromCharCode(bigEndian(pair))).join("");
-    }
-    const end = bytes.indexOf(0xff);
-    const letters = end < 0 ? bytes : bytes.slice(0, end);
-    return Array.from(letters, (byte) => (byte >= 0x20 && byte < 0x7f ? String.fromCharCode(byte) : `\\${hexByte(byte)}`)).join("");
-}
-
 export function dialledDigits(bytes, kind) {
     const digits = halves(bytes).map((half) => DIALLED[half]).join("").replace(/F+$/, "");
     return ((kind & 0x70) === 0x10 ? "+" : "") + digits;
@@ -198,7 +189,7 @@ function application(record) {
     const found = shortObjects(record.slice(2, 2 + record[1]));
     const label = found.find(({ tag }) => tag === 0x50)?.value;
     const name = found.find(({ tag }) => tag === 0x4f)?.value;
-    return `${label ? String.fromCharCode(...label) : "no label"}, ${hexed(name ?? [])}`;
+    return `${label?.length ? nameOf(label) : "no label"}, ${hexed(name ?? [])}`;
 }
 
 function emergencyCode(record) {
