@@ -182,6 +182,11 @@ class Scripts(unittest.TestCase):
         ("df 7F1\ndf 7F20x\nef 7F206F07 t 1 - -\nfill 7F206F07 0 00\nstart\n", "play",
          [(1, "bad", "even number"), (2, "bad", "no `x`"), (3, "bad", "7F20 isn't there")]),
         ("ef 2FE2 t 40000 2 -\nfill 2FE2 0 00\nstart\n", "play", [(1, "bad", "SIZE")]),
+        (CARD + "start \nreset\n\napdu 00B0000000\ncut 0\n", "play",
+         [(3, "warning", "2F06"), (4, "bad", "nothing may stand after the last word, not even a space: start"), (8, "bad", "K is 1 to")]),
+        ("df 7F10\nStart\nreset\nuser ok\n", "play", [(2, "bad", "no line begins with `Start`: start"), (4, "bad", "for a handset")]),
+        ("start now\nuser ok\napdu 00\n", "phone", [(1, "bad", "`now` is too much"), (3, "bad", "a handset sends all")]),
+        (" start\nreset\nstart\nreset\nstart\n", "play", [(1, "bad", "a space stands at the beginning"), (5, "bad", "`start` stands once")]),
         ("start\r\nreset\r\n", "play", []),
         ("start\nreset\r", "play", [(2, "bad", "a carriage return")]),
     ]

@@ -88,6 +88,8 @@ class Reading:
         self.mode = mode
         self.card, self.steps, self.findings, self.lines = layout.Card(), [], [], []
         self.started, self.room = False, MOST_BYTES
+        # the only `start` so far is bad: lines after it are read as after a good one, and are not to blame for it
+        self.presumed = False
         # paths of files whose own lines are bad: lines that speak of them are not to blame for it
         self.doubtful = set()
 
@@ -109,16 +111,19 @@ class Reading:
         return True
 
     def _put(self, said, number):
-        if self.started:
+        if self.presumed and isinstance(said, Start):
+            self.presumed = False
+        elif self.started:
             why = may_follow(said, self.mode)
             if why is None:
                 self.steps.append((number, said))
+            else:
+                raise Wrong(why)
         else:
             why = may_stand_before(said, self.mode)
-            if why is None:
-                self._describe(said, number)
-        if why:
-            raise Wrong(why)
+            if why:
+                raise Wrong(why)
+            self._describe(said, number)
 
     def _describe(self, said, number):
         if isinstance(said, Start):
@@ -138,6 +143,8 @@ class Reading:
     def _find(self, number, kind, fault, said):
         if said is None and kind == BAD:
             self._doubt(self.lines[number - 1])
+            if not self.started and self.lines[number - 1].lower().split()[:1] == ["start"]:
+                self.started = self.presumed = True
         self.findings.append(Finding(number, kind, str(fault)))
 
     def _doubt(self, line):
