@@ -99,7 +99,7 @@ def manual_pages(tools, version):
     command = manual.text_in(staging.read("tools/uicc/command.py").decode()).format(tools=summaries)
     command = re.sub("^The command `uicc`: ", "", command)
     pages["uicc"] = manual.page_of("uicc", command, version.number, day)
-    pages["uicc_run"] = manual.program_page(program_help(), version.number, day)
+    pages["uicc_run"] = manual.program_page(program_help(), staging.read("docs/CARDS.md").decode(), version.number, day)
     return pages
 
 

@@ -95,13 +95,31 @@ def page_of(name, text, version, date):
     return "\n".join(without_doubles(lines)) + "\n"
 
 
-def program_page(text, version, date):
-    """The page of the program, from its page of help."""
+def images_in(text):
+    """The table of docs/CARDS.md on the file of an image: its head, and a row for each file."""
+    table = text[text.index("| the file |"):].partition("\n\n")[0]
+    head, _, *rows = ([cell.strip() for cell in line.strip("|").split("|")] for line in table.split("\n"))
+    return head, rows
+
+
+def lines_on_images(text):
+    """What becomes of the file of an image, with the status where a run can't have it."""
+    (_, *words), rows = images_in(text)
+    yield from (".SH FILES", "What becomes of the file of \\fB\\-\\-image\\fP, and with which status a run ends that can\'t have it:")
+    for file, *ends in rows:
+        yield from (".TP", escaped(f"the file {file}"))
+        yield from (line for word, end in zip(words, ends) for line in (escaped(f"{word}: {end}"), ".br"))
+    yield from (".PP", escaped("9 is the launcher's, which looks at the file before it runs the program, and says why on standard error. It ends "
+                               "with 9 too where it can run nothing."))
+
+
+def program_page(text, images, version, date):
+    """The page of the program, from its page of help and the document that has the table of images."""
     summary, _, rest = text.partition("\n\n")
     summary = " ".join(summary.split()).removeprefix("uicc_run ").rstrip(".")
     set_in = "\n".join("    " + line if line else line for line in rest.strip("\n").split("\n"))
     lines = [f'.TH "UICC_RUN" 1 "{date}" "uicc\\-run {version}" "uicc\\-run"', ".SH NAME", f"uicc_run \\- {escaped(summary)}",
-             ".SH DESCRIPTION", *lines_of(set_in)]
+             ".SH DESCRIPTION", *lines_of(set_in), *lines_on_images(images)]
     return "\n".join(without_doubles(lines)) + "\n"
 
 

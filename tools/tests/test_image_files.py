@@ -1,4 +1,6 @@
-"""What the program says and does of the file of an image, and that one program at a time has it. Wants the built program."""
+"""What the program and the launcher say and do of the file of an image, and that one program at a time has it. Wants the built
+program."""
+import contextlib
 import os
 import shutil
 import signal
@@ -7,7 +9,8 @@ import subprocess
 import tempfile
 import unittest
 
-import common  # noqa: F401 (the path)
+from common import TOOLS
+from installing import manual
 from uicc import NotBuilt, process
 
 SCRIPT = "ef 2FE2 t 4 2 -\nstart\napdu 00D6820002AABB\n"
@@ -154,6 +157,87 @@ class Images(unittest.TestCase):
         holder.wait()
         holder.stdin.close()
         self.assertEqual(ended(self.words("open"), READ_BACK), ("< AABBFFFF9000", 0, ""))
+
+
+@unittest.skipUnless(is_built(), "the program isn't built")
+class Launched(unittest.TestCase):
+    """The table of docs/CARDS.md, each row tried."""
+
+    def setUp(self):
+        folder = tempfile.TemporaryDirectory()
+        self.addCleanup(folder.cleanup)
+        self.path = os.path.join(folder.name, "card.img")
+        self.held = contextlib.ExitStack()
+        self.addCleanup(self.held.close)
+
+    def put(self, content):
+        with open(self.path, "wb") as image:
+            image.write(content)
+
+    def launch(self, word, *options, text=None):
+        words = [process.LAUNCHER, word, *(("1", "1") if word == "load" else ()), *options, "--image", self.path]
+        text = text or (READ_BACK if word == "open" else "ef 2FE2 t 4 2 -\nstart\n" if word == "phone" else SCRIPT)
+        return ended(words, text)
+
+    def image_of(self, *options):
+        self.assertEqual(self.launch("play", *options)[1], 0)
+
+    def hold(self):
+        """Another program has the file."""
+        self.image_of()
+        other = subprocess.Popen([process.LAUNCHER, "open", "--image", self.path], stdin=subprocess.PIPE, stdout=subprocess.PIPE, text=True)
+        self.held.callback(lambda: (other.communicate("reset\n", timeout=60)))
+        other.stdin.write("start\napdu 00\n")
+        other.stdin.flush()
+        self.assertEqual(other.stdout.readline(), "> 00\n")
+
+    # each file of the table, by how it is made
+    FILES = {
+        "isn't there": [lambda self: None], "is empty": [lambda self: self.put(b"")],
+        "is an image of the store that is named": [lambda self: self.image_of()],
+        "is an image of the other store": [lambda self: self.image_of("--store", "pages")],
+        "is a blank memory: all FF, or all 00": [lambda self: self.put(b"\xFF" * SIZE), lambda self: self.put(bytes(SIZE))],
+        "is no image: of another size, or it begins with other bytes": [
+            lambda self: self.put(b"start\n"), lambda self: self.put(bytes(SIZE + 1)), lambda self: self.put(b"#" * SIZE)],
+        "can't be opened, or another program has it": [lambda self: os.mkdir(self.path), hold],
+    }
+
+    def test_table(self):
+        with open(os.path.join(os.path.dirname(TOOLS), "docs", "CARDS.md"), encoding="utf-8") as text:
+            head, rows = manual.images_in(text.read())
+        self.assertEqual([row[0] for row in rows], list(self.FILES))
+        for file, *ends in rows:
+            for words, end in zip(head[1:], ends):
+                for word in words.replace("`", "").split(", "):
+                    for make in self.FILES[file]:
+                        with self.subTest(file=file, word=word):
+                            self.judge(word, end, make)
+
+    def judge(self, word, end, make):
+        make(self)
+        before = self.content()
+        line, status, said = self.launch(word)
+        self.held.close()
+        if end[0].isdigit():
+            self.assertEqual(status, int(end[0]), said)
+            self.assertTrue(line.startswith(end.split("`")[1] if "`" in end else ""), line)
+            self.assertTrue(said or status == 7)
+            self.assertEqual(self.content(), before)
+        else:
+            self.assertEqual(status, 0, said)
+            self.assertEqual(len(self.content()), SIZE if not before or len(before) == SIZE else len(before))
+        if "over the old one" in end:
+            self.assertIn("written over", said)
+        if os.path.isdir(self.path):
+            os.rmdir(self.path)
+        elif os.path.exists(self.path):
+            os.remove(self.path)
+
+    def content(self):
+        if not os.path.isfile(self.path):
+            return None
+        with open(self.path, "rb") as image:
+            return image.read()
 
 
 if __name__ == "__main__":

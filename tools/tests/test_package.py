@@ -140,6 +140,15 @@ class Texts(unittest.TestCase):
         for text, wanted in self.LINES:
             self.assertEqual(list(manual.lines_of(text)), wanted)
 
+    def test_images(self):
+        """The page of the program has the table of what becomes of the file of an image."""
+        text = "| the file | `play` | `open` |\n|---|---|---|\n| is empty | it is made | 9: it isn't |\n| is full | 6, `full` | 7 |\n\n| a | b |\n"
+        self.assertEqual(manual.images_in(text), (["the file", "`play`", "`open`"], [["is empty", "it is made", "9: it isn't"],
+                                                                                     ["is full", "6, `full`", "7"]]))
+        page = manual.program_page("uicc_run plays.\n\nusage: uicc_run play\n", text, "1", "2026-01-01")
+        self.assertIn(".SH FILES\n", page)
+        self.assertIn(".TP\nthe file is full\n\\fBplay\\fP: 6, \\fBfull\\fP\n.br\n\\fBopen\\fP: 7\n", page)
+
     def test_versions(self):
         """The module's version is the last one of CHANGELOG.md, and each version says what changed."""
         found = changes.versions()

@@ -28,11 +28,13 @@ class NoCard(Exception):
 
 
 def expect_store(content, store, path):
-    """NoCard, where an image isn't one of the store (the journal, where none is named): the program would lengthen a file that is too
-    short for it."""
-    if len(content) < JOURNAL_SIZE:
-        raise NoCard(f"it has {len(content):,} bytes, and an image has {JOURNAL_SIZE:,}, or {PAGES_SIZE:,} with --store pages: it holds no "
-                     f"card; `uicc_run play --image {path} < SCRIPT` makes one in it")
+    """NoCard, where a file is no image, or not one of the store (the journal, where none is named): the program would lengthen a file
+    that is too short for it."""
+    if not content:
+        raise NoCard(f"it has 0 bytes, and holds no card; `uicc_run play --image {path} < SCRIPT` makes one in it")
+    if len(content) not in (JOURNAL_SIZE, PAGES_SIZE):
+        raise NoCard(f"it is no image of a card: it has {len(content):,} bytes, and an image has {JOURNAL_SIZE:,}, or {PAGES_SIZE:,} with "
+                     "--store pages")
     if store != "pages" and is_paged(content):
         raise NoCard("it is an image of the other store: --store pages opens it")
     if store == "pages" and not is_paged(content):
