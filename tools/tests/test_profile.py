@@ -94,6 +94,36 @@ class Building(unittest.TestCase):
         self.assertIn("read: pin1", rules.shown(card.rule_file(file).record(file.rule[1])))
 
 
+    # what stands in a profile below `like = "usim"`, and the words of the rules of some files
+    DEFAULTS = [
+        ('[default]\nread = "pin1"\nupdate = "never"\n["7F10/6F99"]\nhex = "01"\n[EF_SPN]\nspn = "a"\n[EF_LI]\nlanguages = ["de"]\n',
+         {"2FE2": "read: always; update: never", "7F206FB7": "read: always; update: adm", "2F06": "read: always; update: adm",
+          "2F05": "read: always; update: pin1 or adm", "7F206F07": "read: pin1; update: adm",
+          # what the profile names goes by its [default], and keeps what the template says of it
+          "7F106F99": "read: pin1; update: never", "7F206F46": "read: pin1; update: never", "7F206F05": "read: pin1; update: pin1"}),
+        ('[default]\nread = "pin1"\n[EF_ICCID]\nread = "adm"\n', {"2FE2": "read: adm; update: never", "7F206FB7": "read: always; update: adm"}),
+        ('[default]\nread = "pin1"\n[EF_ICCID]\nrule = "none"\n', {"2FE2": None}),
+        ('["7F10/6F99"]\nhex = "01"\n', {"7F106F99": "read: always; update: adm"}),
+    ]
+
+    def test_the_rules_of_a_template_stay(self):
+        for text, wanted in self.DEFAULTS:
+            card = lint.read(profile.made_in(('like = "usim"\n' + text).encode(), "card.toml").text).card
+            for path, words in wanted.items():
+                with self.subTest(text=text, path=path):
+                    file = card.files[tuple(path[n:n + 4] for n in range(0, len(path), 4))]
+                    self.assertEqual(file.rule and "; ".join(f"{operation}: {rules.in_words(access.condition(card, file, operation))}"
+                                                             for operation in ("read", "update")), words)
+
+    def test_what_everybody_must_read(self):
+        """check tells of a file that must be readable, and that asks for a PIN."""
+        for rule, said in (("pin1", True), ("always", False), ("pin2", False)):
+            text = f'like = "usim"\n[pins]\npin2 = {{ on = false }}\n[EF_ECC]\nread = "{rule}"\n'
+            found = list(checking.findings(lint.read(profile.made_in(text.encode(), "card.toml").text).card, "usim"))
+            line = f"7F20/6FB7 EF.ECC: everybody must be able to read it, and its rule says `{rule}`"
+            self.assertEqual(line in found, said, found)
+
+
 class Mistakes(unittest.TestCase):
     """Everyday mistakes: each is told with its line, what is wrong, and what would be right."""
     HEAD = 'like = "usim"\n'

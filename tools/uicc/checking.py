@@ -1,7 +1,9 @@
 """Whether a card is as it should be: the mandatory files of its kind, their shapes, what they hold, their services and rules."""
-from . import access, contents, names, tree
+from . import access, contents, names, rules, tree
 from .coding import BadContent
 
+# what a terminal reads before a PIN is entered (ETSI TS 102 221, 13; 3GPP TS 31.102, 4.2)
+READ_BY_ALL = {("2F00",), ("2F05",), ("2F06",), ("2FE2",), ("7F20", "6F46"), ("7F20", "6FAD"), ("7F20", "6FB7")}
 # the service table of a kind of card
 TABLES = {"usim": (("7F20", "6F38"), "ust"), "sim": (("7F20", "6F38"), "sst")}
 
@@ -17,9 +19,20 @@ def findings(card, kind):
     for file in card.files.values():
         if not file.is_df:
             yield from wrong_file(card, file, usim)
+    yield from unreadable(card, usim)
     yield from wrong_services(card, kind)
     for files, rule, why in access.pointless(card):
         yield f"{names.shown(files[0].path, usim)}, rule {rule[0]}:{rule[1]}, {why}{access.others(files)}"
+
+
+def unreadable(card, usim):
+    """Files that everybody must be able to read, and that ask for a PIN."""
+    for path in sorted(READ_BY_ALL & card.files.keys()):
+        file = card.files[path]
+        if file.rule and not card.about_rule(file):
+            asked = access.condition(card, file, "read")
+            if access.effective(card, asked) != access.EVERYBODY:
+                yield f"{names.shown(path, usim)}: everybody must be able to read it, and its rule says `{rules.in_words(asked)}`"
 
 
 def standard_path(entry, kind):

@@ -76,7 +76,22 @@ def over_template(given):
     wrong = forms.TEXT.wrong(like)
     if wrong:
         raise BadProfile(f"like {wrong}: like = \"usim\"", "like")
-    return merged(template(like), {name: value for name, value in given.items() if name != "like"})
+    return merged(with_own_rules(template(like), given), {name: value for name, value in given.items() if name != "like"})
+
+
+def with_own_rules(base, given):
+    """A template whose files keep the rules of its own [default], where a profile has another one and doesn't name the file: some of
+    them everybody has to be able to read."""
+    if not isinstance(given.get("default"), dict):
+        return base
+    named = {same_file(base, name) for name, value in given.items() if is_file_table(name, value)}
+    return {name: {**base.get("default", {}), **value} if is_file_table(name, value) and name not in named and goes_by_default(name, value)
+            else value for name, value in base.items()}
+
+
+def goes_by_default(name, given):
+    """Whether the words of [default] hold for a file: EF_ARR has a rule of its own, and a folder has none."""
+    return "rule" not in given and given != {"folder": True} and path_of(name) != ARR
 
 
 def template(name):
