@@ -205,7 +205,7 @@ class Batch(unittest.TestCase):
         (HEAD + GOOD + GOOD.splitlines()[0] + "\n", "line 7: its iccid 8999901000000000005 is that of line 2"),
         (HEAD + f"{ONE},001010000000000,,,\n" + GOOD.splitlines()[0] + "\n", "line 3: its imsi 001010000000000 is that of line 2"),
         (HEAD + f"{ONE},1,,,\n", "line 2: [EF_IMSI] imsi: an IMSI has 6 to 15 digits"),
-        (HEAD + f"{ONE},,12,,\n", "line 2: [pins] pin1: a value is 4 to 8 digits"),
+        (HEAD + f"{ONE},,12,,\n", "line 2: [pins] pin1 value: a value is 4 to 8 digits"),
         (HEAD + f'{ONE},"a\n', "line 2: "),
     ]
 

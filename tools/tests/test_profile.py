@@ -181,6 +181,47 @@ class Mistakes(unittest.TestCase):
             for reason, part in zip(told, reasons):
                 self.assertTrue(reason.startswith("card.toml, " + part), reason)
 
+    # a profile, and all that is said of it in one run, by the beginning of each line
+    TOGETHER = [
+        ('like = "usin"\ncolour = 1\n[pins]\npin1 = { value = "12", unblock = "1" }\npuk1 = "1"\n[default]\nread = "al"\nupdate = "adm1"\n'
+         '[EF_IMSI]\nimsi = "12"\nshort = 99\n[EF_ACC]\nacc = [9, 10, 2, 17]\nread = "pin3"\n[EF_SPN]\nspn = "too long for the file"\n'
+         '[EF_ADN]\nentries = [{ name = "A", number = "x" }, { name = "B", number = "1" }, { nme = "C", number = 1 }]\n[EF_PNNN]\nhex = "00"\n'
+         '["7F20/6F46"]\nhex = "00"\n[[applet]]\nkind = "table"\non = { locaton = ["shw A"], location = ["tone"] }\n'
+         '[[applet]]\nkind = "tabel"\n',
+         ['line 1: like = "usin": there is no such template', "line 2: `colour` isn't known", "line 4: [pins] pin1 unblock: a value is",
+          "line 4: [pins] pin1 value: a value is", "line 5: [pins] puk1 isn't known", "line 7: [default] read: `al` is no condition",
+          "line 8: [default] update: `adm1` is no condition", "line 10: [EF_IMSI] imsi: an IMSI has", "line 11: [EF_IMSI] short is 99",
+          "line 13: [EF_ACC] acc: entry 2: an access control class is", "line 13: [EF_ACC] acc: entry 4: an access control class is",
+          "line 14: [EF_ACC] read: `pin3` is no condition", "line 16: [EF_SPN] spn: `too long for the file` has 21 bytes",
+          "line 18: [EF_ADN] entries has a wrong entry 3: it has a wrong `nme`: it isn't known: `name` is",
+          "line 18: [EF_ADN] entries has a wrong entry 3: it has a wrong `number`: it is a number", "line 19: [EF_PNNN] EF_PNNN: no standard",
+          'line 21: ["7F20/6F46"] is the same file as [EF_SPN]', "line 23: [[applet]]: the applet on shelf 6: `locaton` is no event",
+          "line 23: [[applet]]: the applet on shelf 6: `shw A` is no action", "line 23: [[applet]]: the applet on shelf 6: `tone`: tone has",
+          "line 26: [[applet]]: an applet has a shelf, or a kind"]),
+        # what comes of a fault isn't told: a size, a content, and a file that is missing
+        ('like = "usim"\n[EF_SPN]\nspn = "too long for the file"\nsize = "40"\n', ["line 4: [EF_SPN] size is text"]),
+        ('[EF_SPN]\nsp = "x"\n["7F10/6F99"]\nhx = "00"\n', ["line 2: [EF_SPN] sp isn't known", 'line 4: ["7F10/6F99"] hx isn\'t known']),
+        # what only the script shows comes with the rest
+        ('like = "usim"\n[EF_SPN]\nspn = "A"\nshort = 7\n[EF_ACC]\nacc = [10]\n',
+         ["line 2: [EF_SPN]: the short identifier 7 is taken by", "line 6: [EF_ACC] acc: an access control class"]),
+        # lines that are no TOML: each that is wrong by itself, and what stands in the others
+        ('like = "usim"\n[EF_IMSI]\nimsi = 0123456\n[EF_SPN]\nspn = "Nord\n[EF_ACC]\nacc = [10]\n',
+         ["line 3: Expected newline or end of document after a statement: digits that begin with 0", "line 5: Illegal character",
+          "line 7: [EF_ACC] acc: an access"]),
+        ('like = "usim"\n[EF_IMSI\nimsi = "1"\n[EF_ACC]\nacc = [10]\n', ["line 2: Expected ']'"]),
+        ('like = "usim"\n[EF IMSI]\nimsi = "1"\n[EF_ACC]\nacc = [10]\n', ["line 2: Expected ']'", "line 5: [EF_ACC] acc: an access"]),
+        ('like = "usim"\n[EF_ADN]\nentries = [{ name = "A" },\n[EF_ACC]\nacc = [10]\n', ["line 4: Invalid value"]),
+    ]
+
+    def test_all_mistakes_in_one_run(self):
+        for text, reasons in self.TOGETHER:
+            with self.subTest(text=text), self.assertRaises(profile.BadProfile) as caught:
+                profile.made_in(text.encode(), "card.toml")
+            told = [fault.reason for fault in caught.exception.faults]
+            self.assertEqual(len(told), len(reasons), "\n".join(told))
+            for reason, part in zip(told, reasons):
+                self.assertTrue(reason.startswith("card.toml, " + part), f"{reason} is not {part}")
+
     def test_spoilt_profiles(self):
         """No mutation of a good profile gives a traceback, or a script that lint has something against."""
         self.assertTrue(profile.made_in(fuzz_profile.GOOD.encode(), "card.toml").lines)

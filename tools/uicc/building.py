@@ -3,7 +3,7 @@ import contextlib
 
 from . import coding, dump, fields, forms, grammar, layout, names, rules, structured, tree
 from .coding import BadContent
-from .profile_names import ARR, OPERATIONS, PIN_KEYS, BadProfile, Fault, is_arr_in_folder, is_file_table, path_of, told_origin
+from .profile_names import ARR, OPERATIONS, PIN_KEYS, Fault, is_arr_in_folder, is_file_table, path_of, told_origin
 
 KINDS = ("greeter", "menu", "clock", "watcher", "barrier", "notebook", "table")
 MOST_EVENTS = len(layout.EVENTS)
@@ -55,6 +55,18 @@ def records_described(path, given, entry, kind, short):
     return grammar.Ef(path, "c" if cyclic else "l", length, count, short, None), content
 
 
+def faults_of_entries(path, given, usim):
+    """What is wrong with each entry of a list of what a file holds, where it has several."""
+    key = next((key for key in given if key in fields.KEYS), None)
+    if key is None or not isinstance(given[key], list) or len(given[key]) < 2:
+        return
+    for place, entry in enumerate(given[key], 1):
+        try:
+            described(path, given | {key: [entry]}, usim)
+        except ValueError as fault:
+            yield f"entry {place}: {fault}"
+
+
 class Builder:
     """Makes the lines of a script of a profile, and notes of each line by which keys it is said."""
 
@@ -65,10 +77,9 @@ class Builder:
         self.rules, self.paths, self.faults = [], [], []
         self.arrs = {}
 
-    def script(self):
-        """The lines of the script. BadProfile, with all that is wrong."""
-        with self._told("default"):
-            rules.written(self.default)
+    def build(self):
+        """Makes the lines of the script, but for those of which `faults` say why they can't be made."""
+        self.default = {operation: who for operation, who in self.default.items() if self._is_condition(operation, who, "default")}
         files = [(name, value) for name, value in self.profile.items() if is_file_table(name, value)]
         for name, given in files:
             if is_arr_in_folder(path_of(name)):
@@ -86,9 +97,6 @@ class Builder:
             self._put(path, file, rule)
         self._applets()
         self._emit("start")
-        if self.faults:
-            raise BadProfile(self.faults)
-        return self.lines
 
     @contextlib.contextmanager
     def _told(self, *path):
@@ -130,16 +138,20 @@ class Builder:
             self.rules.append(content)
         return "2F06", self.rules.index(content) + 1
 
+    def _is_condition(self, operation, who, *path):
+        """Whether words say who may do something; a fault, where they don't."""
+        before = len(self.faults)
+        with self._told(*path, operation):
+            rules.written({operation: who})
+        return len(self.faults) == before
+
     def _rule_of(self, name, given):
         """The rule of a file: the identifier of an EF_ARR and the number of a record; None where it has none."""
         if "rule" in given:
             return None if given["rule"] in ("none", "-") else grammar.read_rule(given["rule"])
-        before = len(self.faults)
-        for operation in OPERATIONS:
-            if operation in given:
-                with self._told(name, operation):
-                    rules.written({operation: given[operation]})
-        return self._rule({**self.default, **given}, path_of(name)) if len(self.faults) == before else None
+        wrong = [operation for operation in OPERATIONS
+                 if operation in given and not self._is_condition(operation, given[operation], name)]
+        return None if wrong else self._rule({**self.default, **given}, path_of(name))
 
     def _kept_rules(self, name, given):
         """The records of EF_ARR that the profile has as they are: they keep their numbers."""
@@ -172,8 +184,13 @@ class Builder:
         rule = None
         with self._told(name):
             rule = self._rule_of(name, given)
-        with self._told(name, *(key for key in given if key in fields.KEYS)):
+        try:
             return name, path, described(path, given, self.usim), rule
+        except ValueError as fault:
+            keys = [key for key in given if key in fields.KEYS]
+            for reason in list(faults_of_entries(path, given, self.usim)) or [fault]:
+                with self._told(name, *keys):
+                    raise BadContent(reason) from None
         return None
 
     # lines
@@ -182,11 +199,14 @@ class Builder:
         pins = self.profile.get("pins", {})
         for name, given in pins.items():
             self.origin = ("pins", name)
-            with self._told("pins", name):
-                value, unblock = (pin_value(given.get(what, "00000000")) for what in ("value", "unblock"))
+            found = {}
+            for what in ("value", "unblock"):
+                with self._told("pins", name, what):
+                    found[what] = pin_value(given.get(what, "00000000"))
+            if len(found) == 2:
                 on = given.get("on", True)
                 self.say(f"{names.key(PIN_KEYS[name])}: {given.get('value', '00000000')}, {'on' if on else 'off'}")
-                self._emit(f"pin {PIN_KEYS[name]:02X} {value} {'on' if on else 'off'} {unblock}")
+                self._emit(f"pin {PIN_KEYS[name]:02X} {found['value']} {'on' if on else 'off'} {found['unblock']}")
         if pins:
             self._emit("")
 
@@ -239,16 +259,21 @@ class Builder:
     # applets
 
     def _applets(self):
-        applets = self.profile.get("applet", [])
-        taken = [applet["shelf"] for applet in applets if "shelf" in applet]
-        for place, applet in enumerate(applets):
+        applets = [(place, applet) for place, applet in enumerate(self.profile.get("applet", [])) if applet is not None]
+        taken = [applet["shelf"] for _, applet in applets if "shelf" in applet]
+        for place, applet in applets:
             self.origin = ("applet", place)
             with self._told("applet", place):
                 shelf = applet.get("shelf")
                 if shelf is None:
                     shelf = free_shelf(applet.get("kind"), taken)
                     taken.append(shelf)
-                self._applet(shelf, applet)
+                wrong = list(faults_of_words(applet))
+                for reason in wrong:
+                    with self._told("applet", place):
+                        raise BadContent(f"the applet on shelf {shelf}: {reason}")
+                if not wrong:
+                    self._applet(shelf, applet)
 
     def _applet(self, shelf, applet):
         try:
@@ -312,15 +337,34 @@ def event_code(word):
     return int(words[word], 16)
 
 
+def faults_of_words(applet):
+    """What is wrong with each word of an applet's table."""
+    for event, actions in applet.get("on", {}).items():
+        yield from told_by(event_code, event)
+        wrong = forms.TEXTS.wrong(actions)
+        if wrong:
+            yield f"on: `{event}` {wrong}: on = {{ location = [\"show A\"] }}"
+            continue
+        for action in actions:
+            yield from told_by(action_bytes, action)
+    for event in applet.get("events", ()):
+        yield from told_by(event_code, event)
+    if "keeps" in applet and "keeps_text" in applet:
+        yield "what it keeps is said by `keeps` and by `keeps_text`, and one of them does"
+    yield from told_by(structured.hexadecimal, applet.get("keeps", ""))
+
+
+def told_by(read, word):
+    """Why a word can't be read; nothing where it can."""
+    try:
+        read(word)
+    except ValueError as fault:
+        yield str(fault)
+
+
 def applet_content(applet):
     """The data of a `row` line: the codes of events, the menu text, and what the applet keeps."""
     on = applet.get("on", {})
-    for event, actions in on.items():
-        wrong = forms.TEXTS.wrong(actions)
-        if wrong:
-            raise BadContent(f"on: `{event}` {wrong}: on = {{ location = [\"show A\"] }}")
-    if "keeps" in applet and "keeps_text" in applet:
-        raise BadContent("what it keeps is said by `keeps` and by `keeps_text`, and one of them does")
     kept = structured.hexadecimal(applet.get("keeps", "")) or applet.get("keeps_text", "").encode()
     kept += b"".join(bytes((event_code(event),)) + action_bytes(text) for event, actions in on.items() for text in actions)
     if "events" in applet:

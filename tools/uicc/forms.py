@@ -36,7 +36,19 @@ class Form:
         return isinstance(value, self.classes) and (bool in self.classes or not isinstance(value, bool))
 
     def wrong(self, value):
-        return None if self.is_of(value) else f"is {called(value)}, and has to be {self.name}"
+        """The first thing that is wrong with a value; None where nothing is."""
+        return next(self.faults(value), None)
+
+    def faults(self, value):
+        """All that is wrong with a value."""
+        if self.is_of(value):
+            yield from self.faults_within(value)
+        else:
+            yield f"is {called(value)}, and has to be {self.name}"
+
+    def faults_within(self, _value):
+        """All that is wrong with a value of these classes."""
+        return iter(())
 
 
 class Bounded(Form):
@@ -46,11 +58,9 @@ class Bounded(Form):
         super().__init__(f"a number from {least} to {most}", int)
         self.least, self.most = least, most
 
-    def wrong(self, value):
-        wrong = super().wrong(value)
-        if wrong is None and not self.least <= value <= self.most:
-            return f"is {value}, and has to be {self.name}"
-        return wrong
+    def faults_within(self, value):
+        if not self.least <= value <= self.most:
+            yield f"is {value}, and has to be {self.name}"
 
 
 class ListOf(Form):
@@ -58,15 +68,9 @@ class ListOf(Form):
         super().__init__(f"a list of {name}", list)
         self.one = one
 
-    def wrong(self, value):
-        wrong = super().wrong(value)
-        if wrong:
-            return wrong
+    def faults_within(self, value):
         for place, each in enumerate(value, 1):
-            wrong = self.one.wrong(each)
-            if wrong:
-                return f"has a wrong entry {place}: it {wrong}"
-        return None
+            yield from (f"has a wrong entry {place}: it {wrong}" for wrong in self.one.faults(each))
 
 
 class TableOf(Form):
@@ -76,16 +80,15 @@ class TableOf(Form):
         super().__init__(f"a table of {', '.join(keys)}", dict)
         self.keys, self.needed, self.slips = keys, needed, slips or {}
 
-    def wrong(self, value):
-        wrong = super().wrong(value)
-        if wrong:
-            return wrong
+    def faults_within(self, value):
         for key, each in value.items():
-            wrong = self.wrong_key(key) or self.keys[key].wrong(each)
-            if wrong:
-                return f"has a wrong `{key}`: it {wrong}"
-        missing = [key for key in self.needed if key not in value]
-        return f"has no `{missing[0]}`" if missing else None
+            yield from (f"has a wrong `{key}`: it {wrong}" for wrong in self.faults_of_key(key, each))
+        yield from (f"has no `{key}`" for key in self.needed if key not in value)
+
+    def faults_of_key(self, key, value):
+        """All that is wrong with a key and its value."""
+        why = self.wrong_key(key)
+        return iter((why,)) if why else self.keys[key].faults(value)
 
     def wrong_key(self, key):
         """Why a key has no place in the table; None where it has one."""
@@ -97,17 +100,15 @@ class TableOf(Form):
         return f"isn't known: `{meant}` is" if meant else f"isn't known: {', '.join(self.keys)} are"
 
 
-class OneOf:
+class OneOf(Form):
     """A value that is of one of two forms; of a table the second one says what is wrong."""
 
     def __init__(self, simple, table):
+        super().__init__(f"{simple.name}, or {table.name}", *simple.classes, *table.classes)
         self.simple, self.table = simple, table
-        self.name = f"{simple.name}, or {table.name}"
 
-    def wrong(self, value):
-        if isinstance(value, dict):
-            return self.table.wrong(value)
-        return None if self.simple.wrong(value) is None else f"is {called(value)}, and has to be {self.name}"
+    def faults_within(self, value):
+        return (self.table if isinstance(value, dict) else self.simple).faults(value)
 
 
 TEXT = Form("text in quotes", str)

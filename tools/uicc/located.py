@@ -32,6 +32,47 @@ def read(content):
         raise Unreadable(f"a value in it can't be read: {fault}") from None
 
 
+def read_on(content):
+    """The tables of a file's bytes, its text, and what can't be read of it. A line that is no TOML by itself is passed over; there are no
+    tables where that doesn't help."""
+    faults = []
+    while True:
+        try:
+            given, text = read(content)
+            return given, text, faults
+        except Unreadable as fault:
+            if faults and (fault.line is None or fault.line <= faults[-1].line):
+                return None, None, faults
+            lines = content.split(b"\n")
+            if fault.line is None or not is_wrong_alone(lines[fault.line - 1]):
+                # it may come of what stands before it
+                return None, None, faults or [fault]
+            faults.append(fault)
+            for place in range(fault.line - 1, end_of(lines, fault.line - 1)):
+                lines[place] = b""
+            content = b"\n".join(lines)
+
+
+def is_wrong_alone(line):
+    """Whether a line is wrong by itself, and not for what stands before or after it."""
+    if any(line.count(one) != line.count(other) for one, other in ((b"[", b"]"), (b"{", b"}"))) or b'"""' in line or b"'''" in line:
+        return False
+    try:
+        tomllib.loads(line.decode())
+    except (ValueError, RecursionError):
+        return True
+    return False
+
+
+def end_of(lines, place):
+    """The place after a line, or after the table whose head it is."""
+    end = place + 1
+    if lines[place].lstrip().startswith(b"["):
+        while end < len(lines) and not lines[end].lstrip().startswith(b"["):
+            end += 1
+    return end
+
+
 def deepest(text):
     """The line with the most brackets."""
     lines = lines_in(text)

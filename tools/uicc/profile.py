@@ -16,6 +16,8 @@ __all__ = ["ARR", "KINDS", "OF_FILE", "PIN_KEYS", "BadProfile", "build", "descri
            "merged", "nearest_arr", "path_of", "path_or_none", "tables_in", "template"]
 
 TEMPLATES = os.path.join(names.DATA, "profiles")
+# the keys of a file's table that say its shape
+SHAPE = ("size", "length", "count", "cyclic")
 # what a reason says of the lines of a script
 OF_SCRIPT = re.compile(r" \(line \d+\)")
 
@@ -38,12 +40,12 @@ def made_of(path):
 
 
 def made_in(content, name):
-    """What a profile's bytes become, which are called so."""
-    given, text = read(content, name)
-    try:
-        lines, warnings = made(over_template(given))
-    except BadProfile as bad:
-        raise BadProfile(with_lines(bad.faults, name, text)) from None
+    """What a profile's bytes become, which are called so. BadProfile, with all that is wrong."""
+    given, text, unread = read(content, name)
+    tables, faults = laid_over_template(given)
+    lines, warnings, more = judged(tables, bool(faults or unread))
+    if unread or faults or more:
+        raise BadProfile(with_lines(faults + more, name, text, unread))
     return Made(lines, [fault.reason for fault in with_lines(warnings, name, text)])
 
 
@@ -54,29 +56,44 @@ def tables_in(content, name):
 
 
 def read(content, name):
-    """The tables of a profile's bytes as they stand, and its text."""
-    try:
-        return located.read(content)
-    except located.Unreadable as fault:
-        where = f", line {fault.line}" if fault.line else ""
-        raise BadProfile(f"{name}{where}: {fault}") from None
+    """The tables of a profile's bytes as they stand, its text, and what can't be read of it, a line and a reason each. BadProfile, where
+    nothing can be read after that."""
+    given, text, unread = located.read_on(content)
+    if given is None:
+        raise BadProfile([Fault((), f"{name}{f', line {fault.line}' if fault.line else ''}: {fault}") for fault in unread])
+    return given, text, unread
 
 
-def with_lines(faults, name, text):
+def with_lines(faults, name, text, unread=()):
     """Faults with the lines of a file that they are of, in the order of these."""
-    if not faults:
+    if not faults and not unread:
         return []
     lines = located.Lines(text)
-    return [Fault((), f"{name}, line {line}: {reason}") for line, reason in sorted({(lines.of(path), reason) for path, reason in faults})]
+    found = {(lines.of(path), reason) for path, reason in faults} | {(fault.line, str(fault)) for fault in unread}
+    return [Fault((), f"{name}, line {line}: {reason}") for line, reason in sorted(found)]
 
 
 def over_template(given):
-    """A profile over the template that it is like."""
-    like = given.get("like", "none")
+    """A profile over the template that it is like. BadProfile, where it can't be laid over one."""
+    found, faults = laid_over_template(given)
+    if faults:
+        raise BadProfile(faults)
+    return found
+
+
+def laid_over_template(given):
+    """A profile over the template that it is like, as far as it can be, and why it can't be."""
+    like, faults, base = given.get("like", "none"), [], {}
     wrong = forms.TEXT.wrong(like)
     if wrong:
-        raise BadProfile(f"like {wrong}: like = \"usim\"", "like")
-    return merged(with_own_rules(template(like), given), {name: value for name, value in given.items() if name != "like"})
+        faults.append(Fault(("like",), f"like {wrong}: like = \"usim\""))
+    else:
+        try:
+            base = template(like)
+        except BadProfile as bad:
+            faults += bad.faults
+    own = {name: value for name, value in given.items() if name != "like"}
+    return merged(with_own_rules(base, given), own, faults), faults
 
 
 def with_own_rules(base, given):
@@ -107,19 +124,22 @@ def template_names():
     return sorted(file.removesuffix(".toml") for file in os.listdir(TEMPLATES))
 
 
-def merged(base, given):
+def merged(base, given, faults=None):
     """The tables of a template with those of a profile over them; a file is one whatever it is called, and a PIN keeps what isn't told
-    anew."""
-    found = copy.deepcopy(base)
+    anew. What is wrong is put to `faults`, where there are such, and is a BadProfile otherwise."""
+    found, faults, is_raised = copy.deepcopy(base), [] if faults is None else faults, faults is None
     for name, value in given.items():
         at = same_file(found, name) if is_file_table(name, value) else name
         if at != name and at in given:
-            raise BadProfile(f"{shown_name(name)} is the same file as {shown_name(at)}", name)
+            faults.append(Fault((name,), f"{shown_name(name)} is the same file as {shown_name(at)}"))
+            continue
         if isinstance(value, dict) and isinstance(found.get(at), dict):
             value = laid_over(found[at], value)
         # it is called as here from now on, where that leads to the same place
         found = {name if key == at and same_path(at, name) else key: each for key, each in found.items()}
         found[name if name in found else at] = value
+    if is_raised and faults:
+        raise BadProfile(faults)
     return found
 
 
@@ -152,24 +172,67 @@ def build(profile):
 
 
 def made(profile):
-    """The lines of the script of a profile, and what is doubtful in it: a fault each."""
+    """The lines of the script of a profile, and what is doubtful in it: a fault each. BadProfile, with all that is wrong."""
+    lines, doubtful, faults = judged(profile)
+    if faults:
+        raise BadProfile(faults)
+    return lines, doubtful
+
+
+def judged(profile, is_part=False):
+    """The lines of the script of a profile, what is doubtful in it and what is wrong with it: a fault each. A key with a fault is left out
+    for what is found after it; what may come of that is no fault, and neither is what may be missing in the part of a profile."""
     faults = list(faults_at_top(profile))
     tables = [(name, value) for name, value in profile.items() if is_file_table(name, value)]
     usim = is_usim(path for name, _ in tables if (path := path_or_none(name)))
     for name, value in tables:
         faults += faults_of_file(name, value, usim)
-    if faults:
-        raise BadProfile(faults)
-    builder = Builder(profile, usim)
-    lines = builder.script()
+    builder = Builder(without(profile, [fault.path for fault in faults]), usim)
+    builder.build()
+    faults += [fault for fault in builder.faults if is_own(fault, faults, is_part)]
+    bad, doubtful = findings_in(builder)
+    spoilt = {part_of(fault.path) for fault in faults}
+    return builder.lines, doubtful, faults + [fault for fault in bad if not is_part and part_of(fault.path) not in spoilt]
+
+
+def findings_in(builder):
+    """What lint finds bad in the lines that were made, and what doubtful: a fault each."""
     bad, doubtful = [], []
-    for finding in lint.read("".join(line + "\n" for line in lines)).findings:
-        origin = builder.origins[min(finding.line, len(lines)) - 1]
+    for finding in lint.read("".join(line + "\n" for line in builder.lines)).findings:
+        origin = builder.origins[min(finding.line, len(builder.lines)) - 1]
         fault = Fault(origin, f"{told_origin(origin)}: {OF_SCRIPT.sub('', finding.reason)}")
         (bad if finding.kind in lint.STATUSES else doubtful).append(fault)
-    if bad:
-        raise BadProfile(bad)
-    return lines, doubtful
+    return bad, doubtful
+
+
+def part_of(path):
+    """The keys that lead to the file, the PIN or the applet that keys lead to."""
+    return path[:2] if path[:1] in (("pins",), ("applet",)) else path[:1]
+
+
+def is_own(fault, before, is_part):
+    """Whether a fault is none that may come of those before it in its table: it is of a key, and none of these is of the file's shape."""
+    part = part_of(fault.path)
+    found = [other.path for other in before if part_of(other.path) == part]
+    if not found and (not is_part or part[0] == "applet"):
+        return True
+    return len(fault.path) > len(part) and not any(key in SHAPE for path in found for key in path[len(part):])
+
+
+def without(profile, paths):
+    """A profile without the keys at some paths."""
+    found = copy.deepcopy(profile)
+    # from the last entry of a list to the first
+    for *above, last in sorted(set(paths), key=lambda path: [(isinstance(key, int), str(key).zfill(9)) for key in path], reverse=True):
+        table = found
+        for key in above:
+            table = table[key] if isinstance(table, list) or key in table else {}
+        if isinstance(table, list):
+            # the others keep their places
+            table[last] = None
+        else:
+            table.pop(last, None)
+    return found
 
 
 def is_usim(paths):

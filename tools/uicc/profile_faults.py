@@ -71,13 +71,11 @@ def faults_of_table(name, value, form, example):
 
 def faults_of_part(head, value, form, example):
     if not isinstance(form, forms.TableOf) or not isinstance(value, dict):
-        wrong = form.wrong(value)
-        if wrong:
+        for wrong in form.faults(value):
             yield (), dump.printable(f"{head.strip('[]')} {wrong}: {example}")
         return
     for key, each in value.items():
-        wrong = form.wrong_key(key) or form.keys[key].wrong(each)
-        if wrong:
+        for wrong in form.faults_of_key(key, each):
             yield (key,), dump.printable(f"{head} {key} {wrong}" + (f": {key} = {EXAMPLES[key]}" if key in EXAMPLES else ""))
 
 
@@ -105,12 +103,12 @@ def faults_of_keys(path, given, entry):
     for key, value in given.items():
         if key in OF_FILE:
             form, example = OF_FILE[key]
-            wrong = form.wrong(value)
+            found = form.faults(value)
         elif key in fields.KEYS:
-            wrong, example = wrong_content(key, value, entry)
+            found, example = faults_of_content(key, value, entry)
         else:
-            wrong, example = about_key(key, value, entry), None
-        if wrong:
+            found, example = [about_key(key, value, entry)], None
+        for wrong in found:
             yield (key,), dump.printable(f"{key} {wrong}" + (f": {key} = {example}" if example else ""))
     if len(told) > 1:
         yield (told[1],), f"says what it holds by {' and '.join(told)}, and one of them does"
@@ -123,12 +121,13 @@ def is_folder(path, entry):
     return entry["name"].startswith(("DF.", "MF")) if entry else path[-1][:2] in ("3F", "5F", "7F")
 
 
-def wrong_content(key, value, entry):
+def faults_of_content(key, value, entry):
+    """What is wrong with what a file holds, and an example of what it may hold."""
     try:
         kind = fields.kind_for(key, entry)
     except BadContent as fault:
-        return str(fault), None
-    return kind.form.wrong(value), kind.example
+        return [str(fault)], None
+    return kind.form.faults(value), kind.example
 
 
 def about_key(key, value, entry):
