@@ -207,6 +207,33 @@ class Explain(unittest.TestCase):
         self.assertNotIn(-1, places)
         self.assertEqual(places, sorted(places))
 
+    def test_image(self):
+        """The trace of a script that goes on with a card has the names of that card's files, and its refusals their causes."""
+        card = ("pin 01 31323334FFFFFFFF on 3132333435363738\nef 2F06 l 11 1 - -\nrec 2F06 1 800101A406830101950108\n"
+                "df 7F10\nef 7F106F3A l 28 2 1 -\nrec 7F106F3A 1 416E6E61" + "FF" * 10 + "0791947110325476FFFFFFFFFFFF\nef 2FE2 t 10 2 2F06:1\nstart\n")
+        going_on = "start\napdu 00A40004027F10\napdu 00B2010C1C\napdu 00A40004023F00\n# by its short identifier\napdu 00B0820004\n"
+        with tempfile.TemporaryDirectory() as folder:
+            path, script = os.path.join(folder, "card.img"), os.path.join(folder, "on.script")
+            with open(script, "w", encoding="ascii") as out:
+                out.write(going_on)
+            for options in ([], ["--store", "pages"]):
+                self.assertEqual(process.played(["play", *options, "--image", path], card)[1], 0)
+                shown = process.played(["open", *options, "--image", path], going_on)[0]
+                done = self.explain("--image", path, text="".join(line + "\n" for line in shown))
+                for part in ("READ RECORD 1 of the short identifier 1 (7F10/6F3A EF.ADN)", "EF.ADN: Anna: +4917012345",
+                             "6982 the access rule isn't satisfied: rule 2F06:1 asks for PIN 1 to read; PIN 1 isn't verified"):
+                    self.assertIn(part, done.stdout)
+                os.remove(path)
+            self.assertEqual(process.played(["play", "--image", path], card)[1], 0)
+            shown = process.played(["open", "--image", path], going_on)[0]
+            done = self.explain("--image", path, "--script", script, text="".join(line + "\n" for line in shown))
+            self.assertEqual((done.returncode, done.stderr), (0, ""))
+            for part in ("    3  > 00B2010C1C", "    5  # by its short identifier\n    6  > 00B0820004", "(2FE2 EF.ICCID)", "rule 2F06:1 asks for PIN 1"):
+                self.assertIn(part, done.stdout)
+            done = self.explain("--image", script, text="> 00\n< 9000\n")
+            self.assertEqual((done.returncode, done.stderr), (2, f"explain: {script}: it is no image of a card\n"))
+            self.assertEqual(self.explain("--image", path, "--phone").returncode, 2)
+
     def test_no_trace(self):
         self.assertEqual(self.explain(text="< 9000\n").returncode, 1)
         self.assertEqual(self.explain("/no/such/file").returncode, 2)
