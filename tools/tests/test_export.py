@@ -242,10 +242,38 @@ class Batch(unittest.TestCase):
         # the image holds the same card
         words = [sys.executable, "-B", os.path.join(TOOLS, "profile"), "diff", *(os.path.join(self.folder, number + ending) for ending in (".script", ".img"))]
         self.assertEqual(subprocess.run(words, capture_output=True, text=True, timeout=60, check=False).stdout, "the cards hold the same\n")
-        # nothing is written over
+
+    def held(self):
+        """What the files of the folder hold."""
+        return {name: stored.read(os.path.join(self.folder, name)) for name in os.listdir(self.folder)}
+
+    def test_a_folder_that_is_there(self):
+        """Cards go into it beside others; nothing is written where one would be written over, and force does so."""
+        lines = self.GOOD.splitlines(keepends=True)
+        names = [line.partition(",")[0] for line in lines]
+        self.assertEqual(self.batch(self.HEAD + lines[0], "--images").returncode, 0)
+        done = self.batch(self.HEAD + lines[1])
+        self.assertEqual((done.returncode, done.stderr), (0, ""))
+        self.assertIn(os.path.join(self.folder, "report-2.csv"), done.stdout)
+        before = self.held()
+        self.assertEqual(set(before), {names[0] + ".script", names[0] + ".img", names[1] + ".script", "report.csv", "report-2.csv"})
+        done = self.batch(self.HEAD + lines[2] + lines[1].replace(",001010000000001,", ",001010000000099,") + lines[0])
+        self.assertEqual((done.returncode, done.stdout), (2, ""))
+        there = ", ".join(os.path.join(self.folder, name + ".script") for name in (names[1], names[0]))
+        self.assertEqual(done.stderr, f"profile: nothing is written: {there} would be written over; --force does so\n")
+        self.assertEqual(self.held(), before)
+        done = self.batch(self.HEAD + lines[2] + lines[1].replace(",001010000000001,", ",001010000000099,") + lines[0], "--images", "--force")
+        self.assertEqual((done.returncode, done.stderr), (0, ""))
+        after = self.held()
+        self.assertEqual(set(after) - set(before), {names[1] + ".img", names[2] + ".script", names[2] + ".img", "report-3.csv"})
+        changed = {name for name in before if after[name] != before[name]}
+        self.assertEqual(changed, {names[1] + ".script"})
+
+    def test_a_file_in_the_place_of_the_folder(self):
+        self.put(self.folder, "mine")
         done = self.batch(self.HEAD + self.GOOD)
         self.assertEqual(done.returncode, 2)
-        self.assertIn("report.csv is there already: nothing is written (and 5 more are)", done.stderr)
+        self.assertEqual(stored.read(self.folder), b"mine")
 
     def test_wrong_lists(self):
         """Nothing is written where a row is wrong."""

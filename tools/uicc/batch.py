@@ -1,6 +1,8 @@
 """Many cards of one profile: a row of a list for each, with its numbers and PINs."""
+import contextlib
 import csv
 import io
+import itertools
 import os
 import subprocess
 
@@ -16,6 +18,8 @@ COLUMNS = {
 # what two cards may not have alike, and what they should not
 ALIKE, HARDLY_ALIKE = ("iccid", "imsi"), ("puk1", "puk2", "adm")
 REPORT = "report.csv"
+# how many files are named that would be lost
+MOST_NAMED = 10
 
 
 class BadList(Exception):
@@ -131,28 +135,56 @@ def cards(content, name, rows, list_name, step):
     return found
 
 
-def write(made, folder, with_images, step):
-    """A script for each card in a folder, and an image where they are wanted; then the report. Nothing that is there is written over."""
+def write(made, folder, with_images, with_force, step):
+    """A script for each card in a folder, and an image where they are wanted; then the report, whose path is answered. Cards that are
+    there are written over with force alone, and a report that is there stays beside the new one."""
     os.makedirs(folder, exist_ok=True)
     endings = (".script", ".img") if with_images else (".script",)
-    wanted = [REPORT, *(card.name + ending for card in made for ending in endings)]
-    there = [name for name in wanted if os.path.exists(os.path.join(folder, name))]
-    if there:
-        raise BadList(f"{os.path.join(folder, there[0])} is there already: nothing is written"
-                      + (f" (and {len(there) - 1} more are)" if there[1:] else ""))
+    if not with_force:
+        refuse_to_lose([os.path.join(folder, card.name + ending) for card in made for ending in endings])
     for card in made:
-        with open(os.path.join(folder, card.name + ".script"), "x", encoding=process.ENCODING, errors="replace", newline="\n") as out:
+        path = os.path.join(folder, card.name)
+        with whole_file(path + ".script") as made_first, open(made_first, "w", encoding=process.ENCODING, errors="replace", newline="\n") as out:
             out.write(card.made.text)
         if with_images:
-            make_image(card, os.path.join(folder, card.name + ".img"))
+            with whole_file(path + ".img") as made_first:
+                make_image(card, made_first)
         step()
-    with open(os.path.join(folder, REPORT), "x", encoding="utf-8", newline="") as out:
+    report = next(path for path in report_paths(folder) if not os.path.exists(path))
+    with open(report, "x", encoding="utf-8", newline="") as out:
         writer = csv.writer(out, lineterminator="\n")
         writer.writerow(["script", "line", "iccid", "imsi", "files", "to mend"])
         for card in made:
             files = sum(line.startswith("ef ") for line in card.made.lines)
             writer.writerow([card.name + ".script", card.line, card.values["iccid"], card.values.get("imsi", ""), files,
                              "; ".join(card.findings)])
+    return report
+
+
+def refuse_to_lose(paths):
+    """BadList, where some of these files are there: it names them."""
+    there = [path for path in paths if os.path.exists(path)]
+    if there:
+        more = f" and {len(there) - MOST_NAMED} more" if len(there) > MOST_NAMED else ""
+        raise BadList(f"nothing is written: {', '.join(there[:MOST_NAMED])}{more} would be written over; --force does so")
+
+
+def report_paths(folder):
+    """Where a report may be: report.csv, report-2.csv .."""
+    stem, ending = os.path.splitext(REPORT)
+    return (os.path.join(folder, stem + (f"-{number}" if number > 1 else "") + ending) for number in itertools.count(1))
+
+
+@contextlib.contextmanager
+def whole_file(path):
+    """A place beside a file, for what takes the file's place once all of it is there."""
+    made_first = path + ".new"
+    try:
+        yield made_first
+        os.replace(made_first, path)
+    finally:
+        with contextlib.suppress(FileNotFoundError):
+            os.remove(made_first)
 
 
 def make_image(card, path):
