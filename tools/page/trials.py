@@ -20,12 +20,18 @@ def expect(what, found, wanted):
         raise Wrong(f"{what}: {str(found)[:400]}, where {str(wanted)[:400]} is wanted")
 
 
-def play(browser, mode, script):
-    """Plays a script in the page, and answers its trace."""
+# whether each cut of the chosen line of this run was tried
+CUTS_ARE_DONE = ("uicc.cut.trials && uicc.cut.trials.played === uicc.played && uicc.cut.trials.line === uicc.line"
+                 " && uicc.cut.trials.outcomes.size === 4 * uicc.cut.trials.writes.length")
+
+
+def play(browser, mode, script, then=""):
+    """Plays a script in the page, and answers its trace. `then` is done at once after it."""
     browser.evaluate(f"""(async () => {{
         document.getElementById("mode").value = {json.dumps(mode)};
         uicc.script.text = {json.dumps(script)};
         await uicc.play();
+        {then};
     }})()""")
     return trace_shown(browser)
 
@@ -362,10 +368,32 @@ def bad_line(browser):
     return "a bad line"
 
 
+# the bytes of names in a file, and what the page shows of them
+NAMES = [
+    ("610062", "a@b"), ("0211", "$_"), ("7B7C7E1E05", "\u00E4\u00F6\u00FC\u00DF\u00E9"), ("1B281B651B2F", "{\u20AC\\"), ("1B410A", "\\1BA\\0A"),
+    ("80011B0061", "\u011Ba"), ("810308A1C2C0", "\u0421\u0442\u0440"), ("8204047F80818261", "\u047F\u0480\u0481a"),
+]
+
+
+def names_in_files(browser):
+    """A name in a file is read in each form that it may have."""
+    records = "".join(f"rec 7F106F3A {number} {digits.ljust(28, 'F')}{'FF' * 14}\n" for number, (digits, _) in enumerate(NAMES, 1))
+    play(browser, "play", f"df 7F10\nef 7F106F3A l 28 {len(NAMES)} - -\n{records}start\nreset\n")
+    browser.wait("document.querySelector('#files .tree')")
+    shown = text_of(browser, "#files")
+    expect("the names that aren't shown", [name for _, name in NAMES if f"{name}: no number" not in shown], [])
+    return f"{len(NAMES)} names"
+
+
 def many_writes(browser):
-    """The cuts of a line with many writes are all in sight, from side to side."""
-    play(browser, "play", "ef 2FE2 t 255 2 -\nstart\napdu 00D68200FF" + "AB" * 255 + "\n")
-    browser.wait("uicc.cut.trials && uicc.cut.trials.outcomes.size === 4 * uicc.cut.trials.writes.length")
+    """The cuts of a line with many writes are all in sight, from side to side; those of the line before end with the next run."""
+    play(browser, "play", "ef 2FE2 t 10 2 -\nstart\napdu 00D6820001AB\n")
+    browser.wait(CUTS_ARE_DONE)
+    play(browser, "play", "ef 2FE2 t 255 2 -\nstart\napdu 00D68200FF" + "AB" * 255 + "\n",
+         "globalThis.left = uicc.cut.trials === null && document.getElementById('cut').inert")
+    expect("whether the cuts of another script are left", browser.evaluate("left"), True)
+    browser.wait(CUTS_ARE_DONE)
+    expect("whether these cuts can be chosen", browser.evaluate("document.getElementById('cut').inert"), False)
     count = browser.evaluate("uicc.cut.trials.writes.length")
     expect("whether the line makes many writes", count > 6, True)
     for size in (WIDE, NARROW):
@@ -431,5 +459,6 @@ def trap(browser):
 
 
 ALL = (
-    typing, refuses, takes_back, narrow, keyboard, toolkit, first_sight, colours, causes, terms, bad_line, many_writes, words_of_a_script, link, trap,
+    typing, refuses, takes_back, narrow, keyboard, toolkit, first_sight, colours, causes, terms, bad_line, many_writes, names_in_files,
+    words_of_a_script, link, trap,
 )

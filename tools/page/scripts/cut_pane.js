@@ -23,11 +23,18 @@ export class CutPane {
         this.place.replaceChildren();
     }
 
+    // Ends the trials of a line that is left. They stay in sight up to those of the next line, and nothing of them can be chosen.
+    leave() {
+        this.trials = null;
+        this.place.inert = true;
+    }
+
     // Tries every cut of a line of a run; nothing where it can't be cut.
     async show(played, line) {
         const trials = played.script.isCarriedOut(line) ? new Trials(played, line) : null;
         this.trials = trials;
         this.at = null;
+        this.place.inert = false;
         if (!trials?.writes.length) {
             this.place.replaceChildren(element("p", { class: "faint" }, trials ? `Line ${line} writes nothing to the card's memory.`
                 : "Choose a step of the trace that a line of the script sends."));

@@ -365,6 +365,7 @@ class Page {
         const { played } = this;
         this.line = line;
         this.script.choose(line);
+        this.cut.leave();
         if (!played) {
             return;
         }
