@@ -1,7 +1,7 @@
 """Letters as codes: the default alphabet of 3GPP TS 23.038 (6.2.1), UCS2, and the forms of a name in a file (ETSI TS 102 221, annex A).
 
 A letter of the default alphabet is one code, or two, of which the first is the escape 1B. A name has them one a byte. One with other
-letters is in UCS2: behind 80 two bytes a letter; behind 81 and 82 one byte a letter, which is a code of the alphabet, or with its highest
+letters is in UCS2: after 80 two bytes a letter; after 81 and 82 one byte a letter, which is a code of the alphabet, or with its highest
 bit set the place of a letter among the 128 that begin at a base."""
 from .names import table
 

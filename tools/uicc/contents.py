@@ -27,7 +27,7 @@ def check_iccid(content):
 
 
 def luhn(digits):
-    """The check digit behind some digits (ITU-T E.118)."""
+    """The check digit after some digits (ITU-T E.118)."""
     total = 0
     for place, digit in enumerate(reversed(digits)):
         value = int(digit) * (1 if place % 2 else 2)
@@ -48,7 +48,7 @@ def decode_imsi(content):
     parity = coded[0] & 15
     digits = digits_of(bytes((coded[0] >> 4 | 0xF0,))) + digits_of(coded[1:length])
     if not is_blank(coded[length:]):
-        raise BadContent("bytes that are used stand behind its end")
+        raise BadContent("bytes that are used stand after its end")
     if parity not in (1, 9) or (parity == 9) != (len(digits) % 2 == 1):
         right = 9 if len(digits) % 2 else 1
         raise BadContent(f"its parity half byte is {parity:X}, and {right} for {len(digits)} digits")
@@ -89,7 +89,7 @@ def encode_plmns(plmns):
 
 
 def encode_plmns_act(plmns):
-    """Each is a PLMN, and behind it `by` and access technologies joined by +."""
+    """Each is a PLMN, and after it `by` and access technologies joined by +."""
     content = b""
     for text in plmns:
         plmn, _, by = text.partition(" by ")

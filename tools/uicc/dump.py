@@ -243,7 +243,7 @@ class Export:
 
 
 def two_parts(text):
-    """A name, and what stands in brackets behind it."""
+    """A name, and what stands in brackets after it."""
     found = re.fullmatch(r"(\S+)\s*(?:\((.*)\))?", text)
     return (found[1], found[2] or "") if found else (text, "")
 

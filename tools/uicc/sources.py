@@ -27,7 +27,7 @@ CITED = ("record", "data", "definition", "struct", "enum", "trait", "const")
 @dataclasses.dataclass(frozen=True)
 class Declared:
     """A name that a file declares. `home` is the crate and the module that a `use` names: `declared` for a file of src/, whatever stands
-    behind it (`TheVariants`, `TheConstants`, `TheInside`)."""
+    after it (`TheVariants`, `TheConstants`, `TheInside`)."""
     crate: str
     home: str
     name: str
