@@ -18,6 +18,8 @@ COLUMNS = {
 # what two cards may not have alike, and what they should not
 ALIKE, HARDLY_ALIKE = ("iccid", "imsi"), ("puk1", "puk2", "adm")
 REPORT = "report.csv"
+# the ending of a file that isn't whole yet
+NEW = ".new"
 # how many files are named that would be lost
 MOST_NAMED = 10
 
@@ -178,7 +180,7 @@ def report_paths(folder):
 @contextlib.contextmanager
 def whole_file(path):
     """A place beside a file, for what takes the file's place once all of it is there."""
-    made_first = path + ".new"
+    made_first = path + NEW
     try:
         yield made_first
         os.replace(made_first, path)
@@ -192,4 +194,4 @@ def make_image(card, path):
     done = subprocess.run([process.program(), "play", "--image", path], input=card.made.text, encoding=process.ENCODING, errors="replace",
                           stdout=subprocess.DEVNULL, stderr=subprocess.PIPE, check=False)
     if done.returncode:
-        raise BadList(f"{path} can't be made: uicc_run ended with {done.returncode} {done.stderr.strip()}".rstrip())
+        raise BadList(f"{path.removesuffix(NEW)} can't be made: uicc_run ended with {done.returncode} {done.stderr.strip()}".rstrip())
