@@ -368,6 +368,22 @@ def bad_line(browser):
     return "a bad line"
 
 
+def signs(browser):
+    """The sign of a line of the trace stands beside the first of its bytes."""
+    play(browser, "play", "ef 2FE2 t 200 2 -\nstart\napdu 00B08200C8\n")
+    for size in (NARROW, WIDE):
+        browser.size(*size)
+        expect("on how many lines a sign and its first digit stand", browser.evaluate("""(() => {
+            const range = document.createRange();
+            return [...document.querySelectorAll("#trace .passed")].map(({ firstChild: text }) => {
+                range.setStart(text, 0);
+                range.setEnd(text, 3);
+                return new Set([...range.getClientRects()].map(({ top }) => Math.round(top))).size;
+            });
+        })()"""), [1, 1])
+    return "a command and a long answer"
+
+
 # the bytes of names in a file, and what the page shows of them
 NAMES = [
     ("610062", "a@b"), ("0211", "$_"), ("7B7C7E1E05", "\u00E4\u00F6\u00FC\u00DF\u00E9"), ("1B281B651B2F", "{\u20AC\\"), ("1B410A", "\\1BA\\0A"),
@@ -460,5 +476,5 @@ def trap(browser):
 
 ALL = (
     typing, refuses, takes_back, narrow, keyboard, toolkit, first_sight, colours, causes, terms, bad_line, many_writes, names_in_files,
-    words_of_a_script, link, trap,
+    signs, words_of_a_script, link, trap,
 )

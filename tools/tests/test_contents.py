@@ -139,6 +139,7 @@ class Objects(unittest.TestCase):
 
 class Commands(unittest.TestCase):
     TITLES = [
+        ("00B0000001", "READ BINARY from byte 0, 1 byte"), ("00D6000101AA", "UPDATE BINARY from byte 1: 1 byte"),
         ("00A40004023F00", "SELECT by identifier 3F00"),
         ("00A4080C047F206F07", "SELECT by path from the MF 7F20/6F07, no data returned"),
         ("00B0820004", "READ BINARY of the short identifier 2, from byte 0, 4 bytes"),

@@ -26,6 +26,10 @@ def hexed(content):
     return content.hex().upper()
 
 
+def amount(count):
+    return f"{count} byte" if count == 1 else f"{count} bytes"
+
+
 def printable(content):
     return "".join(chr(byte) if 0x20 <= byte < 0x7F else "." for byte in content)
 
@@ -75,7 +79,7 @@ def path_text(data):
 
 
 def wanted(le):
-    return "" if le is None else f", {le or 256} bytes at most"
+    return "" if le is None else f", {amount(le or 256)} at most"
 
 
 def title(apdu):
@@ -103,8 +107,8 @@ def title_binary(apdu):
     else:
         where = f"from byte {apdu.p1 << 8 | apdu.p2}"
     if apdu.ins == READ_BINARY:
-        return f"{where}, {'all up to 256' if apdu.le == 0 else f'{apdu.le or 0} bytes'}"
-    return f"{where}: {len(apdu.data)} bytes"
+        return f"{where}, {'all up to 256' if apdu.le == 0 else amount(apdu.le or 0)}"
+    return f"{where}: {amount(len(apdu.data))}"
 
 
 def title_record(apdu):
@@ -143,7 +147,7 @@ def title_create(apdu):
     what = KINDS.get(made.kind, f"kind {made.kind:02X}")
     if not made.length:
         return f"{what} {made.identifier}"
-    size = f"{made.count} records of {made.length} bytes" if made.structure != "t" else f"{made.length} bytes"
+    size = f"{made.count} records of {amount(made.length)}" if made.structure != "t" else amount(made.length)
     return f"{what} {made.identifier} of {size}"
 
 
@@ -154,14 +158,14 @@ def title_delete(apdu):
 def title_resize(apdu):
     if len(apdu.data) != 4:
         return hexed(apdu.data)
-    return f"{hexed(apdu.data[:2])} to {int.from_bytes(apdu.data[2:], 'big')} bytes"
+    return f"{hexed(apdu.data[:2])} to {amount(int.from_bytes(apdu.data[2:], 'big'))}"
 
 
 TITLES = {
     SELECT: title_select, READ_BINARY: title_binary, UPDATE_BINARY: title_binary, READ_RECORD: title_record,
     UPDATE_RECORD: title_record, SEARCH_RECORD: title_record, INCREASE: title_increase, CHANNEL: title_channel,
-    FETCH: lambda apdu: f"{apdu.le or 256} bytes" if apdu.le is not None else "",
-    GET_RESPONSE: lambda apdu: f"{apdu.le or 256} bytes" if apdu.le is not None else "",
+    FETCH: lambda apdu: amount(apdu.le or 256) if apdu.le is not None else "",
+    GET_RESPONSE: lambda apdu: amount(apdu.le or 256) if apdu.le is not None else "",
     STATUS: lambda apdu: "" if apdu.p2 == 0x0C else "with the control parameters",
     INSTALL: lambda apdu: f"on shelf {apdu.p2}, priority {apdu.p1}",
     CREATE_FILE: title_create, DELETE: title_delete, RESIZE_FILE: title_resize,
@@ -318,7 +322,7 @@ def channel_data_text(value, _):
 def channel_length_text(value, is_command):
     """The bytes that a command asks for, or those that wait or have room: FF are as many or more then."""
     count = int.from_bytes(value, "big")
-    return f"{count} bytes" + (" or more" if value == b"\xFF" and not is_command else "")
+    return amount(count) + (" or more" if value == b"\xFF" and not is_command else "")
 
 
 def channel_status_text(value, _):
@@ -330,7 +334,7 @@ def channel_status_text(value, _):
 
 
 def buffer_size_text(value, _):
-    return f"{int.from_bytes(value, 'big')} bytes" if len(value) == 2 else hexed(value)
+    return amount(int.from_bytes(value, 'big')) if len(value) == 2 else hexed(value)
 
 
 OBJECTS = {
@@ -483,7 +487,7 @@ def fcp(data, usim=True):
 
 def descriptor_text(value):
     kind = KINDS.get(value[0] & 0x7F, f"{value[0]:02X}")
-    return f"{kind}, {value[4]} records of {value[2] << 8 | value[3]} bytes" if len(value) == 5 else kind
+    return f"{kind}, {value[4]} records of {amount(value[2] << 8 | value[3])}" if len(value) == 5 else kind
 
 
 def pin_status_text(value):
@@ -523,6 +527,6 @@ FCP = {
     0x8A: ("life cycle", lambda value: LIVES.get(value[0], f"{value[0]:02X}")),
     0x8B: ("access rule", lambda value: f"record {value[2]} of {hexed(value[:2])}"),
     0xC6: ("PINs", lambda value: pin_status_text(value) if 0x83 in value else "none"),
-    0x80: ("size", lambda value: f"{int.from_bytes(value, 'big')} bytes"),
+    0x80: ("size", lambda value: amount(int.from_bytes(value, 'big'))),
     0x88: ("short identifier", lambda value: str(value[0] >> 3) if value else "none"),
 }

@@ -48,6 +48,10 @@ export function bytesOfText(text) {
     return encoder.encode(text);
 }
 
+export function amount(count) {
+    return count === 1 ? "1 byte" : `${count} bytes`;
+}
+
 export function plural(count, what) {
     return `${count.toLocaleString("en")} ${what}${count === 1 ? "" : "s"}`;
 }

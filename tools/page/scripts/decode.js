@@ -1,6 +1,6 @@
 // Commands, answers, proactive commands and envelopes in words. What is decoded is a list of lines, each with its depth, a label and
 // a text.
-import { bigEndian, hexByte, hexed, printable } from "./bytes.js";
+import { amount, bigEndian, hexByte, hexed, printable } from "./bytes.js";
 import { dialledDigits, plmn } from "./contents.js";
 import { installation } from "./layout.js";
 import { filesOf, instructionName, keyName, profileBits, qualifierName, toolkitName } from "./names.js";
@@ -73,8 +73,8 @@ const TITLES = {
         const back = { 0x04: "", 0x0c: ", no data returned" }[apdu.p2] ?? `, P2 ${hexByte(apdu.p2)}`;
         return `${SELECTIONS[apdu.p1] ?? `P1 ${hexByte(apdu.p1)}`} ${what}${back}`;
     },
-    [READ_BINARY]: (apdu) => `${binaryPlace(apdu)}, ${apdu.le === 0 ? "all up to 256" : `${apdu.le ?? 0} bytes`}`,
-    [UPDATE_BINARY]: (apdu) => `${binaryPlace(apdu)}: ${apdu.data.length} bytes`,
+    [READ_BINARY]: (apdu) => `${binaryPlace(apdu)}, ${apdu.le === 0 ? "all up to 256" : amount(apdu.le ?? 0)}`,
+    [UPDATE_BINARY]: (apdu) => `${binaryPlace(apdu)}: ${amount(apdu.data.length)}`,
     [READ_RECORD]: recordPlace,
     [UPDATE_RECORD]: recordPlace,
     [SEARCH_RECORD](apdu) {
@@ -83,8 +83,8 @@ const TITLES = {
     },
     [INCREASE]: (apdu) => `by ${bigEndian(apdu.data)}${apdu.p1 & 0x80 ? shortPlace(apdu.p1 & 31) : ""}`,
     [CHANNEL]: (apdu) => (apdu.p1 === 0x80 ? `close ${apdu.p2 || apdu.channel}` : `open ${apdu.p2 || "the next free one"}`),
-    [FETCH]: (apdu) => (apdu.le === undefined ? "" : `${apdu.le || 256} bytes`),
-    [GET_RESPONSE]: (apdu) => (apdu.le === undefined ? "" : `${apdu.le || 256} bytes`),
+    [FETCH]: (apdu) => (apdu.le === undefined ? "" : amount(apdu.le || 256)),
+    [GET_RESPONSE]: (apdu) => (apdu.le === undefined ? "" : amount(apdu.le || 256)),
     [STATUS]: (apdu) => (apdu.p2 === 0x0c ? "" : "with the control parameters"),
     [INSTALL]: (apdu) => `on shelf ${apdu.p2}, priority ${apdu.p1}`,
     [DELETE]: (apdu) => (apdu.isOnApplets ? `of shelf ${apdu.p2}` : hexed(apdu.data)),
@@ -93,12 +93,12 @@ const TITLES = {
         if (made === null) {
             return "of no file: the template is none";
         }
-        const size = made.structure === "t" ? `${made.length} bytes` : `${made.count} records of ${made.length} bytes`;
+        const size = made.structure === "t" ? amount(made.length) : `${made.count} records of ${amount(made.length)}`;
         return `${KINDS[made.kind] ?? `kind ${hexByte(made.kind)}`} ${made.identifier}${made.length ? ` of ${size}` : ""}`;
     },
     [RESIZE_FILE](apdu) {
         const identifier = hexed(apdu.data.slice(0, 2));
-        return apdu.data.length === 4 ? `${identifier} to ${bigEndian(apdu.data.slice(2))} bytes` : hexed(apdu.data);
+        return apdu.data.length === 4 ? `${identifier} to ${amount(bigEndian(apdu.data.slice(2)))}` : hexed(apdu.data);
     },
     ...Object.fromEntries(PINS.map((ins) => [
         ins, (apdu) => `of ${keyName(apdu.p2)}${apdu.data.length ? "" : ", asking for the tries that are left"}`,
@@ -283,13 +283,13 @@ const LIVES = { 0x05: "activated", 0x04: "deactivated" };
 const PARAMETERS = {
     0x82: ["file descriptor", (value) => {
         const kind = KINDS[value[0] & 0x7f] ?? hexByte(value[0]);
-        return value.length === 5 ? `${kind}, ${value[4]} records of ${bigEndian(value.slice(2, 4))} bytes` : kind;
+        return value.length === 5 ? `${kind}, ${value[4]} records of ${amount(bigEndian(value.slice(2, 4)))}` : kind;
     }],
     0x83: ["identifier", (value) => `${hexed(value)} ${filesOf(hexed(value))[0]?.name ?? ""}`],
     0x8a: ["life cycle", ([life]) => LIVES[life] ?? hexByte(life)],
     0x8b: ["access rule", (value) => `record ${value[2]} of ${hexed(value.slice(0, 2))}`],
     0xc6: ["PINs", pinStatus],
-    0x80: ["size", (value) => `${bigEndian(value)} bytes`],
+    0x80: ["size", (value) => amount(bigEndian(value))],
     0x88: ["short identifier", (value) => (value.length ? String(value[0] >> 3) : "none")],
 };
 

@@ -35,7 +35,7 @@ function contentOf(kind, bytes, label) {
     }
     const meaning = meaningOf(kind, bytes);
     const used = trimmed(bytes);
-    const digits = shortened(hexed(used) + (used.length < bytes.length ? " FF .." : ""));
+    const digits = shortened(hexed(used) + (used.length < bytes.length ? " FF\u00A0.." : ""));
     return element("div", { class: "content" }, label ? element("span", { class: "faint" }, label) : null, meaning ? `${meaning} ` : null,
         element("span", { class: meaning ? "bytes faint" : "bytes" }, digits));
 }

@@ -18,6 +18,11 @@ function kindOf({ answer, status }) {
     return /^6[23]/.test(status) ? "warning" : "refused";
 }
 
+// Whether a line of a trace has bytes that passed, after its sign: they are broken at the end of a line, and stand beside the sign.
+function isOfBytes(line) {
+    return /^[<>] /.test(line);
+}
+
 export class TracePane {
     // `chosen` is told the script's line of the step that is chosen, and its number.
     constructor(chosen) {
@@ -111,8 +116,8 @@ export class TracePane {
         return element(
             "div", { class: "more", click: (event) => event.stopPropagation() },
             line === undefined ? null : element("div", { class: "bytes faint" }, `line ${step.line}: ${line}`),
-            element("div", { class: "bytes" }, step.text),
-            step.answer === null ? null : element("div", { class: "bytes" }, step.answer),
+            element("div", { class: isOfBytes(step.text) ? "bytes passed" : "bytes" }, step.text),
+            step.answer === null ? null : element("div", { class: isOfBytes(step.answer) ? "bytes passed" : "bytes" }, step.answer),
             details.length ? objectList(details) : null);
     }
 
