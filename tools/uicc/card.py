@@ -44,7 +44,11 @@ class NoSuchFile(CardError, LookupError):
 
 @dataclasses.dataclass(frozen=True)
 class Answer:
-    """What a card answers: data, and a status, which is given as a number or as its digits."""
+    """What a card answers: data, and a status, which is given as a number or as its digits. It is one object and no pair:
+
+        answer = card.transmit("00A4000C023F00")
+        answer.data, answer.status
+    """
     data: bytes
     status: Status
 
@@ -53,6 +57,16 @@ class Answer:
 
     def __str__(self):
         return f"{decode.hexed(self.data)} {self.status}".strip()
+
+    def __getitem__(self, place):
+        raise TypeError("an Answer is one object and no pair: answer = card.transmit(command), then answer.data and answer.status")
+
+
+def as_answer(given):
+    """What `transmit` of an object in a card's place answered. TypeError, where that is no Answer."""
+    if isinstance(given, Answer):
+        return given
+    raise TypeError(f"`transmit` has to answer an Answer, Answer(b\"\", \"9000\") say, and not {given!r}")
 
 
 @dataclasses.dataclass(frozen=True)

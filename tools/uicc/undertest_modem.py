@@ -16,6 +16,7 @@ ITEM = 0x0F
 CALL, BROWSER, OPEN_CHANNEL = 0x10, 0x15, 0x40
 YES_OR_NO = 0x04
 QUIET_SECONDS = 20
+MOST_OF_CARD = 64
 # what oFono's agent is asked: how it is noted, and which of what it is told is shown
 QUESTIONS = {
     "DisplayText": "text", "RequestInput": "ask", "RequestDigits": "ask", "RequestKey": "ask", "RequestDigit": "ask",
@@ -65,6 +66,7 @@ def note_of(asked):
 class OfOfono(UnderTest):
     """oFono. Its user answers what it asks when it asks; the sequence says so beforehand."""
     seconds = 20
+    longest = 120
 
     def __init__(self):
         why = ofono.why_not()
@@ -82,6 +84,8 @@ class OfOfono(UnderTest):
                 self.phone.enter_pin(PIN)
             self.phone.register_agent()
             self.phone.asked()
+            # what the card's own applets ask for first
+            self.phone.answer(*[ofono.END_SESSION] * MOST_OF_CARD)
             self.phone.go_online()
             # before that it would hear of no command
             if not self.phone.until(lambda: "NetworkRegistration" in self.phone.interfaces, QUIET_SECONDS):
@@ -104,6 +108,7 @@ class OfOfono(UnderTest):
         asking = [raw for raw in commands if handset.details_of(raw)[1] in ASKING]
         answers = [one for one in said if one.act in ANSWERS]
         if not asking:
+            self.phone.answer()
             return
         if len(asking) == 1:
             asking *= len(answers)
@@ -163,6 +168,7 @@ class AtClient(UnderTest):
     """Any program that speaks AT commands: it connects to a port, and its user is a person who is told what to do."""
     name = "a client by AT commands"
     seconds = 60
+    longest = 10
     has_person = True
     is_seen = False
 
