@@ -411,6 +411,23 @@ class ShowsNothing(able_terminal.AbleTerminal):
             super()._note(text)
 
 
+class HidesWhatStandsThere(able_terminal.AbleTerminal):
+    """Doesn't show the default text of GET INPUT."""
+
+    def _note(self, text):
+        if not text.startswith("default"):
+            super()._note(text)
+
+
+class DropsWhatStandsThere(able_terminal.AbleTerminal):
+    """Shows it, and answers with no letter of it."""
+
+    def _accept(self):
+        if self._holds(handset.INPUT):
+            return self._respond(handset.Reply(b"\x00", tlv.written(0x0D, b"\x04")))
+        return super()._accept()
+
+
 class NeverResets(able_terminal.AbleTerminal):
     """Says of a REFRESH that asks for a reset that it was done."""
 
@@ -517,6 +534,10 @@ FAULTS = [
     ("a result that is there twice", able(on_response(0x28, lambda found: [*found, found[2]])), has_response(0x28)),
     ("the first menu stays", KeepsItsMenu, has_menu_twice),
     ("a text that isn't shown", ShowsNothing, shows_too_much),
+    ("a default text that isn't shown", HidesWhatStandsThere, lambda one: any(
+        isinstance(step, Shown) and step.note.startswith("default") for step in one.steps)),
+    ("a default text that is dropped", DropsWhatStandsThere, lambda one: "stands there already is taken" in one.name
+     or "stand there already are taken" in one.name),
     ("no reset for a REFRESH", NeverResets, lambda one: any(isinstance(step, Restart) for step in one.steps)),
     ("a stopped timer told as not running", ForgetsTimers, lambda one: any(
         given.details[2] == 1 and wanted(step, 0x03) == "00" for given, step in responses(one, 0x27))),
@@ -892,7 +913,7 @@ class Tool(unittest.TestCase):
     def test_those_in_the_box(self):
         """What the handset passes, and what it doesn't."""
         done = tool(IN_THE_BOX)
-        self.assertRegex(done.stdout, "135 sequences on the handset in Python: 88 passed, 13 failed, 0 inconclusive, 34 not supported")
+        self.assertRegex(done.stdout, "138 sequences on the handset in Python: 88 passed, 16 failed, 0 inconclusive, 34 not supported")
 
 
 if __name__ == "__main__":

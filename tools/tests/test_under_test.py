@@ -6,7 +6,7 @@ import threading
 import unittest
 
 import common  # noqa: F401 (the path)
-from uicc import Answer, Card, Terminal, decode, grammar, handset, ofono, process, sending, sequence, undertest, verdict
+from uicc import Answer, Card, Terminal, decode, grammar, handset, ofono, process, sending, sequence, undertest, undertest_modem, verdict
 from uicc.undertest_modem import AtClient, OfOfono
 from uicc.undertest_reader import OfReader
 
@@ -101,6 +101,37 @@ class Client(threading.Thread):
         self.link.sendall(b"AT+CUSATT=" + decode.hexed(data).encode() + b"\r")
 
 
+class OfonosUser(unittest.TestCase):
+    """What oFono's agent is told to answer, and what is noted of what it is asked."""
+    # a command, what its user does, and the answer
+    ANSWERS = [
+        ("GET INPUT qualifier 01 text A length 0 9 default John", "user ok", {"value": "John"}),
+        ("GET INPUT qualifier 01 text A length 0 9 default ucs2 Ж", "user ok", {"value": "Ж"}),
+        ("GET INPUT qualifier 01 text A length 0 9 default gsm7 John", "user ok", {"value": "John"}),
+        ("GET INPUT qualifier 01 text A length 0 9 default John", "user type Jane", {"value": "Jane"}),
+        ("GET INPUT qualifier 01 text A length 0 9 default John", "user end", ofono.END_SESSION),
+        ("GET INPUT qualifier 01 text A length 0 9", "user ok", None),
+        ("DISPLAY TEXT qualifier 80 text A", "user ok", {"value": None}),
+        ("GET INKEY qualifier 04 text A", "user ok", {"value": True}),
+    ]
+    NOTES = [
+        (["RequestInput", "A?", 0, "John", 0, 9, False], ["ask A?", "default John"]), (["RequestInput", "A?", 0, "", 0, 9, False], ["ask A?"]),
+        (["RequestDigits", "A?", 0, "12", 0, 9, False], ["ask A?", "default 12"]), (["DisplayText", "Hi", 0, True], ["text Hi"]),
+        (["RequestSelection", "A", 0, [["a", 0], ["b", 0]], 0], ["choose 2"]), (["PlayTone", "busy", "", 0], ["tone 02"]), (["Release"], []),
+    ]
+
+    def test_answers(self):
+        for command, act, answer in self.ANSWERS:
+            with self.subTest(command=command, act=act):
+                (one,) = sequence.read(f"sequence one\ncommand {command}\n{act}\n", "a")
+                self.assertEqual(undertest_modem.answer_to(one.steps[0].raw, one.steps[1].said), answer)
+
+    def test_notes(self):
+        for asked, notes in self.NOTES:
+            with self.subTest(asked=asked):
+                self.assertEqual(list(undertest_modem.notes_of(asked)), notes)
+
+
 class AtCommands(unittest.TestCase):
     def test_a_client(self):
         told = []
@@ -118,7 +149,7 @@ class AtCommands(unittest.TestCase):
         self.assertIn("says", told_of["GET INKEY, any character"][1])
         self.assertIn("did nothing within 2 seconds", told_of["DISPLAY TEXT, the user has read it"][1])
         self.assertIn("  please type `q`", told)
-        self.assertIn("  please say yes, or that it was seen", told)
+        self.assertIn("  please say yes, or that it was seen, or take what stands there", told)
         self.assertIn("  it must show now: text Toolkit Test 1", told)
 
     def test_a_port_that_is_taken(self):
@@ -198,7 +229,9 @@ class WithOfono(unittest.TestCase):
         """What it passes; what it answers otherwise than it must, which isn't mended away; and what its user can't do."""
         wanted = {
             "DISPLAY TEXT, the user has read it": verdict.PASSED, "DISPLAY TEXT, the user goes back": verdict.PASSED,
-            "GET INKEY, any character": verdict.PASSED, "GET INPUT, digits": verdict.PASSED, "SELECT ITEM, the second of four": verdict.PASSED,
+            "GET INKEY, any character": verdict.PASSED, "GET INPUT, digits": verdict.PASSED,
+            "GET INPUT, what stands there already is taken": verdict.PASSED,
+            "GET INPUT, digits that stand there already are taken": verdict.PASSED, "SELECT ITEM, the second of four": verdict.PASSED,
             "SET UP MENU, an entry is picked": verdict.PASSED, "SET UP IDLE MODE TEXT": verdict.PASSED, "PLAY TONE, a general beep": verdict.PASSED,
             "a command whose objects are cut short": verdict.FAILED, "GET INKEY, the user doesn't respond": verdict.INCONCLUSIVE,
             "SET UP EVENT LIST": verdict.UNSUPPORTED}

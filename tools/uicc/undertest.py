@@ -142,7 +142,7 @@ class InPython(UnderTest):
 
 # what a person at a terminal is told to do
 INSTRUCTIONS = {
-    "ok": "say yes, or that it was seen", "back": "go back", "end": "end the session", "none": "do nothing", "press": "press a key",
+    "ok": "say yes, or that it was seen, or take what stands there", "back": "go back", "end": "end the session", "none": "do nothing", "press": "press a key",
     "idle": "go to the idle screen", "help": "ask for help", "refuse": "refuse it"}
 
 
