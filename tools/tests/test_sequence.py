@@ -597,7 +597,7 @@ class Verdicts(unittest.TestCase):
     def test_a_terminal_that_breaks_down(self):
         """It fails the sequence, and those after it are played."""
         why = failed(BreaksDown, [one for one in in_the_box() if one.name in ("SET UP MENU, an entry is picked", "MORE TIME")], Obliging())
-        place = f"{os.path.abspath(__file__)}:{BreaksDown._menu.__code__.co_firstlineno + 1}"
+        place = f"{undertest.shown(os.path.abspath(__file__))}:{BreaksDown._menu.__code__.co_firstlineno + 1}"
         self.assertEqual(why, {"SET UP MENU, an entry is picked": (verdict.FAILED, f"the terminal broke down: KeyError: 'menu', at {place}")})
 
     # what a method of a class does, and what is told of it
@@ -607,8 +607,8 @@ class Verdicts(unittest.TestCase):
         ("poll", "def poll(self):\n    import json\n    json.loads('{')", "JSONDecodeError: Expecting property name"),
         ("poll", "def poll(self):\n    import json\n    json.loads('{')", ", at own.py:3"),
         ("poll", "def poll(self):\n    raise SystemExit(3)", "SystemExit: 3, at own.py:2"),
-        ("begin", "def begin(self, player):\n    data, status = player.transmit('00A4000C023F00')", "TypeError: an Answer is one object and no pair"),
-        ("begin", "def begin(self, player):\n    print(player.transmit('00A4000C023F00')[0])", "answer.data and answer.status, at own.py:2"),
+        ("begin", "def begin(self, player):\n    data, status = player.transmit('00A4000C023F00')", "TypeError: an Answer is one object, and no pair"),
+        ("begin", "def begin(self, player):\n    print(player.transmit('00A4000C023F00')[0])", "it has `data` and `status`, at own.py:2"),
         ("happen", "def happen(self, said):\n    self.terminal.card.read()", "'Player' object has no attribute 'read', at own.py:2"),
         ("end", "def end(self):\n    raise OSError('gone')", "the terminal broke down: OSError: gone, at own.py:2"),
     ]

@@ -1,4 +1,6 @@
 """Terminals under test that are other programs: the proved handset, programs of AT commands and of PC/SC, and oFono."""
+import inspect
+import itertools
 import os
 import socket
 import struct
@@ -6,7 +8,7 @@ import threading
 import unittest
 
 import common  # noqa: F401 (the path)
-from uicc import Answer, Card, Terminal, decode, grammar, handset, ofono, process, sending, sequence, undertest, undertest_modem, verdict
+from uicc import Answer, Card, Terminal, decode, grammar, handset, ofono, player, process, sending, sequence, undertest, undertest_modem, verdict
 from uicc.undertest_modem import AtClient, OfOfono
 from uicc.undertest_reader import OfReader
 
@@ -99,6 +101,51 @@ class Client(threading.Thread):
         else:
             return
         self.link.sendall(b"AT+CUSATT=" + decode.hexed(data).encode() + b"\r")
+
+
+HANDSET = os.path.join(process.TOP, "docs", "HANDSET.md")
+
+
+@unittest.skipUnless(os.path.exists(HANDSET), "the documents aren't here")
+class Interface(unittest.TestCase):
+    """The tables of docs/HANDSET.md have what a class of one's own may have, as the source has it, and what its player has."""
+
+    def rows(self, head):
+        """The rows of a table, by what stands in backquotes in the first column."""
+        with open(HANDSET, encoding="utf-8") as text:
+            lines = text.read().splitlines()
+        at = next(n for n, line in enumerate(lines) if line.startswith(f"| {head} |"))
+        rows = [line.split(" | ") for line in itertools.takewhile(lambda line: line.startswith("|"), lines[at + 2:])]
+        return {row[0].strip("|` "): row[-1].strip("| ") for row in rows}
+
+    def test_methods(self):
+        found = {}
+        for name, method in vars(undertest.UnderTest).items():
+            if inspect.isfunction(method) and not name.startswith("_"):
+                parameters = [one for one in inspect.signature(method).parameters if one != "self"]
+                found[f"{name}({', '.join(parameters)})"] = method
+        rows = self.rows("method")
+        self.assertEqual(list(rows), list(found))
+        for called, left_out in rows.items():
+            with self.subTest(method=called):
+                given = [None] * (called.count(",") + (not called.endswith("()")))
+                if left_out == "has to be there":
+                    self.assertRaises(NotImplementedError, found[called], undertest.UnderTest(), *given)
+                else:
+                    self.assertIsNone(found[called](undertest.UnderTest(), *given))
+
+    def test_values(self):
+        found = {name: str(value) for name, value in vars(undertest.UnderTest).items() if not name.startswith("_") and not inspect.isfunction(value)}
+        self.assertEqual(self.rows("value"), found)
+
+    def test_the_player(self):
+        given = player.Player(None)
+        for called in self.rows("call"):
+            with self.subTest(call=called):
+                name, _, parameters = called.partition("(")
+                self.assertTrue(hasattr(given, name))
+                if parameters:
+                    self.assertEqual([one for one in inspect.signature(getattr(given, name)).parameters], [parameters[:-1]] if parameters != ")" else [])
 
 
 class OfonosUser(unittest.TestCase):

@@ -59,7 +59,7 @@ class Answer:
         return f"{decode.hexed(self.data)} {self.status}".strip()
 
     def __getitem__(self, place):
-        raise TypeError("an Answer is one object and no pair: answer = card.transmit(command), then answer.data and answer.status")
+        raise TypeError("an Answer is one object, and no pair: it has `data` and `status`")
 
 
 def as_answer(given):

@@ -60,14 +60,20 @@ def is_ones_own(path):
     return folder != os.path.realpath(process.PACKAGE) and not (folder.startswith(LIBRARY) and not any(part in folder for part in INSTALLED))
 
 
+def shown(path):
+    """A path, from the folder on in which this runs, where it lies below that."""
+    short = os.path.relpath(path)
+    return path if short.startswith(os.pardir) else short
+
+
 def place_of(fault, method=None):
     """Where in one's own files something was raised, as FILE:LINE; where it was in none, the place of the method that was called, and None
     where there is none."""
     found = [frame for frame in traceback.extract_tb(fault.__traceback__) if is_ones_own(frame.filename)]
     if found:
-        return f"{found[-1].filename}:{found[-1].lineno}"
+        return f"{shown(found[-1].filename)}:{found[-1].lineno}"
     code = getattr(method, "__code__", None)
-    return f"{code.co_filename}:{code.co_firstlineno}" if code and is_ones_own(code.co_filename) else None
+    return f"{shown(code.co_filename)}:{code.co_firstlineno}" if code and is_ones_own(code.co_filename) else None
 
 
 def told(fault, method=None):
@@ -142,8 +148,9 @@ class InPython(UnderTest):
 
 # what a person at a terminal is told to do
 INSTRUCTIONS = {
-    "ok": "say yes, or that it was seen, or take what stands there", "back": "go back", "end": "end the session", "none": "do nothing", "press": "press a key",
-    "idle": "go to the idle screen", "help": "ask for help", "refuse": "refuse it"}
+    "ok": "say yes, or that it was seen, or take what stands there", "back": "go back", "end": "end the session", "none": "do nothing",
+    "press": "press a key", "idle": "go to the idle screen", "help": "ask for help",
+    "refuse": "refuse it"}
 
 
 def instruction(said):
