@@ -77,7 +77,8 @@ def notes_of(asked):
 class OfOfono(UnderTest):
     """oFono. Its user answers what it asks when it asks; the sequence says so beforehand."""
     seconds = 20
-    longest = 120
+    # it has a time of its own for all that it asks of oFono
+    longest = 600
 
     def __init__(self):
         why = ofono.why_not()
@@ -93,6 +94,8 @@ class OfOfono(UnderTest):
             self._restart(player)
             if self.phone.power_on() == "pin":
                 self.phone.enter_pin(PIN)
+            elif not self.phone.until_ready():
+                raise Lost("oFono doesn't read the SIM to its end")
             self.phone.register_agent()
             self.phone.asked()
             # what the card's own applets ask for first
@@ -103,6 +106,10 @@ class OfOfono(UnderTest):
                 raise Lost("oFono finds no network")
         except ofono.OfonoError as fault:
             raise Lost(f"oFono doesn't start: {fault}") from None
+        except BaseException:
+            # what it was asked last may be answered yet
+            self.close()
+            raise
 
     def _restart(self, player):
         """Has it see the card's power go and come."""
@@ -170,8 +177,9 @@ class OfOfono(UnderTest):
         self.shown = shown
 
     def close(self):
-        if self.phone:
-            self.phone.close()
+        phone, self.phone = self.phone, None
+        if phone:
+            phone.close()
 
 
 class AtClient(UnderTest):
