@@ -891,6 +891,10 @@ class Tool(unittest.TestCase):
                 out.write("class No:\n    pass\n")
             with open(os.path.join(folder, "broken.py"), "w", encoding="ascii") as out:
                 out.write("import nothing_of_that_name\n")
+            with open(os.path.join(folder, "ends.py"), "w", encoding="ascii") as out:
+                out.write("from uicc.undertest import InPython\nclass Ends(InPython):\n    def close(self):\n        return 1 / 0\n")
+            with open(os.path.join(folder, "made.py"), "w", encoding="ascii") as out:
+                out.write("from uicc.undertest import InPython\nclass Made(InPython):\n    def __init__(self, port):\n        pass\n")
             with open(os.path.join(folder, "bytes.sequence"), "wb") as out:
                 out.write(b"sequence \xFF\n")
             for words, why in (
@@ -902,6 +906,9 @@ class Tool(unittest.TestCase):
                     ((good, "--on", own + ":No"), "has no class No that is an UnderTest"),
                     ((good, "--on", own + ":None"), "has no class None"), ((good, "--on", folder + "/x.py:Y"), "is no file of Python"),
                     ((good, "--on", folder + "/broken.py:Y"), "can't be loaded: ModuleNotFoundError"),
+                    ((good, "--on", folder + "/broken.py:Y"), "broken.py:1\n"), ((good, "--on", folder + "/made.py:Made"), "can't be made: TypeError"),
+                    ((good, "--on", folder + "/made.py:Made"), "made.py:3\n"),
+                    ((good, "--on", folder + "/ends.py:Ends"), "the terminal can't be closed: ZeroDivisionError: division by zero, at "),
                     ((good, "--card", os.path.join(folder, "none")), "No such file"), ((good, "--card", good), "line 1: no line begins with"),
                     ((good, "--seconds", "x"), "invalid"), ((good, "--seconds", "-1"), "invalid")):
                 with self.subTest(words=words):

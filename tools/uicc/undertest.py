@@ -55,9 +55,10 @@ def limited(seconds):
 
 
 def is_ones_own(path):
-    """Whether a file is neither of this package nor of Python's library."""
+    """Whether a file is neither of this package and its tools nor of Python's library."""
     folder = os.path.dirname(os.path.realpath(path))
-    return folder != os.path.realpath(process.PACKAGE) and not (folder.startswith(LIBRARY) and not any(part in folder for part in INSTALLED))
+    ours = [os.path.realpath(place) for place in (process.PACKAGE, os.path.join(process.TOP, "tools"))]
+    return folder not in ours and not (folder.startswith(LIBRARY) and not any(part in folder for part in INSTALLED))
 
 
 def shown(path):
