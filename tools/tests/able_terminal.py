@@ -5,11 +5,11 @@
 It is no telephone: a call is set up, a message is sent and a channel is open as soon as the user allows it."""
 import dataclasses
 
-from uicc import Reply, Terminal, alphabet, decode, handset, tlv
+from uicc import Reply, Terminal, decode, handset, tlv
 from uicc.grammar import Handset
 from uicc.handset import BAD_DATA, DONE, HELP, MISSING, NOT_UNDERSTOOD, Unread, first_of, objects_of
 from uicc.undertest import InPython
-from uicc.wording import packed
+from uicc.wording import letters, packed
 
 # all that sequences need
 PROFILE = bytes.fromhex("29 60 FF FF 7F 3F 00 1F FA 00 00 1F")
@@ -38,15 +38,6 @@ class Understood(handset.Command):
 
     def object(self, tag):
         return next((value for one, _, value in self.found if one == tag), None)
-
-
-def letters(value):
-    """A text in any of its codings."""
-    if value[:1] == b"\x08":
-        return value[1:].decode("utf-16-be")
-    if value[:1] != b"\x00":
-        return decode.printable(value[1:])
-    return alphabet.letters_of(alphabet.unpacked(value[1:], len(value[1:]) * 8 // 7))
 
 
 class AbleTerminal(Terminal):
@@ -110,8 +101,12 @@ class AbleTerminal(Terminal):
 
     def _show_text(self, command):
         text, words = letters(command.value), {handset.TEXT: "text", handset.IDLE_TEXT: "idle"}
+        default = command.object(0x17) if command.kind == handset.INPUT else None
         waits = command.kind != handset.IDLE_TEXT and (command.kind != handset.TEXT or command.qualifier & CLEARED_BY_USER)
-        return self._shown(f"{words.get(command.kind, 'ask')} {text}".rstrip(), None if waits else DONE)
+        answer = self._shown(f"{words.get(command.kind, 'ask')} {text}".rstrip(), None if waits else DONE)
+        if default:
+            self._note(f"default {letters(default)}")
+        return answer
 
     def _local(self, command):
         if command.qualifier not in LOCAL:
@@ -148,6 +143,8 @@ class AbleTerminal(Terminal):
     def _accept(self):
         if self._holds(handset.TEXT):
             return self._respond(DONE)
+        if self._holds(handset.INPUT) and self.held.object(0x17):
+            return self._type(letters(self.held.object(0x17)).encode("ascii"))
         return self._answer(True)
 
     def _answer(self, is_yes):

@@ -2,6 +2,7 @@
 import os
 import subprocess
 import sys
+import tempfile
 import unittest
 
 from common import TOOLS
@@ -93,6 +94,10 @@ class Judged(unittest.TestCase):
 @unittest.skipIf(MISSING, f"oFono isn't here: {MISSING}")
 @unittest.skipUnless(is_built(), "the program isn't built")
 class Telephone(unittest.TestCase):
+    def setUp(self):
+        self.folder = tempfile.TemporaryDirectory()
+        self.addCleanup(self.folder.cleanup)
+
     def test_a_session(self):
         """The PIN, the IMSI, the menu, and an entry of it; then the card is gone, and what it said is told."""
         with Card(ofono_tries.TELEPHONE) as card, ofono_tries.Session(card) as session:
@@ -109,8 +114,9 @@ class Telephone(unittest.TestCase):
 
     def test_the_prompt(self):
         lines = "sim\npin 0000\npin 1234\nanswer Milk\nonline\nanswer 5 seen\npick Key\npick None\npick\nunblock 1\nanswer \"\nhello\n"
-        ran = subprocess.run([sys.executable, "-B", os.path.join(TOOLS, "ofono"), ofono_tries.TELEPHONE], input=lines, capture_output=True,
-                             text=True, timeout=300, check=False)
+        path = os.path.join(self.folder.name, "a.trace")
+        ran = subprocess.run([sys.executable, "-B", os.path.join(TOOLS, "ofono"), ofono_tries.TELEPHONE, "--trace", path], input=lines,
+                             capture_output=True, text=True, timeout=300, check=False)
         self.assertEqual((ran.returncode, ran.stderr), (1, ""))
         said = [line.strip() for line in ran.stdout.splitlines()]
         for part in ("PinRequired: pin", "org.ofono.Error.Failed: Operation failed", "asks: Note? (0 to 20 characters)", "SET UP MENU: 00 done",
@@ -119,6 +125,17 @@ class Telephone(unittest.TestCase):
                      "the form of the line is: unblock VALUE NEW", "No closing quotation: answer ANSWER..",
                      "no word `hello` is known: sim, pin, unblock, online, menu, pick, answer, events, power, cut"):
             self.assertIn(part, said)
+        self.explained(path)
+
+    def explained(self, path):
+        """The trace that was kept: each line has its time, and tools/explain tells it."""
+        with open(path, encoding="ascii") as text:
+            lines = text.read().splitlines()
+        self.assertTrue(all(line.startswith("@ ") for line in lines[::2]) and not any(line.startswith("@ ") for line in lines[1::2]))
+        self.assertTrue({line[:2] for line in lines[1::2]} <= {"> ", "< ", "! "})
+        told = subprocess.run([sys.executable, "-B", os.path.join(TOOLS, "explain"), path], capture_output=True, text=True, check=False).stdout
+        for part in ("VERIFY", "GET INPUT", "DISPLAY TEXT"):
+            self.assertIn(part, told)
 
 
 NO_MANAGER = modemmanager.why_not()
@@ -145,6 +162,14 @@ class Tool(unittest.TestCase):
 
     def test_what_is_refused(self):
         self.assertIn("--keep is for what is tried", self.ran("card.script", "--keep", "x").stderr)
+        self.assertIn("--trace is for a SCRIPT", self.ran("--trace", "x").stderr)
+
+    @unittest.skipIf(MISSING, f"oFono isn't here: {MISSING}")
+    def test_a_trace_that_cant_be_kept(self):
+        ran = self.ran(ofono_tries.TELEPHONE, "--trace", "/nowhere/a.trace")
+        self.assertEqual(ran.returncode, 2)
+        self.assertIn("/nowhere/a.trace", ran.stderr)
+        self.assertNotIn("Traceback", ran.stderr)
 
     @unittest.skipIf(MISSING, f"oFono isn't here: {MISSING}")
     def test_no_card(self):

@@ -1,5 +1,6 @@
 """The Debian package, unpacked into a folder, and the command `uicc` as it stands there."""
 import gzip
+import json
 import os
 import re
 import shutil
@@ -12,6 +13,17 @@ from common import TOOLS
 from installing import changes, debian, manual, staging
 from uicc import process
 
+# carries out the words of each line of standard input, as the command `uicc` does, and prints what comes of it
+ALL_IN_ONE = """
+import contextlib, io, json, sys
+from uicc import command
+for line in sys.stdin:
+    sys.argv[1:] = json.loads(line)
+    out, err = io.StringIO(), io.StringIO()
+    with contextlib.redirect_stdout(out), contextlib.redirect_stderr(err):
+        status = command.main()
+    print(json.dumps([status or 0, out.getvalue(), err.getvalue()]))
+"""
 USIM = os.path.join(process.TOP, "examples", "usim.script")
 SECONDS = 120
 NEEDS = ("dpkg-deb", "dpkg")
@@ -26,6 +38,23 @@ class Packages(unittest.TestCase):
         cls.path = debian.make(os.path.join(cls.folder, "made"))
         cls.root = os.path.join(cls.folder, "root")
         subprocess.run(["dpkg-deb", "--extract", cls.path, cls.root], check=True)
+        # the slowest of all, beside the others
+        cls.lintian = None
+        if shutil.which("lintian"):
+            words = ["lintian", "--fail-on", "error,warning", cls.path]
+            cls.lintian = subprocess.Popen(words, stdin=subprocess.DEVNULL, stdout=subprocess.PIPE, stderr=subprocess.DEVNULL, text=True)
+            cls.addClassCleanup(cls.lintian.wait)
+
+    def run_all(self, *each):
+        """Carries out several lists of words in one process, each as the command `uicc` would, and answers what came of each."""
+        module, programs = os.path.join(self.root, debian.MODULE), os.path.join(self.root, "usr", "bin")
+        environment = {**os.environ, "PYTHONPATH": module, "PATH": programs + os.pathsep + os.environ["PATH"]}
+        environment.pop("UICC_RUN", None)
+        text = "".join(json.dumps(words) + "\n" for words in each)
+        done = subprocess.run([sys.executable, "-B", "-c", ALL_IN_ONE], cwd=self.folder, env=environment, input=text, capture_output=True, text=True,
+                              timeout=SECONDS, check=False)
+        self.assertEqual((done.returncode, done.stderr), (0, ""))
+        return [subprocess.CompletedProcess(words, *json.loads(line)) for words, line in zip(each, done.stdout.splitlines(), strict=True)]
 
     def run_installed(self, *words, text="", program="uicc", **environment):
         """Runs a program of the unpacked package, by this Python, in a folder that has nothing to do with the clone."""
@@ -58,20 +87,24 @@ class Packages(unittest.TestCase):
                 self.judge(done, 9, "", "none isn't there")
         self.judge(self.run_installed("--build", program="uicc_run"), 9, "", "the sources are not here")
         self.judge(self.run_installed("--source", "--help", program="uicc_run"), 9, "", "the sources are not here")
+        self.judge(self.run_installed("--draft", "play", program="uicc_run"), 9, "", "the sources are not here")
 
     def test_words(self):
         """Each tool's help calls it as it is installed."""
-        for word in (*staging.WORDS, "check"):
+        words = (*staging.WORDS, "check")
+        for word, done in zip(words, self.run_all(*([word, "--help"] for word in words))):
             with self.subTest(word=word):
-                done = self.run_installed(word, "--help")
                 self.judge(done, 0, f"uicc {word}")
                 self.assertIsNone(re.search(r"(?<![\w/])tools/[a-z]", done.stdout.replace("tools/uicc/data", "")), done.stdout)
-        self.judge(self.run_installed("--help"), 0, "lint      What is wrong with a script?")
-        self.judge(self.run_installed("help", "lint"), 0, "uicc lint")
-        self.judge(self.run_installed("lnt"), 2, "", "there is no word `lnt`; is it `lint`?")
-        self.judge(self.run_installed(), 2, "", "uicc WORD ..")
-        self.judge(self.run_installed("--version"), 0, f"uicc {staging.version()}\nprogram: {self.root}")
-        self.judge(self.run_installed("--version"), 0, "formats: scripts 1, images of layouts 1 and 2\n")
+        # words, the status, and what is shown and said
+        table = [
+            (["--help"], 0, "lint      What is wrong with a script?", ""), (["help", "lint"], 0, "uicc lint", ""),
+            (["lnt"], 2, "", "there is no word `lnt`; is it `lint`?"), ([], 2, "", "uicc WORD .."),
+            (["--version"], 0, f"uicc {staging.version()}\nprogram: {self.root}", ""),
+            (["--version"], 0, "formats: scripts 1, images of layouts 1 and 2\n", "")]
+        for (words, *wanted), done in zip(table, self.run_all(*(row[0] for row in table))):
+            with self.subTest(words=words):
+                self.judge(done, *wanted)
 
     def test_tools(self):
         self.judge(self.run_installed("lint", USIM), 0)
@@ -104,10 +137,10 @@ class Packages(unittest.TestCase):
                 self.assertEqual(done.stdout.strip(), completed)
 
     def test_lintian(self):
-        if not shutil.which("lintian"):
+        if not self.lintian:
             self.skipTest("lintian isn't here")
-        done = subprocess.run(["lintian", "--fail-on", "error,warning", self.path], capture_output=True, text=True, check=False)
-        self.assertEqual((done.returncode, done.stdout), (0, ""), done.stdout)
+        said = self.lintian.communicate()[0]
+        self.assertEqual((self.lintian.returncode, said), (0, ""), said)
 
 
 class Texts(unittest.TestCase):
@@ -160,7 +193,7 @@ class Texts(unittest.TestCase):
     def test_tools_of_the_source_are_left_out(self):
         """Each tool of this clone is installed, or is one that wants the sources."""
         here = {name for name in os.listdir(TOOLS) if "." not in name and os.path.isfile(os.path.join(TOOLS, name))}
-        self.assertEqual(here - set(staging.WORDS), {"check", "definitions", "documents", "release"})
+        self.assertEqual(here - set(staging.WORDS), {"check", "definitions", "documents", "draft", "release"})
 
 
 if __name__ == "__main__":

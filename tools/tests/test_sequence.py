@@ -411,6 +411,23 @@ class ShowsNothing(able_terminal.AbleTerminal):
             super()._note(text)
 
 
+class HidesWhatStandsThere(able_terminal.AbleTerminal):
+    """Doesn't show the default text of GET INPUT."""
+
+    def _note(self, text):
+        if not text.startswith("default"):
+            super()._note(text)
+
+
+class DropsWhatStandsThere(able_terminal.AbleTerminal):
+    """Shows it, and answers with no letter of it."""
+
+    def _accept(self):
+        if self._holds(handset.INPUT):
+            return self._respond(handset.Reply(b"\x00", tlv.written(0x0D, b"\x04")))
+        return super()._accept()
+
+
 class NeverResets(able_terminal.AbleTerminal):
     """Says of a REFRESH that asks for a reset that it was done."""
 
@@ -517,6 +534,10 @@ FAULTS = [
     ("a result that is there twice", able(on_response(0x28, lambda found: [*found, found[2]])), has_response(0x28)),
     ("the first menu stays", KeepsItsMenu, has_menu_twice),
     ("a text that isn't shown", ShowsNothing, shows_too_much),
+    ("a default text that isn't shown", HidesWhatStandsThere, lambda one: any(
+        isinstance(step, Shown) and step.note.startswith("default") for step in one.steps)),
+    ("a default text that is dropped", DropsWhatStandsThere, lambda one: "stands there already is taken" in one.name
+     or "stand there already are taken" in one.name),
     ("no reset for a REFRESH", NeverResets, lambda one: any(isinstance(step, Restart) for step in one.steps)),
     ("a stopped timer told as not running", ForgetsTimers, lambda one: any(
         given.details[2] == 1 and wanted(step, 0x03) == "00" for given, step in responses(one, 0x27))),
@@ -576,7 +597,88 @@ class Verdicts(unittest.TestCase):
     def test_a_terminal_that_breaks_down(self):
         """It fails the sequence, and those after it are played."""
         why = failed(BreaksDown, [one for one in in_the_box() if one.name in ("SET UP MENU, an entry is picked", "MORE TIME")], Obliging())
-        self.assertEqual(why, {"SET UP MENU, an entry is picked": (verdict.FAILED, "the terminal broke down: KeyError: 'menu'")})
+        place = f"{undertest.shown(os.path.abspath(__file__))}:{BreaksDown._menu.__code__.co_firstlineno + 1}"
+        self.assertEqual(why, {"SET UP MENU, an entry is picked": (verdict.FAILED, f"the terminal broke down: KeyError: 'menu', at {place}")})
+
+    # what a method of a class does, and what is told of it
+    BROKEN = [
+        ("poll", "def poll(self):\n    return {}[1]", "KeyError: 1, at own.py:2"),
+        ("poll", "def poll(self, often):\n    pass", "TypeError: poll() missing 1 required positional argument: 'often', at own.py:1"),
+        ("poll", "def poll(self):\n    import json\n    json.loads('{')", "JSONDecodeError: Expecting property name"),
+        ("poll", "def poll(self):\n    import json\n    json.loads('{')", ", at own.py:3"),
+        ("poll", "def poll(self):\n    raise SystemExit(3)", "SystemExit: 3, at own.py:2"),
+        ("begin", "def begin(self, player):\n    data, status = player.transmit('00A4000C023F00')", "TypeError: an Answer is one object, and no pair"),
+        ("begin", "def begin(self, player):\n    print(player.transmit('00A4000C023F00')[0])", "it has `data` and `status`, at own.py:2"),
+        ("happen", "def happen(self, said):\n    self.terminal.card.read()", "'Player' object has no attribute 'read', at own.py:2"),
+        ("end", "def end(self):\n    raise OSError('gone')", "the terminal broke down: OSError: gone, at own.py:2"),
+    ]
+
+    def test_where_it_breaks_down(self):
+        for name, text, said in self.BROKEN:
+            with self.subTest(text=text):
+                made = {}
+                exec(compile(text, "own.py", "exec"), made)  # noqa: S102 (a class of one's own)
+                broken = type("Own", (undertest.InPython,), {name: made[name]})()
+                verdict_of, why, _ = self.told(broken, "command DISPLAY TEXT qualifier 80 text A", "user ok", "response result 00")
+                self.assertEqual(verdict_of, verdict.FAILED)
+                self.assertIn(said, why)
+
+    def test_a_method_that_is_not_there(self):
+        class Bare(undertest.UnderTest):
+            pass
+
+        self.assertEqual(self.told(Bare(), "command MORE TIME")[:2],
+                         (verdict.FAILED, "the terminal broke down: NotImplementedError: the class has no method `begin`"))
+
+    # methods that never come back, each in another way
+    HUNG = {
+        "sleeps": "\n    import time\n    time.sleep(1000)", "turns": "\n    while True:\n        pass", "waits": "\n    import threading\n    threading.Event().wait()",
+        "listens": "\n    import socket\n    with socket.create_server(('127.0.0.1', 0)) as server:\n        server.accept()",
+        "takes": "\n    while True:\n        try:\n            import time; time.sleep(0.01)\n        except Exception:\n            pass",
+    }
+
+    def test_a_terminal_that_never_comes_back(self):
+        """The sequence is inconclusive, where it hung is told, and the one after it is played."""
+        for name, text in self.HUNG.items():
+            for method, given in (("poll", "self"), ("begin", "self, player"), ("happen", "self, said"), ("end", "self")):
+                if method != "poll" and name != "sleeps":
+                    continue
+                with self.subTest(name=name, method=method):
+                    made = {}
+                    exec(compile(f"def {method}({given}): {text}", "own.py", "exec"), made)  # noqa: S102 (a class of one's own)
+                    hung = type("Own", (undertest.InPython,), {method: made[method]})()
+                    began = time.monotonic()
+                    outcome = verdict.judged(read("command DISPLAY TEXT qualifier 80 text A", "user ok", "response result 00")[0], hung,
+                                             Obliging(), 0.1)
+                    self.assertLess(time.monotonic() - began, 8)
+                    self.assertEqual(outcome.verdict, verdict.INCONCLUSIVE)
+                    self.assertRegex(outcome.why, r"^the terminal did not come back within 1 seconds, from own.py:\d$")
+        with Card(USIM) as card:
+            self.assertEqual(verdict.judged(read("command MORE TIME", "response result 00")[0], undertest.InPython(), card).verdict, verdict.PASSED)
+
+    def test_time_that_passes_is_no_hanging(self):
+        """`time N` at a terminal whose time is the world's takes N seconds more."""
+        class Clock(undertest.InPython):
+            seconds = 0.2
+
+            def happen(self, said):
+                time.sleep(1.2)
+
+        self.assertEqual(self.told(Clock(), "command MORE TIME", "response result 00", "time 3")[0], verdict.PASSED)
+
+    def test_an_object_in_a_cards_place(self):
+        """What answers a pair is told what is wanted."""
+        class Pair:
+            trace = []
+
+            def transmit(self, command):
+                return b"", "9000"
+
+        for given in (Player(Pair()), ):
+            with self.assertRaisesRegex(TypeError, r"`transmit` has to answer an Answer, Answer\(b\"\", \"9000\"\) say, and not \(b'', '9000'\)"):
+                given.transmit("00A4000C023F00")
+        with self.assertRaisesRegex(TypeError, "`transmit` has to answer an Answer"):
+            handset.Terminal(Pair()).start()
 
     def test_a_terminal_that_is_gone(self):
         """Nothing can be said of the sequences then."""
@@ -637,6 +739,90 @@ class Verdicts(unittest.TestCase):
 
             slow = Slow(lambda player: able_terminal.AbleTerminal(Link5(player, lambda command: [command])))
             self.assertEqual(self.told(slow, "command MORE TIME", line, "response result 00")[0], kind)
+
+
+class OverApplets(unittest.TestCase):
+    """Sequences over a card whose applets send commands of their own: these come first, and are the card's."""
+    # rows of applets, what of their commands is told, and what is shown first
+    CARDS = [
+        ("row 0 1 014000", ["SET UP EVENT LIST", "DISPLAY TEXT"][1:]),
+        ("row 1 1 00044D656E75", ["SET UP MENU"]),
+        ("row 5 1 014000", ["GET INPUT"]),
+        ("row 3 1 0203040000\nrow 0 1 014000", ["SET UP EVENT LIST", "DISPLAY TEXT"]),
+        ("row 6 1 01400040064140014240021040040340094340070440064440014" "5", None),
+    ]
+    LINES = ("command DISPLAY TEXT qualifier 80 text A", "shown text A", "user ok", "response result 00", "command MORE TIME", "response result 00")
+
+    def played(self, rows, terminal, lines=LINES, seconds=None):
+        with Card.from_text(rows + "\nstart\n") as card:
+            return verdict.judged(read(*lines)[0], terminal, card, seconds)
+
+    def test_an_innocent_terminal_passes(self):
+        for rows, names in self.CARDS:
+            with self.subTest(rows=rows):
+                outcome = self.played(rows, undertest.InPython())
+                self.assertEqual((outcome.verdict, outcome.why), (verdict.PASSED, ""))
+                if names is not None:
+                    self.assertEqual(outcome.of_card, names)
+                self.assertTrue(outcome.of_card)
+
+    def test_what_the_card_shows_is_not_the_sequences(self):
+        """The card's own text is no text of the sequence, and neither is its menu."""
+        outcome = self.played("row 0 1 014000", undertest.InPython(), ("command MORE TIME", "shown text Hi", "response result 00"))
+        self.assertEqual((outcome.verdict, outcome.why.partition(",")[0]), (verdict.FAILED, "nothing is shown"))
+        self.assertEqual(outcome.of_card, ["DISPLAY TEXT"])
+
+    def test_a_command_that_comes_in_between(self):
+        """An entry of the card's menu is picked in a sequence: its applet asks, and the sequence goes on after that."""
+        lines = ("command SET UP MENU title M item 2 B", "response result 00", "user pick 2", "envelope menu selection identifier 2",
+                 "command DISPLAY TEXT qualifier 80 text A", "shown text A", "user ok", "response result 00")
+        outcome = self.played("row 1 1 00044D656E75", undertest.InPython(), lines)
+        self.assertEqual((outcome.verdict, outcome.why), (verdict.PASSED, ""))
+        self.assertEqual(outcome.of_card, ["SET UP MENU", "SELECT ITEM"])
+
+    def test_a_terminal_that_leaves_the_cards_command(self):
+        """Nothing can be said of it, and the command is named."""
+        class Away(undertest.InPython):
+            def happen(self, said):
+                raise undertest.Unable("nobody is there")
+
+        outcome = self.played("row 0 1 014000", Away())
+        self.assertEqual((outcome.verdict, outcome.why),
+                         (verdict.INCONCLUSIVE, "the card's own command came first, DISPLAY TEXT, and the terminal doesn't answer it"))
+
+        class NeverFetches(Link):
+            def transmit(self, command):
+                return Answer(b"", "9000") if command[1] == decode.FETCH else super().transmit(command)
+
+        outcome = self.played("row 0 1 014000", undertest.InPython(lambda player: handset.Terminal(NeverFetches(player, lambda one: [one]))))
+        self.assertEqual((outcome.verdict, outcome.why), (verdict.INCONCLUSIVE, "the card's own command came first, and the terminal doesn't fetch it"))
+
+    def test_commands_without_an_end(self):
+        """An applet that has the card reset whenever the terminal tells its profile."""
+        outcome = self.played("row 6 1 0140004001414005" "04", undertest.InPython())
+        self.assertEqual((outcome.verdict, outcome.why.partition(": ")[0]),
+                         (verdict.INCONCLUSIVE, "the card's own commands came first, and have no end"))
+
+    def test_a_stray_response_still_fails(self):
+        class Twice(able_terminal.AbleTerminal):
+            def _respond(self, reply, details=None):
+                kept = details or self.held.details
+                answer = super()._respond(reply, details)
+                self._send(handset.with_data(decode.RESPONSE, handset.response_to(kept, reply)))
+                return answer
+
+        outcome = self.played("row 1 1 00044D656E75", undertest.InPython(Twice), ("command MORE TIME", "response result 00"))
+        self.assertEqual((outcome.verdict, outcome.why), (verdict.FAILED, "a TERMINAL RESPONSE comes for a command that wasn't fetched"))
+
+    def test_those_in_the_box(self):
+        """Over a card that greets, watches and has a menu the able terminal passes all that it passes over one without applets."""
+        rows = "row 0 1 014000\nrow 1 2 00044D656E75\nrow 5 3 014000\nstart\n"
+        found = [one for one in in_the_box() if not any(isinstance(step, Quiet) or isinstance(step, Tell) for step in one.steps)]
+        self.assertGreater(len(found), 80)
+        for one in found:
+            with self.subTest(name=one.name), Card.from_text(rows) as card:
+                outcome = verdict.judged(one, undertest.InPython(able_terminal.AbleTerminal), card)
+                self.assertEqual((outcome.verdict, outcome.why), (verdict.PASSED, ""))
 
 
 class Tool(unittest.TestCase):
@@ -705,6 +891,10 @@ class Tool(unittest.TestCase):
                 out.write("class No:\n    pass\n")
             with open(os.path.join(folder, "broken.py"), "w", encoding="ascii") as out:
                 out.write("import nothing_of_that_name\n")
+            with open(os.path.join(folder, "ends.py"), "w", encoding="ascii") as out:
+                out.write("from uicc.undertest import InPython\nclass Ends(InPython):\n    def close(self):\n        return 1 / 0\n")
+            with open(os.path.join(folder, "made.py"), "w", encoding="ascii") as out:
+                out.write("from uicc.undertest import InPython\nclass Made(InPython):\n    def __init__(self, port):\n        pass\n")
             with open(os.path.join(folder, "bytes.sequence"), "wb") as out:
                 out.write(b"sequence \xFF\n")
             for words, why in (
@@ -716,6 +906,9 @@ class Tool(unittest.TestCase):
                     ((good, "--on", own + ":No"), "has no class No that is an UnderTest"),
                     ((good, "--on", own + ":None"), "has no class None"), ((good, "--on", folder + "/x.py:Y"), "is no file of Python"),
                     ((good, "--on", folder + "/broken.py:Y"), "can't be loaded: ModuleNotFoundError"),
+                    ((good, "--on", folder + "/broken.py:Y"), "broken.py:1\n"), ((good, "--on", folder + "/made.py:Made"), "can't be made: TypeError"),
+                    ((good, "--on", folder + "/made.py:Made"), "made.py:3\n"),
+                    ((good, "--on", folder + "/ends.py:Ends"), "the terminal can't be closed: ZeroDivisionError: division by zero, at "),
                     ((good, "--card", os.path.join(folder, "none")), "No such file"), ((good, "--card", good), "line 1: no line begins with"),
                     ((good, "--seconds", "x"), "invalid"), ((good, "--seconds", "-1"), "invalid")):
                 with self.subTest(words=words):
@@ -727,7 +920,7 @@ class Tool(unittest.TestCase):
     def test_those_in_the_box(self):
         """What the handset passes, and what it doesn't."""
         done = tool(IN_THE_BOX)
-        self.assertRegex(done.stdout, "135 sequences on the handset in Python: 88 passed, 13 failed, 0 inconclusive, 34 not supported")
+        self.assertRegex(done.stdout, "138 sequences on the handset in Python: 88 passed, 16 failed, 0 inconclusive, 34 not supported")
 
 
 if __name__ == "__main__":

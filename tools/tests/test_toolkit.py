@@ -6,7 +6,7 @@ import tempfile
 import unittest
 
 import common  # noqa: F401 (the path)
-from uicc import decode, lint, process, stored, toolkit, trace
+from uicc import Card, Terminal, decode, lint, process, stored, toolkit, trace
 
 LONGEST = 20_000
 PROFILE = "> 80100000082900BF6171000013"
@@ -23,6 +23,82 @@ def rows_of(script):
 def told(script, lines):
     """The lines about a toolkit, as they are shown."""
     return [f"{line.label}: {line.text}" for line in toolkit.followed(rows_of(script), lines).lines()]
+
+
+class OfACard(unittest.TestCase):
+    """What a Card tells of its toolkit."""
+
+    def doing(self, card):
+        now = card.toolkit
+        return {shelf: (one.state, one.command) for shelf, one in now.applets.items()}, now.outstanding, now.owner, now.is_fetched
+
+    def test_a_session(self):
+        """A clock, a note without a text and a menu: each step of what they are doing."""
+        steps = [
+            (lambda card: None, {1: ("idle", None), 2: ("idle", None), 5: ("idle", None)}, None, None, False),
+            (lambda card: card.profile(), {1: ("idle", None), 2: ("waiting", "TIMER MANAGEMENT"), 5: ("waiting", "GET INPUT")}, "SET UP MENU", None, False),
+            (lambda card: card.fetch(), {1: ("idle", None), 2: ("waiting", "TIMER MANAGEMENT"), 5: ("waiting", "GET INPUT")}, "SET UP MENU", None, True),
+            (lambda card: card.respond(), {1: ("idle", None), 2: ("asked", "TIMER MANAGEMENT"), 5: ("waiting", "GET INPUT")}, "TIMER MANAGEMENT", 2, False),
+            (lambda card: (card.fetch(), card.respond()), {1: ("idle", None), 2: ("idle", None), 5: ("asked", "GET INPUT")}, "GET INPUT", 5, False),
+            (lambda card: (card.fetch(), card.pick(2)), {1: ("waiting", "SELECT ITEM"), 2: ("idle", None), 5: ("asked", "GET INPUT")}, "GET INPUT", 5, True),
+            (lambda card: card.reset(), {1: ("idle", None), 2: ("idle", None), 5: ("idle", None)}, None, None, False),
+        ]
+        with Card.from_text(ROWS) as card:
+            for number, (act, *wanted) in enumerate(steps):
+                with self.subTest(step=number):
+                    act(card)
+                    self.assertEqual(self.doing(card), tuple(wanted))
+                    # what went over needs not be kept
+                    card.trace.clear()
+                    self.assertEqual(len(str(card.toolkit).splitlines()), len(card.toolkit.lines))
+
+    def test_values(self):
+        with Card.from_text(ROWS) as card:
+            self.assertFalse(card.toolkit.has_profile)
+            card.profile()
+            now = card.toolkit
+            self.assertTrue(now.has_profile)
+            self.assertEqual(now.timers, {1: 2})
+            self.assertEqual(now.events["profile download"], [2, 5])
+            self.assertEqual([now.applets[shelf].place for shelf in (1, 2, 5)], [0, 1, 2])
+            self.assertEqual([now.applets[shelf].priority for shelf in (1, 2, 5)], [3, 1, 2])
+            self.assertIn("timer 1: held by the applet on shelf 2", str(now))
+            self.assertIsNone(now.doubt)
+
+    def test_late_events(self):
+        """An applet that waits for a response is told of an event later."""
+        with Card.from_text("row 3 1 0203040000\nrow 20 2 0103000301410301420301430304\nstart\n") as card:
+            card.profile()
+            while card.fetch():
+                card.respond()
+            place = "D613 9901 03 82028281 9B0100 930700F11000010002"
+            card.envelope(place)
+            card.envelope(place)
+            self.assertIn((3, "location status"), card.toolkit.late)
+
+    def test_as_by_its_trace(self):
+        """The same as is worked out from the trace of a day, line by line; also after a cut, and on a card that is opened again."""
+        with tempfile.TemporaryDirectory() as folder:
+            image = os.path.join(folder, "day.img")
+            script = os.path.join(process.TOP, "examples", "day.script")
+            with Card(script, image=image) as card:
+                rows, terminal = dict(card.holds.rows), Terminal(card)
+                terminal.start()
+                for line in process.card_section(process.lines_of(script))[1]:
+                    if not line.startswith("#"):
+                        terminal.line(line)
+                    self.assertEqual(list(card.toolkit.lines), toolkit.followed(rows, card.trace).lines())
+            with Card.open(image) as card:
+                self.assertEqual(len(card.toolkit.applets), len(rows))
+
+    def test_installed(self):
+        with Card.from_text("pin 0A 3838383838383838 on 3030303030303030\nstart\n") as card:
+            self.assertEqual(card.toolkit.applets, {})
+            card.verify(0x0A, "88888888")
+            card.install(1, 5, "00044D656E75")
+            self.assertEqual(card.toolkit.applets[1].priority, 5)
+            card.delete(1)
+            self.assertEqual(card.toolkit.applets, {})
 
 
 class Stored(unittest.TestCase):

@@ -1,4 +1,6 @@
 """Terminals under test that are other programs: the proved handset, programs of AT commands and of PC/SC, and oFono."""
+import inspect
+import itertools
 import os
 import socket
 import struct
@@ -6,7 +8,7 @@ import threading
 import unittest
 
 import common  # noqa: F401 (the path)
-from uicc import Answer, Card, Terminal, decode, grammar, handset, ofono, process, sending, sequence, undertest, verdict
+from uicc import Answer, Card, Terminal, decode, grammar, handset, ofono, player, process, sending, sequence, undertest, undertest_modem, verdict
 from uicc.undertest_modem import AtClient, OfOfono
 from uicc.undertest_reader import OfReader
 
@@ -101,6 +103,82 @@ class Client(threading.Thread):
         self.link.sendall(b"AT+CUSATT=" + decode.hexed(data).encode() + b"\r")
 
 
+HANDSET = os.path.join(process.TOP, "docs", "HANDSET.md")
+
+
+@unittest.skipUnless(os.path.exists(HANDSET), "the documents aren't here")
+class Interface(unittest.TestCase):
+    """The tables of docs/HANDSET.md have what a class of one's own may have, as the source has it, and what its player has."""
+
+    def rows(self, head):
+        """The rows of a table, by what stands in backquotes in the first column."""
+        with open(HANDSET, encoding="utf-8") as text:
+            lines = text.read().splitlines()
+        at = next(n for n, line in enumerate(lines) if line.startswith(f"| {head} |"))
+        rows = [line.split(" | ") for line in itertools.takewhile(lambda line: line.startswith("|"), lines[at + 2:])]
+        return {row[0].strip("|` "): row[-1].strip("| ") for row in rows}
+
+    def test_methods(self):
+        found = {}
+        for name, method in vars(undertest.UnderTest).items():
+            if inspect.isfunction(method) and not name.startswith("_"):
+                parameters = [one for one in inspect.signature(method).parameters if one != "self"]
+                found[f"{name}({', '.join(parameters)})"] = method
+        rows = self.rows("method")
+        self.assertEqual(list(rows), list(found))
+        for called, left_out in rows.items():
+            with self.subTest(method=called):
+                given = [None] * (called.count(",") + (not called.endswith("()")))
+                if left_out == "has to be there":
+                    self.assertRaises(NotImplementedError, found[called], undertest.UnderTest(), *given)
+                else:
+                    self.assertIsNone(found[called](undertest.UnderTest(), *given))
+
+    def test_values(self):
+        found = {name: str(value) for name, value in vars(undertest.UnderTest).items() if not name.startswith("_") and not inspect.isfunction(value)}
+        self.assertEqual(self.rows("value"), found)
+
+    def test_the_player(self):
+        given = player.Player(None)
+        for called in self.rows("call"):
+            with self.subTest(call=called):
+                name, _, parameters = called.partition("(")
+                self.assertTrue(hasattr(given, name))
+                if parameters:
+                    self.assertEqual([one for one in inspect.signature(getattr(given, name)).parameters], [parameters[:-1]] if parameters != ")" else [])
+
+
+class OfonosUser(unittest.TestCase):
+    """What oFono's agent is told to answer, and what is noted of what it is asked."""
+    # a command, what its user does, and the answer
+    ANSWERS = [
+        ("GET INPUT qualifier 01 text A length 0 9 default John", "user ok", {"value": "John"}),
+        ("GET INPUT qualifier 01 text A length 0 9 default ucs2 Ж", "user ok", {"value": "Ж"}),
+        ("GET INPUT qualifier 01 text A length 0 9 default gsm7 John", "user ok", {"value": "John"}),
+        ("GET INPUT qualifier 01 text A length 0 9 default John", "user type Jane", {"value": "Jane"}),
+        ("GET INPUT qualifier 01 text A length 0 9 default John", "user end", ofono.END_SESSION),
+        ("GET INPUT qualifier 01 text A length 0 9", "user ok", None),
+        ("DISPLAY TEXT qualifier 80 text A", "user ok", {"value": None}),
+        ("GET INKEY qualifier 04 text A", "user ok", {"value": True}),
+    ]
+    NOTES = [
+        (["RequestInput", "A?", 0, "John", 0, 9, False], ["ask A?", "default John"]), (["RequestInput", "A?", 0, "", 0, 9, False], ["ask A?"]),
+        (["RequestDigits", "A?", 0, "12", 0, 9, False], ["ask A?", "default 12"]), (["DisplayText", "Hi", 0, True], ["text Hi"]),
+        (["RequestSelection", "A", 0, [["a", 0], ["b", 0]], 0], ["choose 2"]), (["PlayTone", "busy", "", 0], ["tone 02"]), (["Release"], []),
+    ]
+
+    def test_answers(self):
+        for command, act, answer in self.ANSWERS:
+            with self.subTest(command=command, act=act):
+                (one,) = sequence.read(f"sequence one\ncommand {command}\n{act}\n", "a")
+                self.assertEqual(undertest_modem.answer_to(one.steps[0].raw, one.steps[1].said), answer)
+
+    def test_notes(self):
+        for asked, notes in self.NOTES:
+            with self.subTest(asked=asked):
+                self.assertEqual(list(undertest_modem.notes_of(asked)), notes)
+
+
 class AtCommands(unittest.TestCase):
     def test_a_client(self):
         told = []
@@ -118,7 +196,7 @@ class AtCommands(unittest.TestCase):
         self.assertIn("says", told_of["GET INKEY, any character"][1])
         self.assertIn("did nothing within 2 seconds", told_of["DISPLAY TEXT, the user has read it"][1])
         self.assertIn("  please type `q`", told)
-        self.assertIn("  please say yes, or that it was seen", told)
+        self.assertIn("  please say yes, or that it was seen, or take what stands there", told)
         self.assertIn("  it must show now: text Toolkit Test 1", told)
 
     def test_a_port_that_is_taken(self):
@@ -198,7 +276,9 @@ class WithOfono(unittest.TestCase):
         """What it passes; what it answers otherwise than it must, which isn't mended away; and what its user can't do."""
         wanted = {
             "DISPLAY TEXT, the user has read it": verdict.PASSED, "DISPLAY TEXT, the user goes back": verdict.PASSED,
-            "GET INKEY, any character": verdict.PASSED, "GET INPUT, digits": verdict.PASSED, "SELECT ITEM, the second of four": verdict.PASSED,
+            "GET INKEY, any character": verdict.PASSED, "GET INPUT, digits": verdict.PASSED,
+            "GET INPUT, what stands there already is taken": verdict.PASSED,
+            "GET INPUT, digits that stand there already are taken": verdict.PASSED, "SELECT ITEM, the second of four": verdict.PASSED,
             "SET UP MENU, an entry is picked": verdict.PASSED, "SET UP IDLE MODE TEXT": verdict.PASSED, "PLAY TONE, a general beep": verdict.PASSED,
             "a command whose objects are cut short": verdict.FAILED, "GET INKEY, the user doesn't respond": verdict.INCONCLUSIVE,
             "SET UP EVENT LIST": verdict.UNSUPPORTED}

@@ -3,6 +3,8 @@ from .card import Answer, Card, CardError, NoSuchFile, PowerLost, Proactive, Sta
 from .handset import Reply, Terminal
 from .process import Ended, NotBuilt
 from .status import Status
+from .toolkit import AppletNow, ToolkitNow
 
-__all__ = ["Answer", "Card", "CardError", "Ended", "NoSuchFile", "NotBuilt", "PowerLost", "Proactive", "Reply", "Status", "StatusError", "Terminal"]
+__all__ = ["Answer", "AppletNow", "Card", "CardError", "Ended", "NoSuchFile", "NotBuilt", "PowerLost", "Proactive", "Reply", "Status",
+           "StatusError", "Terminal", "ToolkitNow"]
 __version__ = "0.2.0"

@@ -14,6 +14,7 @@ import os
 from . import decode, described, fields, image, kept, layout, lint, names, process, profile, refusals, tlv
 from .follow import Follower
 from .status import Status
+from .toolkit import MEMORY_PROBLEM, Toolkit, ToolkitNow
 
 PROFILE = bytes.fromhex("2900BF6171000013")
 WARNINGS = ("6282", "6283")
@@ -44,7 +45,11 @@ class NoSuchFile(CardError, LookupError):
 
 @dataclasses.dataclass(frozen=True)
 class Answer:
-    """What a card answers: data, and a status, which is given as a number or as its digits."""
+    """What a card answers: data, and a status, which is given as a number or as its digits. It is one object and no pair:
+
+        answer = card.transmit("00A4000C023F00")
+        answer.data, answer.status
+    """
     data: bytes
     status: Status
 
@@ -53,6 +58,16 @@ class Answer:
 
     def __str__(self):
         return f"{decode.hexed(self.data)} {self.status}".strip()
+
+    def __getitem__(self, place):
+        raise TypeError("an Answer is one object, and no pair: it has `data` and `status`")
+
+
+def as_answer(given):
+    """What `transmit` of an object in a card's place answered. TypeError, where that is no Answer."""
+    if isinstance(given, Answer):
+        return given
+    raise TypeError(f"`transmit` has to answer an Answer, Answer(b\"\", \"9000\") say, and not {given!r}")
 
 
 @dataclasses.dataclass(frozen=True)
@@ -125,7 +140,7 @@ class Card:
         self._words += ["--image", self._image]
         self.trace, self.pending = [], None
         self._fetched = None
-        self._follower = Follower(self.holds)
+        self._follower, self._toolkit = Follower(self.holds), Toolkit(dict(self.holds.rows))
         try:
             self._simulator = process.Simulator(["open" if self._opened else "play", *self._words], section)
         except BaseException:
@@ -149,6 +164,12 @@ class Card:
                 return image.card_in(content.read())
         except (OSError, image.NoCard):
             return self.holds
+
+    @property
+    def toolkit(self) -> ToolkitNow:
+        """What the toolkit is doing: which applet is idle, asked or waiting, and for what; which events come late; who holds which timer;
+        whom an event wakes, in which order. It is worked out from what the card was sent."""
+        return self._toolkit.now()
 
     @classmethod
     def from_text(cls, text: str, image: str | None = None, store: str | None = None) -> "Card":
@@ -200,6 +221,7 @@ class Card:
         if answer is None:
             self.trace.append(process.CUT if self._has_power else process.OFF)
             self._has_power = False
+            self._toolkit.lose()
             raise PowerLost("the power is off" if self.trace[-1] == process.OFF else "the power was lost in the command")
         self.trace.append("< " + decode.hexed(answer))
         answer = Answer(answer[:-2], int.from_bytes(answer[-2:], "big"))
@@ -211,6 +233,10 @@ class Card:
     def _note(self, command, answer):
         apdu = decode.Apdu(command)
         self._follower.take(apdu, answer.status)
+        if answer.status == MEMORY_PROBLEM:
+            self._toolkit.lose()
+        else:
+            self._toolkit.take(apdu, answer.data, answer.status)
         if apdu.ok and apdu.ins == decode.CHANNEL and apdu.p1 == 0 and answer.status == "9000":
             self._follower.opened_as(answer.data[0] if answer.data else apdu.p2, apdu.channel)
         if answer.status.startswith("91"):
@@ -494,6 +520,7 @@ class Card:
     def reset(self) -> None:
         """Resets the card, which gives it power again. PowerLost, where it loses it in that."""
         self._follower.reset()
+        self._toolkit.reset()
         self.pending = self._fetched = None
         self._has_power = self._simulator.reset()
         self.trace.append(process.RESET if self._has_power else process.CUT)

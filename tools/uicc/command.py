@@ -3,10 +3,12 @@
     uicc play [--store STORE] [--image FILE] < SCRIPT
     uicc WORD ..
     uicc WORD --help
+    uicc --draft WORD ..
     uicc --version
 
 play, open, phone, load and bip run the program with these words; `uicc_run --help` has them, the lines of a script, and how a
-run ends. Each other word is a tool:
+run ends. With --draft a program of the sources as they stand is run, of which nothing is proved, by the tools too; it is built where a
+source changed, and wants a clone. Each other word is a tool:
 
 {tools}
 
@@ -93,6 +95,9 @@ def carried_out(words):
     word, rest = words[0], words[1:]
     if word in ("--help", "-h", "help"):
         return carried_out([rest[0], "--help"]) if rest else print(help_page()) or 0
+    if word == "--draft":
+        os.environ["UICC_RUN"] = process.DRAFT
+        return carried_out(rest) if rest else run_program(["--draft"])
     if word == "--version":
         return print(version_page()) or 0
     if word in PROGRAM_WORDS:

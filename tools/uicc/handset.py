@@ -14,7 +14,7 @@ be any object with the methods `transmit` and `reset` and the list `trace` of a 
 import dataclasses
 
 from . import decode, names, tlv
-from .card import PROFILE, PowerLost, as_bytes
+from .card import PROFILE, PowerLost, as_answer, as_bytes
 from .grammar import Handset, Plan, Reset, Wrong, read_line
 
 SELECT_MF = bytes.fromhex("00A4000C023F00")
@@ -352,7 +352,7 @@ class Terminal:
         """The answer to a command. Silent, where it is the last thing that the handset sees before a reset."""
         self._commands += 1
         try:
-            answer = self.card.transmit(command)
+            answer = as_answer(self.card.transmit(command))
         except PowerLost:
             raise Silent from None
         if answer.status == MEMORY_PROBLEM or self._commands >= MOST_COMMANDS:

@@ -119,11 +119,15 @@ def proactive_in(exchanges):
 
 
 class Session:
-    """A telephone with a card, and what went over between them."""
+    """A telephone with a card, and what went over between them; `keep` is told each line of that too."""
 
-    def __init__(self, card, between=lambda sim: sim):
-        self.card, self.lines, self.heard = card, [], []
-        self.phone = ofono.Ofono(between(Recorded(card, self.lines.append)))
+    def __init__(self, card, between=lambda sim: sim, keep=lambda line: None):
+        self.card, self.lines, self.heard, self.keep = card, [], [], keep
+        self.phone = ofono.Ofono(between(Recorded(card, self._keep)))
+
+    def _keep(self, line):
+        self.lines.append(line)
+        self.keep(line)
 
     def __enter__(self):
         return self

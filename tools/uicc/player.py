@@ -11,7 +11,7 @@ import threading
 import time
 
 from . import decode, process, trace
-from .card import Answer, PowerLost, as_bytes
+from .card import Answer, PowerLost, as_answer, as_bytes
 
 DONE = "9000"
 TOOLKIT_CLASS = 0x80
@@ -19,8 +19,9 @@ WRONG_LENGTH = "6C"
 
 PLAYER, CARD, BOTH = "player", "card", "card, with a status by the player"
 
-# what is heard of a terminal
+# what is heard of a terminal; a response to a command of the card's own is one `for the card`
 FETCHED, RESPONDED, STRAY, TOLD, PROFILED, ASKED, RESET = "fetch", "response", "stray response", "envelope", "profile", "status", "reset"
+FOR_CARD = "for the card"
 OF_CARD = {decode.RESPONSE: STRAY, decode.ENVELOPE: TOLD, decode.PROFILE: PROFILED, decode.STATUS: ASKED}
 
 
@@ -42,19 +43,19 @@ class Exchange:
 
 class Player:
     """`card` is a Card, or what has its calls `transmit` and `reset`. `trace` shows all that the terminal saw, `exchanges` the same with whose
-    each was, and `heard` what the terminal did."""
+    each was, `heard` what the terminal did, and `of_card` the commands of the card's own that it fetched."""
 
     def __init__(self, card):
         self.card = card
-        self.trace, self.exchanges, self.heard = [], [], []
+        self.trace, self.exchanges, self.heard, self.of_card = [], [], [], []
         self._changed, self._is_over = threading.Condition(), False
         self._forget()
 
     def _forget(self):
         # its own commands that aren't fetched yet, and the one that is and has no response
         self._waiting, self._fetched = collections.deque(), None
-        # whether the first of them was announced; what the card announced; whether the card's was fetched
-        self._announced, self._of_card, self._card_is_asked = False, None, False
+        # whether the first of them was announced; what the card announced; whether the card waits for the response to one that was fetched
+        self._announced, self._of_card, self._card_waits = False, None, False
         # whether the command that was fetched last counts as the player's own, where it doesn't stand between
         self._overheard = False
 
@@ -70,6 +71,16 @@ class Player:
         with self._changed:
             self.trace.append("* " + text)
             self._changed.notify_all()
+
+    @property
+    def card_waits(self):
+        """Whether the card waits for the response to a command of its own."""
+        return self._card_waits
+
+    @property
+    def card_is_first(self):
+        """Whether a command of the card's own is out, or announced, so that the player's have to wait."""
+        return self._card_waits or self._of_card is not None
 
     def overhear(self, lines, is_own):
         """Takes the lines of a trace of a card and a terminal that the player doesn't stand between. `is_own` says of a proactive command
@@ -181,13 +192,15 @@ class Player:
         return Answer(raw, DONE)
 
     def _handed_on(self, command, apdu, of_toolkit):
-        answer = self.card.transmit(command)
+        answer = as_answer(self.card.transmit(command))
         if of_toolkit and apdu.ins in OF_CARD:
-            self._hear(OF_CARD[apdu.ins], apdu.data)
+            is_for_card = apdu.ins == decode.RESPONSE and self._card_waits
+            self._hear(FOR_CARD if is_for_card else OF_CARD[apdu.ins], apdu.data)
         if of_toolkit and apdu.ins == decode.FETCH and answer.status == DONE:
-            self._of_card, self._card_is_asked = None, True
+            self._of_card, self._card_waits = None, True
+            self.of_card.append(answer.data)
         if of_toolkit and apdu.ins == decode.RESPONSE and answer.status.startswith(("90", "91")):
-            self._card_is_asked = False
+            self._card_waits = False
         if answer.status.startswith("91"):
             self._of_card = answer.status
         given = Answer(answer.data, self._status(answer.status))
@@ -199,7 +212,7 @@ class Player:
             return status
         if self._fetched is not None:
             return DONE
-        if self._waiting and (self._announced or not self._of_card and not self._card_is_asked):
+        if self._waiting and (self._announced or not self._of_card and not self._card_waits):
             self._announced = True
             return f"91{len(self._waiting[0]) % 256:02X}"
         return self._of_card or DONE

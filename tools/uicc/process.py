@@ -1,6 +1,7 @@
 """The simulator as a process: a dialogue with it, a line at a time, and whole runs.
 
-The environment's UICC_RUN names another program than the built or the released one of this repository."""
+The environment's UICC_RUN names another program than the built or the released one of this repository; where it is `draft`, that is the
+one of the sources as they stand (tools/draft)."""
 import functools
 import os
 import subprocess
@@ -15,6 +16,7 @@ TOP = os.path.realpath(TREE) if os.path.isdir(TREE) else os.path.dirname(os.path
 LAUNCHER = os.path.join(TOP, "uicc_run")
 BUILT = os.path.join(TOP, "crates", "uicc_program", "out", "uicc_program")
 RELEASED = os.path.join(TOP, "dist", "uicc_program")
+DRAFT = "draft"
 BUILT_PAGE = os.path.join(TOP, "tools", "page", "out", "index.html")
 RELEASED_PAGE = os.path.join(TOP, "dist", "uicc_run.html")
 
@@ -53,8 +55,8 @@ class Ended(Exception):
 class NotBuilt(Exception):
     """The launcher can run the source too, but only with a script that is whole: it holds no dialogue."""
 
-    def __init__(self):
-        super().__init__(f"the program isn't built, and no released one runs here; type: {LAUNCHER} --build")
+    def __init__(self, why=f"the program isn't built, and no released one runs here; type: {LAUNCHER} --build"):
+        super().__init__(why)
 
 
 @functools.cache
@@ -67,12 +69,25 @@ def runs(path):
         return False
 
 
+@functools.cache
+def draft():
+    """The program of the sources as they stand, with nothing proved, which is built where one of them changed."""
+    tool = os.path.join(TOP, "tools", DRAFT)
+    if not os.path.exists(tool):
+        raise NotBuilt(f"UICC_RUN asks for a draft, and the sources are not here: {TOP}")
+    made = subprocess.run([sys.executable, "-B", tool], stdin=subprocess.DEVNULL, stdout=subprocess.PIPE, text=True, check=False)
+    if made.returncode:
+        raise NotBuilt("the draft could not be built")
+    print("uicc_run: the draft runs, which is of the sources as they stand: nothing of it is proved", file=sys.stderr, flush=True)
+    return made.stdout.strip()
+
+
 def program():
     """The program that is to be started: the one that the environment names, or else, as the launcher has it, the built one, or
     the released one."""
     named = os.environ.get("UICC_RUN")
     if named:
-        return named
+        return draft() if named == DRAFT else named
     if os.access(BUILT, os.X_OK):
         return BUILT
     if runs(RELEASED):
@@ -85,7 +100,8 @@ def told_of_program():
     path = program()
     version = subprocess.run([path, "--version"], stdin=subprocess.DEVNULL, stdout=subprocess.PIPE, stderr=subprocess.DEVNULL, text=True,
                              check=False).stdout.strip()
-    which = {BUILT: "built here", RELEASED: "the released one"}.get(path, "named by UICC_RUN")
+    named = "a draft, of which nothing is proved" if os.environ.get("UICC_RUN") == DRAFT else "named by UICC_RUN"
+    which = {BUILT: "built here", RELEASED: "the released one"}.get(path, named)
     return f"{path}, {version or 'of no version'}, {which}"
 
 

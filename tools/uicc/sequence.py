@@ -221,7 +221,7 @@ class Reader:
 
     def shown(self, number, text, rest):
         if not rest:
-            raise Wrong("what is shown is missing: shown text T, ask T, choose N, menu N, tone HH or idle T")
+            raise Wrong("what is shown is missing: shown text T, ask T, default T, choose N, menu N, tone HH or idle T")
         self.add(Shown(number, text, rest))
 
     def act(self, number, text, _):

@@ -1,13 +1,14 @@
 """What the toolkit of a card is doing, worked out from its registered applets and from the commands of a trace: which applet is idle,
 asked or waiting, for what; which events come late; which timers are held; which applets an event wakes, and in which order.
 
-    from uicc import Card, toolkit
+    from uicc import Card
 
     with Card("examples/day.script") as card:
-        rows = dict(card.holds.rows)
         card.profile()
-        for line in toolkit.followed(rows, card.trace).lines():
-            print(f"{line.label}: {line.text}")"""
+        print(card.toolkit)
+        print(card.toolkit.applets[0].state)
+
+`followed` does so with the lines of a trace."""
 import dataclasses
 
 from . import decode, layout, names, process, tlv, trace
@@ -252,6 +253,40 @@ class Outstanding:
     fetched: bool = False
 
 
+@dataclasses.dataclass(frozen=True)
+class AppletNow:
+    """What an applet is doing. `state` is `idle`, `asked` where its command is out, or `waiting` where it has one to send; `command` is the
+    name of that command, None where it is idle. `place` is its place among those that wait, from 1 on; 0 where it doesn't wait."""
+    shelf: int
+    kind: str
+    priority: int
+    state: str = "idle"
+    command: str | None = None
+    place: int = 0
+
+
+@dataclasses.dataclass(frozen=True)
+class ToolkitNow:
+    """What the toolkit of a card is doing, worked out from what the card was sent; it prints as lines. `applets` are the registered applets by
+    their shelves. `outstanding` is the name of the command that the terminal has to answer, None where there is none; `owner` the shelf of
+    its applet, None where it is the card's own; `is_fetched` whether it waits for its response. `late` are the events that applets which
+    wait are told later, each a shelf and a name; `timers` the shelves that hold them, by their numbers; `events` the shelves that an
+    event wakes, in the order in which it does, by its name. `doubt` says why this may not be so, after a loss of power say."""
+    has_profile: bool
+    outstanding: str | None
+    owner: int | None
+    is_fetched: bool
+    applets: dict[int, AppletNow]
+    late: list[tuple[int, str]]
+    timers: dict[int, int]
+    events: dict[str, list[int]]
+    doubt: str | None
+    lines: tuple = dataclasses.field(repr=False, compare=False)
+
+    def __str__(self):
+        return "\n".join(f"{line.label}: {line.text}" for line in self.lines)
+
+
 class Toolkit:
     """The toolkit of a card with these rows, by their shelves, as it is switched on; `take` is given what it is sent."""
 
@@ -449,7 +484,27 @@ class Toolkit:
     def by_shelf(self):
         return [applet for _, applet in sorted(self.applets.items())]
 
+    def now(self):
+        """What the toolkit is doing, as values."""
+        out = self.out
+        return ToolkitNow(
+            has_profile=self.profile is not None, outstanding=out and out.command.name, owner=out and out.owner,
+            is_fetched=bool(out and out.fetched), applets={applet.shelf: self._applet_now(applet) for applet in self.by_shelf()},
+            late=[(shelf, names.of_toolkit("events", code)) for shelf, code, _ in self.late], timers=dict(sorted(self.timers.items())),
+            events={names.of_toolkit("events", code): [applet.shelf for applet in self.order(code)] for code in layout.EVENTS if self.order(code)},
+            doubt=self.doubt, lines=tuple(self.lines()))
+
+    def _applet_now(self, applet):
+        asked = self.out.command.name if self.out and self.out.owner == applet.shelf else None
+        place, waits = next(((number, command.name) for number, (shelf, command) in enumerate(self.waiting, 1) if shelf == applet.shelf), (0, None))
+        state = "asked" if asked else "waiting" if waits else "idle"
+        return AppletNow(applet.shelf, self.kind_of(applet), applet.row.priority, state, asked or waits, 0 if asked else place)
+
     # in words
+
+    @staticmethod
+    def kind_of(applet):
+        return names.table("toolkit")["kinds"][str(applet.shelf % KINDS)]
 
     def state_of(self, shelf):
         """What an applet is doing."""
@@ -464,8 +519,8 @@ class Toolkit:
         found = [line(0, "terminal profile", "received" if self.profile is not None else "none since the reset")]
         found.append(line(0, "outstanding command", self._out_words()))
         for applet in self.by_shelf():
-            kind = names.table("toolkit")["kinds"][str(applet.shelf % KINDS)]
-            found.append(line(0, f"applet on shelf {applet.shelf} ({kind}, priority {applet.row.priority})", self.state_of(applet.shelf)))
+            head = f"applet on shelf {applet.shelf} ({self.kind_of(applet)}, priority {applet.row.priority})"
+            found.append(line(0, head, self.state_of(applet.shelf)))
         found += [line(0, f"late event {number}", f"{decode.event(code)} for the applet on shelf {shelf}")
                   for number, (shelf, code, _) in enumerate(self.late, 1)]
         found += [line(0, f"timer {timer}", f"held by the applet on shelf {shelf}") for timer, shelf in sorted(self.timers.items())]

@@ -1,6 +1,13 @@
 """Terminals under test: what a sequence has to be able to do with a terminal, and the terminals that there are.
 
-A terminal of one's own is a class with the methods of UnderTest; it is given a player in the place of a card."""
+A terminal of one's own is a class with the methods of UnderTest; it is given a player in the place of a card. docs/HANDSET.md has them in a
+table."""
+import contextlib
+import os
+import signal
+import threading
+import traceback
+
 from . import grammar, process, sending
 from .handset import Terminal
 from .sequence import MORE_ACTS
@@ -18,11 +25,71 @@ class Lost(Exception):
     """The terminal can't be had, or is there no more."""
 
 
+class NotBack(BaseException):
+    """A method of a terminal did not come back in time. No `except Exception` of the terminal's own takes it."""
+
+
+# what doesn't end at the end of its time is told so again
+AGAIN_SECONDS = 1
+LIBRARY = os.path.dirname(os.__file__)
+INSTALLED = ("site-packages", "dist-packages")
+
+
+def _ring(_number, _frame):
+    raise NotBack
+
+
+@contextlib.contextmanager
+def limited(seconds):
+    """Raises NotBack in what isn't done after so many seconds. In another thread than the main one there is no limit."""
+    if threading.current_thread() is not threading.main_thread():
+        yield
+        return
+    before = signal.signal(signal.SIGALRM, _ring)
+    signal.setitimer(signal.ITIMER_REAL, seconds, AGAIN_SECONDS)
+    try:
+        yield
+    finally:
+        signal.setitimer(signal.ITIMER_REAL, 0)
+        signal.signal(signal.SIGALRM, before)
+
+
+def is_ones_own(path):
+    """Whether a file is neither of this package and its tools nor of Python's library."""
+    folder = os.path.dirname(os.path.realpath(path))
+    ours = [os.path.realpath(place) for place in (process.PACKAGE, os.path.join(process.TOP, "tools"))]
+    return folder not in ours and not (folder.startswith(LIBRARY) and not any(part in folder for part in INSTALLED))
+
+
+def shown(path):
+    """A path, from the folder on in which this runs, where it lies below that."""
+    short = os.path.relpath(path)
+    return path if short.startswith(os.pardir) else short
+
+
+def place_of(fault, method=None):
+    """Where in one's own files something was raised, as FILE:LINE; where it was in none, the place of the method that was called, and None
+    where there is none."""
+    found = [frame for frame in traceback.extract_tb(fault.__traceback__) if is_ones_own(frame.filename)]
+    if found:
+        return f"{shown(found[-1].filename)}:{found[-1].lineno}"
+    code = getattr(method, "__code__", None)
+    return f"{shown(code.co_filename)}:{code.co_firstlineno}" if code and is_ones_own(code.co_filename) else None
+
+
+def told(fault, method=None):
+    """An exception in words, and where it was raised."""
+    place = place_of(fault, method)
+    return f"{type(fault).__name__}: {fault}".removesuffix(": ") + (f", at {place}" if place else "")
+
+
 class UnderTest:
     """A terminal. `name` stands in reports. `seconds` is how long it may take for anything; at one that is done when its methods come
-    back it is 0. `has_person`: its user is a person, who may do nothing. `is_seen`: it tells by `player.note` what it shows."""
+    back it is 0. A method that has not come back after so long, or after 10 seconds where it is 0, has hung; `longest` is for methods that
+    need more. `has_person`: its user is a person, who may do nothing. `is_seen`: it tells by `player.note` what it shows."""
     name = "a terminal"
     seconds = 10
+    longest = 0
     has_person = False
     is_seen = True
 
@@ -31,18 +98,19 @@ class UnderTest:
 
     def begin(self, player):
         """Is switched on, over the card that the player stands before: it selects files and tells its profile."""
-        raise NotImplementedError
+        raise NotImplementedError("the class has no method `begin`")
 
     def prepare(self, commands, said):
         """Is told what commands come next, and what its user will do at them; for terminals whose user has to know beforehand."""
 
     def poll(self):
         """Has it send something that the card may announce a command after, STATUS say."""
-        raise NotImplementedError
+        raise NotImplementedError("the class has no method `poll`")
 
     def happen(self, said):
-        """Has something happen at it, which is `user`, `net` or `time` and what a line of a script says. Unable, where it can't."""
-        raise NotImplementedError
+        """Has something happen at it: `said.word` is `user`, `net` or `time`, and `said.act` and `said.value` are what a line of a script says
+        after that. Unable, where it can't."""
+        raise NotImplementedError("the class has no method `happen`")
 
     def must_show(self, note):
         """Is told what it must show now; for terminals whose user is a person who looks."""
@@ -81,8 +149,9 @@ class InPython(UnderTest):
 
 # what a person at a terminal is told to do
 INSTRUCTIONS = {
-    "ok": "say yes, or that it was seen", "back": "go back", "end": "end the session", "none": "do nothing", "press": "press a key",
-    "idle": "go to the idle screen", "help": "ask for help", "refuse": "refuse it"}
+    "ok": "say yes, or that it was seen, or take what stands there", "back": "go back", "end": "end the session", "none": "do nothing",
+    "press": "press a key", "idle": "go to the idle screen", "help": "ask for help",
+    "refuse": "refuse it"}
 
 
 def instruction(said):

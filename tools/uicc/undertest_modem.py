@@ -6,27 +6,36 @@ import time
 from . import handset, modem_line, ofono
 from .modem import Modem
 from .undertest import Lost, Unable, UnderTest, instruction
+from .wording import letters
 
 PIN = "1234"
 # what the modem tells the card for oFono 1.31: without what it says of itself that it doesn't understand, which are SET UP EVENT LIST, POLLING
 # OFF, channels, and local information other than date, time and language
 OFONO_PROFILE = bytes.fromhex("29 60 BF 3F 00 00 00 1F 4A")
 HERE = "127.0.0.1"
-ITEM = 0x0F
+ITEM, DEFAULT = 0x0F, 0x17
 CALL, BROWSER, OPEN_CHANNEL = 0x10, 0x15, 0x40
 YES_OR_NO = 0x04
 QUIET_SECONDS = 20
+MOST_OF_CARD = 64
 # what oFono's agent is asked: how it is noted, and which of what it is told is shown
 QUESTIONS = {
     "DisplayText": "text", "RequestInput": "ask", "RequestDigits": "ask", "RequestKey": "ask", "RequestDigit": "ask",
     "RequestQuickDigit": "ask", "RequestConfirmation": "ask", "ConfirmCallSetup": "ask", "ConfirmOpenChannel": "ask",
     "ConfirmLaunchBrowser": "ask"}
+# which of them have a text that stands there already
+WITH_DEFAULT = ("RequestInput", "RequestDigits")
 TONES = ("dial-tone", "busy", "congestion", "radio-path-acknowledge", "radio-path-not-available", "error", "call-waiting", "ringing-tone")
 MORE_TONES = ("general-beep", "positive-acknowledgement", "negative-acknowledgement")
 TONE_CODES = {**{name: code for code, name in enumerate(TONES, 0x01)}, **{name: code for code, name in enumerate(MORE_TONES, 0x10)}}
 # the commands at which oFono's user is asked for something
 ASKING = (handset.TEXT, handset.INKEY, handset.INPUT, handset.ITEMS, CALL, BROWSER, OPEN_CHANNEL)
 ANSWERS = ("ok", "back", "end", "none", "type", "pick", "help", "refuse")
+
+
+def default_of(raw):
+    """The text that stands there already, where the user is asked for one; None where none does."""
+    return next((letters(value) for tag, _, value in handset.objects_of(raw) or () if tag == DEFAULT and len(value) > 1), None)
 
 
 def items_of(raw):
@@ -40,6 +49,8 @@ def answer_to(raw, said):
     if said.act in ("back", "end"):
         return ofono.GO_BACK if said.act == "back" else ofono.END_SESSION
     if said.act == "ok":
+        if kind == handset.INPUT and default_of(raw):
+            return {"value": default_of(raw)}
         return {"value": True} if asks_yes else {"value": None} if kind == handset.TEXT else None
     if said.act == "refuse":
         return {"value": False} if asks_yes else None
@@ -50,21 +61,24 @@ def answer_to(raw, said):
     return None
 
 
-def note_of(asked):
-    """What oFono shows when it asks its user for something, as a handset notes it; None where it shows nothing."""
+def notes_of(asked):
+    """What oFono shows when it asks its user for something, as a handset notes it."""
     name, *told = asked
     if name in QUESTIONS:
-        return f"{QUESTIONS[name]} {told[0]}".rstrip()
+        yield f"{QUESTIONS[name]} {told[0]}".rstrip()
+    if name in WITH_DEFAULT and told[2]:
+        yield f"default {told[2]}"
     if name == "RequestSelection":
-        return f"choose {len(told[2])}"
+        yield f"choose {len(told[2])}"
     if name in ("PlayTone", "LoopTone"):
-        return f"tone {TONE_CODES[told[0]]:02X}" if told[0] in TONE_CODES else f"tone {told[0]}"
-    return None
+        yield f"tone {TONE_CODES[told[0]]:02X}" if told[0] in TONE_CODES else f"tone {told[0]}"
 
 
 class OfOfono(UnderTest):
     """oFono. Its user answers what it asks when it asks; the sequence says so beforehand."""
     seconds = 20
+    # it has a time of its own for all that it asks of oFono
+    longest = 600
 
     def __init__(self):
         why = ofono.why_not()
@@ -80,14 +94,22 @@ class OfOfono(UnderTest):
             self._restart(player)
             if self.phone.power_on() == "pin":
                 self.phone.enter_pin(PIN)
+            elif not self.phone.until_ready():
+                raise Lost("oFono doesn't read the SIM to its end")
             self.phone.register_agent()
             self.phone.asked()
+            # what the card's own applets ask for first
+            self.phone.answer(*[ofono.END_SESSION] * MOST_OF_CARD)
             self.phone.go_online()
             # before that it would hear of no command
             if not self.phone.until(lambda: "NetworkRegistration" in self.phone.interfaces, QUIET_SECONDS):
                 raise Lost("oFono finds no network")
         except ofono.OfonoError as fault:
             raise Lost(f"oFono doesn't start: {fault}") from None
+        except BaseException:
+            # what it was asked last may be answered yet
+            self.close()
+            raise
 
     def _restart(self, player):
         """Has it see the card's power go and come."""
@@ -104,6 +126,7 @@ class OfOfono(UnderTest):
         asking = [raw for raw in commands if handset.details_of(raw)[1] in ASKING]
         answers = [one for one in said if one.act in ANSWERS]
         if not asking:
+            self.phone.answer()
             return
         if len(asking) == 1:
             asking *= len(answers)
@@ -144,8 +167,7 @@ class OfOfono(UnderTest):
 
     def look(self):
         for asked in self.phone.asked():
-            note = note_of(asked)
-            if note:
+            for note in notes_of(asked):
                 self.player.note(note)
         toolkit = self.phone.toolkit
         shown = {"idle": toolkit.get("IdleModeText", ""), "menu": str(len(toolkit.get("MainMenu", [])))}
@@ -155,14 +177,16 @@ class OfOfono(UnderTest):
         self.shown = shown
 
     def close(self):
-        if self.phone:
-            self.phone.close()
+        phone, self.phone = self.phone, None
+        if phone:
+            phone.close()
 
 
 class AtClient(UnderTest):
     """Any program that speaks AT commands: it connects to a port, and its user is a person who is told what to do."""
     name = "a client by AT commands"
     seconds = 60
+    longest = 10
     has_person = True
     is_seen = False
 

@@ -48,6 +48,7 @@ class OfReader(UnderTest):
     do."""
     name = "a program of PC/SC"
     seconds = 60
+    longest = 20
     has_person = True
     is_seen = False
 

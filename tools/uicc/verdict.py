@@ -3,13 +3,12 @@ import dataclasses
 import itertools
 import time
 
-from . import decode, tlv
-from .card import CardError
+from . import decode, grammar, handset, tlv
 from .handset import DETAILS, details_of
 from .player import ASKED, FETCHED, PROFILED, RESET, RESPONDED, STRAY, TOLD, Player
 from .process import Ended, NotBuilt
 from .sequence import Act, Give, Poll, Quiet, Respond, Restart, Shown, Tell
-from .undertest import Lost, Unable, Unsupported
+from .undertest import Lost, NotBack, Unable, Unsupported, limited, place_of, told
 from .wording import label_of
 
 PASSED, FAILED, INCONCLUSIVE, UNSUPPORTED = "passed", "failed", "inconclusive", "not supported"
@@ -19,6 +18,12 @@ QUIET_SECONDS = 1
 # how often a terminal is asked what it shows
 LOOK_SECONDS = 0.2
 NO_RESPONSE = 0x12
+# how long a method of a terminal may take that says nothing else, and at least
+USUAL_SECONDS, LEAST_SECONDS = 10, 1
+# what the terminal's user does at a command of the card's own, which isn't the sequence's
+AT_CARDS_OWN = {handset.TEXT: "ok", handset.INKEY: "end", handset.INPUT: "end", handset.ITEMS: "end"}
+# so many commands of the card's own, and it isn't waited for more
+MOST_OF_CARD = 64
 
 
 @dataclasses.dataclass(frozen=True)
@@ -45,13 +50,14 @@ class Undecided(Exception):
 @dataclasses.dataclass
 class Outcome:
     """A sequence and its verdict: why, at which step, and the objects of a response that isn't as it must be. `unseen` is what a
-    terminal must have shown that doesn't tell what it shows."""
+    terminal must have shown that doesn't tell what it shows, `of_card` the names of the commands that were the card's own."""
     sequence: object
     verdict: str = PASSED
     why: str = ""
     step: object = None
     rows: list = dataclasses.field(default_factory=list)
     unseen: list = dataclasses.field(default_factory=list)
+    of_card: list = dataclasses.field(default_factory=list)
     seconds: float = 0.0
     player: object = None
 
@@ -93,8 +99,11 @@ class Run:
     def __init__(self, sequence, terminal, player, seconds):
         self.sequence, self.terminal, self.player = sequence, terminal, player
         self.seconds = terminal.seconds if seconds is None else seconds
+        self.limit = max(LEAST_SECONDS, terminal.longest, USUAL_SECONDS if seconds is None and not terminal.seconds else self.seconds)
         self.taken, self.noted = set(), 0
         self.step = None
+        # how many of the card's own commands the terminal's user was asked about, and which method of the terminal was called last
+        self.of_card, self.method = 0, None
         # the details of the command that was fetched last
         self.details = None
         # the user of this terminal is asked for something that has not come yet
@@ -102,8 +111,8 @@ class Run:
         self.unseen = []
 
     def carry_out(self):
-        self.terminal.accept(self.sequence)
-        self.terminal.begin(self.player)
+        self.call("accept", self.sequence)
+        self.call("begin", self.player)
         self._begin()
         for place, step in enumerate(self.sequence.steps):
             self.step = step
@@ -113,6 +122,12 @@ class Run:
                 STEPS[type(step)](self, step)
         self.step = None
         self._end()
+
+    def call(self, name, *given, more=0):
+        """Has the terminal do something. NotBack, where it hasn't in time."""
+        self.method = getattr(self.terminal, name)
+        with limited(self.limit + more):
+            self.method(*given)
 
     # what was heard
 
@@ -142,20 +157,63 @@ class Run:
         lacking = [name for name in self.sequence.needs if name not in decode.profile(told.data)]
         if lacking:
             raise Unsupported("its terminal profile doesn't have " + ", ".join(lacking))
+        self._let_card_begin()
         self.taken |= {n for n, heard in enumerate(self.player.heard) if heard.kind in (RESET, PROFILED, ASKED)}
+
+    def _let_card_begin(self):
+        """The card's own commands, those of its applets say, come before those of a sequence: the terminal answers them."""
+        if not self.player.card_is_first:
+            return
+        while self.player.card_is_first:
+            found = self.player.wait_for(lambda: not self.player.card_is_first or self._asks_user(), self.seconds)
+            if not found or len(self.player.of_card) > MOST_OF_CARD:
+                raise self._card_was_first()
+            if self._asks_user():
+                self._have_user_answer()
+        self.call("look")
+        # what came meanwhile is the card's doing
+        self.noted = len(self.player.trace)
+        self.taken |= {n for n, heard in enumerate(self.player.heard) if heard.kind in (RESET, PROFILED, ASKED)}
+
+    def _asks_user(self):
+        """Whether the card waits for what the terminal's user says to a command of its own, of which he wasn't told yet."""
+        fetched = self.player.of_card
+        return self.player.card_waits and len(fetched) > self.of_card and details_of(fetched[-1])[1] in AT_CARDS_OWN
+
+    def _have_user_answer(self):
+        self.of_card = len(self.player.of_card)
+        try:
+            self.call("happen", grammar.Handset("user", AT_CARDS_OWN[details_of(self.player.of_card[-1])[1]]))
+        except Unable:
+            # it may answer by itself yet
+            pass
+
+    def _card_was_first(self):
+        """Why nothing can be said of the terminal, where a command of the card's own isn't done with."""
+        names = self.cards_own()
+        if len(names) > MOST_OF_CARD:
+            return Undecided(f"the card's own commands came first, and have no end: {', '.join(names[:3])} ..")
+        if self.player.card_waits:
+            return Undecided(f"the card's own command came first, {names[-1]}, and the terminal doesn't answer it")
+        return Undecided("the card's own command came first, and the terminal doesn't fetch it")
+
+    def cards_own(self):
+        """The names of the card's own commands that were fetched."""
+        return [decode.title_proactive(raw) for raw in list(self.player.of_card)]
 
     def _give(self, step, after):
         if not step.follows:
+            self._let_card_begin()
             # those that are announced by the answers to the responses before them have to be there by then
             session = list(itertools.takewhile(lambda other: not isinstance(other, Give) or other.follows, after))
             commands = [step, *(other for other in session if isinstance(other, Give))]
-            self.terminal.prepare([one.raw for one in commands], [other.said for other in session if isinstance(other, Act)])
+            self.call("prepare", [one.raw for one in commands], [other.said for other in session if isinstance(other, Act)])
             for one in commands:
                 self.player.give(one.raw)
-            self.terminal.poll()
+            self.call("poll")
         heard = self._wait(FETCHED)
         if heard is None:
-            raise Differs("the command isn't fetched")
+            raise self._card_was_first() if self.player.card_is_first else Differs("the command isn't fetched")
         self.details = details_of(heard.data)
 
     def _respond(self, step):
@@ -211,7 +269,7 @@ class Run:
     def _shown(self, step):
         if not self.terminal.is_seen:
             self.unseen.append(step.note)
-            self.terminal.must_show(step.note)
+            self.call("must_show", step.note)
             return
         place = self._look_for(step.note)
         if place:
@@ -225,7 +283,7 @@ class Run:
         """The place after a note in the trace; None where it doesn't come in time."""
         end = time.monotonic() + self.seconds
         while True:
-            self.terminal.look()
+            self.call("look")
             place = self.player.wait_for(lambda: self._place_of(note), min(self.seconds, LOOK_SECONDS))
             if place or time.monotonic() >= end:
                 return place
@@ -243,8 +301,10 @@ class Run:
         # what was sent before is not what this leads to
         self.taken |= {n for n, heard in enumerate(self.player.heard) if heard.kind == ASKED}
         self.is_user_asked = True
+        # at a terminal whose methods come back at once time doesn't pass
+        more = step.said.value if step.said.word == "time" and self.terminal.seconds else 0
         try:
-            self.terminal.happen(step.said)
+            self.call("happen", step.said, more=more)
         except Unable as why:
             raise Undecided(str(why)) from None
 
@@ -270,21 +330,24 @@ def envelope_rows(data):
     return [Row(line.label, None, line.text, False) for line in decode.template(data, "no template") if line.text]
 
 
-def carried_out(run):
-    """The verdict of a run, why, and the objects that differ."""
+def verdict_of(run, act):
+    """What comes of something that is done with a terminal: the verdict, why, and the objects that differ."""
     try:
-        run.carry_out()
+        act()
     except Differs as fault:
         return FAILED, str(fault), fault.rows
     except Undecided as fault:
         return INCONCLUSIVE, str(fault), []
     except Unsupported as fault:
         return UNSUPPORTED, str(fault), []
-    except (Lost, CardError, Ended, NotBuilt):
+    except NotBack as fault:
+        place = place_of(fault, run.method)
+        return INCONCLUSIVE, f"the terminal did not come back within {run.limit:g} seconds" + (f", from {place}" if place else ""), []
+    except (Lost, Ended, NotBuilt):
         raise
-    except Exception as fault:
+    except (Exception, SystemExit) as fault:
         # the terminal's own, whose code is anybody's
-        return FAILED, f"the terminal broke down: {type(fault).__name__}: {fault}", []
+        return FAILED, f"the terminal broke down: {told(fault, run.method)}", []
     return PASSED, "", []
 
 
@@ -295,9 +358,14 @@ def judged(sequence, terminal, card, seconds=None):
     run = Run(sequence, terminal, outcome.player, seconds)
     began = time.monotonic()
     try:
-        outcome.verdict, outcome.why, outcome.rows = carried_out(run)
+        outcome.verdict, outcome.why, outcome.rows = verdict_of(run, run.carry_out)
+        outcome.step = run.step
     finally:
-        terminal.end()
-        outcome.player.leave()
-    outcome.step, outcome.unseen, outcome.seconds = run.step, run.unseen, time.monotonic() - began
+        try:
+            at_end = verdict_of(run, lambda: run.call("end"))
+        finally:
+            outcome.player.leave()
+    if outcome.verdict == PASSED:
+        outcome.verdict, outcome.why, outcome.rows = at_end
+    outcome.unseen, outcome.of_card, outcome.seconds = run.unseen, run.cards_own(), time.monotonic() - began
     return outcome

@@ -16,6 +16,16 @@ SEVEN_BIT, EIGHT_BIT, UCS2 = 0x00, 0x04, 0x08
 EMPTY_TEXTS = "|00|04|08"
 
 
+def letters(value):
+    """The letters of a text, whose first byte says its coding."""
+    coding, content = value[:1], value[1:]
+    if coding == bytes((UCS2,)):
+        return content.decode("utf-16-be", "replace")
+    if coding == bytes((SEVEN_BIT,)):
+        return alphabet.letters_of(alphabet.unpacked(content, len(content) * 8 // 7))
+    return decode.printable(content)
+
+
 class Wrong(Exception):
     """Why a line is bad."""
 
