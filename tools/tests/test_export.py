@@ -1,6 +1,7 @@
 """tools/profile export, diff, rules and batch: cards back to profiles, beside each other, and many of one."""
 import csv
 import os
+import re
 import subprocess
 import sys
 import tempfile
@@ -188,8 +189,8 @@ def number_of(digits):
 
 
 class Batch(unittest.TestCase):
-    HEAD = "iccid,imsi,pin1,puk1,adm\n"
-    GOOD = "".join(f"{number_of(f'89999010000000{n:04d}')},00101000000{n:04d},{1000 + n},{n:08d},{n + 500:08d}\n" for n in range(5))
+    HEAD = "iccid,imsi,pin1,puk1,adm,puk2\n"
+    GOOD = "".join(f"{number_of(f'89999010000000{n:04d}')},00101000000{n:04d},{1000 + n},{n:08d},{n + 500:08d},{n + 700:08d}\n" for n in range(5))
     ONE = number_of("899990100000000001")
     # rows, and what is wrong with them
     WRONG = [
@@ -198,14 +199,14 @@ class Batch(unittest.TestCase):
         ("iccid,iccid\n", "line 1: the column `iccid` stands there twice"),
         ("iccid\n", "list.csv has no row of a card"),
         ("", "the column `iccid` is missing"),
-        (HEAD + "1\n", "line 2: it has 1 cells, and the first line 5"),
-        (HEAD + ",001010000000001,,,\n", "line 2: it has no iccid"),
-        (HEAD + "8999901000000000015,,,,\n", f"line 2: iccid: the check digit of 8999901000000000015 is 5, and should be {contents.luhn('899990100000000001')}"),
-        (HEAD + "8.99E+18,,,,\n", "line 2: iccid: a card's number has 18 to 20 digits"),
+        (HEAD + "1\n", "line 2: it has 1 cells, and the first line 6"),
+        (HEAD + ",001010000000001,,,,\n", "line 2: it has no iccid"),
+        (HEAD + "8999901000000000015,,,,,\n", f"line 2: iccid: the check digit of 8999901000000000015 is 5, and should be {contents.luhn('899990100000000001')}"),
+        (HEAD + "8.99E+18,,,,,\n", "line 2: iccid: a card's number has 18 to 20 digits"),
         (HEAD + GOOD + GOOD.splitlines()[0] + "\n", "line 7: its iccid 8999901000000000005 is that of line 2"),
-        (HEAD + f"{ONE},001010000000000,,,\n" + GOOD.splitlines()[0] + "\n", "line 3: its imsi 001010000000000 is that of line 2"),
-        (HEAD + f"{ONE},1,,,\n", "line 2: [EF_IMSI] imsi: an IMSI has 6 to 15 digits"),
-        (HEAD + f"{ONE},,12,,\n", "line 2: [pins] pin1 value: a value is 4 to 8 digits"),
+        (HEAD + f"{ONE},001010000000000,,,,\n" + GOOD.splitlines()[0] + "\n", "line 3: its imsi 001010000000000 is that of line 2"),
+        (HEAD + f"{ONE},1,,,,\n", "line 2: [EF_IMSI] imsi: an IMSI has 6 to 15 digits"),
+        (HEAD + f"{ONE},,12,,,\n", "line 2: [pins] pin1 value: a value is 4 to 8 digits"),
         (HEAD + f'{ONE},"a\n', "line 2: "),
     ]
 
@@ -235,10 +236,13 @@ class Batch(unittest.TestCase):
         self.assertEqual(contents.decode("imsi", card.files[("7F20", "6F07")].content), "001010000000003")
         # a PIN keeps what the list doesn't say
         self.assertEqual([(pin.value.rstrip(b"\xFF"), pin.unblock) for pin in card.pins.values()],
-                         [(b"1003", b"00000003"), (b"5678", b"87654321"), (b"00000503", b"00000000")])
+                         [(b"1003", b"00000003"), (b"5678", b"00000703"), (b"00000503", b"00000000")])
         with open(os.path.join(self.folder, "report.csv"), encoding="utf-8") as text:
             rows = list(csv.DictReader(text))
-        self.assertEqual([(row["iccid"], row["line"], row["to mend"]) for row in rows][3], (number, "5", ""))
+        self.assertEqual([(row["iccid"], row["imsi"], row["line"], row["to mend"]) for row in rows][3],
+                         (number, "001010000000003", "5", ""))
+        # as many files as `check` says
+        self.assertEqual({row["files"] for row in rows}, {str(len(card.files) - 1)})
         # the image holds the same card
         words = [sys.executable, "-B", os.path.join(TOOLS, "profile"), "diff", *(os.path.join(self.folder, number + ending) for ending in (".script", ".img"))]
         self.assertEqual(subprocess.run(words, capture_output=True, text=True, timeout=60, check=False).stdout, "the cards hold the same\n")
@@ -296,6 +300,20 @@ class Batch(unittest.TestCase):
         done = self.batch(self.HEAD + lines[0] + "\n" + lines[1].replace(",00000001,", ",00000000,") + "\n")
         self.assertEqual(done.returncode, 1)
         self.assertIn("line 3: its puk1 00000000 is that of line 2", done.stderr)
+
+    def test_what_the_profile_gives_to_all(self):
+        """An IMSI that two cards would have from the profile is refused, whatever the list says; a PUK or an ADM is a warning."""
+        one, other = (number_of(f"89999010000000000{n}") for n in (1, 2))
+        for rows in (f"{one},,,,,\n{other},,,,,\n", f"{one},001010123456789,,,,\n{other},,,,,\n"):
+            done = self.batch(self.HEAD + rows)
+            self.assertEqual((done.returncode, done.stdout, os.path.exists(self.folder)), (2, "", False))
+            self.assertIn("list.csv, lines 2, 3: their cards have the same imsi, 001010123456789, which ", done.stderr)
+        done = self.batch(f"iccid,imsi\n{one},\n{other},001010000000002\n")
+        self.assertEqual(done.returncode, 1)
+        self.assertEqual([(word, value) for word, value in re.findall(r"lines 2, 3: their cards have the same (\w+), (\d+),", done.stderr)],
+                         [("puk1", "12345678"), ("puk2", "87654321"), ("adm", "88888888")])
+        with open(os.path.join(self.folder, "report.csv"), encoding="utf-8") as text:
+            self.assertEqual([row["imsi"] for row in csv.DictReader(text)], ["001010123456789", "001010000000002"])
 
 
 if __name__ == "__main__":

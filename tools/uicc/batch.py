@@ -7,7 +7,7 @@ import os
 import subprocess
 
 from . import checking, contents, follow, forms, lint, process, profile
-from .coding import BadContent
+from .coding import BadContent, is_blank
 
 # a column of the list, and the keys of a profile that it says
 COLUMNS = {
@@ -36,10 +36,31 @@ class Card:
         card = lint.read(made.text).card
         kind = "usim" if follow.is_usim_card(card) else "sim"
         self.findings = list(checking.findings(card, kind))
+        self.files = len(card.files) - 1
+        # what it has in the end, whether its row says it or the profile
+        self.own = own_of(card)
 
     @property
     def name(self):
         return self.values["iccid"]
+
+
+def own_of(card):
+    """What should be a card's alone, by the columns that say it; where it has none, nothing."""
+    found, file = {}, card.files.get(("7F20", "6F07"))
+    with contextlib.suppress(BadContent):
+        if file and not file.is_df and not is_blank(file.content):
+            found["imsi"] = contents.decode_imsi(bytes(file.content))
+    for column, key, part in (("puk1", 0x01, "unblock"), ("puk2", 0x81, "unblock"), ("adm", 0x0A, "value")):
+        if key in card.pins:
+            found[column] = pin_text(getattr(card.pins[key], part))
+    return found
+
+
+def pin_text(value):
+    """The digits of a PIN, or else its bytes."""
+    digits = value.rstrip(b"\xFF")
+    return digits.decode() if digits.isdigit() else value.hex().upper()
 
 
 def rows_in(content, name):
@@ -105,8 +126,23 @@ def alike(rows, column):
             yield f"line {line}: its {column} {value} is that of line {first[value]}"
 
 
-def doubts(rows, name):
-    return [f"{name}, {text}" for column in HARDLY_ALIKE for text in alike(rows, column)]
+def doubts(made, rows, list_name, name):
+    """What cards have alike that each should have for itself, a line each."""
+    return [f"{list_name}, {text}" for column in HARDLY_ALIKE for text in (*alike(rows, column), *alike_by_profile(made, column, name))]
+
+
+def alike_by_profile(made, column, name):
+    """A line for what several cards have alike since the profile, called so, says it and not each row."""
+    groups = {}
+    for card in made:
+        if column in card.own:
+            groups.setdefault(card.own[column], []).append(card)
+    for value, alike_ones in groups.items():
+        if len(alike_ones) > 1 and any(column not in card.values for card in alike_ones):
+            lines = [str(card.line) for card in alike_ones]
+            more = f" and {len(lines) - MOST_NAMED} more" if len(lines) > MOST_NAMED else ""
+            yield (f"lines {', '.join(lines[:MOST_NAMED])}{more}: their cards have the same {column}, {value}, which {name} or its template "
+                   f"says: a column `{column}` gives each its own")
 
 
 def keys_of(values):
@@ -132,6 +168,8 @@ def cards(content, name, rows, list_name, step):
         except profile.BadProfile as bad:
             faults += [f"{list_name}, line {line}: {fault.reason}" for fault in bad.faults]
         step()
+    if not faults:
+        faults = [f"{list_name}, {text}" for text in alike_by_profile(found, "imsi", name)]
     if faults:
         raise BadList("\n".join(faults))
     return found
@@ -157,8 +195,7 @@ def write(made, folder, with_images, with_force, step):
         writer = csv.writer(out, lineterminator="\n")
         writer.writerow(["script", "line", "iccid", "imsi", "files", "to mend"])
         for card in made:
-            files = sum(line.startswith("ef ") for line in card.made.lines)
-            writer.writerow([card.name + ".script", card.line, card.values["iccid"], card.values.get("imsi", ""), files,
+            writer.writerow([card.name + ".script", card.line, card.values["iccid"], card.own.get("imsi", ""), card.files,
                              "; ".join(card.findings)])
     return report
 
