@@ -29,7 +29,7 @@ class Traces(unittest.TestCase):
             self.assertEqual(found, parts)
 
     def test_no_traces(self):
-        for lines in (["< 9000"], ["> 0"], ["> 00B0", "< XX"]):
+        for lines in (["< 9000"], ["> 0"], ["> 00B0", "< XX"], ["hello"], ["start"], ["! reset", "\x00\x01"]):
             with self.assertRaises(trace.NoTrace):
                 list(trace.parts(lines))
 
@@ -237,6 +237,14 @@ class Explain(unittest.TestCase):
     def test_no_trace(self):
         self.assertEqual(self.explain(text="< 9000\n").returncode, 1)
         self.assertEqual(self.explain("/no/such/file").returncode, 2)
+        done = self.explain(text="hello\x01\n")
+        self.assertEqual((done.returncode, done.stdout, done.stderr), (1, "", "explain: line 1 is no line of a trace: hello?\n"))
+
+    def test_another_script(self):
+        """The script of another trace is told, and none of its lines is shown with this one."""
+        done = self.explain(os.path.join(EXAMPLES, "pins.trace"), "--script", os.path.join(EXAMPLES, "usim.script"))
+        self.assertEqual(done.returncode, 1)
+        self.assertRegex(done.stderr, r"usim\.script: it is none of this trace, which shows [0-9A-F]+ where line \d+ is `apdu ")
 
 
 if __name__ == "__main__":

@@ -2,12 +2,15 @@
 import dataclasses
 import re
 
-from . import process
+from . import dump, process
 from .grammar import Apdu, Plan, Reset, Tpdu
 
 EVENT = "* event "
 # before a line of a trace that says when it was shown, in seconds since 1970: `@ 1764497000.123456`
 TIME = "@ "
+# lines that show no command: what happened, the last one of a run (docs/SCRIPT.md), and what the launcher says on standard error
+OTHERS = re.compile(r"[!*] .*|line \d+|usage|read failed|no memory|eeprom failed|not a card \d+|no applet \d+|uicc_run: .*|")
+MOST_SHOWN = 60
 
 
 @dataclasses.dataclass
@@ -52,7 +55,11 @@ def shown_bytes(number, line):
     try:
         return bytes.fromhex(line[2:])
     except ValueError:
-        raise NoTrace(f"line {number} is no line of a trace: {line}") from None
+        raise no_line(number, line) from None
+
+
+def no_line(number, line):
+    return NoTrace(f"line {number} is no line of a trace: {dump.printable(line[:MOST_SHOWN])}{' ..' if len(line) > MOST_SHOWN else ''}")
 
 
 def parts(lines):
@@ -74,8 +81,10 @@ def parts(lines):
         elif command is not None:
             yield Exchange(command, None, line)
             command = None
-        else:
+        elif OTHERS.fullmatch(line):
             yield Mark(line)
+        else:
+            raise no_line(number, line)
     if command is not None:
         yield Exchange(command, None)
 

@@ -1,0 +1,54 @@
+"""A file of another kind than the one that a tool takes: a line says which it is, and what takes it."""
+import os
+import subprocess
+import sys
+import tempfile
+import unittest
+
+from common import TOOLS
+from uicc import image, mistaken
+
+
+class Kinds(unittest.TestCase):
+    TABLE = [
+        (b"# a card\n\ndf 7F10\nef 2FE2 t 10 2 -\nstart\n", mistaken.SCRIPT), (b"start\napdu 00\n", mistaken.SCRIPT),
+        (b"pin 01 3131313131313131 on 3232323232323232\n", mistaken.SCRIPT), (b'# mine\nlike = "usim"\n', mistaken.PROFILE),
+        (b"[EF_IMSI]\n", mistaken.PROFILE), (b'["7F20/EF_LI"]\n', mistaken.PROFILE), (b"> 00A4\n< 9000\n", mistaken.TRACE),
+        (b"! reset\n", mistaken.TRACE), (b"@ 1764497000.123456\n", mistaken.TRACE), (b"iccid,imsi\n1,2\n", mistaken.LIST),
+        (b"\xEF\xBB\xBFIMSI;ICCID\r\n", mistaken.LIST), (b"UICC", mistaken.IMAGE), (bytes(image.JOURNAL_SIZE), mistaken.IMAGE),
+        (b"select MF/EF.ICCID\nupdate_binary 00\n", None), (b'like "usim"\n', None), (b"", None), (b"{}", None), (b"imsi,spn\n", None),
+    ]
+    # a tool with its words, and what is said of a file of which kind
+    TOLD = [
+        (["profile", "build", "card.script"], "card.script is a script: uicc_run plays it"),
+        (["profile", "build", "card.img"], "card.img is the image of a card: tools/profile tree shows it"),
+        (["profile", "import", "card.toml"], "card.toml is a profile: tools/profile build"),
+        (["profile", "batch", "card.toml", "card.script", "-o", "made"], "card.script is a script: "),
+        (["profile", "tree", "list.csv"], "list.csv is a list of cards: tools/profile batch"),
+        (["lint", "card.img"], "card.img is the image of a card: "), (["cuts", "card.toml"], "card.toml is a profile: "),
+        (["explain", "card.img"], "card.img is the image of a card: "), (["explain", "card.script"], "card.script is a script: "),
+        (["explain", "card.trace", "--script", "card.img"], "card.img is the image of a card: "),
+        (["cuts", "card.script", "--again"], "card.script has no line after `start` that sends a command or resets the card"),
+    ]
+    FILES = {"card.script": b"df 7F10\nstart\n", "card.toml": b'like = "usim"\n', "card.img": b"UICC" + bytes(image.JOURNAL_SIZE - 4),
+             "card.trace": b"! reset\n", "list.csv": b"iccid\n8999901000000000005\n"}
+
+    def test_kinds(self):
+        for content, kind in self.TABLE:
+            self.assertEqual(mistaken.kind_of(content), kind, content[:40])
+
+    def test_tools(self):
+        with tempfile.TemporaryDirectory() as folder:
+            for name, content in self.FILES.items():
+                with open(os.path.join(folder, name), "wb") as out:
+                    out.write(content)
+            for words, said in self.TOLD:
+                with self.subTest(words=words):
+                    done = subprocess.run([sys.executable, "-B", os.path.join(TOOLS, words[0]), *words[1:]], cwd=folder, capture_output=True,
+                                          text=True, timeout=120, check=False)
+                    self.assertEqual((done.returncode, done.stdout, len(done.stderr.splitlines())), (2, "", 1), done.stderr)
+                    self.assertIn(f": {said}", done.stderr)
+
+
+if __name__ == "__main__":
+    unittest.main()

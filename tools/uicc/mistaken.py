@@ -1,0 +1,45 @@
+"""Which kind of file was given, so that a tool that takes another kind says so in one line."""
+import re
+
+from . import image
+
+IMAGE, SCRIPT, PROFILE, TRACE, LIST = "image", "script", "profile", "trace", "list"
+# what each is called, and what takes it
+ABOUT = {
+    IMAGE: ("the image of a card", "tools/profile tree shows it, export makes a profile of it, and tools/shell --image opens it"),
+    SCRIPT: ("a script", "uicc_run plays it, tools/lint checks it, tools/profile tree shows its card, and export makes a profile of it"),
+    PROFILE: ("a profile", "tools/profile build makes a script of it"),
+    TRACE: ("a trace", "tools/explain shows it"),
+    LIST: ("a list of cards", "tools/profile batch PROFILE LIST.csv -o FOLDER takes it"),
+}
+# how a profile begins, after empty lines and comments: with the head of a table, or with a key
+OF_PROFILE = re.compile(rb"\s*(?:#[^\n]*\n\s*)*(?:\[|[\w\"'.-]+[ \t]*=)")
+OF_SCRIPT = re.compile(rb"(?:start|(?:df|ef|fill|rec|pin|row) [0-9A-Fa-f]+ .*|df [0-9A-Fa-f]+)\s*")
+OF_TRACE = re.compile(rb"[<>] [0-9A-Fa-f]+\s*|! (?:reset|cut|off)\s*|\* .*|@ [0-9]+\.[0-9]{6}\s*")
+
+
+class Mistaken(Exception):
+    """A file is of another kind than the one that is wanted."""
+
+
+def kind_of(content):
+    """Of which kind a file's bytes are; None where they show none."""
+    if content[:4] == b"UICC" or len(content) in (image.JOURNAL_SIZE, image.PAGES_SIZE) and b"\0" in content:
+        return IMAGE
+    content = content.removeprefix(b"\xEF\xBB\xBF")
+    lines = (line.strip() for line in content.splitlines())
+    first = next((line for line in lines if line and not line.startswith(b"#")), b"")
+    if b"iccid" in [cell.strip(b' "').lower() for cell in re.split(rb"[,;\t]", first)] and OF_PROFILE.match(first) is None:
+        return LIST
+    for kind, form in ((SCRIPT, OF_SCRIPT), (TRACE, OF_TRACE)):
+        if form.fullmatch(first):
+            return kind
+    return PROFILE if OF_PROFILE.match(content) else None
+
+
+def expect(content, path, *wanted):
+    """Mistaken, where a file's bytes are of a kind that isn't wanted."""
+    kind = kind_of(content)
+    if kind and kind not in wanted:
+        what, by = ABOUT[kind]
+        raise Mistaken(f"{path} is {what}: {by}")
