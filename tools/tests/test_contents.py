@@ -63,6 +63,7 @@ class Contents(unittest.TestCase):
                 (contents.encode_iccid, "8999901000000123450", "989909010000103254F0"),
                 (contents.encode_plmns, ["262-01", "311-480"], "62F210130184"),
                 (contents.encode_plmns_act, ["262-01 by GSM+UTRAN"], "62F2108080"),
+                (contents.encode_plmns_act, ["262-01 by GSM+GSM", "262-42 by 0000", "unused"], "62F2100080" "62F2240000" "FFFFFF0000"),
                 (contents.encode_acc, [9, 0], "0201"),
                 (contents.encode_ad, {"network_digits": 3}, "00000003"),
                 (contents.encode_ust, [12, 19, 21, 27, 33], "0008140401"),
@@ -71,6 +72,17 @@ class Contents(unittest.TestCase):
                 (contents.encode_languages, ["en", "fr"], "656E6672")):
             with self.subTest(given=given):
                 self.assertEqual(encode(given).hex().upper(), content)
+
+    def test_plmns_with_technologies(self):
+        """A PLMN without a technology is refused; what a list holds is said again with the same bytes, also of places that are filled up."""
+        for given, why in ((["262-42", "262-01 by GSM"], "`262-42` says no access technology: `262-42 by GSM+UTRAN` does"),
+                           (["262-42 by LTE"], "`LTE` is no access technology"), (["262-42 by 00"], "`00` is no access technology")):
+            with self.assertRaises(contents.BadContent) as caught:
+                contents.encode_plmns_act(given)
+            self.assertIn(why, str(caught.exception))
+        for held in ("62F2108080FFFFFF0000", "62F2240000FFFFFF0000FFFFFF0000", "62F2108081", "62F2100080"):
+            self.assertEqual(contents.encode_plmns_act(contents.plmns_act(bytes.fromhex(held))).hex().upper(), held)
+        self.assertEqual(contents.decode("plmns-act", bytes.fromhex("62F2240000FFFFFF0000")), "262-42 by 0000")
 
     def test_numbers(self):
         entry = {"name": "Anna", "number": "+999901005550"}

@@ -73,15 +73,28 @@ def decode_plmns(content):
 ACCESS = {"UTRAN": 0x8000, "E-UTRAN": 0x4000, "GSM": 0x0080, "GSM COMPACT": 0x0040, "NG-RAN": 0x0800}
 
 
+# a place of a list that holds no PLMN, with no technology: so many cards fill it up, and here it is FF else
+UNUSED, NO_PLMN = "unused", b"\xFF\xFF\xFF\0\0"
+
+
 def decode_plmns_act(content):
+    return ", ".join(text for text in plmns_act(content) if text != UNUSED) or "none"
+
+
+def plmns_act(content):
+    """The entries of a list of PLMNs with technologies, but for places of FF."""
     found = []
     for n in range(0, len(content) - 4, 5):
         plmn = decode_plmn(content[n:n + 3])
+        if bytes(content[n:n + 5]) == NO_PLMN:
+            found.append(UNUSED)
         if plmn:
             bits = int.from_bytes(content[n + 3:n + 5], "big")
-            by = "+".join(name for name, bit in ACCESS.items() if bits & bit) or f"{bits:04X}"
+            known = [name for name, bit in ACCESS.items() if bits & bit]
+            # bits that no name says stand in digits
+            by = "+".join(known) if known and sum(ACCESS[name] for name in known) == bits else f"{bits:04X}"
             found.append(f"{plmn} by {by}")
-    return ", ".join(found) or "none"
+    return found
 
 
 def encode_plmns(plmns):
@@ -89,15 +102,29 @@ def encode_plmns(plmns):
 
 
 def encode_plmns_act(plmns):
-    """Each is a PLMN, and after it `by` and access technologies joined by +."""
+    """Each is a PLMN, and after it `by` and access technologies joined by +, or their two bytes: 0000 is none of them."""
     content = b""
     for text in plmns:
+        if text == UNUSED:
+            content += NO_PLMN
+            continue
         plmn, _, by = text.partition(" by ")
-        names = by.upper().split("+") if by else []
-        if any(name not in ACCESS for name in names):
-            raise BadContent(f"`{by}` is no access technology: {', '.join(ACCESS)}")
-        content += encode_plmn(plmn) + sum(ACCESS[name] for name in names).to_bytes(2, "big")
+        coded = encode_plmn(plmn)
+        if not by:
+            raise BadContent(f"`{text}` says no access technology: `{plmn} by GSM+UTRAN` does, of {', '.join(ACCESS)}")
+        content += coded + technologies(by)
     return content
+
+
+def technologies(by):
+    """The two bytes of access technologies that are joined by +, or written in hexadecimal digits."""
+    names = by.upper().split("+")
+    if all(name in ACCESS for name in names):
+        return sum(ACCESS[name] for name in set(names)).to_bytes(2, "big")
+    try:
+        return exact_bytes(by, 2, "technologies")
+    except BadContent:
+        raise BadContent(f"`{by}` is no access technology: {', '.join(ACCESS)}") from None
 
 
 # names and numbers

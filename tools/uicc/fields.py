@@ -145,7 +145,7 @@ KINDS = {
     "plmns": Kind("plmns", PLMNS, '["262-01", "001-01"]', lambda value, _: contents.encode_plmns(value),
                   lambda content: texts_of(contents.decode_plmns(content))),
     "plmns-act": Kind("plmns", PLMNS, '["262-01 by GSM+UTRAN"]', lambda value, _: contents.encode_plmns_act(value),
-                      lambda content: texts_of(contents.decode_plmns_act(content))),
+                      contents.plmns_act),
     "ust": Kind("services", SERVICES, "[19, 21]", contents.encode_ust, services_of),
     "sst": Kind("services", SERVICES, "[1, 2, 4]", contents.encode_sst, sim_services_of),
     "dialling": Kind("entries", ENTRIES, ENTRY, contents.encode_dialling, dialling_of, True, 28),
