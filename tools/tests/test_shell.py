@@ -42,6 +42,10 @@ class Shell(unittest.TestCase):
         ("verify pin1 1111\n" * 3 + "unblock PIN1 12345678 5555\nverify pin1 5555\ntree\n", 1,
          ["63C0", "9000\n  9000\n", "PIN 1: 5555, enabled, 3 tries left"]),
         ("unblock PIN1 87654321 5555\n", 1, ["63C9"]), ("change ADM1 88888888 77777777\nverify ADM1 77777777\n", 0, ["9000\n  9000\n"]),
+        ("unblock ADM1 12345678 1234\n", 1, ["ADM1 has no PUK: nothing unblocks it"]),
+        ("verify pin1 1234\nwrite EF.ADN 4 entries = [{ name = \"Ö\", number = \"110\" }]\nread EF.ADN 4\nsay EF.ADN\nsay EF.ADN 4\n", 0,
+         ["Ö: 110", "that is record 1 of 50: say EF.ADN N says another one"]),
+        ("verify pin1 1234\nwrite EF.ADN 4 entries = [{ name = \"A\" }, { name = \"B\" }]\n", 1, ["entries has 2 entries, and record 4 holds one"]),
         ("change pin1 1234\n", 1, ["change pin1|pin2|adm VALUE NEW"]), ("enable pin9 1234\n", 1, ["no PIN is called `pin9`"]),
         ("unblock pin1 12345678 12\n", 1, ["and not `12`"]),
         ("update EF.SPN xyz\n", 1, ["`xyz` is no HEX"]), ("update EF.IMSI text abc\n", 1, ["this file holds no text"]),
@@ -61,6 +65,20 @@ class Shell(unittest.TestCase):
                 self.assertEqual((done.returncode, done.stderr), (status, ""), done.stdout)
                 for part in parts:
                     self.assertIn(part, done.stdout)
+
+    def test_an_image_in_the_place_of_a_card(self):
+        """It is said that it is opened and written; a profile is taken too, and a list isn't."""
+        with tempfile.TemporaryDirectory() as folder:
+            path, profile, listed = (os.path.join(folder, name) for name in ("card.img", "card.toml", "list.csv"))
+            for name, text in ((profile, 'like = "usim"\n'), (listed, "iccid\n")):
+                with open(name, "w", encoding="utf-8") as out:
+                    out.write(text)
+            self.assertEqual(shell("ls\n", profile, "--image", path).stderr, "")
+            done = shell("ls\n", path)
+            self.assertEqual((done.returncode, done.stderr), (0, f"shell: {path} is the image of a card, and is written: what is done here stays in it\n"))
+            done = shell("ls\n", listed)
+            self.assertEqual((done.returncode, done.stdout), (2, ""))
+            self.assertIn("is a list of cards: ", done.stderr)
 
     def test_the_tree_is_what_is_held_now(self):
         """Also after a loss of power, which leaves what was before or what is after."""

@@ -229,6 +229,11 @@ def written(key, value, entry, size, record=None):
     except BadContent as fault:
         raise BadContent(f"{key} {fault}") from None
     given = value if record is None else [value]
+    if record is not None and kind.of_records and isinstance(value, list):
+        # the list that a profile has, of one entry
+        if len(value) != 1:
+            raise BadContent(f"{key} has {len(value)} entries, and record {record} holds one")
+        given = value
     wrong = kind.form.wrong(given)
     if wrong:
         raise BadContent(f"{key} {wrong}: {key} = {kind.example}")
