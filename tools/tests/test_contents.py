@@ -84,6 +84,13 @@ class Contents(unittest.TestCase):
             self.assertEqual(contents.encode_plmns_act(contents.plmns_act(bytes.fromhex(held))).hex().upper(), held)
         self.assertEqual(contents.decode("plmns-act", bytes.fromhex("62F2240000FFFFFF0000")), "262-42 by 0000")
 
+    def test_administrative_data(self):
+        for given, why in (({"mode": "normal", "network_digits": 4}, "network_digits is 4, and has to be 2 or 3"),
+                           ({"mode": "off"}, 'mode is "off", and has to be one of "normal", "type approval"')):
+            with self.assertRaises(contents.BadContent) as caught:
+                contents.encode_ad(given)
+            self.assertIn(why, str(caught.exception))
+
     def test_numbers(self):
         entry = {"name": "Anna", "number": "+999901005550"}
         self.assertEqual(contents.encode_dialling(entry, 28).hex().upper(), "416E6E61FFFFFFFFFFFFFFFFFFFF0791999910005505FFFFFFFFFFFF")

@@ -28,6 +28,7 @@ class Kinds(unittest.TestCase):
         (["lint", "card.img"], "card.img is the image of a card: "), (["cuts", "card.toml"], "card.toml is a profile: "),
         (["explain", "card.img"], "card.img is the image of a card: "), (["explain", "card.script"], "card.script is a script: "),
         (["explain", "card.trace", "--script", "card.img"], "card.img is the image of a card: "),
+        (["profile", "build", "none.toml"], "none.toml: no file is there"), (["lint", "none.script"], "none.script: no file is there"),
         (["cuts", "card.script", "--again"], "card.script has no line after `start` that sends a command or resets the card"),
     ]
     FILES = {"card.script": b"df 7F10\nstart\n", "card.toml": b'like = "usim"\n', "card.img": b"UICC" + bytes(image.JOURNAL_SIZE - 4),
@@ -36,6 +37,20 @@ class Kinds(unittest.TestCase):
     def test_kinds(self):
         for content, kind in self.TABLE:
             self.assertEqual(mistaken.kind_of(content), kind, content[:40])
+
+    def test_faults_of_the_system(self):
+        """A file that is missing, a folder in the place of a file, and a file in that of a folder are told in words."""
+        with tempfile.TemporaryDirectory() as folder:
+            path = os.path.join(folder, "card.img")
+            with open(path, "wb"):
+                pass
+            for act, said in ((lambda: open(os.path.join(folder, "x"), "rb"), f"{folder}/x: no file is there"),
+                              (lambda: open(os.path.join(folder, "none", "x"), "w"), f"{folder}/none/x: the folder {folder}/none isn't there"),
+                              (lambda: open(folder, "rb"), f"{folder} is a folder, and a file is wanted"),
+                              (lambda: os.makedirs(path, exist_ok=True), f"{path} is a file, and a folder is wanted")):
+                with self.assertRaises(OSError) as caught:
+                    act()
+                self.assertEqual(mistaken.told(caught.exception), said)
 
     def test_tools(self):
         with tempfile.TemporaryDirectory() as folder:

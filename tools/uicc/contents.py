@@ -204,8 +204,11 @@ def decode_ad(content):
 
 def encode_ad(given):
     mode = next((byte for byte, name in MODES.items() if name == given.get("mode", "normal")), None)
-    if mode is None or given.get("network_digits", 2) not in (2, 3):
-        raise BadContent(f"`{given}` is no mode of {', '.join(MODES.values())} and 2 or 3 digits")
+    if mode is None:
+        known = ", ".join(f'"{name}"' for name in MODES.values())
+        raise BadContent(f'mode is "{given["mode"]}", and has to be one of {known}')
+    if given.get("network_digits", 2) not in (2, 3):
+        raise BadContent(f"network_digits is {given['network_digits']}, and has to be 2 or 3")
     return bytes((mode, 0, 0, given.get("network_digits", 2)))
 
 

@@ -1,4 +1,5 @@
 """Which kind of file was given, so that a tool that takes another kind says so in one line."""
+import os
 import re
 
 from . import image
@@ -43,3 +44,18 @@ def expect(content, path, *wanted):
     if kind and kind not in wanted:
         what, by = ABOUT[kind]
         raise Mistaken(f"{path} is {what}: {by}")
+
+
+def told(fault):
+    """What is wrong, in words; of a fault of the system with the file that it is of."""
+    if not isinstance(fault, OSError) or not isinstance(fault.filename, str):
+        return str(fault)
+    path = fault.filename
+    above = os.path.dirname(path) or "."
+    if isinstance(fault, FileNotFoundError):
+        return f"{path}: no file is there" if os.path.isdir(above) else f"{path}: the folder {above} isn't there"
+    if isinstance(fault, IsADirectoryError):
+        return f"{path} is a folder, and a file is wanted"
+    if isinstance(fault, FileExistsError):
+        return f"{path} is a file, and a folder is wanted"
+    return f"{path}: {fault.strerror}"
