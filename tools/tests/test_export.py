@@ -301,6 +301,11 @@ class Batch(unittest.TestCase):
         self.assertEqual(done.returncode, 1)
         self.assertIn("line 3: its puk1 00000000 is that of line 2", done.stderr)
 
+    def test_an_imsi_of_few_digits_is_a_warning(self):
+        rows = [(2, {"imsi": "0010100000"}), (3, {"imsi": "001010123456789"}), (4, {})]
+        self.assertEqual(batch.doubts([], rows, "list.csv", "card.toml"),
+                         ["list.csv, line 2: its imsi 0010100000 has 10 digits, and nearly every IMSI 15"])
+
     def test_what_the_profile_gives_to_all(self):
         """An IMSI that two cards would have from the profile is refused, whatever the list says; a PUK or an ADM is a warning."""
         one, other = (number_of(f"89999010000000000{n}") for n in (1, 2))

@@ -124,6 +124,17 @@ class Building(unittest.TestCase):
             self.assertEqual(line in found, said, found)
 
 
+class Doubts(unittest.TestCase):
+    def test_numbers(self):
+        """A PUK of other than eight digits, and the wrong check digit of an ICCID, are warnings of build, with their lines, and of check."""
+        made = profile.made_in(b'like = "usim"\n[pins]\npin1 = { unblock = "1234" }\n[EF_ICCID]\niccid = "8999901000000123451"\n', "card.toml")
+        self.assertEqual(made.warnings, ["card.toml, line 3: [pins] pin1 unblock: a PUK has 8 digits, and 1234 4",
+                                         "card.toml, line 4: [EF_ICCID]: the check digit of 8999901000000123451 is 1, and should be 0"])
+        self.assertEqual(list(checking.findings(lint.read(made.text).card, "usim")),
+                         ["2FE2 EF.ICCID: the check digit of 8999901000000123451 is 1, and should be 0",
+                          "PIN 1: its PUK has 4 digits, and should have 8"])
+
+
 class Mistakes(unittest.TestCase):
     """Everyday mistakes: each is told with its line, what is wrong, and what would be right."""
     HEAD = 'like = "usim"\n'

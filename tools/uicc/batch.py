@@ -128,7 +128,9 @@ def alike(rows, column):
 
 def doubts(made, rows, list_name, name):
     """What cards have alike that each should have for itself, a line each."""
-    return [f"{list_name}, {text}" for column in HARDLY_ALIKE for text in (*alike(rows, column), *alike_by_profile(made, column, name))]
+    found = [f"{list_name}, {text}" for column in HARDLY_ALIKE for text in (*alike(rows, column), *alike_by_profile(made, column, name))]
+    return found + [f"{list_name}, line {line}: its imsi {values['imsi']} has {len(values['imsi'])} digits, and nearly every IMSI 15"
+                    for line, values in rows if len(values.get("imsi", "")) not in (0, 15)]
 
 
 def alike_by_profile(made, column, name):

@@ -1,13 +1,14 @@
 """Makes the lines of a script of a profile."""
 import contextlib
 
-from . import coding, dump, fields, forms, grammar, layout, names, rules, structured, tree
+from . import coding, contents, dump, fields, forms, grammar, layout, names, rules, structured, tree
 from .coding import BadContent
 from .profile_names import ARR, OPERATIONS, PIN_KEYS, Fault, is_arr_in_folder, is_file_table, path_of, told_origin
 
 KINDS = ("greeter", "menu", "clock", "watcher", "barrier", "notebook", "table")
 MOST_EVENTS = len(layout.EVENTS)
 LONGEST_COMMENT = 130
+PUK_DIGITS = 8
 
 
 # the shape and the content of a file
@@ -74,7 +75,7 @@ class Builder:
         self.profile, self.usim = profile, usim
         self.default = profile.get("default", {})
         self.lines, self.origins, self.origin = [], [], ()
-        self.rules, self.paths, self.faults = [], [], []
+        self.rules, self.paths, self.faults, self.doubts = [], [], [], []
         self.arrs = {}
 
     def build(self):
@@ -185,13 +186,23 @@ class Builder:
         with self._told(name):
             rule = self._rule_of(name, given)
         try:
-            return name, path, described(path, given, self.usim), rule
+            made = described(path, given, self.usim)
+            self._doubt_number(name, path, made[1])
+            return name, path, made, rule
         except ValueError as fault:
             keys = [key for key in given if key in fields.KEYS]
             for reason in list(faults_of_entries(path, given, self.usim)) or [fault]:
                 with self._told(name, *keys):
                     raise BadContent(reason) from None
         return None
+
+    def _doubt_number(self, name, path, content):
+        """Notes a card's number whose check digit is wrong."""
+        if (names.file(path, self.usim) or {}).get("content") == "iccid" and isinstance(content, bytes) and not coding.is_blank(content):
+            try:
+                contents.check_iccid(content)
+            except BadContent as fault:
+                self.doubts.append(Fault((name,), f"{told_origin((name,))}: {fault}"))
 
     # lines
 
@@ -203,6 +214,9 @@ class Builder:
             for what in ("value", "unblock"):
                 with self._told("pins", name, what):
                     found[what] = pin_value(given.get(what, "00000000"))
+            puk = str(given.get("unblock", "00000000"))
+            if "unblock" in found and len(puk) < PUK_DIGITS:
+                self.doubts.append(Fault(("pins", name, "unblock"), f"[pins] {name} unblock: a PUK has {PUK_DIGITS} digits, and {puk} {len(puk)}"))
             if len(found) == 2:
                 on = given.get("on", True)
                 self.say(f"{names.key(PIN_KEYS[name])}: {given.get('value', '00000000')}, {'on' if on else 'off'}")

@@ -4,6 +4,8 @@ from .coding import BadContent
 
 # what a terminal reads before a PIN is entered (ETSI TS 102 221, 13; 3GPP TS 31.102, 4.2)
 READ_BY_ALL = {("2F00",), ("2F05",), ("2F06",), ("2FE2",), ("7F20", "6F46"), ("7F20", "6FAD"), ("7F20", "6FB7")}
+# the key of the administrator, which nothing unblocks
+ADM = 0x0A
 # the service table of a kind of card
 TABLES = {"usim": (("7F20", "6F38"), "ust"), "sim": (("7F20", "6F38"), "sst")}
 
@@ -20,6 +22,10 @@ def findings(card, kind):
         if not file.is_df:
             yield from wrong_file(card, file, usim)
     yield from unreadable(card, usim)
+    for pin in card.pins.values():
+        digits = pin.unblock.rstrip(b"\xFF")
+        if pin.key != ADM and digits.isdigit() and len(digits) < len(pin.unblock):
+            yield f"{names.key(pin.key)}: its PUK has {len(digits)} digits, and should have {len(pin.unblock)}"
     yield from wrong_services(card, kind)
     for files, rule, why in access.pointless(card):
         yield f"{names.shown(files[0].path, usim)}, rule {rule[0]}:{rule[1]}, {why}{access.others(files)}"

@@ -118,6 +118,10 @@ class Import:
                 del self.card.files[path]
             raise
 
+    def open_files(self):
+        """The paths of the files of which no rule is told, which everybody can read in the profile."""
+        return [path for path, file in self.kept.items() if path != profile.ARR and not self.card.files[path].rule and not file.shape.words]
+
     def profile(self):
         """The profile's text."""
         kept = layout.Card()

@@ -192,7 +192,7 @@ def judged(profile, is_part=False):
     faults += [fault for fault in builder.faults if is_own(fault, faults, is_part)]
     bad, doubtful = findings_in(builder)
     spoilt = {part_of(fault.path) for fault in faults}
-    return builder.lines, doubtful, faults + [fault for fault in bad if not is_part and part_of(fault.path) not in spoilt]
+    return builder.lines, builder.doubts + doubtful, faults + [fault for fault in bad if not is_part and part_of(fault.path) not in spoilt]
 
 
 def findings_in(builder):
