@@ -132,8 +132,10 @@ class Differing(unittest.TestCase):
           "+ file, 1 byte, rule 2F06:6"]),
         # a difference that stands far in a long text
         ("[EF_UST]\nservices = [1, 2, 3, 4, 5, 6, 7, 8, 9, 10, 11, 20]", "[EF_UST]\nservices = [1, 2, 3, 4, 5, 6, 7, 8, 9, 10, 11, 21]",
-         ["7F20/6F38 EF.UST", "- holds: ..ge status reports, 20 user controlled PLMN selector with access technology",
-          "+ holds: ..ge status reports, 21 MSISDN"]),
+         ["7F20/6F38 EF.UST", "- on: 20 (user controlled PLMN selector with access technology)", "+ on: 21 (MSISDN)"]),
+        ("[EF_UST]\nservices = [1]\nsize = 4", "[EF_UST]\nservices = []\nsize = 4", ["7F20/6F38 EF.UST", "- on: 1 (local phone book)"]),
+        ('[EF_ARR]\nrecords = ["8001019000"]\nlength = 40', '[EF_ARR]\nrecords = ["8001019000"]\nlength = 44',
+         ["2F06 EF.ARR", "- shape: linear fixed, 8 records of 40", "+ shape: linear fixed, 8 records of 44"]),
         ('["7F10/6F99"]\nhex = "' + "00" * 199 + '01"', '["7F10/6F99"]\nhex = "' + "00" * 199 + '02"',
          ["7F10/6F99", "- holds: ..000000000000000000001", "+ holds: ..000000000000000000002"]),
     ]

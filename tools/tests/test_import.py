@@ -367,7 +367,8 @@ class Command(unittest.TestCase):
             done = self.tool("profile", "import", dump, "-o", given)
             # something is lost
             self.assertEqual((done.returncode, done.stdout), (1, ""))
-            left_out, rule, counted = done.stderr.splitlines()
+            left_out, rule, opened, counted = done.stderr.splitlines()
+            self.assertEqual(opened, "profile: warning: no rule is told of 2 files: [default] in the profile lets everybody read them")
             self.assertIn("MF/ADF.CSIM/EF.IMPI: ", left_out)
             self.assertEqual(rule, "MF/ADF.USIM/EF.IMSI: its rule 2F06:1 isn't told (and one more file goes by it)")
             self.assertTrue(counted.startswith("2 files, "), counted)
@@ -382,9 +383,9 @@ class Command(unittest.TestCase):
         """It is refused in a line, and nothing is written."""
         with tempfile.TemporaryDirectory() as folder:
             dump, given = os.path.join(folder, "card.dump"), os.path.join(folder, "card.toml")
-            for content, reason in ((b"\xFF\x00nothing\n", "it is a binary file"), (b"UICC" + bytes(65_532), "it is an image of a card"),
+            for content, reason in ((b"\xFF\x00nothing\n", "it is a binary file"), (b"UICC" + bytes(65_532), "is the image of a card: "),
                                     (b"\xFF" * 71_680, "it is an image of a card"), (b"\x7FELF\x00", "it is a binary file"),
-                                    (b"pin 01 31\nstart\n", "it is a script of uicc_run"), (b"nothing\n", "has no file that a card here can hold")):
+                                    (b"pin 01 31\nstart\n", "is a script: "), (b"nothing\n", "has no file that a card here can hold")):
                 with open(dump, "wb") as out:
                     out.write(content)
                 done = self.tool("profile", "import", dump, "-o", given)

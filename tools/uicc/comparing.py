@@ -2,12 +2,14 @@
 import dataclasses
 import os
 
-from . import access, decode, names, profile, rules, tree
+from . import access, contents, decode, names, profile, rules, tree
 from .follow import is_usim_card
 
 ONE, OTHER = "- ", "+ "
 # how much of what is alike stands before a difference in a long text
 BEFORE = 20
+# the kinds of tables of services
+SERVICES = ("ust", "sst", "ist", "est")
 
 
 @dataclasses.dataclass(frozen=True)
@@ -61,20 +63,37 @@ def of_file(one, other, path, usim, exactly):
     for operation in access.OPERATIONS:
         if any(operation in access.operations_on(file) for file in files):
             yield from pair(*(rules.in_words(access.condition(card, file, operation)) for card, file in zip((one, other), files)), operation)
-    yield from of_content(*files, usim)
+    yield from of_content(*files, usim, exactly)
 
 
-def of_content(one, other, usim):
+def of_content(one, other, usim, exactly):
     entry = names.file(one.path, usim) or {}
     kind = entry.get("content") if entry.get("structure") == one.structure == other.structure else None
     if one.structure == "t" and other.structure == "t":
         if one.content != other.content:
-            yield from pair(*texts(kind, bytes(one.content), bytes(other.content)), "holds")
+            services = of_services(kind, one.content, other.content)
+            yield from services or pair(*texts(kind, bytes(one.content), bytes(other.content)), "holds")
         return
     for number in range(1, max(one.count, other.count) + 1):
         records = [file.record(number) if number <= file.count else None for file in (one, other)]
+        if not exactly and entry.get("name") == "EF.ARR" and None not in records and records[0].rstrip(b"\xFF") == records[1].rstrip(b"\xFF"):
+            # the same rule, in a longer record
+            continue
         if records[0] != records[1]:
             yield from pair(*texts(kind, *records), f"record {number}")
+
+
+def of_services(kind, one, other):
+    """The services that one table alone has on, with their names; none where the tables differ otherwise."""
+    if kind not in SERVICES:
+        return []
+    on, known = [contents.services_on(kind, bytes(content)) or set() for content in (one, other)], names.table("files")[kind]
+    found = [(sign, sorted(own - others)) for sign, own, others in ((ONE, *on), (OTHER, *reversed(on)))]
+    return [f"{sign}on: {', '.join(service_shown(number, known) for number in own)}" for sign, own in found if own]
+
+
+def service_shown(number, known):
+    return f"{number} ({known[number - 1]})" if number <= len(known) else str(number)
 
 
 def texts(kind, *held):
