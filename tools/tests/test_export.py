@@ -203,8 +203,10 @@ class Batch(unittest.TestCase):
         ("", "the column `iccid` is missing"),
         (HEAD + "1\n", "line 2: it has 1 cells, and the first line 6"),
         (HEAD + ",001010000000001,,,,\n", "line 2: it has no iccid"),
-        (HEAD + "8999901000000000015,,,,,\n", f"line 2: iccid: the check digit of 8999901000000000015 is 5, and should be {contents.luhn('899990100000000001')}"),
-        (HEAD + "8.99E+18,,,,,\n", "line 2: iccid: a card's number has 18 to 20 digits"),
+        ("iccid,puk\n", "line 1: no column is called `puk`, but `puk1` is"),
+        ("iccid,acc\n" + ONE + ",16\n", "line 2: acc `16`: it is a class from 0 to 15"),
+        (HEAD + "8999901000000000015,,,,,\n", f"line 2: iccid `8999901000000000015`: the check digit of 8999901000000000015 is 5, and should be {contents.luhn('899990100000000001')}"),
+        (HEAD + "8.99E+18,,,,,\n", "line 2: iccid `8.99E+18`: a card's number has 18 to 20 digits, and not 8: a spreadsheet has rounded it"),
         (HEAD + GOOD + GOOD.splitlines()[0] + "\n", "line 7: its iccid 8999901000000000005 is that of line 2"),
         (HEAD + f"{ONE},001010000000000,,,,\n" + GOOD.splitlines()[0] + "\n", "line 3: its imsi 001010000000000 is that of line 2"),
         (HEAD + f"{ONE},1,,,,\n", "line 2: [EF_IMSI] imsi: an IMSI has 6 to 15 digits"),
@@ -302,6 +304,16 @@ class Batch(unittest.TestCase):
         done = self.batch(self.HEAD + lines[0] + "\n" + lines[1].replace(",00000001,", ",00000000,") + "\n")
         self.assertEqual(done.returncode, 1)
         self.assertIn("line 3: its puk1 00000000 is that of line 2", done.stderr)
+
+    def test_columns_of_lists(self):
+        """Access classes and the subscriber's number."""
+        row = f"iccid,imsi,acc,msisdn\n{self.ONE},001010000000001,3 11,+491701234567\n"
+        rows = batch.rows_in(row.encode(), "list.csv")
+        base = b'like = "usim"\n[EF_MSISDN]\nentries = []\n'
+        card, = batch.cards(base, "card.toml", rows, "list.csv", lambda: None)
+        files = card_of(card.made.text).files
+        self.assertEqual(contents.decode("dialling", files[("7F10", "6F40")].record(1)), ": +491701234567")
+        self.assertEqual(files[("7F20", "6F78")].content.hex().upper(), "0808")
 
     def test_an_imsi_of_few_digits_is_a_warning(self):
         rows = [(2, {"imsi": "0010100000"}), (3, {"imsi": "001010123456789"}), (4, {})]

@@ -13,10 +13,14 @@ from .coding import BadContent, is_blank
 COLUMNS = {
     "iccid": ("EF_ICCID", "iccid"), "imsi": ("EF_IMSI", "imsi"), "spn": ("EF_SPN", "spn"),
     "pin1": ("pins", "pin1", "value"), "puk1": ("pins", "pin1", "unblock"), "pin2": ("pins", "pin2", "value"),
-    "puk2": ("pins", "pin2", "unblock"), "adm": ("pins", "adm", "value"),
+    "puk2": ("pins", "pin2", "unblock"), "adm": ("pins", "adm", "value"), "acc": ("EF_ACC", "acc"), "msisdn": ("EF_MSISDN", "entries"),
 }
+# names of columns that others use
+SLIPS = {"puk": "puk1", "pin": "pin1", "adm1": "adm", "number": "msisdn", "chv1": "pin1", "chv2": "pin2"}
 # what two cards may not have alike, and what they should not
 ALIKE, HARDLY_ALIKE = ("iccid", "imsi"), ("puk1", "puk2", "adm")
+# how what a cell says is written in a profile, where that isn't text
+CODED = {"acc": lambda cell: [int(word) for word in cell.split()], "msisdn": lambda cell: [{"name": "", "number": cell}]}
 REPORT = "report.csv"
 # the ending of a file that isn't whole yet
 NEW = ".new"
@@ -94,7 +98,7 @@ def rows_in(content, name):
 def check_columns(columns, name):
     for column in columns:
         if column not in COLUMNS:
-            meant = forms.near(column, list(COLUMNS))
+            meant = SLIPS.get(column) or forms.near(column, list(COLUMNS))
             raise BadList(f"{name}, line 1: no column is called `{column}`"
                           + (f", but `{meant}` is" if meant else f": {', '.join(COLUMNS)} are"))
         if columns.count(column) > 1:
@@ -112,7 +116,10 @@ def wrong_rows(rows, name):
         try:
             contents.check_iccid(contents.encode_iccid(values["iccid"]))
         except BadContent as fault:
-            yield f"{name}, line {line}: iccid: {fault}"
+            rounded = ": a spreadsheet has rounded it, and its cells have to be of text" if "E+" in values["iccid"].upper() else ""
+            yield f"{name}, line {line}: iccid `{values['iccid']}`: {fault}{rounded}"
+        if "acc" in values and not all(word.isdecimal() and word.isascii() and int(word) <= 15 for word in values["acc"].split()):
+            yield f"{name}, line {line}: acc `{values['acc']}`: it is a class from 0 to 15, or several with spaces between them"
     for column in ALIKE:
         yield from (f"{name}, {text}" for text in alike(rows, column))
 
@@ -155,7 +162,7 @@ def keys_of(values):
         table = found
         for key in above:
             table = table.setdefault(key, {})
-        table[last] = value
+        table[last] = CODED[column](value) if column in CODED else value
     return found
 
 
