@@ -681,13 +681,14 @@ class Verdicts(unittest.TestCase):
             handset.Terminal(Pair()).start()
 
     def test_a_terminal_that_is_gone(self):
-        """Nothing can be said of the sequences then."""
+        """Nothing can be said of the sequence then, nor of those after it."""
         class Gone(undertest.InPython):
             def poll(self):
                 raise undertest.Lost("the telephone fell into the water")
 
-        with self.assertRaises(undertest.Lost):
-            self.told(Gone(), "command MORE TIME", "response result 00")
+        outcome = verdict.judged(read("command MORE TIME", "response result 00")[0], Gone(), Obliging())
+        self.assertEqual((outcome.verdict, outcome.why, outcome.lost, outcome.step.text),
+                         (verdict.INCONCLUSIVE, *["the telephone fell into the water"] * 2, "command MORE TIME"))
 
     def test_reasons(self):
         able = undertest.InPython(able_terminal.AbleTerminal)
@@ -883,6 +884,31 @@ class Tool(unittest.TestCase):
                 self.assertEqual(tool(self.put(folder, *lines)).returncode, status, lines)
             path = self.put(folder, *self.PASSES, *self.FAILS)
             self.assertEqual(tool(path, "--only", "passes").returncode, 0)
+
+    def own(self, folder, *lines):
+        """A class of one's own, as the words that name it: that of the handset in Python with these lines more."""
+        with open(os.path.join(folder, "own.py"), "w", encoding="utf-8") as out:
+            out.write("from uicc.undertest import InPython, Lost, UnderTest\nclass Own(InPython):\n" + "".join(f"    {line}\n" for line in lines))
+        return "--on", os.path.join(folder, "own.py") + ":Own"
+
+    def kinds(self, folder):
+        """The cases in the report: what is said of each."""
+        suite = xml.etree.ElementTree.parse(os.path.join(folder, "report.xml")).getroot()
+        return [[child.get("message") for child in case] for case in suite]
+
+    def test_verdicts_before_a_complaint(self):
+        """A terminal that can't be closed: of the sequences it is told all the same."""
+        for text, why in (("raise OSError('stuck')", "the terminal can't be closed: OSError: stuck, at "),
+                          ("raise BaseException('stuck')", "the terminal can't be closed: BaseException: stuck, at "),
+                          ("while True: pass", "the terminal can't be closed: it did not come back within ")):
+            with self.subTest(text=text), tempfile.TemporaryDirectory() as folder, unittest.mock.patch.object(verdict, "USUAL_SECONDS", 1):
+                path, on = self.put(folder, *self.PASSES, *self.FAILS), self.own(folder, "def close(self):", "    " + text)
+                done = tool(path, *on, "--junit", os.path.join(folder, "report.xml"))
+                self.assertEqual((done.returncode, done.stderr.count("\n")), (2, 1))
+                self.assertIn(why, done.stderr)
+                self.assertIn("2 sequences on the handset in Python: 1 passed, 1 failed", done.stdout)
+                self.assertEqual(self.kinds(folder), [[], ["the TERMINAL RESPONSE isn't as it must be"]])
+                self.assertIn("ok 1 - it passes\nnot ok 2 - it fails\n", tool(path, *on, "--tap").stdout)
 
     def test_refusals(self):
         with tempfile.TemporaryDirectory() as folder:

@@ -50,7 +50,8 @@ class Undecided(Exception):
 @dataclasses.dataclass
 class Outcome:
     """A sequence and its verdict: why, at which step, and the objects of a response that isn't as it must be. `unseen` is what a
-    terminal must have shown that doesn't tell what it shows, `of_card` the names of the commands that were the card's own."""
+    terminal must have shown that doesn't tell what it shows, `of_card` the names of the commands that were the card's own, and `lost` why no
+    sequence can be played after this one, where the terminal or the card is there no more."""
     sequence: object
     verdict: str = PASSED
     why: str = ""
@@ -60,6 +61,7 @@ class Outcome:
     of_card: list = dataclasses.field(default_factory=list)
     seconds: float = 0.0
     player: object = None
+    lost: str = ""
 
 
 def told_by(tag, flag, value, shows_flag):
@@ -109,6 +111,8 @@ class Run:
         # the user of this terminal is asked for something that has not come yet
         self.is_user_asked = False
         self.unseen = []
+        # why nothing can be played after this
+        self.lost = ""
 
     def carry_out(self):
         self.call("accept", self.sequence)
@@ -343,9 +347,14 @@ def verdict_of(run, act):
     except NotBack as fault:
         place = place_of(fault, run.method)
         return INCONCLUSIVE, f"the terminal did not come back within {run.limit:g} seconds" + (f", from {place}" if place else ""), []
-    except (Lost, Ended, NotBuilt):
-        raise
-    except (Exception, SystemExit) as fault:
+    except (Lost, Ended, NotBuilt) as fault:
+        run.lost = str(fault)
+        return INCONCLUSIVE, run.lost, []
+    except KeyboardInterrupt as fault:
+        place = place_of(fault, run.method)
+        run.lost = "interrupted" + (f", at {place}" if place else "")
+        return INCONCLUSIVE, run.lost, []
+    except BaseException as fault:
         # the terminal's own, whose code is anybody's
         return FAILED, f"the terminal broke down: {told(fault, run.method)}", []
     return PASSED, "", []
@@ -368,4 +377,5 @@ def judged(sequence, terminal, card, seconds=None):
     if outcome.verdict == PASSED:
         outcome.verdict, outcome.why, outcome.rows = at_end
     outcome.unseen, outcome.of_card, outcome.seconds = run.unseen, run.cards_own(), time.monotonic() - began
+    outcome.lost = run.lost
     return outcome
