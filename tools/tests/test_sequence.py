@@ -611,6 +611,7 @@ class Verdicts(unittest.TestCase):
         ("begin", "def begin(self, player):\n    print(player.transmit('00A4000C023F00')[0])", "it has `data` and `status`, at own.py:2"),
         ("happen", "def happen(self, said):\n    self.terminal.card.read()", "'Player' object has no attribute 'read', at own.py:2"),
         ("end", "def end(self):\n    raise OSError('gone')", "the terminal broke down: OSError: gone, at own.py:2"),
+        ("poll", "class Odd(BaseException):\n    pass\ndef poll(self):\n    raise Odd('odd')", "the terminal broke down: Odd: odd, at own.py:4"),
     ]
 
     def test_where_it_breaks_down(self):
@@ -909,6 +910,41 @@ class Tool(unittest.TestCase):
                 self.assertIn("2 sequences on the handset in Python: 1 passed, 1 failed", done.stdout)
                 self.assertEqual(self.kinds(folder), [[], ["the TERMINAL RESPONSE isn't as it must be"]])
                 self.assertIn("ok 1 - it passes\nnot ok 2 - it fails\n", tool(path, *on, "--tap").stdout)
+
+    def test_an_interruption(self):
+        """What was played is told, and of what is left that it wasn't."""
+        lines = ("def poll(self):", "    if self.player.card.is_second:", "        raise KeyboardInterrupt", "    super().poll()", "played = 0",
+                 "def begin(self, player):", "    self.player, Own.played = player, Own.played + 1", "    player.card.is_second = Own.played == 2",
+                 "    super().begin(player)")
+        with tempfile.TemporaryDirectory() as folder:
+            path, on = self.put(folder, *self.PASSES, *self.FAILS, *self.NOT_DONE), self.own(folder, *lines)
+            done = tool(path, *on, "--junit", os.path.join(folder, "report.xml"), "--trace", folder)
+            self.assertEqual(done.returncode, 2)
+            self.assertRegex(done.stderr, r"^sequence: interrupted, at \S+own.py:5 \(1 of 3 sequences weren't played\)\n$")
+            self.assertIn("3 sequences on the handset in Python: 1 passed, 0 failed, 2 inconclusive, 0 not supported", done.stdout)
+            told = self.kinds(folder)
+            self.assertEqual(told[0], [])
+            self.assertIn("inconclusive: not played: interrupted, at ", told[2][0])
+            self.assertEqual(sorted(name for name in os.listdir(folder) if name.endswith(".trace")), ["001-it-passes.trace", "002-it-fails.trace"])
+
+    def test_values_of_a_class(self):
+        """What a class says of itself is looked at before anything is played."""
+        for line, why in (("seconds = 'ten'", "`seconds` is a number of seconds from 0 on, and not 'ten'"),
+                          ("seconds = None", "`seconds` is a number of seconds from 0 on, and not None"),
+                          ("seconds = -3", "`seconds` is a number of seconds from 0 on, and not -3"),
+                          ("seconds = float('nan')", "`seconds` is a number of seconds from 0 on, and not nan"),
+                          ("longest = 'x'", "`longest` is a number of seconds from 0 on, and not 'x'"),
+                          ("name = 7", "`name` is one line of text, and not 7"),
+                          ("name = 'a\\n\\x1b[31mb'", "`name` is one line of text, and not 'a\\n\\x1b[31mb'")):
+            with self.subTest(line=line), tempfile.TemporaryDirectory() as folder:
+                done = tool(self.put(folder, *self.PASSES), *self.own(folder, line))
+                self.assertEqual((done.returncode, done.stdout), (2, ""))
+                self.assertIn("can't be had: " + why, done.stderr)
+        changed = type("Own", (undertest.InPython,), {"seconds": 0})()
+        changed.seconds = "ten"
+        outcome = verdict.judged(read("command MORE TIME")[0], changed, Obliging())
+        self.assertEqual((outcome.verdict, outcome.why),
+                         (verdict.FAILED, "the terminal broke down: `seconds` is a number of seconds from 0 on, and not 'ten'"))
 
     def test_refusals(self):
         with tempfile.TemporaryDirectory() as folder:

@@ -8,7 +8,7 @@ from .handset import DETAILS, details_of
 from .player import ASKED, FETCHED, PROFILED, RESET, RESPONDED, STRAY, TOLD, Player
 from .process import Ended, NotBuilt
 from .sequence import Act, Give, Poll, Quiet, Respond, Restart, Shown, Tell
-from .undertest import Lost, NotBack, Unable, Unsupported, limited, place_of, told
+from .undertest import Lost, NotBack, Unable, Unsupported, limited, place_of, told, wrong_value
 from .wording import label_of
 
 PASSED, FAILED, INCONCLUSIVE, UNSUPPORTED = "passed", "failed", "inconclusive", "not supported"
@@ -364,6 +364,10 @@ def judged(sequence, terminal, card, seconds=None):
     """Plays a sequence to a terminal over a card, and judges it. `seconds` is how long the terminal may take for anything, where that
     isn't what it says itself."""
     outcome = Outcome(sequence, player=Player(card))
+    wrong = wrong_value(terminal)
+    if wrong:
+        outcome.verdict, outcome.why = FAILED, f"the terminal broke down: {wrong}"
+        return outcome
     run = Run(sequence, terminal, outcome.player, seconds)
     began = time.monotonic()
     try:
