@@ -911,6 +911,16 @@ class Tool(unittest.TestCase):
                 self.assertEqual(self.kinds(folder), [[], ["the TERMINAL RESPONSE isn't as it must be"]])
                 self.assertIn("ok 1 - it passes\nnot ok 2 - it fails\n", tool(path, *on, "--tap").stdout)
 
+    def test_places_that_cannot_be_written(self):
+        """They are refused before anything is played."""
+        with tempfile.TemporaryDirectory() as folder:
+            path, on = self.put(folder, *self.FAILS), self.own(folder, "def begin(self, player):", "    raise AssertionError('it is played')")
+            for words in (("--junit", os.path.join(folder, "none", "x.xml")), ("--junit", folder), ("--trace", path)):
+                with self.subTest(words=words):
+                    done = tool(path, *on, *words)
+                    self.assertEqual((done.returncode, done.stdout), (2, ""))
+                    self.assertIn(words[1], done.stderr)
+
     def test_an_interruption(self):
         """What was played is told, and of what is left that it wasn't."""
         lines = ("def poll(self):", "    if self.player.card.is_second:", "        raise KeyboardInterrupt", "    super().poll()", "played = 0",
