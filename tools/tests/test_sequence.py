@@ -879,6 +879,14 @@ class Tool(unittest.TestCase):
         self.assertEqual(lines, ["TAP version 13", "1..3", "ok 1 - it passes", "not ok 2 - it fails",
                                  "ok 3 - it can't # SKIP not supported: its terminal profile doesn't have POLLING OFF"])
 
+    def test_the_step_of_an_inconclusive_one(self):
+        """It stands in the reports too."""
+        with tempfile.TemporaryDirectory() as folder:
+            path, why = self.put(folder, *self.NOT_DONE), "inconclusive: line 3, `user help`: its user can't `help`"
+            done = tool(path, "--tap", "--junit", os.path.join(folder, "report.xml"))
+            self.assertEqual(done.stdout.splitlines()[-1], f"ok 1 - it isn't done # SKIP {why}")
+            self.assertEqual(self.kinds(folder), [[why]])
+
     def test_statuses(self):
         with tempfile.TemporaryDirectory() as folder:
             for lines, status in ((self.PASSES, 0), (self.FAILS, 1), (self.NOT_FOR_IT, 0), (self.NOT_DONE, 3)):
