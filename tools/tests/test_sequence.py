@@ -945,6 +945,15 @@ class Tool(unittest.TestCase):
             self.assertIn("inconclusive: not played: interrupted, at ", told[2][0])
             self.assertEqual(sorted(name for name in os.listdir(folder) if name.endswith(".trace")), ["001-it-passes.trace", "002-it-fails.trace"])
 
+    def test_how_long_a_class_may_take(self):
+        """`--seconds` is also for its making and its end."""
+        slow = "    import time; time.sleep(5)"
+        for method, more in (("__init__(self)", ()), ("close(self)", ()), ("close(self)", ("seconds = 60",))):
+            with self.subTest(method=method, more=more), tempfile.TemporaryDirectory() as folder:
+                done = tool(self.put(folder, *self.PASSES), *self.own(folder, *more, f"def {method}:", slow), "--seconds", "1")
+                self.assertEqual(done.returncode, 2)
+                self.assertIn(": it did not come back within 1 seconds, from ", done.stderr)
+
     def test_values_of_a_class(self):
         """What a class says of itself is looked at before anything is played."""
         for line, why in (("seconds = 'ten'", "`seconds` is a number of seconds from 0 on, and not 'ten'"),

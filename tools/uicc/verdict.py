@@ -95,13 +95,20 @@ def check(what, wanted, content, has_more):
         raise Differs(f"{what} isn't as it must be", rows)
 
 
+def limit_of(terminal, seconds=None):
+    """How long a method of a terminal may take before it counts as hung. `seconds` is what the terminal may take for anything, where that
+    isn't what it says itself."""
+    usual = terminal.seconds or USUAL_SECONDS
+    return max(LEAST_SECONDS, terminal.longest, usual if seconds is None else seconds)
+
+
 class Run:
     """A sequence on its way: what was heard of the terminal and isn't accounted for yet, and where its notes are read on."""
 
     def __init__(self, sequence, terminal, player, seconds):
         self.sequence, self.terminal, self.player = sequence, terminal, player
         self.seconds = terminal.seconds if seconds is None else seconds
-        self.limit = max(LEAST_SECONDS, terminal.longest, USUAL_SECONDS if seconds is None and not terminal.seconds else self.seconds)
+        self.limit = limit_of(terminal, seconds)
         self.taken, self.noted = set(), 0
         self.step = None
         # how many of the card's own commands the terminal's user was asked about, and which method of the terminal was called last
