@@ -611,6 +611,10 @@ class Verdicts(unittest.TestCase):
         ("begin", "def begin(self, player):\n    print(player.transmit('00A4000C023F00')[0])", "it has `data` and `status`, at own.py:2"),
         ("happen", "def happen(self, said):\n    self.terminal.card.read()", "'Player' object has no attribute 'read', at own.py:2"),
         ("end", "def end(self):\n    raise OSError('gone')", "the terminal broke down: OSError: gone, at own.py:2"),
+        ("poll", "def poll(self):\n    self.terminal.card.note(None)", "TypeError: `note` takes what is shown as text, and not None, at own.py:2"),
+        ("poll", "def poll(self):\n    self.terminal.card.note('text a\\nb')", "ValueError: a note is one line of text, and not 'text a\\nb', at own.py:2"),
+        ("poll", "def poll(self):\n    self.terminal.card.note('text a\\r')", "ValueError: a note is one line of text, and not 'text a\\r', at own.py:2"),
+        ("poll", "def poll(self):\n    self.terminal.card.note('')", "ValueError: a note is one line of text, and not '', at own.py:2"),
         ("poll", "class Odd(BaseException):\n    pass\ndef poll(self):\n    raise Odd('odd')", "the terminal broke down: Odd: odd, at own.py:4"),
     ]
 

@@ -67,7 +67,11 @@ class Player:
             self._waiting.append(raw)
 
     def note(self, text):
-        """Something that the terminal shows."""
+        """Something that the terminal shows, in one line."""
+        if not isinstance(text, str):
+            raise TypeError(f"`note` takes what is shown as text, and not {text!r}")
+        if not text or len((text + ".").splitlines()) > 1:
+            raise ValueError(f"a note is one line of text, and not {text!r}")
         with self._changed:
             self.trace.append("* " + text)
             self._changed.notify_all()
