@@ -233,7 +233,7 @@ class Players(unittest.TestCase):
             (CARD, "9000"), (CARD, "6A82"), (BOTH, "910B"), (PLAYER, "6C0B"), (PLAYER, decode.hexed(self.OWN) + " 9000"), (PLAYER, "9000"),
             # the second response is none of its own: the card refuses it
             (CARD, "6985")])
-        self.assertEqual([one.kind for one in self.player.heard], ["fetch", "response", "stray response"])
+        self.assertEqual([one.kind for one in self.player.heard], ["fetch of a wrong length", "fetch", "response", "stray response"])
 
     def test_data_are_handed_on_with_its_status(self):
         self.player.transmit("00A4000C022FE2")
@@ -291,7 +291,7 @@ class Link:
 
     def transmit(self, command):
         answers = [self.player.transmit(one) for one in self.change(bytes(command))]
-        return answers[0] if answers else Answer(b"", "9000")
+        return next((answer for answer in answers if answer.status.sw1 != 0x6C), answers[0]) if answers else Answer(b"", "9000")
 
     def reset(self):
         self.player.reset()
@@ -716,6 +716,36 @@ class Verdicts(unittest.TestCase):
                     self.assertRaises(BadSequence, read, *lines)
                 else:
                     self.assertEqual(self.told(able, *lines), (kind, why, step))
+
+    # what a terminal sends in the place of a command of its own, and what is told of it
+    FETCHES = [
+        (lambda command: [command[:4] + b"\x05"], "the command isn't fetched: the FETCH 8012000005 is answered 6C0B, wrong Le: 11 is the right one"),
+        (lambda command: [command[:4] + b"\x05", command], ""),
+        (lambda command: [command, command], "a FETCH comes where no command is announced"),
+    ]
+
+    def test_a_fetch_that_is_wrong(self):
+        for more, why in self.FETCHES:
+            with self.subTest(why=why):
+                def changed(command, more=more):
+                    return more(command) if command[1] == decode.FETCH else [command]
+                outcome = self.told(undertest.InPython(lambda player, changed=changed: able_terminal.AbleTerminal(Link(player, changed))),
+                                    "command MORE TIME", "response result 00")
+                self.assertEqual(outcome[:2], (verdict.FAILED if why else verdict.PASSED, why))
+
+    def test_a_terminal_that_resets_the_card_of_itself(self):
+        class Restarts(undertest.InPython):
+            def poll(self):
+                self.player.reset()
+                self.begin(self.player)
+                super().poll()
+
+            def begin(self, player):
+                self.player = player
+                super().begin(player)
+
+        self.assertEqual(self.told(Restarts(), "command MORE TIME", "response result 00")[:2],
+                         (verdict.FAILED, "the command isn't fetched: the card is reset before that, and the command is gone with the reset"))
 
     def test_a_profile_that_lacks_something(self):
         self.assertEqual(self.told(undertest.InPython(), "needs UCS2 entry", "command POLLING OFF", "response result 00")[:2],

@@ -3,9 +3,9 @@ import dataclasses
 import itertools
 import time
 
-from . import decode, grammar, handset, tlv
+from . import decode, grammar, handset, names, tlv
 from .handset import DETAILS, details_of
-from .player import ASKED, FETCHED, PROFILED, RESET, RESPONDED, STRAY, TOLD, Player
+from .player import ASKED, FETCHED, MISFETCHED, PROFILED, RESET, RESPONDED, STRAY, TOLD, UNANNOUNCED, Player
 from .process import Ended, NotBuilt
 from .sequence import Act, Give, Poll, Quiet, Respond, Restart, Shown, Tell
 from .undertest import Lost, NotBack, Unable, Unsupported, limited, place_of, told, wrong_value
@@ -18,6 +18,8 @@ QUIET_SECONDS = 1
 # how often a terminal is asked what it shows
 LOOK_SECONDS = 0.2
 NO_RESPONSE = 0x12
+# what counts for no step where it comes before the sequence's first command, or between the card's own
+BESIDE = (RESET, PROFILED, ASKED, MISFETCHED, UNANNOUNCED)
 # how long a method of a terminal may take that says nothing else, and at least
 USUAL_SECONDS, LEAST_SECONDS = 10, 1
 # what the terminal's user does at a command of the card's own, which isn't the sequence's
@@ -169,7 +171,7 @@ class Run:
         if lacking:
             raise Unsupported("its terminal profile doesn't have " + ", ".join(lacking))
         self._let_card_begin()
-        self.taken |= {n for n, heard in enumerate(self.player.heard) if heard.kind in (RESET, PROFILED, ASKED)}
+        self.taken |= {n for n, heard in enumerate(self.player.heard) if heard.kind in BESIDE}
 
     def _let_card_begin(self):
         """The card's own commands, those of its applets say, come before those of a sequence: the terminal answers them."""
@@ -184,7 +186,7 @@ class Run:
         self.call("look")
         # what came meanwhile is the card's doing
         self.noted = len(self.player.trace)
-        self.taken |= {n for n, heard in enumerate(self.player.heard) if heard.kind in (RESET, PROFILED, ASKED)}
+        self.taken |= {n for n, heard in enumerate(self.player.heard) if heard.kind in BESIDE}
 
     def _asks_user(self):
         """Whether the card waits for what the terminal's user says to a command of its own, of which he wasn't told yet."""
@@ -224,8 +226,18 @@ class Run:
             self.call("poll")
         heard = self._wait(FETCHED)
         if heard is None:
-            raise self._card_was_first() if self.player.card_is_first else Differs("the command isn't fetched")
+            raise self._card_was_first() if self.player.card_is_first else Differs("the command isn't fetched" + self._instead())
         self.details = details_of(heard.data)
+
+    def _instead(self):
+        """What the terminal did in the place of fetching a command."""
+        if self._find(RESET) is not None:
+            return ": the card is reset before that, and the command is gone with the reset"
+        place = self._find(MISFETCHED, UNANNOUNCED)
+        if place is None:
+            return ""
+        data = self.player.heard[place].data
+        return f": the FETCH {decode.hexed(data[:-2])} is answered {decode.hexed(data[-2:])}, {names.status(decode.hexed(data[-2:]))}"
 
     def _respond(self, step):
         heard = self._wait(RESPONDED, step.seconds)
@@ -323,6 +335,7 @@ class Run:
         """Nothing came that no step asks for."""
         for kind, what in ((STRAY, "a TERMINAL RESPONSE comes for a command that wasn't fetched"),
                            (RESPONDED, "a TERMINAL RESPONSE comes that no step asks for"),
+                           (UNANNOUNCED, "a FETCH comes where no command is announced"),
                            (RESET, "the card is reset, and no step asks for it"), (TOLD, "an ENVELOPE comes that no step asks for")):
             place = self._find(kind)
             if place is not None:
