@@ -756,7 +756,14 @@ class Verdicts(unittest.TestCase):
             def begin(self, player):
                 pass
 
-        self.assertEqual(self.told(Mute(), "command MORE TIME", "response result 00")[:2], (verdict.FAILED, "no TERMINAL PROFILE comes"))
+        self.assertEqual(self.told(Mute(), "command MORE TIME", "response result 00"), (verdict.FAILED, "no TERMINAL PROFILE comes", "sequence one"))
+
+    def test_a_sequence_that_is_not_accepted(self):
+        class Refuses(undertest.InPython):
+            def accept(self, sequence):
+                return False
+
+        self.assertEqual(self.told(Refuses(), "command MORE TIME")[:2], (verdict.UNSUPPORTED, "the terminal doesn't accept it"))
 
     def test_within(self):
         """A response that comes later than it may."""
@@ -913,6 +920,14 @@ class Tool(unittest.TestCase):
         self.assertEqual(lines, ["TAP version 13", "1..3", "ok 1 - it passes", "not ok 2 - it fails",
                                  "ok 3 - it can't # SKIP not supported: its terminal profile doesn't have POLLING OFF"])
 
+    def test_what_a_class_prints(self):
+        """It is no part of the protocol."""
+        with tempfile.TemporaryDirectory() as folder:
+            on = self.own(folder, "print('made')", "def poll(self):", "    print('polled')", "    super().poll()", "def close(self):", "    print('closed')")
+            done = tool(self.put(folder, *self.PASSES), *on, "--tap")
+            self.assertEqual((done.returncode, done.stdout), (0, "TAP version 13\n1..1\nok 1 - it passes\n"))
+            self.assertEqual(done.stderr, "made\npolled\nclosed\n")
+
     def test_the_step_of_an_inconclusive_one(self):
         """It stands in the reports too."""
         with tempfile.TemporaryDirectory() as folder:
@@ -1033,7 +1048,7 @@ class Tool(unittest.TestCase):
                     ((good, "--on", folder + "/made.py:Made"), "made.py:3\n"),
                     ((good, "--on", folder + "/ends.py:Ends"), "the terminal can't be closed: ZeroDivisionError: division by zero, at "),
                     ((good, "--card", os.path.join(folder, "none")), "No such file"), ((good, "--card", good), "line 1: no line begins with"),
-                    ((good, "--seconds", "x"), "invalid"), ((good, "--seconds", "-1"), "invalid")):
+                    ((good, "--seconds", "x"), "invalid"), ((good, "--seconds", "-1"), "invalid"), ((good, "--seconds", "0"), "invalid")):
                 with self.subTest(words=words):
                     done = tool(*words)
                     self.assertEqual(done.returncode, 2)

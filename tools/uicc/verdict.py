@@ -7,7 +7,7 @@ from . import decode, grammar, handset, names, tlv
 from .handset import DETAILS, details_of
 from .player import ASKED, FETCHED, MISFETCHED, PROFILED, RESET, RESPONDED, STRAY, TOLD, UNANNOUNCED, Player
 from .process import Ended, NotBuilt
-from .sequence import Act, Give, Poll, Quiet, Respond, Restart, Shown, Tell
+from .sequence import Act, Give, Poll, Quiet, Respond, Restart, Shown, Step, Tell
 from .undertest import Lost, NotBack, Unable, Unsupported, limited, place_of, told, wrong_value
 from .wording import label_of
 
@@ -124,7 +124,8 @@ class Run:
         self.lost = ""
 
     def carry_out(self):
-        self.call("accept", self.sequence)
+        if self.call("accept", self.sequence) is False:
+            raise Unsupported("the terminal doesn't accept it")
         self.call("begin", self.player)
         self._begin()
         for place, step in enumerate(self.sequence.steps):
@@ -137,10 +138,10 @@ class Run:
         self._end()
 
     def call(self, name, *given, more=0):
-        """Has the terminal do something. NotBack, where it hasn't in time."""
+        """Has the terminal do something, and answers what it does. NotBack, where it hasn't in time."""
         self.method = getattr(self.terminal, name)
         with limited(self.limit + more):
-            self.method(*given)
+            return self.method(*given)
 
     # what was heard
 
@@ -166,6 +167,7 @@ class Run:
     def _begin(self):
         told = self._wait(PROFILED)
         if told is None:
+            self.step = Step(self.sequence.line, f"sequence {self.sequence.name}")
             raise Differs("no TERMINAL PROFILE comes")
         lacking = [name for name in self.sequence.needs if name not in decode.profile(told.data)]
         if lacking:
