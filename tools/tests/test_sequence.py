@@ -108,7 +108,8 @@ class Files(unittest.TestCase):
     BAD = [
         ("commend MORE TIME", "no line begins with `commend`: sequence, section, needs, command"),
         ("command", "command, nor a type of two digits is missing"),
-        ("command SHOW TEXT", "`SHOW` is no command"),
+        ("command SHOW TEXT", "`SHOW` is no command"), ("command DISPLAY TXT", "`DISPLAY TXT` is no command, nor a type of two digits: "),
+        ("command SELECT", "`SELECT` is no command"), ("command GET text A", "`GET text"),
         ("command DISPLAY TEXT txt \"A\"", "`txt` is no object: details, result"),
         ("command DISPLAY TEXT text \"A", "quotes come in pairs"),
         ("command DISPLAY TEXT text", "the text is missing"),
@@ -161,6 +162,32 @@ class Files(unittest.TestCase):
                 sequence.read(text, "a.sequence")
         with self.assertRaisesRegex(BadSequence, "a response has a result"):
             read("command MORE TIME", "response duration 1 seconds")
+
+    def test_all_bad_lines_are_told(self):
+        with self.assertRaises(BadSequence) as refused:
+            read("command SHOW TEXT", "command MORE TIME", "shown", "sequence two", "sequence two")
+        self.assertEqual([(one.line, one.text) for one in refused.exception.lines], [(2, "command SHOW TEXT"), (4, "shown"), (6, "sequence two")])
+        for part in ("a.sequence:2: `SHOW` is no command", "a.sequence:4: what is shown is missing", "a.sequence:6: a sequence of this name stands above"):
+            self.assertIn(part, str(refused.exception))
+        # those that belong to a bad line aren't bad for that
+        with self.assertRaises(BadSequence) as refused:
+            read("command SHOW TEXT", "response result 00", "then MORE TIME", "response result")
+        self.assertEqual([one.line for one in refused.exception.lines], [2, 5])
+        with self.assertRaises(BadSequence) as refused:
+            sequence.read("shown text A\n" * 30, "a.sequence")
+        self.assertEqual(len(refused.exception.lines), 1)
+        with self.assertRaisesRegex(BadSequence, "\nand 10 bad lines more$"):
+            read(*["shown"] * 30)
+
+    def test_bad_files(self):
+        """Of several files the bad lines of all are told."""
+        with tempfile.TemporaryDirectory() as folder:
+            for name in "ab":
+                with open(os.path.join(folder, name + ".sequence"), "w", encoding="utf-8") as out:
+                    out.write("sequence one\nshown\n")
+            done = tool(folder)
+        self.assertEqual(done.returncode, 2)
+        self.assertEqual(done.stderr.count("what is shown is missing"), 2)
 
     def test_lines_at_random(self):
         """Whatever stands in a file, it is read, or refused with a reason."""
