@@ -180,6 +180,15 @@ class Explain(unittest.TestCase):
                      "   83  # EF_IMSI asks for PIN 1", "value: 1234"):
             self.assertIn(part, done.stdout)
 
+    def test_the_file_that_is_selected(self):
+        """Where several standard files have an identifier, its control parameters have the name of the one that was selected."""
+        answer = "621782024121830{}8A01058B032F060280020009880138"
+        for select, name in (("00A40804047F206F07", "6F07 EF.IMSI"), ("00A40804047FF26F07", "6F07 EF.IST")):
+            for text in (f"> {select}\n< {answer.format('26F07')}9000\n", f"> {select}\n< 6119\n> 00C0000019\n< {answer.format('26F07')}9000\n"):
+                with self.subTest(text=text):
+                    self.assertIn(f"  identifier: {name}\n", self.explain(text=text).stdout)
+        self.assertEqual(decode.fcp(bytes.fromhex("620483026F07"))[1].text, "6F07 EF.IST or EF.IMSI")
+
     def test_terminal(self):
         done = self.explain(os.path.join(EXAMPLES, "bip.trace"), "--full")
         for part in ("> D00C810304420082028121B70102              RECEIVE DATA\n", "channel data length: 2 bytes\n",

@@ -108,7 +108,8 @@ class Files(unittest.TestCase):
     BAD = [
         ("commend MORE TIME", "no line begins with `commend`: sequence, section, needs, command"),
         ("command", "command, nor a type of two digits is missing"),
-        ("command SHOW TEXT", "`SHOW` is no command"),
+        ("command SHOW TEXT", "`SHOW` is no command"), ("command DISPLAY TXT", "`DISPLAY TXT` is no command, nor a type of two digits: "),
+        ("command SELECT", "`SELECT` is no command"), ("command GET text A", "`GET text"),
         ("command DISPLAY TEXT txt \"A\"", "`txt` is no object: details, result"),
         ("command DISPLAY TEXT text \"A", "quotes come in pairs"),
         ("command DISPLAY TEXT text", "the text is missing"),
@@ -161,6 +162,32 @@ class Files(unittest.TestCase):
                 sequence.read(text, "a.sequence")
         with self.assertRaisesRegex(BadSequence, "a response has a result"):
             read("command MORE TIME", "response duration 1 seconds")
+
+    def test_all_bad_lines_are_told(self):
+        with self.assertRaises(BadSequence) as refused:
+            read("command SHOW TEXT", "command MORE TIME", "shown", "sequence two", "sequence two")
+        self.assertEqual([(one.line, one.text) for one in refused.exception.lines], [(2, "command SHOW TEXT"), (4, "shown"), (6, "sequence two")])
+        for part in ("a.sequence:2: `SHOW` is no command", "a.sequence:4: what is shown is missing", "a.sequence:6: a sequence of this name stands above"):
+            self.assertIn(part, str(refused.exception))
+        # those that belong to a bad line aren't bad for that
+        with self.assertRaises(BadSequence) as refused:
+            read("command SHOW TEXT", "response result 00", "then MORE TIME", "response result")
+        self.assertEqual([one.line for one in refused.exception.lines], [2, 5])
+        with self.assertRaises(BadSequence) as refused:
+            sequence.read("shown text A\n" * 30, "a.sequence")
+        self.assertEqual(len(refused.exception.lines), 1)
+        with self.assertRaisesRegex(BadSequence, "\nand 10 bad lines more$"):
+            read(*["shown"] * 30)
+
+    def test_bad_files(self):
+        """Of several files the bad lines of all are told."""
+        with tempfile.TemporaryDirectory() as folder:
+            for name in "ab":
+                with open(os.path.join(folder, name + ".sequence"), "w", encoding="utf-8") as out:
+                    out.write("sequence one\nshown\n")
+            done = tool(folder)
+        self.assertEqual(done.returncode, 2)
+        self.assertEqual(done.stderr.count("what is shown is missing"), 2)
 
     def test_lines_at_random(self):
         """Whatever stands in a file, it is read, or refused with a reason."""
@@ -233,7 +260,7 @@ class Players(unittest.TestCase):
             (CARD, "9000"), (CARD, "6A82"), (BOTH, "910B"), (PLAYER, "6C0B"), (PLAYER, decode.hexed(self.OWN) + " 9000"), (PLAYER, "9000"),
             # the second response is none of its own: the card refuses it
             (CARD, "6985")])
-        self.assertEqual([one.kind for one in self.player.heard], ["fetch", "response", "stray response"])
+        self.assertEqual([one.kind for one in self.player.heard], ["fetch of a wrong length", "fetch", "response", "stray response"])
 
     def test_data_are_handed_on_with_its_status(self):
         self.player.transmit("00A4000C022FE2")
@@ -291,7 +318,7 @@ class Link:
 
     def transmit(self, command):
         answers = [self.player.transmit(one) for one in self.change(bytes(command))]
-        return answers[0] if answers else Answer(b"", "9000")
+        return next((answer for answer in answers if answer.status.sw1 != 0x6C), answers[0]) if answers else Answer(b"", "9000")
 
     def reset(self):
         self.player.reset()
@@ -611,6 +638,11 @@ class Verdicts(unittest.TestCase):
         ("begin", "def begin(self, player):\n    print(player.transmit('00A4000C023F00')[0])", "it has `data` and `status`, at own.py:2"),
         ("happen", "def happen(self, said):\n    self.terminal.card.read()", "'Player' object has no attribute 'read', at own.py:2"),
         ("end", "def end(self):\n    raise OSError('gone')", "the terminal broke down: OSError: gone, at own.py:2"),
+        ("poll", "def poll(self):\n    self.terminal.card.note(None)", "TypeError: `note` takes what is shown as text, and not None, at own.py:2"),
+        ("poll", "def poll(self):\n    self.terminal.card.note('text a\\nb')", "ValueError: a note is one line of text, and not 'text a\\nb', at own.py:2"),
+        ("poll", "def poll(self):\n    self.terminal.card.note('text a\\r')", "ValueError: a note is one line of text, and not 'text a\\r', at own.py:2"),
+        ("poll", "def poll(self):\n    self.terminal.card.note('')", "ValueError: a note is one line of text, and not '', at own.py:2"),
+        ("poll", "class Odd(BaseException):\n    pass\ndef poll(self):\n    raise Odd('odd')", "the terminal broke down: Odd: odd, at own.py:4"),
     ]
 
     def test_where_it_breaks_down(self):
@@ -681,13 +713,14 @@ class Verdicts(unittest.TestCase):
             handset.Terminal(Pair()).start()
 
     def test_a_terminal_that_is_gone(self):
-        """Nothing can be said of the sequences then."""
+        """Nothing can be said of the sequence then, nor of those after it."""
         class Gone(undertest.InPython):
             def poll(self):
                 raise undertest.Lost("the telephone fell into the water")
 
-        with self.assertRaises(undertest.Lost):
-            self.told(Gone(), "command MORE TIME", "response result 00")
+        outcome = verdict.judged(read("command MORE TIME", "response result 00")[0], Gone(), Obliging())
+        self.assertEqual((outcome.verdict, outcome.why, outcome.lost, outcome.step.text),
+                         (verdict.INCONCLUSIVE, *["the telephone fell into the water"] * 2, "command MORE TIME"))
 
     def test_reasons(self):
         able = undertest.InPython(able_terminal.AbleTerminal)
@@ -711,6 +744,36 @@ class Verdicts(unittest.TestCase):
                 else:
                     self.assertEqual(self.told(able, *lines), (kind, why, step))
 
+    # what a terminal sends in the place of a command of its own, and what is told of it
+    FETCHES = [
+        (lambda command: [command[:4] + b"\x05"], "the command isn't fetched: the FETCH 8012000005 is answered 6C0B, wrong Le: 11 is the right one"),
+        (lambda command: [command[:4] + b"\x05", command], ""),
+        (lambda command: [command, command], "a FETCH comes where no command is announced"),
+    ]
+
+    def test_a_fetch_that_is_wrong(self):
+        for more, why in self.FETCHES:
+            with self.subTest(why=why):
+                def changed(command, more=more):
+                    return more(command) if command[1] == decode.FETCH else [command]
+                outcome = self.told(undertest.InPython(lambda player, changed=changed: able_terminal.AbleTerminal(Link(player, changed))),
+                                    "command MORE TIME", "response result 00")
+                self.assertEqual(outcome[:2], (verdict.FAILED if why else verdict.PASSED, why))
+
+    def test_a_terminal_that_resets_the_card_of_itself(self):
+        class Restarts(undertest.InPython):
+            def poll(self):
+                self.player.reset()
+                self.begin(self.player)
+                super().poll()
+
+            def begin(self, player):
+                self.player = player
+                super().begin(player)
+
+        self.assertEqual(self.told(Restarts(), "command MORE TIME", "response result 00")[:2],
+                         (verdict.FAILED, "the command isn't fetched: the card is reset before that, and the command is gone with the reset"))
+
     def test_a_profile_that_lacks_something(self):
         self.assertEqual(self.told(undertest.InPython(), "needs UCS2 entry", "command POLLING OFF", "response result 00")[:2],
                          (verdict.UNSUPPORTED, "its terminal profile doesn't have UCS2 entry, POLLING OFF"))
@@ -720,7 +783,14 @@ class Verdicts(unittest.TestCase):
             def begin(self, player):
                 pass
 
-        self.assertEqual(self.told(Mute(), "command MORE TIME", "response result 00")[:2], (verdict.FAILED, "no TERMINAL PROFILE comes"))
+        self.assertEqual(self.told(Mute(), "command MORE TIME", "response result 00"), (verdict.FAILED, "no TERMINAL PROFILE comes", "sequence one"))
+
+    def test_a_sequence_that_is_not_accepted(self):
+        class Refuses(undertest.InPython):
+            def accept(self, sequence):
+                return False
+
+        self.assertEqual(self.told(Refuses(), "command MORE TIME")[:2], (verdict.UNSUPPORTED, "the terminal doesn't accept it"))
 
     def test_within(self):
         """A response that comes later than it may."""
@@ -877,12 +947,107 @@ class Tool(unittest.TestCase):
         self.assertEqual(lines, ["TAP version 13", "1..3", "ok 1 - it passes", "not ok 2 - it fails",
                                  "ok 3 - it can't # SKIP not supported: its terminal profile doesn't have POLLING OFF"])
 
+    def test_what_a_class_prints(self):
+        """It is no part of the protocol."""
+        with tempfile.TemporaryDirectory() as folder:
+            on = self.own(folder, "print('made')", "def poll(self):", "    print('polled')", "    super().poll()", "def close(self):", "    print('closed')")
+            done = tool(self.put(folder, *self.PASSES), *on, "--tap")
+            self.assertEqual((done.returncode, done.stdout), (0, "TAP version 13\n1..1\nok 1 - it passes\n"))
+            self.assertEqual(done.stderr, "made\npolled\nclosed\n")
+
+    def test_the_step_of_an_inconclusive_one(self):
+        """It stands in the reports too."""
+        with tempfile.TemporaryDirectory() as folder:
+            path, why = self.put(folder, *self.NOT_DONE), "inconclusive: line 3, `user help`: its user can't `help`"
+            done = tool(path, "--tap", "--junit", os.path.join(folder, "report.xml"))
+            self.assertEqual(done.stdout.splitlines()[-1], f"ok 1 - it isn't done # SKIP {why}")
+            self.assertEqual(self.kinds(folder), [[why]])
+
     def test_statuses(self):
         with tempfile.TemporaryDirectory() as folder:
             for lines, status in ((self.PASSES, 0), (self.FAILS, 1), (self.NOT_FOR_IT, 0), (self.NOT_DONE, 3)):
                 self.assertEqual(tool(self.put(folder, *lines)).returncode, status, lines)
             path = self.put(folder, *self.PASSES, *self.FAILS)
             self.assertEqual(tool(path, "--only", "passes").returncode, 0)
+
+    def own(self, folder, *lines):
+        """A class of one's own, as the words that name it: that of the handset in Python with these lines more."""
+        with open(os.path.join(folder, "own.py"), "w", encoding="utf-8") as out:
+            out.write("from uicc.undertest import InPython, Lost, UnderTest\nclass Own(InPython):\n" + "".join(f"    {line}\n" for line in lines))
+        return "--on", os.path.join(folder, "own.py") + ":Own"
+
+    def kinds(self, folder):
+        """The cases in the report: what is said of each."""
+        suite = xml.etree.ElementTree.parse(os.path.join(folder, "report.xml")).getroot()
+        return [[child.get("message") for child in case] for case in suite]
+
+    def test_verdicts_before_a_complaint(self):
+        """A terminal that can't be closed: of the sequences it is told all the same."""
+        for text, why in (("raise OSError('stuck')", "the terminal can't be closed: OSError: stuck, at "),
+                          ("raise BaseException('stuck')", "the terminal can't be closed: BaseException: stuck, at "),
+                          ("while True: pass", "the terminal can't be closed: it did not come back within ")):
+            with self.subTest(text=text), tempfile.TemporaryDirectory() as folder, unittest.mock.patch.object(verdict, "USUAL_SECONDS", 1):
+                path, on = self.put(folder, *self.PASSES, *self.FAILS), self.own(folder, "def close(self):", "    " + text)
+                done = tool(path, *on, "--junit", os.path.join(folder, "report.xml"))
+                self.assertEqual((done.returncode, done.stderr.count("\n")), (2, 1))
+                self.assertIn(why, done.stderr)
+                self.assertIn("2 sequences on the handset in Python: 1 passed, 1 failed", done.stdout)
+                self.assertEqual(self.kinds(folder), [[], ["the TERMINAL RESPONSE isn't as it must be"]])
+                self.assertIn("ok 1 - it passes\nnot ok 2 - it fails\n", tool(path, *on, "--tap").stdout)
+
+    def test_places_that_cannot_be_written(self):
+        """They are refused before anything is played."""
+        with tempfile.TemporaryDirectory() as folder:
+            path, on = self.put(folder, *self.FAILS), self.own(folder, "def begin(self, player):", "    raise AssertionError('it is played')")
+            for words in (("--junit", os.path.join(folder, "none", "x.xml")), ("--junit", folder), ("--trace", path)):
+                with self.subTest(words=words):
+                    done = tool(path, *on, *words)
+                    self.assertEqual((done.returncode, done.stdout), (2, ""))
+                    self.assertIn(words[1], done.stderr)
+
+    def test_an_interruption(self):
+        """What was played is told, and of what is left that it wasn't."""
+        lines = ("def poll(self):", "    if self.player.card.is_second:", "        raise KeyboardInterrupt", "    super().poll()", "played = 0",
+                 "def begin(self, player):", "    self.player, Own.played = player, Own.played + 1", "    player.card.is_second = Own.played == 2",
+                 "    super().begin(player)")
+        with tempfile.TemporaryDirectory() as folder:
+            path, on = self.put(folder, *self.PASSES, *self.FAILS, *self.NOT_DONE), self.own(folder, *lines)
+            done = tool(path, *on, "--junit", os.path.join(folder, "report.xml"), "--trace", folder)
+            self.assertEqual(done.returncode, 2)
+            self.assertRegex(done.stderr, r"^sequence: interrupted, at \S+own.py:5 \(1 of 3 sequences weren't played\)\n$")
+            self.assertIn("3 sequences on the handset in Python: 1 passed, 0 failed, 2 inconclusive, 0 not supported", done.stdout)
+            told = self.kinds(folder)
+            self.assertEqual(told[0], [])
+            self.assertIn("inconclusive: not played: interrupted, at ", told[2][0])
+            self.assertEqual(sorted(name for name in os.listdir(folder) if name.endswith(".trace")), ["001-it-passes.trace", "002-it-fails.trace"])
+
+    def test_how_long_a_class_may_take(self):
+        """`--seconds` is also for its making and its end."""
+        slow = "    import time; time.sleep(5)"
+        for method, more in (("__init__(self)", ()), ("close(self)", ()), ("close(self)", ("seconds = 60",))):
+            with self.subTest(method=method, more=more), tempfile.TemporaryDirectory() as folder:
+                done = tool(self.put(folder, *self.PASSES), *self.own(folder, *more, f"def {method}:", slow), "--seconds", "1")
+                self.assertEqual(done.returncode, 2)
+                self.assertIn(": it did not come back within 1 seconds, from ", done.stderr)
+
+    def test_values_of_a_class(self):
+        """What a class says of itself is looked at before anything is played."""
+        for line, why in (("seconds = 'ten'", "`seconds` is a number of seconds from 0 on, and not 'ten'"),
+                          ("seconds = None", "`seconds` is a number of seconds from 0 on, and not None"),
+                          ("seconds = -3", "`seconds` is a number of seconds from 0 on, and not -3"),
+                          ("seconds = float('nan')", "`seconds` is a number of seconds from 0 on, and not nan"),
+                          ("longest = 'x'", "`longest` is a number of seconds from 0 on, and not 'x'"),
+                          ("name = 7", "`name` is one line of text, and not 7"),
+                          ("name = 'a\\n\\x1b[31mb'", "`name` is one line of text, and not 'a\\n\\x1b[31mb'")):
+            with self.subTest(line=line), tempfile.TemporaryDirectory() as folder:
+                done = tool(self.put(folder, *self.PASSES), *self.own(folder, line))
+                self.assertEqual((done.returncode, done.stdout), (2, ""))
+                self.assertIn("can't be had: " + why, done.stderr)
+        changed = type("Own", (undertest.InPython,), {"seconds": 0})()
+        changed.seconds = "ten"
+        outcome = verdict.judged(read("command MORE TIME")[0], changed, Obliging())
+        self.assertEqual((outcome.verdict, outcome.why),
+                         (verdict.FAILED, "the terminal broke down: `seconds` is a number of seconds from 0 on, and not 'ten'"))
 
     def test_refusals(self):
         with tempfile.TemporaryDirectory() as folder:
@@ -910,7 +1075,7 @@ class Tool(unittest.TestCase):
                     ((good, "--on", folder + "/made.py:Made"), "made.py:3\n"),
                     ((good, "--on", folder + "/ends.py:Ends"), "the terminal can't be closed: ZeroDivisionError: division by zero, at "),
                     ((good, "--card", os.path.join(folder, "none")), "No such file"), ((good, "--card", good), "line 1: no line begins with"),
-                    ((good, "--seconds", "x"), "invalid"), ((good, "--seconds", "-1"), "invalid")):
+                    ((good, "--seconds", "x"), "invalid"), ((good, "--seconds", "-1"), "invalid"), ((good, "--seconds", "0"), "invalid")):
                 with self.subTest(words=words):
                     done = tool(*words)
                     self.assertEqual(done.returncode, 2)

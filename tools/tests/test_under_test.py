@@ -6,6 +6,7 @@ import socket
 import struct
 import threading
 import unittest
+import unittest.mock
 
 import common  # noqa: F401 (the path)
 from uicc import Answer, Card, Terminal, decode, grammar, handset, ofono, player, process, sending, sequence, undertest, undertest_modem, verdict
@@ -167,6 +168,15 @@ class OfonosUser(unittest.TestCase):
         (["RequestSelection", "A", 0, [["a", 0], ["b", 0]], 0], ["choose 2"]), (["PlayTone", "busy", "", 0], ["tone 02"]), (["Release"], []),
     ]
 
+    def test_a_text_of_two_lines(self):
+        """It is noted in one."""
+        terminal, given = OfOfono.__new__(OfOfono), player.Player(None)
+        terminal.player, terminal.shown = given, {}
+        terminal.phone = unittest.mock.Mock(toolkit={"IdleModeText": "at\r\nhome"})
+        terminal.phone.asked.return_value = [["DisplayText", "Hi\nthere", 0, True]]
+        terminal.look()
+        self.assertEqual(given.trace, ["* text Hi.there", "* idle at..home"])
+
     def test_answers(self):
         for command, act, answer in self.ANSWERS:
             with self.subTest(command=command, act=act):
@@ -177,6 +187,34 @@ class OfonosUser(unittest.TestCase):
         for asked, notes in self.NOTES:
             with self.subTest(asked=asked):
                 self.assertEqual(list(undertest_modem.notes_of(asked)), notes)
+
+
+class OfonosCard(unittest.TestCase):
+    """What oFono needs of a card, and that it is told at once what is missing."""
+    PIN, IMSI = "pin 01 31323334FFFFFFFF on 3132333435363738\n", "df 7F20\nef 7F206F07 t 9 7 -\n"
+    CARDS = [
+        ("", ["PIN 1 with the value 1234", "EF.IMSI (`ef 7F206F07`)"]), (PIN, ["EF.IMSI"]), (IMSI, ["PIN 1"]), (PIN + IMSI, []),
+        (PIN.replace("34FF", "35FF") + IMSI, ["PIN 1 with the value 1234"]), (PIN.replace("34FF", "35FF").replace("on", "off") + IMSI, []),
+    ]
+
+    def test_what_is_missing(self):
+        for lines, wanted in self.CARDS:
+            with self.subTest(lines=lines), Card.from_text(lines + "row 0 1 014000\nstart\n") as card:
+                found = undertest_modem.lacking(card.holds)
+                self.assertEqual(len(found), len(wanted))
+                for one, part in zip(found, wanted):
+                    self.assertTrue(one.startswith(part), one)
+        with Card(os.path.join(process.TOP, undertest_modem.ITS_CARD)) as card:
+            self.assertEqual(undertest_modem.lacking(card.holds), [])
+
+    def test_what_is_told(self):
+        """The verdict, without a start of oFono that comes to nothing."""
+        with unittest.mock.patch.multiple(ofono, why_not=lambda: "", version=lambda: "1.31", Ofono=None):
+            terminal = OfOfono()
+            with Card.from_text("row 0 1 014000\nstart\n") as card:
+                outcome = verdict.judged(in_the_box("MORE TIME")[0], terminal, card)
+        self.assertEqual((outcome.verdict, outcome.lost), (verdict.INCONCLUSIVE, outcome.why))
+        self.assertRegex(outcome.why, r"^oFono needs a card with PIN 1 .*, and EF.IMSI .*; examples/telephone.script describes one$")
 
 
 class AtCommands(unittest.TestCase):
@@ -266,8 +304,10 @@ class InAReader(unittest.TestCase):
     def test_no_reader(self):
         with socket.create_server(("localhost", 0)) as server:
             port = server.getsockname()[1]
-        with Card(USIM) as card, self.assertRaisesRegex(undertest.Lost, "nothing listens at port"):
-            verdict.judged(in_the_box("MORE TIME")[0], OfReader(port, lambda text: None), card)
+        with Card(USIM) as card:
+            outcome = verdict.judged(in_the_box("MORE TIME")[0], OfReader(port, lambda text: None), card)
+        self.assertEqual(outcome.verdict, verdict.INCONCLUSIVE)
+        self.assertRegex(outcome.lost, "^nothing listens at port")
 
 
 @unittest.skipIf(ofono.why_not(), f"oFono: {ofono.why_not()}")

@@ -303,7 +303,7 @@ class Card:
             answer = self._command(decode.SELECT, 8, 4, bytes.fromhex("".join(path)), channel=channel)
         else:
             answer = self._command(decode.SELECT, 0, 4, b"\x3F\x00", channel=channel)
-        return {line.label: line.text for line in decode.fcp(answer.data)[1:]}
+        return {line.label: line.text for line in decode.fcp(answer.data, tuple(path))[1:]}
 
     @property
     def current(self) -> tuple[str, ...]:

@@ -2,6 +2,7 @@
 
 What is decoded is a list of lines, each with its depth, a label and a text."""
 import collections
+import functools
 
 from . import contents, names, rules, tlv
 
@@ -468,8 +469,8 @@ KINDS = {0x78: "DF", 0x38: "DF", 0x41: "transparent EF", 0x42: "linear fixed EF"
 LIVES = {0x05: "activated", 0x04: "deactivated"}
 
 
-def fcp(data, usim=True):
-    """The control parameters of a file (ETSI TS 102 221, 11.1.1.3)."""
+def fcp(data, path=None, usim=True):
+    """The control parameters of a file (ETSI TS 102 221, 11.1.1.3), of that at a path where it is known."""
     try:
         tag, content = tlv.template(data)
         found = list(rules.objects(content))
@@ -477,7 +478,9 @@ def fcp(data, usim=True):
         return [Line(0, "bad control parameters", str(fault))]
     lines = [Line(0, "control parameters" if tag == 0x62 else f"template {tag:02X}", "")]
     for tag, value in found:
-        name, text = FCP.get(tag, (f"object {tag:02X}", lambda value: hexed(value)))
+        name, text = FCP.get(tag, (f"object {tag:02X}", hexed))
+        if tag == IDENTIFIER:
+            text = functools.partial(identifier_text, path=path, usim=usim)
         try:
             lines.append(Line(1, name, text(value)))
         except IndexError:
@@ -517,13 +520,23 @@ def pins_in(data):
     return {key: bool(value[2] >> 7 - n & 1) for n, key in enumerate(keys)}
 
 
-def identifier_text(value):
-    found = names.files_of(hexed(value))
-    return hexed(value) + (f" {found[0]['name']}" if found else "")
+def identifier_text(value, path=None, usim=True):
+    """An identifier with the standard name of the file: that of the file at a path, or else those of all files with this identifier."""
+    if path and path[-1] == hexed(value):
+        entry = names.file(path, usim)
+        found = [entry["name"]] if entry else []
+    else:
+        found = dict.fromkeys(entry["name"] for entry in names.files_of(hexed(value)))
+        if len(found) > MOST_NAMES:
+            found = ()
+    return f"{hexed(value)} {' or '.join(found)}".rstrip()
 
 
+IDENTIFIER = 0x83
+# so many files with one identifier are named where it isn't known which is meant
+MOST_NAMES = 3
 FCP = {
-    0x82: ("file descriptor", descriptor_text), 0x83: ("identifier", identifier_text),
+    0x82: ("file descriptor", descriptor_text), IDENTIFIER: ("identifier", identifier_text),
     0x8A: ("life cycle", lambda value: LIVES.get(value[0], f"{value[0]:02X}")),
     0x8B: ("access rule", lambda value: f"record {value[2]} of {hexed(value[:2])}"),
     0xC6: ("PINs", lambda value: pin_status_text(value) if 0x83 in value else "none"),

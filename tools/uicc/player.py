@@ -22,6 +22,8 @@ PLAYER, CARD, BOTH = "player", "card", "card, with a status by the player"
 # what is heard of a terminal; a response to a command of the card's own is one `for the card`
 FETCHED, RESPONDED, STRAY, TOLD, PROFILED, ASKED, RESET = "fetch", "response", "stray response", "envelope", "profile", "status", "reset"
 FOR_CARD = "for the card"
+# a FETCH that gets no command: of a wrong length, or where nothing is announced; their data are the command and the status
+MISFETCHED, UNANNOUNCED = "fetch of a wrong length", "fetch of nothing"
 OF_CARD = {decode.RESPONSE: STRAY, decode.ENVELOPE: TOLD, decode.PROFILE: PROFILED, decode.STATUS: ASKED}
 
 
@@ -67,7 +69,11 @@ class Player:
             self._waiting.append(raw)
 
     def note(self, text):
-        """Something that the terminal shows."""
+        """Something that the terminal shows, in one line."""
+        if not isinstance(text, str):
+            raise TypeError(f"`note` takes what is shown as text, and not {text!r}")
+        if not text or len((text + ".").splitlines()) > 1:
+            raise ValueError(f"a note is one line of text, and not {text!r}")
         with self._changed:
             self.trace.append("* " + text)
             self._changed.notify_all()
@@ -175,27 +181,35 @@ class Player:
         apdu = decode.Apdu(command)
         of_toolkit = apdu.ok and command[0] & 0xF0 == TOOLKIT_CLASS
         if of_toolkit and apdu.ins == decode.FETCH and self._announced:
-            return PLAYER, self._fetch(apdu)
+            return PLAYER, self._fetch(command, apdu)
         if of_toolkit and apdu.ins == decode.RESPONSE and self._fetched is not None:
             self._fetched = None
             self._hear(RESPONDED, apdu.data)
             return PLAYER, Answer(b"", self._status(DONE))
         return self._handed_on(command, apdu, of_toolkit)
 
-    def _fetch(self, apdu):
+    def _fetch(self, command, apdu):
         raw = self._waiting[0]
         if apdu.le is None or apdu.le not in (0, len(raw) % 256):
-            return Answer(b"", f"{WRONG_LENGTH}{len(raw) % 256:02X}")
+            answer = Answer(b"", f"{WRONG_LENGTH}{len(raw) % 256:02X}")
+            self._fetched_nothing(command, answer)
+            return answer
         self._waiting.popleft()
         self._announced, self._fetched = False, raw
         self._hear(FETCHED, raw)
         return Answer(raw, DONE)
+
+    def _fetched_nothing(self, command, answer):
+        kind = MISFETCHED if answer.status.startswith(WRONG_LENGTH) else UNANNOUNCED
+        self._hear(kind, command + bytes.fromhex(str(answer.status)))
 
     def _handed_on(self, command, apdu, of_toolkit):
         answer = as_answer(self.card.transmit(command))
         if of_toolkit and apdu.ins in OF_CARD:
             is_for_card = apdu.ins == decode.RESPONSE and self._card_waits
             self._hear(FOR_CARD if is_for_card else OF_CARD[apdu.ins], apdu.data)
+        if of_toolkit and apdu.ins == decode.FETCH and answer.status != DONE:
+            self._fetched_nothing(command, answer)
         if of_toolkit and apdu.ins == decode.FETCH and answer.status == DONE:
             self._of_card, self._card_waits = None, True
             self.of_card.append(answer.data)

@@ -1,6 +1,6 @@
 """Sequences: what a card sends and what a terminal must do, step by step (docs/SEQUENCES.md has the form).
 
-A file has sequences, each a line `sequence NAME` and the lines of its steps. `read` reads a file, and tells the first bad line."""
+A file has sequences, each a line `sequence NAME` and the lines of its steps. `read` reads a file, and tells its bad lines."""
 import dataclasses
 
 from . import decode, grammar, names, tlv
@@ -11,6 +11,8 @@ CARD, TERMINAL = 0x81, 0x82
 DETAILS, DEVICE_IDENTITIES, RESULT = 0x01, 0x02, 0x03
 LONGEST_COMMAND = 256
 LONGEST_WAIT = 999
+# so many bad lines are told
+MOST_TOLD = 20
 COMMANDS = {name: int(code, 16) for code, name in names.table("toolkit")["commands"].items()}
 # envelopes by their words: the template, and the device that they are from
 ENVELOPES = {"menu selection": (0xD3, 0x01), "call control": (0xD4, TERMINAL), "event": (0xD6, TERMINAL),
@@ -110,12 +112,30 @@ class Sequence:
         return [step for step in self.steps if isinstance(step, Give)]
 
 
-class BadSequence(Exception):
-    """A line of a file is bad."""
+class Orphan(Wrong):
+    """Nothing stands above a line that it belongs to."""
 
-    def __init__(self, path, line, text, why):
-        super().__init__(f"{path}:{line}: {why}\n    {text}")
-        self.path, self.line, self.why = path, line, why
+
+@dataclasses.dataclass(frozen=True)
+class BadLine:
+    """A bad line of a file, and why it is bad."""
+    path: str
+    line: int
+    text: str
+    why: str
+
+    def __str__(self):
+        return f"{self.path}:{self.line}: {self.why}\n    {self.text}"
+
+
+class BadSequence(Exception):
+    """Lines of files are bad. `path`, `line` and `why` are of the first of them, `lines` are all."""
+
+    def __init__(self, lines):
+        more = [f"and {len(lines) - MOST_TOLD} bad lines more"] if len(lines) > MOST_TOLD else []
+        super().__init__("\n".join([*map(str, lines[:MOST_TOLD]), *more]))
+        self.lines = lines
+        self.path, self.line, self.why = lines[0].path, lines[0].line, lines[0].why
 
 
 def known_profile():
@@ -139,7 +159,7 @@ class Reader:
 
     def sequence(self):
         if not self.sequences:
-            raise Wrong("no line `sequence NAME` stands before this one")
+            raise Orphan("no line `sequence NAME` stands before this one")
         return self.sequences[-1]
 
     def take(self, number, text):
@@ -185,7 +205,7 @@ class Reader:
             raise Wrong(f"a command has 1 to {LONGEST_COMMAND} bytes, and this one {len(raw)}")
         step = Give(number, text, raw, text.startswith(THEN))
         if step.follows and not self.sequence().commands():
-            raise Wrong("no command stands before this one")
+            raise Orphan("no command stands before this one")
         needed = needs_of(step.name, step.details[2])
         if needed and needed not in self.sequence().needs:
             self.sequence().needs.append(needed)
@@ -230,7 +250,7 @@ class Reader:
     def respond(self, number, text, rest):
         objects, has_more = expected(Words(rest))
         if not any(isinstance(step, Give) for step in self.sequence().steps):
-            raise Wrong("no command stands before this response")
+            raise Orphan("no command stands before this response")
         if not any(one.tag == RESULT for one in objects):
             raise Wrong("a response has a result: response result 00, say")
         given = self.sequence().commands()[-1]
@@ -316,8 +336,8 @@ def act_in(text):
 
 
 def read(text, path):
-    """The sequences in the text of a file. BadSequence, at its first bad line."""
-    reader = Reader(path)
+    """The sequences in the text of a file. BadSequence, with all its bad lines."""
+    reader, bad = Reader(path), []
     for number, line in enumerate(text.splitlines(), 1):
         line = line.strip()
         if not line or line.startswith("#"):
@@ -325,10 +345,14 @@ def read(text, path):
         try:
             reader.take(number, line)
         except Wrong as fault:
-            raise BadSequence(path, number, line, fault) from None
-    for sequence in reader.sequences:
-        if not sequence.steps:
-            raise BadSequence(path, sequence.line, f"sequence {sequence.name}", "the sequence has no step")
-    if not reader.sequences:
-        raise BadSequence(path, 1, text.splitlines()[0] if text.splitlines() else "", "the file has no line `sequence NAME`")
+            # what a line belongs to may be a bad line above
+            if isinstance(fault, Orphan) and bad:
+                continue
+            bad.append(BadLine(path, number, line, str(fault)))
+    if not bad:
+        bad += [BadLine(path, one.line, f"sequence {one.name}", "the sequence has no step") for one in reader.sequences if not one.steps]
+    if not bad and not reader.sequences:
+        bad.append(BadLine(path, 1, text.splitlines()[0] if text.splitlines() else "", "the file has no line `sequence NAME`"))
+    if bad:
+        raise BadSequence(bad)
     return reader.sequences

@@ -3,6 +3,7 @@
 A terminal of one's own is a class with the methods of UnderTest; it is given a player in the place of a card. docs/HANDSET.md has them in a
 table."""
 import contextlib
+import math
 import os
 import signal
 import threading
@@ -81,6 +82,17 @@ def told(fault, method=None):
     """An exception in words, and where it was raised."""
     place = place_of(fault, method)
     return f"{type(fault).__name__}: {fault}".removesuffix(": ") + (f", at {place}" if place else "")
+
+
+def wrong_value(terminal):
+    """Which value of a terminal, or of its class, isn't as it has to be, in words; nothing where all are."""
+    if not isinstance(terminal.name, str) or not terminal.name.isprintable():
+        return f"`name` is one line of text, and not {terminal.name!r}"
+    for name in ("seconds", "longest"):
+        value = getattr(terminal, name)
+        if isinstance(value, bool) or not isinstance(value, (int, float)) or not 0 <= value < math.inf:
+            return f"`{name}` is a number of seconds from 0 on, and not {value!r}"
+    return ""
 
 
 class UnderTest:

@@ -1,4 +1,5 @@
 """Terminals under test that have the card by a modem (modem.py): oFono, and any program that speaks AT commands."""
+import re
 import sys
 import threading
 import time
@@ -9,6 +10,9 @@ from .undertest import Lost, Unable, UnderTest, instruction
 from .wording import letters
 
 PIN = "1234"
+PIN_1, IMSI = 0x01, ("7F20", "6F07")
+# the card that has all that oFono needs
+ITS_CARD = "examples/telephone.script"
 # what the modem tells the card for oFono 1.31: without what it says of itself that it doesn't understand, which are SET UP EVENT LIST, POLLING
 # OFF, channels, and local information other than date, time and language
 OFONO_PROFILE = bytes.fromhex("29 60 BF 3F 00 00 00 1F 4A")
@@ -17,6 +21,7 @@ ITEM, DEFAULT = 0x0F, 0x17
 CALL, BROWSER, OPEN_CHANNEL = 0x10, 0x15, 0x40
 YES_OR_NO = 0x04
 QUIET_SECONDS = 20
+NO_LETTER = re.compile("[\x00-\x1F\x7F-\x9F\u2028\u2029]")
 MOST_OF_CARD = 64
 # what oFono's agent is asked: how it is noted, and which of what it is told is shown
 QUESTIONS = {
@@ -74,6 +79,22 @@ def notes_of(asked):
         yield f"tone {TONE_CODES[told[0]]:02X}" if told[0] in TONE_CODES else f"tone {told[0]}"
 
 
+def lacking(holds):
+    """What oFono needs of a card, and this one hasn't; nothing where it has all."""
+    pin = holds.pins.get(PIN_1)
+    found = []
+    if pin is None or pin.enabled and pin.value.rstrip(b"\xFF") != PIN.encode():
+        found.append(f"PIN 1 with the value {PIN} (`pin 01 31323334FFFFFFFF on 3132333435363738`)")
+    if IMSI not in holds.files:
+        found.append(f"EF.IMSI (`ef {''.join(IMSI)}`)")
+    return found
+
+
+def in_one_line(text):
+    """A text as a handset notes it: with a point for what is no letter."""
+    return NO_LETTER.sub(".", text)
+
+
 class OfOfono(UnderTest):
     """oFono. Its user answers what it asks when it asks; the sequence says so beforehand."""
     seconds = 20
@@ -90,12 +111,14 @@ class OfOfono(UnderTest):
 
     def begin(self, player):
         self.player, self.prepared, self.menu, self.shown = player, [], [], {}
+        wanted = lacking(player.card.holds)
+        if wanted:
+            raise Lost(f"oFono needs a card with {', and '.join(wanted)}; {ITS_CARD} describes one")
         try:
             self._restart(player)
-            if self.phone.power_on() == "pin":
-                self.phone.enter_pin(PIN)
-            elif not self.phone.until_ready():
-                raise Lost("oFono doesn't read the SIM to its end")
+            is_ready = self.phone.enter_pin(PIN) if self.phone.power_on() == "pin" else self.phone.until_ready()
+            if not is_ready:
+                raise Lost(f"oFono doesn't read the SIM to its end; that of {ITS_CARD} it does")
             self.phone.register_agent()
             self.phone.asked()
             # what the card's own applets ask for first
@@ -168,12 +191,12 @@ class OfOfono(UnderTest):
     def look(self):
         for asked in self.phone.asked():
             for note in notes_of(asked):
-                self.player.note(note)
+                self.player.note(in_one_line(note))
         toolkit = self.phone.toolkit
         shown = {"idle": toolkit.get("IdleModeText", ""), "menu": str(len(toolkit.get("MainMenu", [])))}
         for word, text in shown.items():
             if text != self.shown.get(word, {"idle": "", "menu": "0"}[word]):
-                self.player.note(f"{word} {text}".rstrip())
+                self.player.note(in_one_line(f"{word} {text}".rstrip()))
         self.shown = shown
 
     def close(self):

@@ -3,12 +3,12 @@ import dataclasses
 import itertools
 import time
 
-from . import decode, grammar, handset, tlv
+from . import decode, grammar, handset, names, tlv
 from .handset import DETAILS, details_of
-from .player import ASKED, FETCHED, PROFILED, RESET, RESPONDED, STRAY, TOLD, Player
+from .player import ASKED, FETCHED, MISFETCHED, PROFILED, RESET, RESPONDED, STRAY, TOLD, UNANNOUNCED, Player
 from .process import Ended, NotBuilt
-from .sequence import Act, Give, Poll, Quiet, Respond, Restart, Shown, Tell
-from .undertest import Lost, NotBack, Unable, Unsupported, limited, place_of, told
+from .sequence import Act, Give, Poll, Quiet, Respond, Restart, Shown, Step, Tell
+from .undertest import Lost, NotBack, Unable, Unsupported, limited, place_of, told, wrong_value
 from .wording import label_of
 
 PASSED, FAILED, INCONCLUSIVE, UNSUPPORTED = "passed", "failed", "inconclusive", "not supported"
@@ -18,6 +18,8 @@ QUIET_SECONDS = 1
 # how often a terminal is asked what it shows
 LOOK_SECONDS = 0.2
 NO_RESPONSE = 0x12
+# what counts for no step where it comes before the sequence's first command, or between the card's own
+BESIDE = (RESET, PROFILED, ASKED, MISFETCHED, UNANNOUNCED)
 # how long a method of a terminal may take that says nothing else, and at least
 USUAL_SECONDS, LEAST_SECONDS = 10, 1
 # what the terminal's user does at a command of the card's own, which isn't the sequence's
@@ -50,7 +52,8 @@ class Undecided(Exception):
 @dataclasses.dataclass
 class Outcome:
     """A sequence and its verdict: why, at which step, and the objects of a response that isn't as it must be. `unseen` is what a
-    terminal must have shown that doesn't tell what it shows, `of_card` the names of the commands that were the card's own."""
+    terminal must have shown that doesn't tell what it shows, `of_card` the names of the commands that were the card's own, and `lost` why no
+    sequence can be played after this one, where the terminal or the card is there no more."""
     sequence: object
     verdict: str = PASSED
     why: str = ""
@@ -60,6 +63,7 @@ class Outcome:
     of_card: list = dataclasses.field(default_factory=list)
     seconds: float = 0.0
     player: object = None
+    lost: str = ""
 
 
 def told_by(tag, flag, value, shows_flag):
@@ -93,13 +97,20 @@ def check(what, wanted, content, has_more):
         raise Differs(f"{what} isn't as it must be", rows)
 
 
+def limit_of(terminal, seconds=None):
+    """How long a method of a terminal may take before it counts as hung. `seconds` is what the terminal may take for anything, where that
+    isn't what it says itself."""
+    usual = terminal.seconds or USUAL_SECONDS
+    return max(LEAST_SECONDS, terminal.longest, usual if seconds is None else seconds)
+
+
 class Run:
     """A sequence on its way: what was heard of the terminal and isn't accounted for yet, and where its notes are read on."""
 
     def __init__(self, sequence, terminal, player, seconds):
         self.sequence, self.terminal, self.player = sequence, terminal, player
         self.seconds = terminal.seconds if seconds is None else seconds
-        self.limit = max(LEAST_SECONDS, terminal.longest, USUAL_SECONDS if seconds is None and not terminal.seconds else self.seconds)
+        self.limit = limit_of(terminal, seconds)
         self.taken, self.noted = set(), 0
         self.step = None
         # how many of the card's own commands the terminal's user was asked about, and which method of the terminal was called last
@@ -109,9 +120,12 @@ class Run:
         # the user of this terminal is asked for something that has not come yet
         self.is_user_asked = False
         self.unseen = []
+        # why nothing can be played after this
+        self.lost = ""
 
     def carry_out(self):
-        self.call("accept", self.sequence)
+        if self.call("accept", self.sequence) is False:
+            raise Unsupported("the terminal doesn't accept it")
         self.call("begin", self.player)
         self._begin()
         for place, step in enumerate(self.sequence.steps):
@@ -124,10 +138,10 @@ class Run:
         self._end()
 
     def call(self, name, *given, more=0):
-        """Has the terminal do something. NotBack, where it hasn't in time."""
+        """Has the terminal do something, and answers what it does. NotBack, where it hasn't in time."""
         self.method = getattr(self.terminal, name)
         with limited(self.limit + more):
-            self.method(*given)
+            return self.method(*given)
 
     # what was heard
 
@@ -153,12 +167,13 @@ class Run:
     def _begin(self):
         told = self._wait(PROFILED)
         if told is None:
+            self.step = Step(self.sequence.line, f"sequence {self.sequence.name}")
             raise Differs("no TERMINAL PROFILE comes")
         lacking = [name for name in self.sequence.needs if name not in decode.profile(told.data)]
         if lacking:
             raise Unsupported("its terminal profile doesn't have " + ", ".join(lacking))
         self._let_card_begin()
-        self.taken |= {n for n, heard in enumerate(self.player.heard) if heard.kind in (RESET, PROFILED, ASKED)}
+        self.taken |= {n for n, heard in enumerate(self.player.heard) if heard.kind in BESIDE}
 
     def _let_card_begin(self):
         """The card's own commands, those of its applets say, come before those of a sequence: the terminal answers them."""
@@ -173,7 +188,7 @@ class Run:
         self.call("look")
         # what came meanwhile is the card's doing
         self.noted = len(self.player.trace)
-        self.taken |= {n for n, heard in enumerate(self.player.heard) if heard.kind in (RESET, PROFILED, ASKED)}
+        self.taken |= {n for n, heard in enumerate(self.player.heard) if heard.kind in BESIDE}
 
     def _asks_user(self):
         """Whether the card waits for what the terminal's user says to a command of its own, of which he wasn't told yet."""
@@ -213,8 +228,18 @@ class Run:
             self.call("poll")
         heard = self._wait(FETCHED)
         if heard is None:
-            raise self._card_was_first() if self.player.card_is_first else Differs("the command isn't fetched")
+            raise self._card_was_first() if self.player.card_is_first else Differs("the command isn't fetched" + self._instead())
         self.details = details_of(heard.data)
+
+    def _instead(self):
+        """What the terminal did in the place of fetching a command."""
+        if self._find(RESET) is not None:
+            return ": the card is reset before that, and the command is gone with the reset"
+        place = self._find(MISFETCHED, UNANNOUNCED)
+        if place is None:
+            return ""
+        data = self.player.heard[place].data
+        return f": the FETCH {decode.hexed(data[:-2])} is answered {decode.hexed(data[-2:])}, {names.status(decode.hexed(data[-2:]))}"
 
     def _respond(self, step):
         heard = self._wait(RESPONDED, step.seconds)
@@ -312,6 +337,7 @@ class Run:
         """Nothing came that no step asks for."""
         for kind, what in ((STRAY, "a TERMINAL RESPONSE comes for a command that wasn't fetched"),
                            (RESPONDED, "a TERMINAL RESPONSE comes that no step asks for"),
+                           (UNANNOUNCED, "a FETCH comes where no command is announced"),
                            (RESET, "the card is reset, and no step asks for it"), (TOLD, "an ENVELOPE comes that no step asks for")):
             place = self._find(kind)
             if place is not None:
@@ -343,9 +369,14 @@ def verdict_of(run, act):
     except NotBack as fault:
         place = place_of(fault, run.method)
         return INCONCLUSIVE, f"the terminal did not come back within {run.limit:g} seconds" + (f", from {place}" if place else ""), []
-    except (Lost, Ended, NotBuilt):
-        raise
-    except (Exception, SystemExit) as fault:
+    except (Lost, Ended, NotBuilt) as fault:
+        run.lost = str(fault)
+        return INCONCLUSIVE, run.lost, []
+    except KeyboardInterrupt as fault:
+        place = place_of(fault, run.method)
+        run.lost = "interrupted" + (f", at {place}" if place else "")
+        return INCONCLUSIVE, run.lost, []
+    except BaseException as fault:
         # the terminal's own, whose code is anybody's
         return FAILED, f"the terminal broke down: {told(fault, run.method)}", []
     return PASSED, "", []
@@ -355,6 +386,10 @@ def judged(sequence, terminal, card, seconds=None):
     """Plays a sequence to a terminal over a card, and judges it. `seconds` is how long the terminal may take for anything, where that
     isn't what it says itself."""
     outcome = Outcome(sequence, player=Player(card))
+    wrong = wrong_value(terminal)
+    if wrong:
+        outcome.verdict, outcome.why = FAILED, f"the terminal broke down: {wrong}"
+        return outcome
     run = Run(sequence, terminal, outcome.player, seconds)
     began = time.monotonic()
     try:
@@ -368,4 +403,5 @@ def judged(sequence, terminal, card, seconds=None):
     if outcome.verdict == PASSED:
         outcome.verdict, outcome.why, outcome.rows = at_end
     outcome.unseen, outcome.of_card, outcome.seconds = run.unseen, run.cards_own(), time.monotonic() - began
+    outcome.lost = run.lost
     return outcome

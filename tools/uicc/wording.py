@@ -57,7 +57,11 @@ class Words:
             if name in known:
                 del self.left[:count]
                 return known[name]
-        raise Wrong(f"{what} is missing: {', '.join(known)}" if not self.left else f"`{self.left[0]}` is no {what}: {', '.join(known)}")
+        if not self.left:
+            raise Wrong(f"{what} is missing: {', '.join(known)}")
+        # of a name of several words that begins so, as many are told as it has
+        meant = max((len(name.split()) for name in known if name.split()[0] == self.left[0]), default=1)
+        raise Wrong(f"`{' '.join(self.left[:meant])}` is no {what}: {', '.join(known)}")
 
     def number(self, what, least, most):
         word = self.take(what)
