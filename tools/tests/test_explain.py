@@ -240,6 +240,11 @@ class Explain(unittest.TestCase):
         done = self.explain(text="hello\x01\n")
         self.assertEqual((done.returncode, done.stdout, done.stderr), (1, "", "explain: line 1 is no line of a trace: hello?\n"))
 
+    def test_script_of_a_handset(self):
+        day = os.path.join(EXAMPLES, "day")
+        done = self.explain(day + ".trace", "--script", day + ".script", "--phone")
+        self.assertEqual((done.returncode, done.stderr), (0, ""))
+
     def test_another_script(self):
         """The script of another trace is told, and none of its lines is shown with this one."""
         done = self.explain(os.path.join(EXAMPLES, "pins.trace"), "--script", os.path.join(EXAMPLES, "usim.script"))
