@@ -31,7 +31,7 @@ class Traces(unittest.TestCase):
     def test_no_traces(self):
         for lines in (["< 9000"], ["> 0"], ["> 00B0", "< XX"], ["hello"], ["start"], ["! reset", "\x00\x01"]):
             with self.assertRaises(trace.NoTrace):
-                list(trace.parts(lines))
+                list(trace.parts(lines, is_strict=True))
 
     def test_places(self):
         script = lint.read("ef 2FE2 t 1 - -\nstart\n# one\napdu 00\ncut 1\nreset\n\napdu 01\ntpdu 02\n")
