@@ -31,7 +31,7 @@ class Traces(unittest.TestCase):
     def test_no_traces(self):
         for lines in (["< 9000"], ["> 0"], ["> 00B0", "< XX"], ["hello"], ["start"], ["! reset", "\x00\x01"]):
             with self.assertRaises(trace.NoTrace):
-                list(trace.parts(lines))
+                list(trace.parts(lines, is_strict=True))
 
     def test_places(self):
         script = lint.read("ef 2FE2 t 1 - -\nstart\n# one\napdu 00\ncut 1\nreset\n\napdu 01\ntpdu 02\n")
@@ -248,6 +248,11 @@ class Explain(unittest.TestCase):
         self.assertEqual(self.explain("/no/such/file").returncode, 2)
         done = self.explain(text="hello\x01\n")
         self.assertEqual((done.returncode, done.stdout, done.stderr), (1, "", "explain: line 1 is no line of a trace: hello?\n"))
+
+    def test_script_of_a_handset(self):
+        day = os.path.join(EXAMPLES, "day")
+        done = self.explain(day + ".trace", "--script", day + ".script", "--phone")
+        self.assertEqual((done.returncode, done.stderr), (0, ""))
 
     def test_another_script(self):
         """The script of another trace is told, and none of its lines is shown with this one."""

@@ -8,7 +8,7 @@ import unittest
 
 import fuzz_profile
 from common import TOOLS
-from uicc import access, checking, lint, process, profile, rules
+from uicc import access, checking, lint, located, process, profile, rules
 
 EXAMPLES = os.path.join(process.TOP, "examples")
 
@@ -133,6 +133,18 @@ class Doubts(unittest.TestCase):
         self.assertEqual(list(checking.findings(lint.read(made.text).card, "usim")),
                          ["2FE2 EF.ICCID: the check digit of 8999901000000123451 is 1, and should be 0",
                           "PIN 1: its PUK has 4 digits, and should have 8"])
+
+
+class Quotes(unittest.TestCase):
+    def test_quotes(self):
+        """Of a line that is no TOML for its quotes these are named."""
+        for line, why in (('like = "usim', ': a quote is missing, or one stands in the text, where it is written \\"'),
+                          ("like = \u201cusim\u201d", ': \u201c is no quote here, but " is'), ("like = usim", ": text stands in quotes"),
+                          ('like = "a "b" c"', ': a quote is missing, or one stands in the text, where it is written \\"'),
+                          ("like = 007", ": digits that begin with 0 stand in quotes")):
+            with self.assertRaises(located.Unreadable) as caught:
+                located.read(line.encode())
+            self.assertTrue(str(caught.exception).endswith(why), (line, str(caught.exception)))
 
 
 class Mistakes(unittest.TestCase):

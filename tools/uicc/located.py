@@ -5,6 +5,10 @@ import tomllib
 # what a line may end with where a value ends that goes over lines
 ENDS = ("]", "}", '"""', "'''")
 LEADING_ZERO = re.compile(r"=\s*0\d")
+CURLY = re.compile("[\u201c\u201d\u201e\u2018\u2019]")
+# a word after a key that isn't in quotes
+BARE = re.compile(r"=\s*(?!(?:true|false|inf|nan)\b)[A-Za-z_+]")
+INSIDE = re.compile(r'=\s*"[^"]*"\s*[^\s,\]}#"]')
 AT_LINE = re.compile(r" \(at line (\d+), column \d+\)$")
 
 
@@ -88,10 +92,21 @@ def told(reason, text):
     found = AT_LINE.search(reason)
     line = int(found[1]) if found else None
     lines = lines_in(text)
-    hint = ""
-    if line and line <= len(lines) and LEADING_ZERO.search(lines[line - 1]):
-        hint = ": digits that begin with 0 stand in quotes"
+    hint = hint_for(lines[min(line or len(lines), len(lines)) - 1])
     return Unreadable((reason[:found.start()] if found else reason) + hint, line or len(lines) or None)
+
+
+def hint_for(line):
+    """What is wrong most often with such a line; nothing where that isn't known."""
+    if LEADING_ZERO.search(line):
+        return ": digits that begin with 0 stand in quotes"
+    curly = CURLY.search(line)
+    if curly:
+        return f": {curly.group()} is no quote here, but \" is"
+    plain = line.replace('\\"', "")
+    if plain.count('"') % 2 or INSIDE.search(plain):
+        return ": a quote is missing, or one stands in the text, where it is written \\\""
+    return ": text stands in quotes" if BARE.search(line) else ""
 
 
 def written(value):

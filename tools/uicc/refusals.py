@@ -1,9 +1,9 @@
-"""Why a card refuses a command: which condition of the access rule isn't met (6982), and which of their causes 6985 and 6A84 have."""
+"""Why a card refuses a command: which condition of the access rule isn't met (6982), and which of their causes 6985, 6A84 and 6A89 have."""
 import re
 
 from . import decode, follow, layout, names, rules
 
-STATUSES = ("6982", "6985", "6A84")
+STATUSES = ("6982", "6985", "6A84", "6A89")
 KEY_WORD = r"\b(?:" + "|".join(rules.KEYS) + r")\b"
 ADM = 0x0A
 DEACTIVATE, ACTIVATE, ENABLE = 0x04, 0x44, 0x28
@@ -27,6 +27,8 @@ def reason(follower, apdu, status, card=None):
         return of_conditions(follower, apdu, card)
     if status == "6A84":
         return of_room(follower, apdu, card)
+    if status == "6A89":
+        return of_doubles(follower, apdu, card)
     return None
 
 
@@ -110,6 +112,19 @@ def of_deletion(follower, apdu, card):
         return f"{names.shown(inside[0].path, follower.usim)} lies in it"
     channel = next((number for number, (df, _) in follower.current.items() if path and df[:len(path)] == path), None)
     return None if channel is None else f"it is the current DF of channel {channel}"
+
+
+# 6A89
+
+def of_doubles(follower, apdu, card):
+    """Which file of the DF has the identifier, or the short identifier, that a new one is to have."""
+    made, path = decode.new_file(apdu.data), follower.child(apdu)
+    if card is None or made is None or path is None:
+        return None
+    if path in card.files:
+        return f"{names.shown(path, follower.usim)} is there already"
+    other = next((file for file in card.children(path[:-1]) if made.short and file.short == made.short), None)
+    return other and f"{names.shown(other.path, follower.usim)} has the short identifier {made.short}"
 
 
 # 6A84

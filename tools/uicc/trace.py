@@ -62,8 +62,9 @@ def no_line(number, line):
     return NoTrace(f"line {number} is no line of a trace: {dump.printable(line[:MOST_SHOWN])}{' ..' if len(line) > MOST_SHOWN else ''}")
 
 
-def parts(lines):
-    """The parts of a trace, in order, each as soon as its lines were read."""
+def parts(lines, is_strict=False):
+    """The parts of a trace, in order, each as soon as its lines were read. NoTrace, where a line is none; also of lines that show no
+    command, if it `is_strict`."""
     command = None
     for number, line in enumerate(lines, 1):
         if time_of(line) is not None:
@@ -81,7 +82,7 @@ def parts(lines):
         elif command is not None:
             yield Exchange(command, None, line)
             command = None
-        elif OTHERS.fullmatch(line):
+        elif not is_strict or OTHERS.fullmatch(line):
             yield Mark(line)
         else:
             raise no_line(number, line)
