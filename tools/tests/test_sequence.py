@@ -1004,6 +1004,10 @@ class Tool(unittest.TestCase):
                     done = tool(path, *on, *words)
                     self.assertEqual((done.returncode, done.stdout), (2, ""))
                     self.assertIn(words[1], done.stderr)
+            # nothing is left of a report where there was no terminal
+            report = os.path.join(folder, "report.xml")
+            self.assertEqual(tool(path, "--on", "telephone", "--junit", report).returncode, 2)
+            self.assertFalse(os.path.exists(report))
 
     def test_an_interruption(self):
         """What was played is told, and of what is left that it wasn't."""
