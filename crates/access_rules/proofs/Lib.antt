@@ -1,8 +1,8 @@
-pub mod ConditionsTruthLemmas
-pub mod GrantsLemmas
-pub mod HoldByLemmas
-pub mod ObjectLemmas
-pub mod PairLemmas
+mod ConditionsTruthLemmas
+mod GrantsLemmas
+mod HoldByLemmas
+mod ObjectLemmas
+mod PairLemmas
 pub mod PartInLemmas
-pub mod SaysLemmas
+mod SaysLemmas
 mod worked

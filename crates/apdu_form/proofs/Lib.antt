@@ -1,2 +1,2 @@
 pub mod CommandInLemmas
-pub mod DataFieldLemmas
+mod DataFieldLemmas

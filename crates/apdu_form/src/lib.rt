@@ -2,7 +2,9 @@
 #![tactic(auto)]
 
 mod answers;
+mod classes;
 mod commands;
+mod fields;
 
 pub use answers::write_answer;
 pub use commands::{Command, WrongLength, read_command};

@@ -28,6 +28,7 @@ pub fn register(loaded: &Loaded, shelf: Shelf, code: u8) -> Result<bool, RowFaul
     ensures change { IfOk result (λ changes. (changes ≡ false) ↔
         (with_code (rows_of loaded.now) shelf.0 code ≡ rows_of loaded.now)) }
 {
+    // These calls are laws, and do nothing.
     states_are_of_entries();
     event_bits_are_codes();
     if !is_event(code) {
@@ -47,6 +48,7 @@ pub fn deregister(loaded: &Loaded, shelf: Shelf, code: u8) -> Result<bool, RowFa
     ensures change { IfOk result (λ changes. (changes ≡ false) ↔
         (without_code (rows_of loaded.now) shelf.0 code ≡ rows_of loaded.now)) }
 {
+    // This call is a law, and does nothing.
     states_are_of_entries();
     if is_event(code) {
         Ok(is_registered(loaded, shelf, code))

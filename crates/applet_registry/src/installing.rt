@@ -65,7 +65,7 @@ fn new_row(loaded: &Loaded, kind: u8, priority: u8, installed: Installed) -> Row
 /// next sequence number is 65,535.
 ///
 /// The shelf, the priority and the kind stand in the row as they are given. Who calls bounds them: P2 of the command is a shelf
-/// below 32, its P1 a priority of at least 1, and the kind of the applet's box is 1 to 7.
+/// below 32, its P1 a priority of at least 1, and the kind of the applet's box is a known one.
 #[tactic(auto, using(crate::proofs::ReadsInstallationLemmas::parts_of))]
 pub fn install(
     loaded: &Loaded,

@@ -17,6 +17,7 @@ pub fn row_on(loaded: &Loaded, shelf: Shelf) -> Option<&Row>
     ensures { MatchOption result (row_on (rows_of loaded.now) shelf.0 ≡ None)
         (λ row. row_on (rows_of loaded.now) shelf.0 ≡ Some (registration_of shelf.0 row.now)) }
 {
+    // This call is a law, and does nothing.
     states_are_of_entries();
     let row = loaded.all_rows().get(usize::from(shelf.0))?;
     if row.used { Some(row) } else { None }
@@ -70,6 +71,7 @@ pub fn shows_item(row: &Row) -> bool
 pub fn text_count(loaded: &Loaded) -> usize
     ensures { result ≡ count_by has_text (rows_of loaded.now) }
 {
+    // This call is a law, and does nothing.
     states_are_of_entries();
     loaded
         .all_rows()

@@ -1,3 +1,3 @@
-pub mod IsLawfulLemmas
-pub mod IsProperActLemmas
+mod IsLawfulLemmas
+mod IsProperActLemmas
 mod worked

@@ -1,6 +1,6 @@
 -- What an applet knows, and a turn of it: what it does at a stimulus, and what it knows then.
 use Rattle.std.specs.Option.{option_map}
-use Rattle.std.specs.Prelude.{ℕ, List, map, Bool, Option, Some, None, unwrap_or, ◌==◌}
+use Rattle.std.specs.Prelude.{ℕ, List, map, Bool, Option, Some, None, unwrap_or, ◌==◌, slice_index_or}
 use Rattle.applet_trait.specs.declared.stimuli.Stimulus.{Stimulus}
 use Rattle.applet_trait.specs.declared.stimuli.Stimulus.TheVariants.{Went}
 use Rattle.applet_trait.specs.declared.stimuli.Act.{Act}
@@ -23,6 +23,10 @@ fresh kind kept = record { kind = kind; phase = 0; held = 0; code = 0; kept = ke
 -- the minds of the boxes on the shelves
 abbrev pub minds_of : {B : Type 0} → (B → AppletState) → List (Option B) → List (Option AppletState)
 minds_of mind boxes = map (option_map mind) boxes
+
+-- the kind of the applet on a shelf, if there is one; there is none after the last shelf
+abbrev pub kind_on : List (Option AppletState) → ℕ → Option ℕ
+kind_on minds shelf = option_map (λ mind. mind.kind) (slice_index_or minds shelf None)
 
 pub record Turn : Type 0 where
   pub does : Act

@@ -1,5 +1,6 @@
 //! What is asked of an applet.
 ghost use Rattle.std.specs.Prelude.{◌≡◌, ◌≤◌};
+ghost use Rattle.card_state.specs.declared.sizes.TheConstants.{LAST_KIND};
 ghost use Rattle.applet_trait.specs.Minds.{AppletState, fresh};
 ghost use Rattle.applet_trait.specs.Turns.{act};
 ghost use Rattle.applet_trait.specs.Laws.{IsWritableAct, GivesTimer, IsProperAct};
@@ -7,17 +8,17 @@ ghost use Rattle.applet_trait.specs.Laws.{IsWritableAct, GivesTimer, IsProperAct
 use crate::stimuli::{Act, Stimulus};
 use uicc_types::Kept;
 
-/// An applet of one of the seven kinds. Its meaning is its mind, which is fresh after it woke and moves by the table of
+/// An applet of one of the card's kinds. Its meaning is its mind, which is fresh after it woke and moves by the table of
 /// its kind.
 pub trait Applet: Drop {
     /// The kind, the phase, the held byte, the event code, the kept bytes, and the bytes that it asked to be kept.
     ghost mind: { Self → AppletState };
 
-    /// The kind, from 1 to 7. It never changes.
+    /// The kind, from 1 to `LAST_KIND`. It never changes.
     fn kind(&self) -> u8
         ensures value { result ≡ (mind self.now).kind }
         ensures from_1 { 1 ≤ result }
-        ensures up_to_7 { result ≤ 7 };
+        ensures up_to_last { result ≤ LAST_KIND };
 
     /// Begins anew with what the card keeps for it.
     fn wake(&mut self, kept: &Kept)

@@ -1,5 +1,5 @@
 //! What the card asks of an applet: it wakes with the bytes that it keeps, takes a stimulus and answers with an act. An
-//! applet is one of seven kinds, and each kind does what its table says.
+//! applet is of one of the card's kinds, and each kind does what its table says.
 #![tactic(auto)]
 
 pub mod actions;
@@ -11,5 +11,6 @@ mod stimuli;
 pub mod texts;
 
 pub use applets::Applet;
+pub use boxes::kind_on;
 pub use laws::{commands_are_proper, turns_are_lawful};
 pub use stimuli::{Act, Stimulus};

@@ -2,6 +2,6 @@ pub mod GivesLemmas
 mod OptionLemmas
 mod PinToldLemmas
 mod RulingRecordLemmas
-pub mod SelectingLemmas
+mod SelectingLemmas
 mod UpdateInLemmas
 mod WorkedOnLemmas

@@ -13,7 +13,8 @@ use Rattle.file_model.specs.Chains.{refused_if, given}
 use Rattle.file_model.specs.Files.{is_wanted, file_found, descriptors_in}
 use Rattle.file_model.specs.Selections.{IsSelection, selection_of, chosen}
 use Rattle.file_model.specs.Selecting.{has_select_parameters, has_select_length, has_status_parameters, selecting, telling, file_selected, status_told}
-use Rattle.file_model.specs.Outcomes.{FileOutcome, has_no_data}
+use Rattle.apdu_form.specs.Fields.{has_no_data}
+use Rattle.file_model.specs.Outcomes.{FileOutcome}
 use Rattle.file_tree.specs.Tables.{IsNumbered, HaveShortIds, MayBeSelected}
 
 -- each file that is found by its number may be selected

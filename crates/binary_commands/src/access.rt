@@ -55,6 +55,7 @@ fn is_granted<S: Store>(
         truth ≡ granted_by (ruling_record state file.now rule) op seen.now)) }
     ensures reads { Reads (memory S.Store store.old loaded.now) (memory S.Store store.new loaded.now) result }
 {
+    // This call is a law, and does nothing.
     tables_tell_states();
     is_card_table(store, loaded);
     match nearest_ef(loaded, file.parent, rule.arr) {
@@ -81,6 +82,7 @@ fn is_granted_by<S: Store>(
         truth ≡ granted_by (record_numbered (records_in state arr.now.number) number) op seen.now)) }
     ensures reads { Reads (memory S.Store store.old loaded.now) (memory S.Store store.new loaded.now) result }
 {
+    // This call is a law, and does nothing.
     contents_are_whole();
     if number == 0 || arr.count < number {
         return Ok(false);

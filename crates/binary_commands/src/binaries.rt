@@ -4,7 +4,8 @@ ghost use Rattle.card_state.specs.Memory.{IsMounted, Reads, held_by, memory};
 ghost use Rattle.file_model.specs.Files.{descriptors_of};
 ghost use Rattle.file_model.specs.Holdings.{bytes_in};
 ghost use Rattle.file_model.specs.Binaries.{binary_to_read, binary_to_update, read_from, binary_read, update_in, binary_updated};
-ghost use Rattle.file_model.specs.Outcomes.{has_data, settled_file};
+ghost use Rattle.apdu_form.specs.Fields.{has_data};
+ghost use Rattle.file_model.specs.Outcomes.{settled_file};
 ghost use Rattle.card_commits.specs.Performing.{Performs, StaysStill};
 ghost use Rattle.binary_commands.specs.Commands.{IsSomeCommand, IsInPlace, IsBinaryFile, IsBinaryTarget};
 ghost use Rattle.binary_commands.specs.Ends.{EndsTry, EndsWell, GivesTried, Passes};
@@ -19,7 +20,7 @@ use access_rules::{Op, Verified};
 use apdu_form::Command;
 use card_commits::{contents_are_whole, read_bytes, tables_tell_states, write_bytes};
 use card_state::Loaded;
-use file_model::{Descriptor, Selection, has_data, has_le_alone};
+use file_model::{Descriptor, Selection};
 use store_form::{Store, StoreFault};
 use uicc_types::{Answer, AnswerData, StatusWord};
 
@@ -42,6 +43,7 @@ fn read_part<S: Store>(
     ensures unread { OnErr result (body.new ≡ body.old) }
     ensures reads { Reads (memory S.Store store.old loaded.now) (memory S.Store store.new loaded.now) result }
 {
+    // This call is a law, and does nothing.
     contents_are_whole();
     let mut buffer = [0; 256];
     let bytes = &mut buffer[..usize::from(count.min(file.size - offset))];
@@ -117,9 +119,10 @@ fn try_read<S: Store>(
         out.old out.new }
     ensures reads { Reads (memory S.Store store.old loaded.now) (memory S.Store store.new loaded.now) result }
 {
+    // This call is a law, and does nothing.
     tables_tell_states();
     is_card_table(store, loaded);
-    match binary_file(loaded, selection, command, has_le_alone(command)) {
+    match binary_file(loaded, selection, command, command.has_le_alone()) {
         Ok(file) => read_file(store, loaded, selection, seen, command, &file, out),
         Err(status) => Ok(Err(status)),
     }
@@ -182,9 +185,10 @@ fn try_update<S: Store>(
     ensures ends { EndsTry result (memory S.Store store.old loaded.now) (memory S.Store store.new loaded.now)
         out.old out.new }
 {
+    // This call is a law, and does nothing.
     tables_tell_states();
     is_card_table(store, loaded);
-    match binary_file(loaded, selection, command, has_data(command)) {
+    match binary_file(loaded, selection, command, command.has_data()) {
         Ok(file) => update_file(store, loaded, selection, seen, command, &file, out),
         Err(status) => Ok(Err(status)),
     }

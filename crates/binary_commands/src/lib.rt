@@ -1,4 +1,5 @@
-//! The commands on files over a store (ETSI TS 102 221, 11.1).
+//! SELECT, STATUS, READ BINARY and UPDATE BINARY over a store (ETSI TS 102 221, 11.1.1 to 11.1.4), and what each command on a
+//! file begins and ends with.
 #![tactic(auto)]
 
 mod access;
@@ -15,3 +16,4 @@ pub use laws::is_card_table;
 pub use selecting::{select, status};
 pub use settling::settle;
 pub use targets::{addressed, is_deactivated, worked_on};
+pub use telling::append;

@@ -24,7 +24,7 @@ use apdu_form::Command;
 use card_commits::tables_tell_states;
 use card_state::Loaded;
 use card_state::kinds::DF;
-use file_model::{Descriptor, Selection, Wanted, has_no_data};
+use file_model::{Descriptor, Selection, Wanted};
 use file_tree::{
     above, chosen_by_identifier, chosen_by_path, files_may_be_selected, first_file,
     short_identifiers_fit,
@@ -209,7 +209,7 @@ fn try_status(
     if !has_status_parameters(command) {
         return Err(StatusWord::WRONG_PARAMETERS);
     }
-    if !has_no_data(command) {
+    if !command.has_no_data() {
         return Err(StatusWord::WRONG_LENGTH);
     }
     match first_file(loaded, Wanted::Number(selection.df)) {
@@ -242,6 +242,7 @@ pub fn select<S: Store>(
 {
     out.body.clear();
     is_card_table(store, loaded);
+    // This call is a law, and does nothing.
     tables_tell_states();
     let tried = try_select(loaded, selection, command, out);
     settle(tried, selection, out);
@@ -272,6 +273,7 @@ pub fn status<S: Store>(
 {
     out.body.clear();
     is_card_table(store, loaded);
+    // This call is a law, and does nothing.
     tables_tell_states();
     let tried = try_status(loaded, selection, command, out);
     settle(tried, selection, out);

@@ -12,7 +12,7 @@ use card_state::{Loaded, PinSlot};
 use file_model::{Descriptor, RuleReference};
 use uicc_types::{AnswerData, Full};
 
-/// Puts bytes at the end, for which there is room.
+/// Puts bytes at the end of an answer, which must have room for them.
 pub fn append(out: &mut AnswerData, part: &[u8])
     requires { length out.old + length part.now ≤ 256 }
     ensures { out.new ≡ out.old ++ part.now }

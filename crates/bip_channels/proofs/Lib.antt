@@ -1,8 +1,8 @@
-pub mod IsSoundLemmas
-pub mod KeptCarriedLemmas
-pub mod KeptLemmas
-pub mod SetLemmas
-pub mod TaggedLemmas
-pub mod TellsLemmas
-pub mod TrafficLemmas
+mod IsSoundLemmas
+mod KeptCarriedLemmas
+mod KeptLemmas
+mod SetLemmas
+mod TaggedLemmas
+mod TellsLemmas
+mod TrafficLemmas
 mod worked

@@ -107,6 +107,7 @@ fn serve_line<R: Source, W: Sink>(
     ensures no_reset { result ≢ Err PlayEnd.ResetFailed }
     ensures nearer { OnOk result (room_of script.new < room_of script.old) }
 {
+    // This call is a law, and does nothing.
     each_channel_tells();
     match next_line(script, source, line, *place) {
         Err(end) => Err(end),

@@ -1,3 +1,3 @@
-mod CastsLemmas
-pub mod DigitsUpToLemmas
-pub mod RowFromLemmas
+pub mod CastsLemmas
+mod DigitsUpToLemmas
+mod RowFromLemmas

@@ -1,4 +1,3 @@
-pub mod Applets
 pub mod Barriers
 pub mod Casts
 pub mod Clocks

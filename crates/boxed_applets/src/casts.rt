@@ -1,55 +1,68 @@
-//! Which applet stands on which shelf.
-ghost use Rattle.std.specs.Prelude.{◌≡◌, ◌%◌, ◌+◌, ◌++◌, [], ◌∷◌, length, map, option_map, IfOk, OnOk};
-ghost use Rattle.card_state.specs.declared.sizes.TheConstants.{ROW_COUNT};
-ghost use Rattle.applet_trait.specs.Minds.{fresh};
-ghost use Rattle.boxed_applets.specs.Casts.{applet_on, program_boxes};
+//! The applets that the program gives a card, each in its box.
+ghost use Rattle.std.specs.Prelude.{◌≡◌, ◌+◌, ◌++◌, [], ◌∷◌, length, map, Some, OnOk};
+ghost use Rattle.std.specs.List.{range_with_len};
+ghost use Rattle.applet_trait.specs.Minds.{minds_of};
+ghost use Rattle.boxed_applets.specs.Casts.{applet_on};
 
-use crate::applets::ProgramApplet;
-use crate::barriers::Barrier;
-use crate::clocks::Clock;
-use crate::greeters::Greeter;
-use crate::menus::Menu;
-use crate::notebooks::Notebook;
-use crate::tables::Table;
-use crate::watchers::Watcher;
 use applet_trait::Applet;
-use card_state::sizes::ROW_COUNT;
-use std::alloc::{AllocError, Global};
+use std::alloc::AllocError;
 
-/// An applet on each shelf. None keeps anything yet.
-#[tactic(auto, using(crate::proofs::CastsLemmas::one_more))]
-pub fn make_applets(alloc: Global) -> Result<Vec<Option<ProgramApplet>>, AllocError>
-    ensures minds { IfOk result (λ cast. map (option_map ⟦<ProgramApplet as Applet>⟧.mind) cast.items ≡ program_boxes) }
-    ensures shelves { IfOk result (λ cast. length cast.items ≡ ROW_COUNT) }
-{
-    let mut cast = Vec::new(alloc);
-    for shelf in 0..ROW_COUNT {
-        add_applet(&mut cast, shelf)?;
-    }
-    Ok(cast)
+/// The applet of a shelf, from 0 on, in a box that `$alloc` gives: of the seven kinds in turn, kind 1 on shelf 0 and again on
+/// shelf 7. It keeps nothing yet. With `|applet| ..` what comes of it is done with the box, and else it is the box.
+///
+/// It is a macro, since a function may not make such a box and hand it out: who calls it makes the box, imports `Applet`, and answers
+/// a Result, since there may be no memory for the box.
+#[macro_export]
+macro_rules! boxed_applet {
+    ($alloc:expr, $shelf:expr) => {
+        $crate::boxed_applet!($alloc, $shelf, |applet| applet)
+    };
+    ($alloc:expr, $shelf:expr, |$applet:ident| $does:expr) => {
+        match $shelf % 7 {
+            0 => $crate::in_box!($alloc, $crate::Greeter::new(), |$applet| $does),
+            1 => $crate::in_box!($alloc, $crate::Menu::new(), |$applet| $does),
+            2 => $crate::in_box!($alloc, $crate::Clock::new(), |$applet| $does),
+            3 => $crate::in_box!($alloc, $crate::Watcher::new(), |$applet| $does),
+            4 => $crate::in_box!($alloc, $crate::Barrier::new(), |$applet| $does),
+            5 => $crate::in_box!($alloc, $crate::Notebook::new(), |$applet| $does),
+            _ => $crate::in_box!($alloc, $crate::Table::new(), |$applet| $does),
+        }
+    };
+}
+
+/// An applet in a box that `$alloc` gives; see `boxed_applet`.
+#[macro_export]
+macro_rules! in_box {
+    ($alloc:expr, $new:expr) => {
+        $crate::in_box!($alloc, $new, |applet| applet)
+    };
+    ($alloc:expr, $new:expr, |$applet:ident| $does:expr) => {{
+        let $applet: Box<dyn Applet> = Box::new($alloc, $new)?;
+        $does
+    }};
 }
 
 /// Puts the applet of a shelf behind those of the shelves before it.
-fn add_applet(cast: &mut Vec<Option<ProgramApplet>>, shelf: usize) -> Result<(), AllocError>
-    ensures minds { OnOk result (map (option_map ⟦<ProgramApplet as Applet>⟧.mind) cast.new.items ≡ map
-        (option_map ⟦<ProgramApplet as Applet>⟧.mind) cast.old.items ++ applet_on shelf ∷ []) }
-    ensures count { OnOk result (length cast.new.items ≡ length cast.old.items + 1) }
+#[tactic(auto, using(crate::proofs::CastsLemmas::one_more))]
+pub fn put_on_shelf<B: Applet>(
+    cast: &mut Vec<Option<B>>,
+    shelf: usize,
+    applet: B,
+) -> Result<(), AllocError>
+    requires next { length cast.old.items ≡ shelf }
+    requires made { minds_of B.mind cast.old.items ≡ map applet_on (range_with_len 0 shelf) }
+    requires kind { Some (B.mind applet) ≡ applet_on shelf }
+    ensures next { OnOk result (length cast.new.items ≡ shelf + 1) }
+    ensures made { OnOk result (minds_of B.mind cast.new.items ≡ map applet_on (range_with_len 0 (shelf + 1))) }
 {
-    cast.push(Some(applet_of(shelf)))?;
-    Ok(())
+    push_applet(cast, applet)
 }
 
-/// The applet of a shelf. It keeps nothing yet.
-pub fn applet_of(shelf: usize) -> ProgramApplet
-    ensures { ⟦<ProgramApplet as Applet>⟧.mind result ≡ fresh (shelf % 7 + 1) [] }
+fn push_applet<B: Applet>(cast: &mut Vec<Option<B>>, applet: B) -> Result<(), AllocError>
+    ensures count { OnOk result (length cast.new.items ≡ length cast.old.items + 1) }
+    ensures minds { OnOk result (minds_of B.mind cast.new.items
+        ≡ minds_of B.mind cast.old.items ++ Some (B.mind applet) ∷ []) }
 {
-    match shelf % 7 {
-        0 => ProgramApplet::Greeter(Greeter::new()),
-        1 => ProgramApplet::Menu(Menu::new()),
-        2 => ProgramApplet::Clock(Clock::new()),
-        3 => ProgramApplet::Watcher(Watcher::new()),
-        4 => ProgramApplet::Barrier(Barrier::new()),
-        5 => ProgramApplet::Notebook(Notebook::new()),
-        _ => ProgramApplet::Table(Table::new()),
-    }
+    cast.push(Some(applet))?;
+    Ok(())
 }

@@ -2,7 +2,6 @@
 #![tactic(auto)]
 
 mod acts;
-mod applets;
 mod barriers;
 mod casts;
 mod clocks;
@@ -15,9 +14,8 @@ mod states;
 mod tables;
 mod watchers;
 
-pub use applets::ProgramApplet;
 pub use barriers::Barrier;
-pub use casts::{applet_of, make_applets};
+pub use casts::put_on_shelf;
 pub use clocks::Clock;
 pub use greeters::Greeter;
 pub use menus::Menu;

@@ -1,7 +1,7 @@
-pub mod BeginsBadLemmas
-pub mod IsWithinLemmas
-pub mod LineLemmas
-pub mod NextLineLemmas
+mod BeginsBadLemmas
+mod IsWithinLemmas
+mod LineLemmas
+mod NextLineLemmas
 pub mod ReadingLemmas
-pub mod WindowLemmas
+mod WindowLemmas
 mod worked

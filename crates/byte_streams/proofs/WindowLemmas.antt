@@ -4,7 +4,9 @@ use Rattle.std.proofs.lemmas.List.{take_at, drop_at, take-append-le, drop-append
 use Rattle.std.proofs.lemmas.Bool.{cases_lt}
 use Rattle.memchr.specs.Find.{IsFirstByte, is_byte}
 use Rattle.byte_streams.specs.Search.{IsFirstEnd, NoEndBelow}
-use borrow.Rule.Slice.PartMut.{put_mid, post_of}
+use Rattle.arrayvec.specs.ArrayVec.{ArrayVec, array_vec_len, with_items}
+use Rattle.arrayvec.proofs.ArrayVecLemmas.{items-with_items}
+use borrow.Rule.Slice.PartMut.{put_mid, mid_of, post_of, same_len_mid}
 
 pub grown : (xs ys : List ℕ) (start end k n : ℕ) → start ≤ end → end ≤ length xs → n ≤ length ys
     → slice_range (put_mid end k xs ys) start (end + n) ≡ slice_range xs start end ++ take n ys
@@ -19,6 +21,20 @@ grown xs ys start end k n ordered within fits =
     ap (take (end + n - start)) (drop-append-le start (take end xs) after (omega arith))
     ∙ ap (λ j. take j (held ++ after)) sum ∙ take-add (end - start) n (held ++ after)
     ∙ (rw (take_at held after _ len, drop_at held after _ len, take-append-le n ys (post_of end k xs) fits, same) refl)
+
+-- the same where all places of a list are in use: bytes were moved in it, and others then written behind them
+pub refilled : (bytes : ArrayVec ℕ) (moved shown out : List ℕ) (end room count : ℕ)
+    → length moved ≡ array_vec_len bytes → shown ≡ (with_items bytes moved).items → length out ≡ length (mid_of end room shown)
+    → end ≤ length moved → count ≤ length out
+    → slice_range (with_items (with_items bytes moved) (put_mid end room shown out)).items 0 (end + count) ≡ slice_range moved 0 end ++ take count out
+refilled bytes moved shown out end room count full lent whole within fits =
+    let written = items-with_items bytes moved full in
+    let same = lent ∙ written in
+    let size : length (put_mid end room shown out) ≡ array_vec_len (with_items bytes moved) =
+    same_len_mid end room shown out whole ∙ ap (λ (xs : List ℕ). length xs) lent in
+    ap (λ (xs : List ℕ). slice_range xs 0 (end + count)) (items-with_items (with_items bytes moved) (put_mid end room shown out) size)
+    ∙ ap (λ (xs : List ℕ). slice_range (put_mid end room xs out) 0 (end + count)) same
+    ∙ grown moved out 0 end room count (omega arith) within fits
 
 pub let_go : (xs : List ℕ) (start end count : ℕ) → start + count ≤ end
     → slice_range xs (start + count) end ≡ drop count (slice_range xs start end)

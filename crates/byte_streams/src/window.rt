@@ -6,6 +6,7 @@ ghost use Rattle.byte_streams.specs.Search.{Finds, IsFirstEnd, NoEndBelow, Takes
 
 use crate::limits::LONGEST_LINE;
 use crate::streams::{Failed, Source};
+use arrayvec::ArrayVec;
 use memchr::memchr;
 use std::marker::Model;
 
@@ -25,20 +26,21 @@ pub(crate) enum Found {
 
 #[derive(Drop)]
 pub(crate) struct Window {
-    bytes: [u8; SIZE],
+    // All its places are in use, so that a source can write into those behind `end`.
+    bytes: ArrayVec<u8, SIZE>,
     start: usize,
     end: usize,
 }
 
 impl Model for Window {
-    ghost use Rattle.std.specs.Prelude.{ℕ, List, ◌≤◌, slice_range};
+    ghost use Rattle.std.specs.Prelude.{ℕ, List, ◌≡◌, ◌≤◌, length, slice_range};
     ghost use Rattle.byte_streams.specs.declared.window.TheConstants.{SIZE};
 
     ghost Value = { List ℕ };
 
-    ghost view = { λ window. slice_range window.bytes window.start window.end };
+    ghost view = { λ window. slice_range window.bytes.items window.start window.end };
 
-    ghost invariant = { λ window. (window.start ≤ window.end) × (window.end ≤ SIZE) };
+    ghost invariant = { λ window. (window.start ≤ window.end) × (window.end ≤ SIZE) × (length window.bytes.items ≡ SIZE) };
 }
 
 impl Window {
@@ -46,7 +48,7 @@ impl Window {
         ensures { result ≡ [] }
     {
         Window {
-            bytes: [0; SIZE],
+            bytes: ArrayVec::from([0; SIZE]),
             start: 0,
             end: 0,
         }
@@ -56,7 +58,7 @@ impl Window {
         ensures value { result.now ≡ self.now }
         ensures fits { length result.now ≤ SIZE }
     {
-        &self.bytes[self.start..self.end]
+        &self.bytes.as_slice()[self.start..self.end]
     }
 
     pub(crate) fn let_go(&mut self, count: usize)
@@ -138,10 +140,10 @@ impl Window {
         ensures err { OnErr result ((self.new ≡ self.old) × (R.left source.new ≡ R.left source.old)) }
         ensures cause { CountsFailure (R.faults source.old) (R.faults source.new) (IsErr result) }
     {
-        self.end = move_to_front(&mut self.bytes, self.start, self.end);
+        self.end = move_to_front(self.bytes.as_mut_slice(), self.start, self.end);
         self.start = 0;
         let stop = self.end + most.min(SIZE - self.end);
-        match source.take(&mut self.bytes[self.end..stop]) {
+        match source.take(&mut self.bytes.as_mut_slice()[self.end..stop]) {
             Ok(count) => {
                 self.end += count;
                 Ok(count)

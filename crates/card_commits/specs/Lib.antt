@@ -1,7 +1,6 @@
 pub mod Commits
 pub mod Entries
 pub mod Laws
-pub mod Model
 pub mod Performing
 pub mod Pins
 pub mod Prepared

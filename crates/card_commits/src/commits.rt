@@ -21,6 +21,7 @@ pub fn commit<S: Store>(store: &mut S, loaded: &Loaded, writes: &Writes) -> Resu
         → Commits (S.store_mark store.old) (S.stable store.old) loaded.now writes.now table change
         → Committed (memory S.Store store.old loaded.now) (memory S.Store store.new table) result change }
 {
+    // This call is a law, and does nothing.
     stores_stand();
     store.commit(writes)
 }

@@ -15,6 +15,7 @@ pub fn node_of(loaded: &Loaded, number: u8) -> Node
     ensures value { result ≡ node_at loaded.now number }
     ensures there { HasNode loaded.now number result }
 {
+    // This call is a law, and does nothing.
     files_are_found();
     loaded.all_nodes()[usize::from(number)]
 }

@@ -33,6 +33,7 @@ pub fn write_bytes<S: Store>(
     ensures committed { Committed (memory S.Store store.old loaded.now) (memory S.Store store.new loaded.now) result
         (with_bytes number offset bytes.now) }
 {
+    // These calls are laws, and do nothing.
     files_are_found();
     cards_are_known();
     what_files_hold_stands();
@@ -55,6 +56,7 @@ pub fn write_record<S: Store>(
     ensures committed { Committed (memory S.Store store.old loaded.now) (memory S.Store store.new loaded.now) result
         (with_record number index bytes.now) }
 {
+    // These calls are laws, and do nothing.
     files_are_found();
     cards_are_known();
     standing_files_hold();
@@ -97,6 +99,7 @@ pub fn write_newest_record<S: Store>(
     ensures kept { OnErr result (loaded.new ≡ loaded.old) }
     ensures files { OnOk result (descriptors_of loaded.new ≡ descriptors_of loaded.old) }
 {
+    // These calls are laws, and do nothing.
     files_are_found();
     cards_are_known();
     standing_files_hold();
@@ -128,6 +131,7 @@ pub fn write_life<S: Store>(
     ensures kept { OnErr result (loaded.new ≡ loaded.old) }
     ensures files { OnOk result (descriptors_of loaded.new ≡ with_life_told number life (descriptors_of loaded.old)) }
 {
+    // These calls are laws, and do nothing.
     files_are_found();
     cards_are_known();
     files_stand();

@@ -1,6 +1,6 @@
 //! Committed changes of a card over a store: each change is one commit, after which the store stands for the changed state, and
 //! after a fault for that or for the state before. For files that come or grow, free bytes are prepared first, which commits
-//! nothing. Of the crates above, those that make, delete and resize files alone name places in the memory.
+//! nothing. Of what carries out commands, this crate and `file_admin` alone name places in the memory.
 #![tactic(auto)]
 
 mod commits;
@@ -14,7 +14,6 @@ mod prepared_pieces;
 mod preparing;
 mod reading;
 mod rows;
-mod stops;
 
 pub use entry_commits::commit_node;
 pub use files::{write_bytes, write_life, write_newest_record, write_record};
@@ -23,4 +22,3 @@ pub use pins::{PinChange, change_pin};
 pub use preparing::{prepare_blank, prepare_moved};
 pub use reading::{read_bytes, read_record};
 pub use rows::{deregister, install_row, keep_bytes, register, remove_row};
-pub use stops::Stop;

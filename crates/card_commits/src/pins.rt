@@ -104,6 +104,7 @@ pub fn change_pin<S: Store>(
         (pins_of loaded.new ≡ with_pin (pins_of loaded.old) (pin_state (changed_pin change (pin_at loaded.old slot)))) }
     ensures kept { OnErr result (loaded.new ≡ loaded.old) }
 {
+    // These calls are laws, and do nothing.
     cards_are_known();
     pins_stand();
     let (from, to) = change.span();

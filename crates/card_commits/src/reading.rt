@@ -25,6 +25,7 @@ pub fn read_bytes<S: Store>(
         out.new ≡ take (length out.old) (drop offset (bytes_in state number)))) }
     ensures reads { Reads (memory S.Store store.old loaded.now) (memory S.Store store.new loaded.now) result }
 {
+    // These calls are laws, and do nothing.
     files_are_found();
     cards_are_known();
     stores_stand();
@@ -48,6 +49,7 @@ pub fn read_record<S: Store>(
         out.new ≡ slice_index_or (records_in state number) index [])) }
     ensures reads { Reads (memory S.Store store.old loaded.now) (memory S.Store store.new loaded.now) result }
 {
+    // These calls are laws, and do nothing.
     files_are_found();
     cards_are_known();
     standing_files_hold();

@@ -152,6 +152,7 @@ pub fn install_row<S: Store>(
     ensures rows { OnOk result
         (rows_of loaded.new ≡ (with_row_installed (registration_of shelf.0 row) (rows_alone loaded.old)).rows) }
 {
+    // These calls are laws, and do nothing.
     cards_are_known();
     states_stay_sound();
     rows_stand();
@@ -176,6 +177,7 @@ pub fn remove_row<S: Store>(
     ensures kept { OnErr result (loaded.new ≡ loaded.old) }
     ensures rows { OnOk result (rows_of loaded.new ≡ (without_row_on shelf.0 (rows_alone loaded.old)).rows) }
 {
+    // These calls are laws, and do nothing.
     cards_are_known();
     rows_stand();
     states_are_of_entries();
@@ -206,6 +208,7 @@ pub fn register<S: Store>(
     ensures kept { OnErr result (loaded.new ≡ loaded.old) }
     ensures rows { OnOk result (rows_of loaded.new ≡ (with_code_committed shelf.0 code (rows_alone loaded.old)).rows) }
 {
+    // These calls are laws, and do nothing.
     cards_are_known();
     rows_stand();
     states_are_of_entries();
@@ -230,6 +233,7 @@ pub fn deregister<S: Store>(
     ensures rows { OnOk result (rows_of loaded.new
         ≡ (without_code_committed shelf.0 code (rows_alone loaded.old)).rows) }
 {
+    // These calls are laws, and do nothing.
     cards_are_known();
     rows_stand();
     states_are_of_entries();
@@ -255,6 +259,7 @@ pub fn keep_bytes<S: Store>(
     ensures rows { OnOk result (rows_of loaded.new
         ≡ (with_kept_committed shelf.0 kept.now (rows_alone loaded.old)).rows) }
 {
+    // These calls are laws, and do nothing.
     cards_are_known();
     rows_stand();
     states_are_of_entries();

@@ -11,7 +11,7 @@ use Rattle.file_model.specs.declared.tree_commands.TreeCommand.{TreeCommand}
 use Rattle.file_model.specs.declared.commands.FileCommand.{FileCommand}
 use Rattle.file_model.specs.declared.commands.FileCommand.TheVariants.{Select, Status, Contents}
 use Rattle.file_model.specs.declared.commands.PinCommand.{PinCommand}
-use Rattle.file_model.specs.Channels.{channel_of}
+use Rattle.apdu_form.specs.Classes.{channel_of}
 use Rattle.card_commits.specs.Laws.{IsTold}
 use Rattle.card_model.specs.Answers.{settled, carried_out, carried_with}
 use Rattle.card_model.specs.States.{CardState}

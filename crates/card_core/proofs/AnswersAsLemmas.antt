@@ -16,7 +16,8 @@ use Rattle.file_model.specs.Outcomes.{FileOutcome, PinOutcome, settled_file, set
 use Rattle.file_model.specs.declared.commands.FileCommand.{FileCommand}
 use Rattle.file_model.specs.declared.commands.PinCommand.{PinCommand}
 use Rattle.file_model.specs.Commands.{file_outcome, pin_outcome, pin_settled}
-use Rattle.file_model.specs.Channels.{channel_of, selected_on, channel_tried}
+use Rattle.apdu_form.specs.Classes.{channel_of}
+use Rattle.file_model.specs.Channels.{selected_on, channel_tried}
 use Rattle.card_commits.specs.Laws.{IsTold}
 use Rattle.binary_commands.specs.Targets.{IsAnswer}
 use Rattle.pin_rules.specs.Outcomes.{IsCarriedOut}

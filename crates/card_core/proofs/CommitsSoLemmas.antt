@@ -10,7 +10,8 @@ use Rattle.file_model.specs.Chains.{and_given}
 use Rattle.file_model.specs.declared.selections.Selection.{Selection}
 use Rattle.file_model.specs.Outcomes.{FileOutcome, settled_file}
 use Rattle.file_model.specs.Selecting.{file_selected, selecting, status_told, telling}
-use Rattle.file_model.specs.Channels.{ChannelOutcome, channel_of}
+use Rattle.apdu_form.specs.Classes.{channel_of}
+use Rattle.file_model.specs.Channels.{ChannelOutcome}
 use Rattle.file_model.specs.declared.commands.FileCommand.TheVariants.{Select, Status}
 use Rattle.file_model.specs.Commands.{file_outcome}
 use Rattle.card_commits.specs.Laws.{IsTold}

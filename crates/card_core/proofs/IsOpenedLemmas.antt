@@ -16,7 +16,7 @@ use Rattle.applet_trait.specs.Minds.{AppletState, minds_of}
 use Rattle.toolkit_model.specs.Commands.{woken_boxes}
 use Rattle.toolkit_model.specs.Sessions.{fresh_session}
 use Rattle.event_dispatch.specs.Indexes.{StandsFor}
-use Rattle.card_model.specs.States.{HasBox, AreOfSevenKinds, IsGood, woken, nothing_verified}
+use Rattle.card_model.specs.States.{HasBox, AreOfKnownKinds, IsGood, woken, nothing_verified}
 use Rattle.card_model.proofs.WokenLemmas.{length-woken_boxes, woken_is_good}
 use Rattle.card_core.specs.Starts.{HoldsCard}
 use Rattle.card_core.specs.Parts.{CardParts}
@@ -58,7 +58,7 @@ pub holds_migrated : (mark now : ℕ) (told told' : Option (List ℕ)) → Holds
 holds_migrated mark now told told' holds same is = ap is_some is ∙ is_some-map migrated (standing mark told) ∙ holds ∙ sym same
 
 pub opened_ready : TablesTellStates → TheMfIsThere → TablesHaveRows → (new : CardParts) (boxes : List (Option AppletState)) → IsMounted (memory_of new) → new.is_due ≡ false
-    → new.channels ≡ basic_channel_alone → new.verified ≡ nothing_verified → new.session ≡ fresh_session → new.leaving ≡ None → StandsFor new.index (rows_of new.table) → new.boxes ≡ woken_boxes (rows_of new.table) boxes → length boxes ≡ 32 → All (HasBox boxes) (rows_of new.table) → AreOfSevenKinds boxes
+    → new.channels ≡ basic_channel_alone → new.verified ≡ nothing_verified → new.session ≡ fresh_session → new.leaving ≡ None → StandsFor new.index (rows_of new.table) → new.boxes ≡ woken_boxes (rows_of new.table) boxes → length boxes ≡ 32 → All (HasBox boxes) (rows_of new.table) → AreOfKnownKinds boxes
     → HoldsCard new.store_mark new.told → IfSome (held_by new) IsSoundCard → new.meter.powered ≡ true → IsCardReady new
 opened_ready tell mf law new boxes mounted rests channels verified session stays indexed woke long have kinds holds sound powered = record {
   set = record {

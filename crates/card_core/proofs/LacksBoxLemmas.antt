@@ -13,7 +13,7 @@ use Rattle.card_state.specs.StateLaws.{RowsAreEntries, RowsComeFromEntries, IsOf
 use Rattle.card_state.specs.Used.{registration_if}
 use Rattle.applet_trait.specs.Minds.{AppletState}
 use Rattle.toolkit_model.specs.Registry.{row_on}
-use Rattle.card_model.specs.States.{HasBox, IsOfSevenKinds, AreOfSevenKinds}
+use Rattle.card_model.specs.States.{HasBox, IsOfKnownKind, AreOfKnownKinds}
 use Rattle.card_core.specs.Boxes.{is_of_kind, lacks_box, IsFirstWithoutBox}
 
 -- ---- one row and its box
@@ -89,17 +89,17 @@ have_more table boxes end row there has have shelf other low is =
 
 -- ---- kinds
 
--- the box of one shelf more is of one of the seven kinds
-pub one_more : (boxes : List (Option AppletState)) (end : ℕ) → IfSome (slice_index_or boxes end None) IsOfSevenKinds → ((shelf : ℕ) → shelf < end → IfSome (slice_index_or boxes shelf None) IsOfSevenKinds)
-    → (shelf : ℕ) → shelf < end + 1 → IfSome (slice_index_or boxes shelf None) IsOfSevenKinds
+-- the box of one shelf more is of a known kind
+pub one_more : (boxes : List (Option AppletState)) (end : ℕ) → IfSome (slice_index_or boxes end None) IsOfKnownKind → ((shelf : ℕ) → shelf < end → IfSome (slice_index_or boxes shelf None) IsOfKnownKind)
+    → (shelf : ℕ) → shelf < end + 1 → IfSome (slice_index_or boxes shelf None) IsOfKnownKind
 one_more boxes end is are shelf low =
-    ⊎_elim {C = IfSome (slice_index_or boxes shelf None) IsOfSevenKinds}
+    ⊎_elim {C = IfSome (slice_index_or boxes shelf None) IsOfKnownKind}
     (λ (below : shelf < end). are shelf below)
     (λ (high : end ≤ shelf).
     let here : end ≡ shelf = omega (arith, high, low) in
-    subst (λ (at : ℕ). IfSome (slice_index_or boxes at None) IsOfSevenKinds) here is)
+    subst (λ (at : ℕ). IfSome (slice_index_or boxes at None) IsOfKnownKind) here is)
     (cases_lt shelf end)
 
-pub all_of_kinds : (boxes : List (Option AppletState)) (end : ℕ) → length boxes ≡ end → ((shelf : ℕ) → shelf < end → IfSome (slice_index_or boxes shelf None) IsOfSevenKinds) → AreOfSevenKinds boxes
+pub all_of_kinds : (boxes : List (Option AppletState)) (end : ℕ) → length boxes ≡ end → ((shelf : ℕ) → shelf < end → IfSome (slice_index_or boxes shelf None) IsOfKnownKind) → AreOfKnownKinds boxes
 all_of_kinds boxes end long are = λ k d low.
-    subst (λ (box : Option AppletState). IfSome box IsOfSevenKinds) (sym (get_or_default boxes k d None low)) (are k (omega (arith, low, long)))
+    subst (λ (box : Option AppletState). IfSome box IsOfKnownKind) (sym (get_or_default boxes k d None low)) (are k (omega (arith, low, long)))

@@ -13,7 +13,7 @@ mod CountsMigrationLemmas
 mod HasNoRowLemmas
 mod HasRowsOfLemmas
 mod HasToolkitLemmas
-pub mod HoldsCardLemmas
+mod HoldsCardLemmas
 mod InstructionOfLemmas
 mod IsGoodLemmas
 mod IsLeftLemmas
@@ -26,7 +26,7 @@ mod KeysSeenLemmas
 mod LacksBoxLemmas
 mod MigratedLemmas
 mod MovesItsOwnLemmas
-pub mod OpensLemmas
+mod OpensLemmas
 mod PolledOnLemmas
 mod PutBackLemmas
 mod RefusesByTableLemmas

@@ -22,7 +22,8 @@ use Rattle.file_model.specs.declared.commands.PinCommand.{PinCommand}
 use Rattle.file_model.specs.Commands.{file_outcome, pin_outcome, pin_settled}
 use Rattle.file_model.specs.declared.selections.Selection.{Selection}
 use Rattle.file_model.specs.declared.selections.TheConstants.Selection.{AT_START}
-use Rattle.file_model.specs.Channels.{channel_of, selected_on, channel_tried}
+use Rattle.apdu_form.specs.Classes.{channel_of}
+use Rattle.file_model.specs.Channels.{selected_on, channel_tried}
 use Rattle.card_commits.specs.Laws.{TablesTellStates}
 use Rattle.card_commits.specs.Performing.{IsOutcome, Performs, IsPinOutcome, PerformsPin, PassesOne, StaysStill, with_each}
 use Rattle.pin_rules.specs.Outcomes.{IsPinCutShort, state_after}

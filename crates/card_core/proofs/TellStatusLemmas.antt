@@ -12,7 +12,7 @@ use Rattle.file_model.specs.Chains.{and_given}
 use Rattle.file_model.specs.Outcomes.{FileOutcome, last_of}
 use Rattle.file_model.specs.Selecting.{status_told, telling}
 use Rattle.file_model.specs.declared.selections.Selection.{Selection}
-use Rattle.file_model.specs.Channels.{channel_of}
+use Rattle.apdu_form.specs.Classes.{channel_of}
 use Rattle.file_model.specs.Commands.{file_outcome}
 use Rattle.file_model.specs.declared.commands.FileCommand.TheVariants.{Status}
 use Rattle.file_model.proofs.ChainsLemmas.{unless_so, given_so}

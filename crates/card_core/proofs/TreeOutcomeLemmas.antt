@@ -25,7 +25,7 @@ use Rattle.file_model.specs.Creating.{created}
 use Rattle.file_model.specs.Deleting.{deleted}
 use Rattle.file_model.specs.TreeOutcomes.{TreeOutcome}
 use Rattle.file_model.specs.Resizing.{resized}
-use Rattle.file_model.specs.Channels.{channel_of}
+use Rattle.apdu_form.specs.Classes.{channel_of}
 use Rattle.card_commits.specs.Laws.{IsTold, TablesTellStates}
 use Rattle.card_commits.specs.Performing.{PassesOne}
 use Rattle.record_commands.specs.Tables.{HasOtherFiles}

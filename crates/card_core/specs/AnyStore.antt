@@ -16,7 +16,8 @@ use Rattle.file_model.specs.declared.selections.TheConstants.Selection.{AT_START
 use Rattle.file_model.specs.Chains.{given}
 use Rattle.file_model.specs.Commands.{file_addressed, pin_outcome}
 use Rattle.file_model.specs.Files.{descriptors_of}
-use Rattle.file_model.specs.Channels.{channel_of, selected_on, basic_channel_alone}
+use Rattle.apdu_form.specs.Classes.{channel_of}
+use Rattle.file_model.specs.Channels.{selected_on, basic_channel_alone}
 use Rattle.layout_mount.specs.Mounted.{HasRead}
 use Rattle.card_commits.specs.Laws.{IsTold}
 use Rattle.card_commits.specs.Entries.{HasRowOn}

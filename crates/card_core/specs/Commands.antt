@@ -13,7 +13,8 @@ use Rattle.file_model.specs.TreeCommands.{tree_outcome}
 use Rattle.file_model.specs.TreeOutcomes.{TreeOutcome}
 use Rattle.file_model.specs.declared.selections.Selection.{Selection}
 use Rattle.file_model.specs.Chains.{and_given}
-use Rattle.file_model.specs.Channels.{ChannelOutcome, channel_of}
+use Rattle.apdu_form.specs.Classes.{channel_of}
+use Rattle.file_model.specs.Channels.{ChannelOutcome}
 use Rattle.applet_trait.specs.Minds.{AppletState}
 use Rattle.proactive_handler.specs.Boxes.{kinds_of}
 use Rattle.card_model.specs.Answers.{Answered, carried_with}

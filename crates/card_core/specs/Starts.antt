@@ -11,7 +11,7 @@ use Rattle.card_state.specs.States.{rows_of}
 use Rattle.file_model.specs.Laws.{IsSoundCard}
 use Rattle.layout_mount.specs.Mounted.{HasRead, HoldsNoCard}
 use Rattle.applet_trait.specs.Minds.{AppletState}
-use Rattle.card_model.specs.States.{HasBox, AreOfSevenKinds}
+use Rattle.card_model.specs.States.{HasBox, AreOfKnownKinds}
 use Rattle.card_core.specs.Boxes.{IsFirstWithoutBox}
 use Rattle.card_core.specs.Migrations.{awaits_migration, migrated_table, CountsMigration}
 use Rattle.card_core.specs.declared.opening_faults.OpenFault.{OpenFault}
@@ -38,7 +38,7 @@ pub record IsOpenedFrom (old new : Memory) (content : List ℕ) : Type 0 where
   pub commits : new.commits ≡ (if awaits_migration (table_of content) then raised old.commits else old.commits)
 
 -- The card is mounted, and the state that the store stands for is the migrated one of that for which it stood, and sound. Each
--- registered applet has its box, and each box is of one of the seven kinds. No migration is due any more, and one that was made
+-- registered applet has its box, and each box is of a known kind. No migration is due any more, and one that was made
 -- is the one commit.
 pub record Opens (old new : Memory) (boxes : List (Option AppletState)) : Type 0 where
   pub mounted : IsMounted new
@@ -47,7 +47,7 @@ pub record Opens (old new : Memory) (boxes : List (Option AppletState)) : Type 0
   pub migrated_is : held new ≡ option_map migrated (held old)
   pub sound : IfSome (held new) IsSoundCard
   pub boxes_are : All (HasBox boxes) (rows_of new.table)
-  pub kinds : AreOfSevenKinds boxes
+  pub kinds : AreOfKnownKinds boxes
   pub rests : awaits_migration new.table ≡ false
   pub commits : CountsMigration (held old) old.commits new.commits
 

@@ -3,7 +3,8 @@ use Rattle.std.specs.Prelude.{◌≡◌, true, false, is_some, Result, OnOk}
 use Rattle.apdu_form.specs.Model.{Apdu}
 use Rattle.store_form.specs.Faults.{HasCause}
 use Rattle.store_form.specs.declared.store.StoreFault.{StoreFault}
-use Rattle.file_model.specs.Channels.{channel_of, is_open}
+use Rattle.apdu_form.specs.Classes.{channel_of}
+use Rattle.file_model.specs.Channels.{is_open}
 use Rattle.binary_commands.specs.Commands.{IsSomeCommand}
 use Rattle.card_core.specs.Cards.{IsSet, IsRunning}
 use Rattle.card_core.specs.Parts.{CardParts}

@@ -4,7 +4,7 @@ ghost use Rattle.card_state.specs.declared.sizes.TheConstants.{ROW_COUNT};
 ghost use Rattle.card_state.specs.States.{rows_of};
 ghost use Rattle.applet_trait.specs.Minds.{minds_of};
 ghost use Rattle.toolkit_model.specs.Commands.{woken_boxes};
-ghost use Rattle.card_model.specs.States.{HasBox, IsOfSevenKinds, AreOfSevenKinds};
+ghost use Rattle.card_model.specs.States.{HasBox, IsOfKnownKind, AreOfKnownKinds};
 ghost use Rattle.card_core.specs.Boxes.{lacks_box, woken_beside, IsFirstWithoutBox};
 
 use applet_trait::Applet;
@@ -15,7 +15,7 @@ use card_state::{Loaded, Row, states_are_of_entries};
 // the kind is known.
 fn lacks<B: Applet>(row: &Row, applet: &Option<B>) -> bool
     ensures value { result ≡ lacks_box row.now (option_map B.mind applet.now) }
-    ensures kind { IfSome (option_map B.mind applet.now) IsOfSevenKinds }
+    ensures kind { IfSome (option_map B.mind applet.now) IsOfKnownKind }
 {
     match applet {
         Some(applet) => {
@@ -27,12 +27,12 @@ fn lacks<B: Applet>(row: &Row, applet: &Option<B>) -> bool
 }
 
 /// The smallest shelf on which an applet is registered that has no box of its kind there. Where there is none, each box was asked
-/// for its kind, which is one of the seven.
+/// for its kind, which is a known one.
 pub fn first_without_box<B: Applet>(loaded: &Loaded, boxes: &[Option<B>]) -> Option<u8>
     requires { length boxes.now ≡ ROW_COUNT }
     ensures found { IfSome result (IsFirstWithoutBox (rows_of loaded.now) (minds_of B.mind boxes.now)) }
     ensures all { IfNone result (All (HasBox (minds_of B.mind boxes.now)) (rows_of loaded.now)) }
-    ensures kinds { IfNone result (AreOfSevenKinds (minds_of B.mind boxes.now)) }
+    ensures kinds { IfNone result (AreOfKnownKinds (minds_of B.mind boxes.now)) }
 {
     // This call is a law, and does nothing.
     states_are_of_entries();

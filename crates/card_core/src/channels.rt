@@ -1,14 +1,14 @@
 //! MANAGE CHANNEL (ETSI TS 102 221, 11.1.17).
 ghost use Rattle.std.specs.Prelude.{◌≡◌, ◌≢◌, ◌≤◌, List, true, Err, OnErr, unwrap_or};
 ghost use Rattle.file_model.specs.declared.selections.TheConstants.Selection.{AT_START};
-ghost use Rattle.file_model.specs.Channels.{channel_of, selected_on, is_open, is_le_of_number, channel_opened, channel_closed, channel_tried};
+ghost use Rattle.apdu_form.specs.Classes.{channel_of};
+ghost use Rattle.file_model.specs.Channels.{selected_on, is_open, is_le_of_number, channel_opened, channel_closed, channel_tried};
 ghost use Rattle.file_model.specs.declared.descriptors.Descriptor.{Descriptor};
 ghost use Rattle.file_model.specs.Selections.{IsSelection};
 ghost use Rattle.file_model.specs.LawfulTrees.{AreSelected};
 ghost use Rattle.card_core.specs.Commands.{channels_managed};
 
 use apdu_form::Command;
-use file_admin::channel_of;
 use file_tree::Channels;
 use uicc_types::StatusWord;
 
@@ -34,7 +34,7 @@ fn open(channels: &mut Channels, command: &Command<'_>) -> Result<Option<u8>, St
     if !command.body.is_empty() || !is_le_of_number(command.expected) {
         return Err(StatusWord::WRONG_LENGTH);
     }
-    match channels.open(channel_of(command.class)) {
+    match channels.open(command.channel()) {
         Some(number) => Ok(Some(number)),
         None => Err(StatusWord::NO_FREE_CHANNEL),
     }

@@ -6,7 +6,8 @@ ghost use Rattle.card_state.specs.Memory.{IsMounted, memory};
 ghost use Rattle.file_model.specs.Access.{keys_seen};
 ghost use Rattle.file_model.specs.Files.{descriptors_of};
 ghost use Rattle.file_model.specs.Outcomes.{settled_file};
-ghost use Rattle.file_model.specs.Channels.{channel_of, is_open};
+ghost use Rattle.apdu_form.specs.Classes.{channel_of};
+ghost use Rattle.file_model.specs.Channels.{is_open};
 ghost use Rattle.file_model.specs.Commands.{contents_outcome, file_addressed, file_outcome};
 ghost use Rattle.file_model.specs.LawfulTrees.{AreSelected};
 ghost use Rattle.card_commits.specs.Performing.{Performs, StaysStill};
@@ -36,7 +37,7 @@ use card_laws::cards_go_on;
 use card_model::{CatCommand, Instruction};
 use card_state::{Loaded, states_are_of_entries};
 use cat_commands::poll;
-use file_admin::{channel_of, create_file, delete_file, resize_file};
+use file_admin::{create_file, delete_file, resize_file};
 use file_model::{ContentsCommand, FileCommand, PinCommand, Selection, TreeCommand};
 use file_tree::Channels;
 use pin_rules::named_pin_command;
@@ -202,7 +203,7 @@ impl<S: Store, B: Applet> CardOver<S, B> {
         tables_tell_states();
         tables_have_rows();
         cards_go_on();
-        let channel = channel_of(apdu.class);
+        let channel = apdu.channel();
         let Some(mut selection) = self.channels.selected(channel) else {
             unreachable!()
         };
@@ -493,7 +494,7 @@ impl<S: Store, B: Applet> CardOver<S, B> {
             (in_form (parts_of S.Store B.Applet self.old) apdu.now) }
         ensures goes_on { GoesOn result (parts_of S.Store B.Applet self.old) (parts_of S.Store B.Applet self.new) }
     {
-        match instruction_of(&self.channels, apdu.class, apdu.ins) {
+        match instruction_of(&self.channels, apdu) {
             Ok(Instruction::File(FileCommand::Status)) => self.tell_status(apdu, out),
             Ok(Instruction::File(FileCommand::Select)) => {
                 self.carry_out_on_files(FileCommand::Select, apdu, out)

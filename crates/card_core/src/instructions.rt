@@ -1,13 +1,14 @@
 //! The table of instructions: how a command is told by its class and instruction bytes.
 ghost use Rattle.std.specs.Prelude.{◌≡◌, ◌≢◌, true, false, Err, Some, OnOk, option_map};
-ghost use Rattle.file_model.specs.Channels.{is_class, asks_secure_messaging, channel_of, is_open};
+ghost use Rattle.apdu_form.specs.Classes.{channel_of, family};
+ghost use Rattle.file_model.specs.Channels.{is_open};
 ghost use Rattle.card_model.specs.Instructions.{instruction_tried, is_known, has_ins, row_named};
 
+use apdu_form::Command;
 use card_model::CatCommand::{
     DeleteApplet, Envelope, Fetch, InstallApplet, TerminalProfile, TerminalResponse,
 };
 use card_model::Instruction::{self, File, ManageChannel, Pin, Toolkit, Tree};
-use file_admin::{channel_of, family, names_channel};
 use file_model::ContentsCommand::{
     Activate, Deactivate, Increase, ReadBinary, ReadRecord, SearchRecord, UpdateBinary,
     UpdateRecord,
@@ -86,93 +87,65 @@ impl TableRow {
             _ => None,
         }
     }
+
+    // The row of a command.
+    #[inline(always)]
+    fn named_by(command: &Command<'_>) -> Option<TableRow>
+        ensures shown { option_map (row_shown command.now.ins) result
+            ≡ row_named is_known (family command.now.class) command.now.ins }
+    {
+        TableRow::of(command.family(), command.ins)
+    }
 }
 
 // Whether a command that the card has, in whatever class, has this instruction byte.
 fn has_ins(ins: u8) -> bool
     ensures { result ≡ has_ins is_known ins }
 {
-    matches!(
-        ins,
-        0xA4 | 0xF2
-            | 0xB0
-            | 0xD6
-            | 0xB2
-            | 0xDC
-            | 0xA2
-            | 0x32
-            | 0x04
-            | 0x44
-            | 0x20
-            | 0x24
-            | 0x26
-            | 0x28
-            | 0x2C
-            | 0x70
-            | 0x10
-            | 0x12
-            | 0x14
-            | 0xC2
-            | 0xE6
-            | 0xE4
-            | 0xE0
-            | 0xD4
-    )
+    TableRow::of(0x00, ins).is_some()
+        || TableRow::of(0x80, ins).is_some()
+        || TableRow::of(0xF0, ins).is_some()
 }
 
-// Whether a class is one of `0X`, `8X` and `F0`.
-fn is_class(class: u8) -> bool
-    ensures { result ≡ is_class class }
-{
-    names_channel(class) || class == 0xF0
-}
-
-// Whether b4 or b3 of a class asks for secure messaging.
-fn asks_secure_messaging(class: u8) -> bool
-    ensures { result ≡ asks_secure_messaging class }
-{
-    names_channel(class) && class / 4 % 4 != 0
-}
-
-/// The command that a class and an instruction byte name: the class is tested first, then the channel, then the instruction.
+/// The instruction that a command names by its class and instruction bytes: the class is tested first, then the channel, then the instruction.
 #[inline(always)]
-pub fn instruction_of(channels: &Channels, class: u8, ins: u8) -> Result<Instruction, StatusWord>
-    ensures tried { result ≡ instruction_tried is_known channels.now class ins }
-    ensures open { OnOk result (is_open channels.now (channel_of class) ≡ true) }
+pub fn instruction_of(channels: &Channels, command: &Command<'_>) -> Result<Instruction, StatusWord>
+    ensures tried { result ≡ instruction_tried is_known channels.now command.now.class command.now.ins }
+    ensures open { OnOk result (is_open channels.now (channel_of command.now.class) ≡ true) }
     ensures usual { result ≢ Err StatusWord.MEMORY_PROBLEM }
 {
     // Most commands come so, on the basic channel, which is open: one that has a row is refused for none of the rest.
-    if class == 0x00 || class == 0x80 {
+    if command.has_plain_class() {
         channels.basic_is_open();
-        if let Some(row) = TableRow::of(class, ins) {
+        if let Some(row) = TableRow::named_by(command) {
             return Ok(row.instruction);
         }
     }
-    instruction_tested(channels, class, ins)
+    instruction_tested(channels, command)
 }
 
 // The same, by one test after the other.
 #[inline(never)]
 #[tactic(auto, unfolding(card_model::specs::Instructions::instruction_tried, file_model::specs::Chains::refused_if, file_model::specs::Chains::given))]
-fn instruction_tested(channels: &Channels, class: u8, ins: u8) -> Result<Instruction, StatusWord>
-    ensures tried { result ≡ instruction_tried is_known channels.now class ins }
-    ensures open { OnOk result (is_open channels.now (channel_of class) ≡ true) }
+fn instruction_tested(channels: &Channels, command: &Command<'_>) -> Result<Instruction, StatusWord>
+    ensures tried { result ≡ instruction_tried is_known channels.now command.now.class command.now.ins }
+    ensures open { OnOk result (is_open channels.now (channel_of command.now.class) ≡ true) }
     ensures usual { result ≢ Err StatusWord.MEMORY_PROBLEM }
 {
-    if !is_class(class) {
+    if !command.has_known_class() {
         return Err(StatusWord::NO_SUCH_CLASS);
     }
-    if asks_secure_messaging(class) {
+    if command.asks_secure_messaging() {
         return Err(StatusWord::NO_SECURE_MESSAGING);
     }
-    let channel = channel_of(class);
+    let channel = command.channel();
     if !channels.is_open(channel) {
         return Err(StatusWord::NO_SUCH_CHANNEL);
     }
-    if !has_ins(ins) {
+    if !has_ins(command.ins) {
         return Err(StatusWord::NO_SUCH_INSTRUCTION);
     }
-    let Some(row) = TableRow::of(family(class), ins) else {
+    let Some(row) = TableRow::named_by(command) else {
         return Err(StatusWord::NO_SUCH_CLASS);
     };
     if row.is_basic && channel != 0 {

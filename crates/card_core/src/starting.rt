@@ -49,7 +49,7 @@ fn test_and_migrate<S: Store, B: Applet>(
 
 /// Recovers the store, mounts what it holds, tests that the applet of each row has its box, and then migrates a card of version 1
 /// of the layout, where its files leave room for that. It takes no memory and wakes no box. Each box was asked for its kind, so
-/// that an opened card has applets of the seven kinds alone.
+/// that an opened card has applets of known kinds alone.
 pub fn start<S: Store, B: Applet>(
     store: &mut S,
     loaded: &mut Loaded,

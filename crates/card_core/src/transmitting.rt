@@ -1,20 +1,12 @@
 //! The way of a command.
 ghost use Rattle.std.specs.Prelude.{◌≡◌, [], true, false, Ok, Err, IsOk, OnOk, OnErr};
-ghost use Rattle.uicc_types.specs.Told.{AreBytes};
 
 use crate::cards::CardOver;
 use crate::faults::CardFault;
 use applet_trait::Applet;
 use card_laws::cards_stay_good;
 use store_form::{Store, StoreFault};
-use uicc_types::{Answer, StatusWord};
-
-// Does nothing. What a slice of bytes has are bytes.
-fn are_bytes(slice: &[u8])
-    ensures { AreBytes slice.now }
-{
-    let _slice = slice;
-}
+use uicc_types::{Answer, StatusWord, are_bytes};
 
 impl<S: Store, B: Applet> CardOver<S, B> {
     ghost use Rattle.card_core.specs.Cards.{parts_of, card_of, IsCardReady, IsLeftGood};

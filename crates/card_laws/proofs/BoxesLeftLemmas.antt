@@ -8,9 +8,9 @@ use Rattle.applet_trait.specs.Minds.{AppletState}
 use Rattle.toolkit_model.specs.Steps.{HaveMinds}
 use Rattle.toolkit_model.specs.Registry.{row_on}
 use Rattle.card_model.specs.Runs.{box_left, boxes_left}
-use Rattle.card_model.specs.States.{IsOfSevenKinds, AreOfSevenKinds}
+use Rattle.card_model.specs.States.{IsOfKnownKind, AreOfKnownKinds}
 use Rattle.card_laws.proofs.HaveFixedLemmas.{row_there}
-use Rattle.card_laws.proofs.AreOfSevenKindsLemmas.{at_shelf}
+use Rattle.card_laws.proofs.AreOfKnownKindsLemmas.{at_shelf}
 
 same_either : (b : Bool) (box : Option AppletState) → (if b then box else box) ≡ box
 same_either true box = refl
@@ -35,14 +35,14 @@ stays_there true false box is = refl
 stays_there false gone box is = refl
 
 -- a box that is left is of the kind that it was
-one_left : (was gone : Bool) (box : Option AppletState) → IfSome box IsOfSevenKinds → IfSome (if was && gone then None else box) IsOfSevenKinds
+one_left : (was gone : Bool) (box : Option AppletState) → IfSome box IsOfKnownKind → IfSome (if was && gone then None else box) IsOfKnownKind
 one_left true true box is = tt
 one_left true false box is = is
 one_left false gone box is = is
 
-pub kinds_left : (before after : List Registration) (boxes : List (Option AppletState)) → AreOfSevenKinds boxes → AreOfSevenKinds (boxes_left before after boxes)
+pub kinds_left : (before after : List Registration) (boxes : List (Option AppletState)) → AreOfKnownKinds boxes → AreOfKnownKinds (boxes_left before after boxes)
 kinds_left before after boxes are = λ k d low.
-    subst (λ (box : Option AppletState). IfSome box IsOfSevenKinds) (sym (get_or_default (boxes_left before after boxes) k d None low ∙ left_at before after boxes k))
+    subst (λ (box : Option AppletState). IfSome box IsOfKnownKind) (sym (get_or_default (boxes_left before after boxes) k d None low ∙ left_at before after boxes k))
     (one_left (is_some (row_on before k)) (is_none (row_on after k)) (slice_index_or boxes k None) (at_shelf boxes k are))
 
 -- an applet that is registered still has its box

@@ -12,7 +12,8 @@ use Rattle.file_model.specs.Commands.{file_outcome}
 use Rattle.file_model.specs.Selecting.{telling, status_told}
 use Rattle.file_model.specs.declared.selections.Selection.{Selection}
 use Rattle.file_model.specs.TreeOutcomes.{TreeOutcome}
-use Rattle.file_model.specs.Channels.{ChannelOutcome, channel_of}
+use Rattle.apdu_form.specs.Classes.{channel_of}
+use Rattle.file_model.specs.Channels.{ChannelOutcome}
 use Rattle.file_model.specs.declared.commands.FileCommand.TheVariants as file
 use Rattle.applet_trait.specs.Minds.{AppletState}
 use Rattle.toolkit_model.specs.Passing.{ToolkitState, Passed, passed_rows}

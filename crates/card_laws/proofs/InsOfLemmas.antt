@@ -9,7 +9,7 @@ use Rattle.card_state.specs.Persistent.{Registration}
 use Rattle.file_model.specs.Chains.{and_given}
 use Rattle.file_model.specs.Records.{other_length}
 use Rattle.file_model.proofs.ChainsLemmas.{unless_so, given_so}
-use Rattle.file_model.specs.Channels.{family}
+use Rattle.apdu_form.specs.Classes.{family}
 use Rattle.file_model.specs.declared.commands.FileCommand.TheVariants as file
 use Rattle.toolkit_commands.specs.Envelopes.{envelope_of}
 use Rattle.toolkit_commands.specs.declared.envelopes.Envelope.{Envelope}

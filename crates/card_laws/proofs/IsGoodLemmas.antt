@@ -26,7 +26,7 @@ use Rattle.card_model.specs.Chained.{Any}
 use Rattle.card_model.specs.Instructions.{has_toolkit, is_of_tree}
 use Rattle.card_model.specs.Laws.{key_named, IsStatusOf, IsLawfulAnswer, CommandsAreLawful}
 use Rattle.card_model.specs.Runs.{IsLeft, box_left, boxes_left}
-use Rattle.card_model.specs.States.{CardState, AreChannels, HasBox, AreOfSevenKinds, IsGood}
+use Rattle.card_model.specs.States.{CardState, AreChannels, HasBox, AreOfKnownKinds, IsGood}
 use Rattle.card_model.specs.Toolkit.{ToolkitOutcome, toolkit_of, coming_to, with_rows, states_passed}
 use Rattle.card_model.proofs.WokenLemmas.{woken_is_good}
 use Rattle.card_model.specs.declared.instructions.Instruction.{Instruction}
@@ -38,7 +38,7 @@ use Rattle.card_laws.proofs.ToolkitOutcomeLemmas.{Comes, ComesTo, comes_by, outc
 use Rattle.card_laws.proofs.TakenLemmas.{of_running}
 use Rattle.card_laws.proofs.HaveFixedLemmas.{row_there}
 use Rattle.card_laws.proofs.GoesOnLemmas.{CanWake, wakes_now, goes_by, good_order, answer_goes}
-use Rattle.card_laws.proofs.AreOfSevenKindsLemmas.{TurnsKeepKinds, BringsGood, moved_keeps}
+use Rattle.card_laws.proofs.AreOfKnownKindsLemmas.{TurnsKeepKinds, BringsGood, moved_keeps}
 use Rattle.card_laws.proofs.PassedRowsLemmas.{polled_commits}
 
 -- ---- the toolkit of a good card
@@ -103,7 +103,7 @@ toolkit_well leaves same card good command outcome comes brings =
         channels = same_channels card.persistent last card (files_kept card.persistent card.persistent next (passed_rows outcome.passed.log) refl) good.channels;
         shelves = now.sound.shelves;
         boxes = now.sound.applets;
-        kinds = subst AreOfSevenKinds (sym (ap (λ (state : ToolkitState). state.minds) toolkit)) (moved_keeps same command (toolkit_of card) brings.1 good.kinds);
+        kinds = subst AreOfKnownKinds (sym (ap (λ (state : ToolkitState). state.minds) toolkit)) (moved_keeps same command (toolkit_of card) brings.1 good.kinds);
         session = now.session;
       },
       commits,

@@ -12,7 +12,7 @@ use Rattle.file_model.specs.Commands.{file_outcome}
 use Rattle.file_model.specs.Laws.{EachStep}
 use Rattle.file_model.specs.Outcomes.{FileOutcome, last_of}
 use Rattle.file_model.specs.Selecting.{status_told}
-use Rattle.file_model.specs.Channels.{family, channel_of}
+use Rattle.apdu_form.specs.Classes.{family, channel_of}
 use Rattle.file_model.specs.declared.commands.FileCommand.TheVariants as file
 use Rattle.toolkit_model.specs.Commands.{polled, pending}
 use Rattle.toolkit_model.specs.Passing.{passed_rows}

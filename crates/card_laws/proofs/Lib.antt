@@ -2,7 +2,7 @@ mod ActInTurnLemmas
 mod AfterActLemmas
 mod AllTriesLemmas
 mod AreEventsWantedLemmas
-mod AreOfSevenKindsLemmas
+mod AreOfKnownKindsLemmas
 mod BoxesLeftLemmas
 mod EventsInLemmas
 mod FaultsAreSeenLemmas
@@ -17,7 +17,7 @@ mod HaveSamePinsLemmas
 pub mod InsOfLemmas
 mod IsGoodLemmas
 mod IsLawfulWithAppletsLemmas
-pub mod IsStatusLemmas
+mod IsStatusLemmas
 mod KeepsThroughoutLemmas
 pub mod LeavesUnansweredLemmas
 mod MarkedLemmas

@@ -5,7 +5,8 @@ use Rattle.uicc_types.specs.declared.answers.StatusWord.{StatusWord}
 use Rattle.apdu_form.specs.Model.{Apdu}
 use Rattle.card_state.specs.Persistent.{Pin}
 use Rattle.access_rules.specs.declared.rules.Verified.{Verified}
-use Rattle.file_model.specs.Outcomes.{PinOutcome, has_no_data}
+use Rattle.apdu_form.specs.Fields.{has_no_data}
+use Rattle.file_model.specs.Outcomes.{PinOutcome}
 use Rattle.file_model.specs.Pins.{pin_found, marked, pin_addressed, presented, pin_presented, unblock_presented, value_presented, new_value, pin_verified, pin_changed, pin_disabled, pin_enabled, pin_unblocked}
 use Rattle.file_model.specs.Commands.{pin_outcome}
 use Rattle.file_model.specs.declared.commands.PinCommand.{PinCommand}

@@ -12,9 +12,11 @@ use Rattle.file_model.specs.declared.commands.PinCommand.{PinCommand}
 use Rattle.file_model.specs.declared.selections.Selection.{Selection}
 use Rattle.file_model.specs.Guards.{Guard, OfPin, OfUnblock, guard_of, IsGuarded as IsGuardedBy, GuardsPins}
 use Rattle.file_model.specs.Laws.{EachStep}
-use Rattle.file_model.specs.Outcomes.{FileOutcome, PinOutcome, last_of, has_data}
+use Rattle.apdu_form.specs.Fields.{has_data}
+use Rattle.file_model.specs.Outcomes.{FileOutcome, PinOutcome, last_of}
 use Rattle.file_model.specs.TreeOutcomes.{TreeOutcome}
-use Rattle.file_model.specs.Channels.{ChannelOutcome, family, channel_of}
+use Rattle.apdu_form.specs.Classes.{family, channel_of}
+use Rattle.file_model.specs.Channels.{ChannelOutcome}
 use Rattle.toolkit_model.specs.Commands.{polled}
 use Rattle.toolkit_model.specs.Passing.{passed_rows}
 use Rattle.card_model.specs.Answers.{Answered, settled, file_tried, pin_tried, managed, tree_tried, toolkit_tried, selection_on, seen_by, carried_out, on_files, then_polled, carried_with, tried, answer_of, passed}

@@ -19,7 +19,8 @@ use Rattle.file_model.proofs.ChainsLemmas.{past_given}
 use Rattle.file_model.specs.Chains.{and_given, given, refused_if}
 use Rattle.file_model.specs.Files.{descriptor_in, descriptors_in, record_count}
 use Rattle.file_model.specs.Holdings.{bytes_held, bytes_in, contents_if, held_by, records_held, records_in}
-use Rattle.file_model.specs.Outcomes.{FileOutcome, addressed, has_data, has_le_alone, is_deactivated, last_of, pointer_before}
+use Rattle.apdu_form.specs.Fields.{has_data, has_le_alone}
+use Rattle.file_model.specs.Outcomes.{FileOutcome, addressed, is_deactivated, last_of, pointer_before}
 use Rattle.file_model.specs.Records.{has_record_parameters, is_cyclic, number_to_read, number_to_update, number_updated, record_file, record_named, record_read, record_read_from, record_reading, record_update_in, record_updated, record_updating, short_in_p2, may_be_updated}
 use Rattle.file_model.specs.declared.descriptors.Descriptor.{Descriptor}
 use Rattle.file_model.specs.declared.selections.Selection.{Selection}

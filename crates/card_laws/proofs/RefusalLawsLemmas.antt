@@ -20,7 +20,8 @@ use Rattle.file_model.proofs.ChainsLemmas.{past_given as past_result}
 use Rattle.file_model.specs.Chains.{and_given, given, refused_if}
 use Rattle.file_model.specs.Files.{descriptor_in, descriptors_in, file_found, is_wanted}
 use Rattle.file_model.specs.LifeCycles.{file_activated, file_deactivated, life_changed, life_file, life_in}
-use Rattle.file_model.specs.Outcomes.{has_no_parameters, addressed, has_data, has_le_alone, has_no_data, is_deactivated}
+use Rattle.apdu_form.specs.Fields.{has_no_parameters, has_data, has_le_alone, has_no_data}
+use Rattle.file_model.specs.Outcomes.{addressed, is_deactivated}
 use Rattle.file_model.specs.Records.{has_increase_length, has_increase_parameters, has_record_parameters, has_search_parameters, increase_in, increased, may_be_increased, may_be_updated, number_to_read, number_to_search, number_to_update, record_file, record_read, record_read_from, record_update_in, record_updated, search_in, searched, short_in_p2, short_to_increase, sum_to_write}
 use Rattle.file_model.specs.Selecting.{file_selected, status_told}
 use Rattle.file_model.specs.Selections.{current_ef}

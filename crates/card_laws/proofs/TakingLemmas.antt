@@ -12,7 +12,7 @@ use Rattle.file_model.specs.Commands.{file_outcome}
 use Rattle.file_model.specs.Outcomes.{FileOutcome}
 use Rattle.file_model.specs.Selecting.{status_told}
 use Rattle.file_model.proofs.ChainsLemmas.{unless_so, given_so}
-use Rattle.file_model.specs.Channels.{channel_of}
+use Rattle.apdu_form.specs.Classes.{channel_of}
 use Rattle.file_model.specs.declared.commands.FileCommand.TheVariants as file
 use Rattle.toolkit_commands.specs.Envelopes.{envelope_of}
 use Rattle.toolkit_model.specs.declared.faults.RowFault.{RowFault}

@@ -11,7 +11,8 @@ use Rattle.apdu_form.specs.Model.{Apdu, command_in}
 use Rattle.card_state.specs.Persistent.{Pin, Persistent}
 use Rattle.access_rules.specs.declared.rules.Verified.{Verified}
 use Rattle.access_rules.specs.Conditions.{is_satisfied}
-use Rattle.file_model.specs.Outcomes.{PinOutcome, last_of, has_data, has_no_data}
+use Rattle.apdu_form.specs.Fields.{has_data, has_no_data}
+use Rattle.file_model.specs.Outcomes.{PinOutcome, last_of}
 use Rattle.file_model.specs.Pins.{pin_found, with_pin, presented, value_presented, marked, tries_left}
 use Rattle.file_model.specs.Guards.{Guard, OfPin, OfUnblock, tries_by, with_one_less, GivesNoTries}
 use Rattle.file_model.specs.Laws.{EachStep}

@@ -13,7 +13,8 @@ use Rattle.file_model.specs.Outcomes.{FileOutcome, PinOutcome}
 use Rattle.file_model.specs.Pins.{tries_left}
 use Rattle.file_model.specs.TreeOutcomes.{TreeOutcome}
 use Rattle.file_model.specs.LawfulTrees.{IsLawfulTreeCommand, tree_refusals}
-use Rattle.file_model.specs.Channels.{ChannelOutcome, channel_of}
+use Rattle.apdu_form.specs.Classes.{channel_of}
+use Rattle.file_model.specs.Channels.{ChannelOutcome}
 use Rattle.file_model.specs.declared.commands.FileCommand.{FileCommand}
 use Rattle.file_model.specs.declared.commands.PinCommand.{PinCommand}
 use Rattle.file_model.specs.declared.tree_commands.TreeCommand.{TreeCommand}

@@ -8,6 +8,7 @@ use Rattle.uicc_types.specs.declared.answers.StatusWord.{StatusWord}
 use Rattle.apdu_form.specs.Model.{Apdu}
 use Rattle.card_state.specs.Persistent.{Registration, Persistent}
 use Rattle.card_state.specs.Sections.{Installation, installation_of, needs_wide, new_row, with_row}
+use Rattle.card_state.specs.AppletKinds.{IsAppletKind}
 use Rattle.access_rules.specs.declared.rules.Verified.{Verified}
 use Rattle.file_model.specs.Chains.{and_given}
 use Rattle.file_model.specs.Outcomes.{last_of}
@@ -29,13 +30,13 @@ use Rattle.toolkit_model.proofs.InstallationsAreAcceptedLemmas.{with_all}
 use Rattle.toolkit_model.proofs.CommandsLemmas.{rows_without}
 use Rattle.card_model.specs.Chained.{Any}
 use Rattle.card_model.proofs.ChainedLemmas.{past}
-use Rattle.card_model.specs.States.{CardState, IsOfSevenKinds, AreOfSevenKinds}
+use Rattle.card_model.specs.States.{CardState, IsOfKnownKind, AreOfKnownKinds}
 use Rattle.card_model.specs.Toolkit.{has_shelf, ToolkitOutcome, toolkit_of, coming_to, with_rows, states_passed, row_or_status, kind_in, profile_taken, command_fetched, response_taken, envelope_taken, applet_installed, applet_deleted, toolkit_outcome}
 use Rattle.card_model.specs.declared.instructions.CatCommand.{CatCommand}
 use Rattle.card_model.specs.declared.instructions.CatCommand.TheVariants as toolkit
 use Rattle.card_laws.specs.Moving.{rows_by, HaveFixed, if_row, HasOrder, command_of}
 use Rattle.card_laws.proofs.HaveFixedLemmas.{AreBelow, rows_fixed, below_fixed, minds_fixed, applets_fixed}
-use Rattle.card_laws.proofs.AreOfSevenKindsLemmas.{BringsGood, at_shelf}
+use Rattle.card_laws.proofs.AreOfKnownKindsLemmas.{BringsGood, at_shelf}
 use Rattle.card_laws.proofs.PassedRowsLemmas.{Commits, now_fixed, profiled_commits, enveloped_commits, fetched_commits, responded_commits, CommitsFirst, installed_commits, deleted_commits}
 
 -- ---- the next sequence number
@@ -74,7 +75,7 @@ pub record Comes (card : CardState) (command : ToolkitInput) (outcome : ToolkitO
   pub each : All (CanStand card outcome.next_sequence) (passed_rows (moved command (toolkit_of card)).log)
   pub fixed : All (HaveFixed (rows_by command card.persistent.rows)) (passed_rows (moved command (toolkit_of card)).log)
   pub later : card.persistent.next_sequence ≤ outcome.next_sequence
-  pub brings : AreOfSevenKinds card.boxes → BringsGood card.persistent.is_wide outcome.next_sequence command
+  pub brings : AreOfKnownKinds card.boxes → BringsGood card.persistent.is_wide outcome.next_sequence command
   pub next : (last_of card.persistent (states_passed card.persistent outcome)).next_sequence ≡ outcome.next_sequence
 
 abbrev pub ComesTo : CardState → Option ToolkitInput → Result ToolkitOutcome StatusWord → Type 0
@@ -162,9 +163,9 @@ has_applet : (box : Option AppletState) (kind : ℕ) → option_map (λ (mind : 
 has_applet None kind is = absurd (cc)
 has_applet (Some mind) kind is = cc
 
-kind_known : (boxes : List (Option AppletState)) (shelf : ℕ) → AreOfSevenKinds boxes → IfSome (option_map (λ (mind : AppletState). mind.kind) (mind_on boxes shelf)) (λ kind. (1 ≤ kind) × (kind ≤ 7))
+kind_known : (boxes : List (Option AppletState)) (shelf : ℕ) → AreOfKnownKinds boxes → IfSome (option_map (λ (mind : AppletState). mind.kind) (mind_on boxes shelf)) IsAppletKind
 kind_known boxes shelf kinds = by_box (mind_on boxes shelf) (at_shelf boxes shelf kinds) where
-  by_box : (box : Option AppletState) → IfSome box IsOfSevenKinds → IfSome (option_map (λ (mind : AppletState). mind.kind) box) (λ kind. (1 ≤ kind) × (kind ≤ 7))
+  by_box : (box : Option AppletState) → IfSome box IsOfKnownKind → IfSome (option_map (λ (mind : AppletState). mind.kind) box) IsAppletKind
   by_box None known = tt
   by_box (Some mind) known = known
 

@@ -10,7 +10,7 @@ use Rattle.apdu_form.specs.Model.{Apdu, command_in}
 use Rattle.card_state.specs.declared.sizes.TheConstants.{TRIES, UNBLOCK_TRIES}
 use Rattle.card_state.specs.Persistent.{Pin}
 use Rattle.file_model.specs.Guards.{Guard, OfPin, OfUnblock, tries_by, TakesATry}
-use Rattle.file_model.specs.Outcomes.{has_data}
+use Rattle.apdu_form.specs.Fields.{has_data}
 use Rattle.file_model.specs.Pins.{pin_found, value_presented, tries_left}
 
 -- ---- commands that present a value

@@ -17,7 +17,8 @@ use Rattle.file_model.specs.Templates.{asked_in}
 use Rattle.file_model.specs.Access.{may}
 use Rattle.file_model.specs.Binaries.{has_binary_parameters, offset_of, short_in_p1}
 use Rattle.file_model.specs.Files.{descriptors_in, file_found}
-use Rattle.file_model.specs.Outcomes.{has_no_parameters, has_data, has_le_alone, has_no_data, is_deactivated, pointer_before}
+use Rattle.apdu_form.specs.Fields.{has_no_parameters, has_data, has_le_alone, has_no_data}
+use Rattle.file_model.specs.Outcomes.{is_deactivated, pointer_before}
 use Rattle.file_model.specs.Records.{absolute_record, has_increase_length, has_increase_parameters, has_record_parameters, has_search_parameters, is_record_length, may_be_increased, may_be_updated, number_updated, other_length, record_named, short_in_p2, short_to_increase, sum_of}
 use Rattle.file_model.specs.Selecting.{has_select_length, has_select_parameters, has_status_parameters}
 use Rattle.file_model.specs.Selections.{chosen, current_ef}

@@ -1,7 +1,7 @@
 //! What holds of whole runs. Guesses of PINs are bounded, whatever power is lost and whatever memory fails; where nothing fails and
-//! no power is lost, the trace shows neither; what single commands are refused for, and what is read of what was put, told or
-//! spelled. And the laws of the toolkit over all that happens to a card that runs applets: commands, faults and resets. Definitions,
-//! and functions that do nothing: each carries a statement, which a caller has by calling it.
+//! no power is lost, the trace shows neither; what single commands are refused for, and what is read of what was put or told. And
+//! the laws of the toolkit over all that happens to a card that runs applets: commands, faults and resets. Definitions, and
+//! functions that do nothing: each carries a statement, which a caller has by calling it.
 #![tactic(auto)]
 
 mod faults;

@@ -24,6 +24,7 @@ pub fn cards_go_on()
     ensures refused { RefusalsTakeNothing }
     ensures events { EventsGoOn }
 {
+    // These calls are laws, and do nothing.
     installations_are_accepted();
     installed_rows_are_sound();
     sessions_stay_in_order();

@@ -13,11 +13,13 @@ use Rattle.card_state.specs.Soundness.{IsSound}
 use Rattle.file_model.proofs.ChainsLemmas.{unless_so, given_so}
 use Rattle.file_model.specs.Files.{descriptors_in}
 use Rattle.file_model.specs.Laws.{ChangesOneFile, ChangesOnePin, ChangesTriesAlone, EachStep, IsSoundCard, IsLawfulOutcome, IsLawfulPinOutcome, TellsTries}
-use Rattle.file_model.specs.Outcomes.{FileOutcome, PinOutcome, last_of, has_no_data}
+use Rattle.apdu_form.specs.Fields.{has_no_data}
+use Rattle.file_model.specs.Outcomes.{FileOutcome, PinOutcome, last_of}
 use Rattle.file_model.specs.Selections.{IsSelection}
 use Rattle.file_model.specs.declared.selections.Selection.{Selection}
 use Rattle.file_model.specs.declared.selections.TheConstants.Selection.{AT_START}
-use Rattle.file_model.specs.Channels.{selected_on, is_open, names_channel, channel_of, ChannelOutcome, closed_channel, first_selection, is_le_of_number, channel_opened, channel_closed, channel_tried}
+use Rattle.apdu_form.specs.Classes.{names_channel, channel_of}
+use Rattle.file_model.specs.Channels.{selected_on, is_open, ChannelOutcome, closed_channel, first_selection, is_le_of_number, channel_opened, channel_closed, channel_tried}
 use Rattle.file_model.specs.LawfulTrees.{ChangesOneNode, IsLawfulTree}
 use Rattle.file_model.specs.TreeOutcomes.{TreeOutcome}
 use Rattle.file_model.proofs.AtStartLemmas.{start_is_selected}

@@ -19,7 +19,8 @@ use Rattle.file_model.specs.TreeCommands.{tree_outcome}
 use Rattle.file_model.specs.LawfulTrees.{IsLawfulTree, IsLawfulTreeCommand, tree_refusals}
 use Rattle.file_model.specs.TreeOutcomes.{TreeOutcome}
 use Rattle.file_model.specs.declared.tree_commands.TreeCommand.{TreeCommand}
-use Rattle.file_model.specs.Channels.{ChannelOutcome, family, channel_of}
+use Rattle.apdu_form.specs.Classes.{family, channel_of}
+use Rattle.file_model.specs.Channels.{ChannelOutcome}
 use Rattle.applet_trait.specs.Minds.{AppletState}
 use Rattle.toolkit_model.specs.Commands.{pending}
 use Rattle.toolkit_model.specs.Registry.{row_on}

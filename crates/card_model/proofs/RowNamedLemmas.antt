@@ -8,7 +8,7 @@ use Rattle.uicc_types.specs.declared.answers.StatusWord.{StatusWord}
 use Rattle.uicc_types.specs.declared.answers.TheConstants.StatusWord.{NO_SUCH_CLASS, NO_SECURE_MESSAGING, NO_SUCH_CHANNEL, NO_SUCH_INSTRUCTION}
 use Rattle.file_model.specs.declared.selections.Selection.{Selection}
 use Rattle.file_model.proofs.ChainsLemmas.{unless_so, given_so}
-use Rattle.file_model.specs.Channels.{family}
+use Rattle.apdu_form.specs.Classes.{family}
 use Rattle.card_model.specs.Instructions.{InstructionRow, instructions, row_named, instruction_tried, is_of_tree, is_row_of_tree}
 use Rattle.card_model.specs.declared.instructions.Instruction.{Instruction}
 

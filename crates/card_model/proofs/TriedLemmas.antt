@@ -7,7 +7,7 @@ use Rattle.uicc_types.specs.Told.{AreBytes}
 use Rattle.apdu_form.specs.Model.{Apdu, command_in, IsCommand, cut_to}
 use Rattle.apdu_form.proofs.CommandInLemmas.{commands_are}
 use Rattle.file_model.specs.Chains.{given, and_given}
-use Rattle.file_model.specs.Channels.{family}
+use Rattle.apdu_form.specs.Classes.{family}
 use Rattle.card_model.specs.Answers.{Answered, carried_with, cut_answer, tried}
 use Rattle.card_model.specs.Instructions.{instruction_tried, has_toolkit}
 use Rattle.card_model.proofs.RowNamedLemmas.{IsNamed, instruction_so}

@@ -17,7 +17,7 @@ use Rattle.toolkit_model.specs.Sessions.{Sent, LateTrigger, fresh_session}
 use Rattle.toolkit_model.specs.Orderly.{IsRegistered, CanBeSent, asks, IsSuspended, IsOrderly}
 use Rattle.toolkit_model.specs.Registry.{row_on}
 use Rattle.toolkit_model.specs.Commands.{woken_mind, woken_box, woken_boxes}
-use Rattle.card_model.specs.States.{AreChannels, HasBox, IsOfSevenKinds, AreOfSevenKinds, IsGood, woken}
+use Rattle.card_model.specs.States.{AreChannels, HasBox, IsOfKnownKind, AreOfKnownKinds, IsGood, woken}
 
 pub basic_channel : (state : Persistent) → IsSound state → AreChannels state basic_channel_alone
 basic_channel state sound = record {
@@ -68,16 +68,16 @@ has_box_woken rows boxes row has =
     subst (λ box. IsSomeAnd box (λ mind. mind.kind ≡ row.kind)) (sym (woken_at rows boxes row.shelf)) (woke_too (row_on rows row.shelf) row.kind (slice_index_or boxes row.shelf None) has)
 
 -- a box keeps its kind when its applet wakes
-seven_woken : (row : Option Registration) (box : Option AppletState) → IfSome box IsOfSevenKinds → IfSome (option_map (woken_mind row) box) IsOfSevenKinds
-seven_woken None None is = tt
-seven_woken None (Some mind) is = is
-seven_woken (Some row) None is = tt
-seven_woken (Some row) (Some mind) is = is
+known_woken : (row : Option Registration) (box : Option AppletState) → IfSome box IsOfKnownKind → IfSome (option_map (woken_mind row) box) IsOfKnownKind
+known_woken None None is = tt
+known_woken None (Some mind) is = is
+known_woken (Some row) None is = tt
+known_woken (Some row) (Some mind) is = is
 
-pub kinds_woken : (rows : List Registration) (boxes : List (Option AppletState)) → AreOfSevenKinds boxes → AreOfSevenKinds (woken_boxes rows boxes)
+pub kinds_woken : (rows : List Registration) (boxes : List (Option AppletState)) → AreOfKnownKinds boxes → AreOfKnownKinds (woken_boxes rows boxes)
 kinds_woken rows boxes are = λ k d low.
     let inside : k < length boxes = omega (arith, low, length-woken_boxes rows boxes) in
-    subst (λ box. IfSome box IsOfSevenKinds) (sym (get_or_default (woken_boxes rows boxes) k d None low ∙ woken_at rows boxes k)) (seven_woken (row_on rows k) (slice_index_or boxes k None) (are k None inside))
+    subst (λ box. IfSome box IsOfKnownKind) (sym (get_or_default (woken_boxes rows boxes) k d None low ∙ woken_at rows boxes k)) (known_woken (row_on rows k) (slice_index_or boxes k None) (are k None inside))
 
 -- a mind that is woken again is as it was woken once
 woken_mind_again : (row : Option Registration) (box : Option AppletState) → option_map (woken_mind row) (option_map (woken_mind row) box) ≡ option_map (woken_mind row) box
@@ -128,7 +128,7 @@ fresh_is_orderly rows = record {
 
 -- ---- the card
 
-pub woken_is_good : (state : Persistent) (boxes : List (Option AppletState)) → IsSoundCard state → length boxes ≡ 32 → All (HasBox boxes) state.rows → AreOfSevenKinds boxes → IsGood (woken state boxes)
+pub woken_is_good : (state : Persistent) (boxes : List (Option AppletState)) → IsSoundCard state → length boxes ≡ 32 → All (HasBox boxes) state.rows → AreOfKnownKinds boxes → IsGood (woken state boxes)
 unfolding woken
 woken_is_good state boxes sound shelves has kinds = record {
   sound = sound;

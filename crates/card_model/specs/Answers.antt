@@ -14,7 +14,8 @@ use Rattle.file_model.specs.Commands.{file_outcome, pin_outcome}
 use Rattle.file_model.specs.declared.commands.FileCommand.TheVariants.{Status}
 use Rattle.file_model.specs.TreeCommands.{tree_outcome}
 use Rattle.file_model.specs.TreeOutcomes.{TreeOutcome}
-use Rattle.file_model.specs.Channels.{ChannelOutcome, channel_of, selected_on, channel_tried}
+use Rattle.apdu_form.specs.Classes.{channel_of}
+use Rattle.file_model.specs.Channels.{ChannelOutcome, selected_on, channel_tried}
 use Rattle.toolkit_model.specs.Commands.{polled, pending}
 use Rattle.card_model.specs.States.{CardState}
 use Rattle.card_model.specs.Instructions.{instruction_tried, is_known, has_toolkit}

@@ -5,7 +5,8 @@ use Rattle.uicc_types.specs.declared.answers.StatusWord.{StatusWord}
 use Rattle.uicc_types.specs.declared.answers.TheConstants.StatusWord.{NO_SUCH_CLASS, NO_SECURE_MESSAGING, NO_SUCH_CHANNEL, NO_SUCH_INSTRUCTION}
 use Rattle.file_model.specs.Chains.{refused_if, given, needs}
 use Rattle.file_model.specs.declared.selections.Selection.{Selection}
-use Rattle.file_model.specs.Channels.{family, is_class, asks_secure_messaging, channel_of, is_open}
+use Rattle.apdu_form.specs.Classes.{family, is_class, asks_secure_messaging, channel_of}
+use Rattle.file_model.specs.Channels.{is_open}
 use Rattle.file_model.specs.declared.commands.ContentsCommand.TheVariants.{ReadBinary, UpdateBinary, ReadRecord, UpdateRecord, SearchRecord, Increase, Deactivate, Activate}
 use Rattle.file_model.specs.declared.commands.FileCommand.TheVariants.{Select, Status, Contents}
 use Rattle.file_model.specs.declared.commands.PinCommand.TheVariants as pin

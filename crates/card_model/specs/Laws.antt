@@ -15,7 +15,7 @@ use Rattle.file_model.specs.Outcomes.{last_of}
 use Rattle.file_model.specs.Pins.{marked}
 use Rattle.file_model.specs.Records.{other_length}
 use Rattle.file_model.specs.LawfulTrees.{ChangesOneNode}
-use Rattle.file_model.specs.Channels.{family}
+use Rattle.apdu_form.specs.Classes.{family}
 use Rattle.card_model.specs.Answers.{Answered, carried_out, answer_of, passed_of, is_carried_out, refusal}
 use Rattle.card_model.specs.Counts.{is_failure, is_cut, IsCounted}
 use Rattle.card_model.specs.Instructions.{has_toolkit, is_of_toolkit, is_of_tree, is_row_of_tree}

@@ -1,6 +1,7 @@
 -- The state of a card, and what a reset leaves of it.
 use Rattle.std.specs.Prelude.{◌≡◌, ◌≤◌, Bool, true, false, List, length, All, Option, None, is_some, slice_index_or, IfSome, IsSomeAnd}
 use Rattle.card_state.specs.Persistent.{Registration, Persistent}
+use Rattle.card_state.specs.AppletKinds.{IsAppletKind}
 use Rattle.access_rules.specs.declared.rules.Verified.{Verified}
 use Rattle.file_model.specs.Files.{descriptors_in}
 use Rattle.file_model.specs.Laws.{IsSoundCard}
@@ -64,19 +65,19 @@ pub record AreChannels (persistent : Persistent) (channels : List (Option Select
 abbrev pub HasBox : List (Option AppletState) → Registration → Type 0
 HasBox boxes row = IsSomeAnd (slice_index_or boxes row.shelf None) (λ mind. mind.kind ≡ row.kind)
 
--- each box has an applet of one of the seven kinds, or is empty
-abbrev pub IsOfSevenKinds : AppletState → Type 0
-IsOfSevenKinds mind = (1 ≤ mind.kind) × (mind.kind ≤ 7)
+-- each box has an applet of a known kind, or is empty
+abbrev pub IsOfKnownKind : AppletState → Type 0
+IsOfKnownKind mind = IsAppletKind mind.kind
 
-abbrev pub AreOfSevenKinds : List (Option AppletState) → Type 0
-AreOfSevenKinds boxes = All (λ box. IfSome box IsOfSevenKinds) boxes
+abbrev pub AreOfKnownKinds : List (Option AppletState) → Type 0
+AreOfKnownKinds boxes = All (λ box. IfSome box IsOfKnownKind) boxes
 
--- What the card holds is sound, what is selected is there, each registered applet has its box, each box is of one of the seven
--- kinds, and the session is orderly.
+-- What the card holds is sound, what is selected is there, each registered applet has its box, each box is of a known
+-- kind, and the session is orderly.
 pub record IsGood (card : CardState) : Type 0 where
   pub sound : IsSoundCard card.persistent
   pub channels : AreChannels card.persistent card.channels
   pub shelves : length card.boxes ≡ 32
   pub boxes : All (HasBox card.boxes) card.persistent.rows
-  pub kinds : AreOfSevenKinds card.boxes
+  pub kinds : AreOfKnownKinds card.boxes
   pub session : IsOrderly card.persistent.rows card.session

@@ -5,7 +5,7 @@ use Rattle.std.specs.Int.{bit_at}
 use Rattle.std.specs.List.{range_with_len, list_any, list_all}
 use Rattle.uicc_types.specs.declared.keys.TheConstants.{PIN_1, PIN_2, ADM_1}
 use Rattle.card_state.specs.declared.events.TheConstants.{EVENTS_END}
-use Rattle.card_state.specs.declared.sizes.TheConstants.{NODE_COUNT, PIN_COUNT, TEXT_LIMIT, MENU_LIMIT, RECORD_LIMIT, TRIES, UNBLOCK_TRIES}
+use Rattle.card_state.specs.declared.sizes.TheConstants.{NODE_COUNT, PIN_COUNT, TEXT_LIMIT, MENU_LIMIT, RECORD_LIMIT, TRIES, UNBLOCK_TRIES, LAST_KIND}
 use Rattle.card_state.specs.declared.places.TheConstants.{NARROW_VERSION, WIDE_VERSION}
 use Rattle.card_state.specs.declared.entries.Node.{Node}
 use Rattle.card_state.specs.declared.entries.Row.{Row}
@@ -50,7 +50,7 @@ shows_item row = row.used && has_row_text row
 
 -- a known kind, a priority, a sequence number that was given out, known events
 abbrev pub has_known_numbers : ℕ → Row → Bool
-has_known_numbers next row = nat_le 1 row.kind && nat_le row.kind 7 && nat_le 1 row.priority && nat_lt row.sequence next && nat_lt row.events EVENTS_END
+has_known_numbers next row = nat_le 1 row.kind && nat_le row.kind LAST_KIND && nat_le 1 row.priority && nat_lt row.sequence next && nat_lt row.events EVENTS_END
 
 abbrev pub has_short_parts : Bool → List ℕ → Bool
 has_short_parts wide bytes = nat_le (slice_index bytes 7) TEXT_LIMIT && nat_le (slice_index bytes 18) (kept_limit wide)

@@ -1,3 +1,4 @@
+pub mod AppletKinds
 pub mod Blank
 pub mod Changing
 pub mod Checks

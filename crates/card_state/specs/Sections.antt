@@ -4,7 +4,7 @@ use Rattle.std.specs.List.{list_any, list_all}
 use Rattle.list_laws.specs.Patches.{patched}
 use Rattle.uicc_types.specs.declared.identifiers.FileId.{FileId}
 use Rattle.uicc_types.specs.declared.keys.TheConstants.{PIN_1, PIN_2, ADM_1}
-use Rattle.card_state.specs.declared.sizes.TheConstants.{NODE_COUNT, ROW_COUNT, LOWER_ROW_COUNT, TEXT_LIMIT, MENU_LIMIT, KEPT_WIDTH, KEPT_LIMIT, SIZE_LIMIT, RECORD_LIMIT, TRIES, UNBLOCK_TRIES}
+use Rattle.card_state.specs.declared.sizes.TheConstants.{NODE_COUNT, ROW_COUNT, LOWER_ROW_COUNT, TEXT_LIMIT, MENU_LIMIT, KEPT_WIDTH, KEPT_LIMIT, SIZE_LIMIT, RECORD_LIMIT, TRIES, UNBLOCK_TRIES, LAST_KIND}
 use Rattle.card_state.specs.declared.shapes.Shape.{Shape}
 use Rattle.card_state.specs.declared.shapes.Shape.TheVariants.{Transparent, Linear, Cyclic}
 use Rattle.card_state.specs.declared.faults.SectionFault.{SectionFault}
@@ -169,7 +169,7 @@ sorted_codes codes = map (λ event. event.0) (filter (λ event. list_any (λ cod
 -- the row may stand beside these: the shelf is free, no second one answers call control, and at most 16 have a text
 abbrev pub is_new_row : List Registration → Registration → Bool
 is_new_row rows row =
-    nat_le row.shelf (ROW_COUNT - 1) && nat_le 1 row.kind && nat_le row.kind 7 && nat_le 1 row.priority && not (list_any (λ other. other.shelf == row.shelf) rows)
+    nat_le row.shelf (ROW_COUNT - 1) && nat_le 1 row.kind && nat_le row.kind LAST_KIND && nat_le 1 row.priority && not (list_any (λ other. other.shelf == row.shelf) rows)
     && not (is_call_control row && list_any is_call_control rows) && not (has_text row && nat_le MENU_LIMIT (count_by has_text rows))
 
 abbrev pub new_row : Persistent → ℕ → ℕ → ℕ → Installation → Registration

@@ -5,6 +5,7 @@ use Rattle.card_state.specs.declared.sizes.TheConstants.{NODE_COUNT, TEXT_LIMIT,
 use Rattle.card_state.specs.Kinds.{df_kind, transparent_kind, has_records, is_ef_kind, mf_id, current_adf_id, activated, deactivated, known_codes, call_control_code}
 use Rattle.card_state.specs.Places.{data_place, data_end, row_count, kept_limit}
 use Rattle.card_state.specs.Persistent.{Contents, Files, Bytes, Records, File, Pin, Registration, Persistent}
+use Rattle.card_state.specs.AppletKinds.{IsAppletKind}
 
 abbrev pub IsDf : File → Type 0
 IsDf file = file.kind ≡ df_kind
@@ -89,7 +90,7 @@ pub record AreEventCodes (codes : List ℕ) : Type 0 where
 
 pub record IsSoundRow (wide : Bool) (next : ℕ) (row : Registration) : Type 0 where
   pub shelf : row.shelf < row_count wide
-  pub kind : (1 ≤ row.kind) × (row.kind ≤ 7)
+  pub kind : IsAppletKind row.kind
   pub priority : 1 ≤ row.priority
   pub sequence : row.sequence < next
   pub codes : AreEventCodes row.codes

@@ -82,7 +82,7 @@ impl PinSlot {
 pub struct Row {
     /// Whether there is one on this shelf.
     pub used: bool,
-    /// The kind of the applet, 1 to 7.
+    /// The kind of the applet, from 1 to `LAST_KIND`.
     pub kind: u8,
     /// Its priority, 1 to 255; 1 comes first.
     pub priority: u8,

@@ -47,3 +47,6 @@ pub const TRIES: u8 = 3;
 
 /// How many wrong values of an UNBLOCK PIN may be presented one after another.
 pub const UNBLOCK_TRIES: u8 = 10;
+
+/// The highest number of a kind of applets; the kinds are numbered from 1 on.
+pub const LAST_KIND: u8 = 7;

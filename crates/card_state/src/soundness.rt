@@ -1,4 +1,4 @@
-//! What holds of the layout of a card, whatever its memory holds.
+//! Which contents stand for a state, and that it is sound. The functions do nothing: each one's contract is the law.
 ghost use Rattle.card_state.specs.Holding.{StandingFilesHold, StandingFilesHaveBytes, StandingRecordsAreFull, StandingKeysAreOwn};
 ghost use Rattle.card_state.specs.SoundnessLaws.{StandingIsSound, SoundStands, RecordsAreShort, RefusedAtFirst};
 

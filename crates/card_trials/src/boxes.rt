@@ -1,11 +1,6 @@
 //! Boxes and a sink that note what happens to them, where the test sees it.
-ghost use Rattle.std.specs.Prelude.{◌≤◌, length, IfOk};
-
 use applet_trait::{Act, Applet, Stimulus};
-use boxed_applets::{ProgramApplet, applet_of};
 use byte_streams::{Failed, ListSink, Sink};
-use card_state::sizes::ROW_COUNT;
-use std::alloc::{AllocError, Global};
 use std::cell::Cell;
 use uicc_types::Kept;
 
@@ -81,7 +76,7 @@ impl Notes {
 
 /// A box that notes its mark at each step, the first byte that it keeps where it is woken with one, and its end.
 pub struct Noting<'a> {
-    applet: ProgramApplet,
+    applet: Box<dyn Applet>,
     mark: u8,
     notes: &'a Notes,
 }
@@ -99,7 +94,7 @@ impl Noting<'_> {
 }
 
 impl Applet for Noting<'_> {
-    ghost mind = { λ noting. ⟦<ProgramApplet as Applet>⟧.mind noting.applet };
+    ghost mind = { λ noting. (Applet-box noting.applet).mind noting.applet.value };
 
     fn kind(&self) -> u8 {
         self.applet.kind()
@@ -129,31 +124,29 @@ impl Drop for Noting<'_> {
     }
 }
 
-/// A box with each of these marks, on the shelf of its place, and none where a dot stands. All have an applet of one kind, that of
-/// the program's shelf `like`.
-pub fn boxes<'a>(
-    alloc: Global,
-    like: usize,
-    marks: &str,
-    notes: &'a Notes,
-) -> Result<Vec<Option<Noting<'a>>>, AllocError>
-    ensures { IfOk result (λ cast. length cast.items ≤ 32) }
-{
-    let mut cast = Vec::new(alloc);
-    for mark in marks.as_bytes() {
-        if cast.len() >= ROW_COUNT {
-            break;
+/// A box with each of these marks, on the shelf of its place, and none where a dot stands, each round a box that `$boxed` makes. It
+/// is a macro, since a function may not hand out boxes that it makes.
+#[macro_export]
+macro_rules! noting_boxes {
+    ($alloc:expr, $marks:expr, $notes:expr, $boxed:expr) => {{
+        let mut cast = Vec::new($alloc);
+        for mark in $marks.as_bytes() {
+            cast.push($crate::boxes::noting_box(*mark, $boxed, $notes))?;
         }
-        cast.push(match *mark {
-            LINE => None,
-            mark => Some(Noting {
-                applet: applet_of(like),
-                mark,
-                notes,
-            }),
-        })?;
+        cast
+    }};
+}
+
+/// The applet in a box that notes this mark, or none where the mark is a dot.
+pub fn noting_box(mark: u8, applet: Box<dyn Applet>, notes: &Notes) -> Option<Noting<'_>> {
+    match mark {
+        LINE => None,
+        mark => Some(Noting {
+            applet,
+            mark,
+            notes,
+        }),
     }
-    Ok(cast)
 }
 
 /// A sink that notes each line.

@@ -1,6 +1,6 @@
 //! The pages that the program shows in place of a run.
 
-use crate::boxes::{Notes, Noting, boxes};
+use crate::boxes::Noting;
 use crate::runs::words_of;
 use byte_streams::{ListSink, SliceSource};
 use std::rt::HostRuntime;
@@ -29,8 +29,7 @@ fn a_page_is_shown_for_its_word_alone(rt: HostRuntime) -> Result<(), Fail> {
         let arguments = words_of(rt.alloc(), command_line)?;
         let mut source = SliceSource::new(b"start\n", &[]);
         let mut sink = ListSink::new(rt.alloc(), 8192, fails)?;
-        let notes = Notes::new(false, u32::MAX);
-        let cast: Vec<Option<Noting<'_>>> = boxes(rt.alloc(), 0, "", &notes)?;
+        let cast: Vec<Option<Noting<'_>>> = Vec::new(rt.alloc());
         let got = answer(&rt, &arguments, &mut source, &mut sink, cast);
         assert_eq!(rt; got, status, "{command_line}");
         assert!(rt;

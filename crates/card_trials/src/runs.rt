@@ -3,7 +3,8 @@ ghost use Rattle.std.specs.Prelude.{IsTrue, map, string_bytes};
 ghost use Rattle.uicc_run.specs.Stores.{IsSizeFor};
 
 use crate::boxes::{Noting, NotingSink};
-use boxed_applets::make_applets;
+use applet_trait::Applet;
+use boxed_applets::boxed_applet;
 use byte_streams::{ListSink, SliceSource};
 use card_state::places::MEMORY_SIZE;
 use card_state::sizes::ROW_COUNT;
@@ -110,7 +111,10 @@ pub fn blank(alloc: Global) -> Result<BenchEeprom, Fail> {
 pub fn device_with(alloc: Global, section: &str) -> Result<BenchEeprom, Fail> {
     let words = words_of(alloc, "play")?;
     let device = blank(alloc)?;
-    let cast = make_applets(alloc)?;
+    let mut cast: Vec<Option<Box<dyn Applet>>> = Vec::new(alloc);
+    for shelf in 0..ROW_COUNT {
+        cast.push(Some(boxed_applet!(alloc, shelf)))?;
+    }
     let mut source = SliceSource::new(section.as_bytes(), &[]);
     let mut sink = sink(alloc)?;
     if !fits(&words, device.size()) || cast.len() > ROW_COUNT {

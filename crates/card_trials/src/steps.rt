@@ -1,9 +1,10 @@
 //! When boxes step, when one is let go, and what is handed back.
 
-use crate::boxes::{Notes, Noting, NotingSink, boxes};
+use crate::boxes::{Notes, Noting, NotingSink};
+use crate::noting_boxes;
 use crate::runs::{Ended, blank, carried_out, sink};
 use applet_trait::{Act, Applet, Stimulus};
-use boxed_applets::applet_of;
+use boxed_applets::{Greeter, Notebook, boxed_applet, in_box};
 use std::alloc::{AllocError, Global};
 use std::test::Fail;
 use uicc_types::Octets;
@@ -158,7 +159,7 @@ fn first_wrong(alloc: Global, trial: &Trial) -> Result<Option<&'static str>, Fai
         sink: sink(alloc)?,
         notes: &notes,
     };
-    let cast = boxes(alloc, trial.like, trial.boxes, &notes)?;
+    let cast = noting_boxes!(alloc, trial.boxes, &notes, boxed_applet!(alloc, trial.like));
     let ended = carried_out(alloc, "play", trial.case, blank(alloc)?, cast, &mut sink)?;
     let is_right = ended.status == 0 && ended.is_shown && notes.are(trial.marks);
     Ok(if is_right { None } else { Some(trial.name) })
@@ -193,7 +194,7 @@ fn is_let_go(alloc: Global, call: &str, again: &str, marks: &str) -> Result<bool
         sink: sink(alloc)?,
         notes: &notes,
     };
-    let cast = boxes(alloc, 0, "A", &notes)?;
+    let cast = noting_boxes!(alloc, "A", &notes, in_box!(alloc, Greeter::new()));
     let case = format!(in alloc; "{BEFORE}fail {call} 00\n{FAILS}#< {again}\n")?;
     let ended = carried_out(alloc, "play", case.as_str(), blank(alloc)?, cast, &mut sink)?;
     Ok(ended.status == 0 && ended.is_shown && notes.are(marks))
@@ -255,7 +256,7 @@ fn boxes_stay_on_their_shelves(rt: HostRuntime) -> Result<(), Fail> {
             sink: sink(alloc)?,
             notes: &notes,
         };
-        let cast = boxes(alloc, 0, "A.B..C", &notes)?;
+        let cast = noting_boxes!(alloc, "A.B..C", &notes, in_box!(alloc, Greeter::new()));
         let case = format!(in alloc; "{THREE}fail {call} 00\n{STOPPED}")?;
         let ended = carried_out(alloc, "play", case.as_str(), blank(alloc)?, cast, &mut sink)?;
         assert!(rt; ended.status == 0 && ended.is_shown, "{call}");
@@ -281,7 +282,7 @@ fn a_box_is_handed_back_as_it_is(rt: HostRuntime) -> Result<(), Fail> {
         sink: sink(alloc)?,
         notes: &notes,
     };
-    let cast = boxes(alloc, 5, ".....A", &notes)?;
+    let cast = noting_boxes!(alloc, ".....A", &notes, in_box!(alloc, Notebook::new()));
     let Ended {
         status,
         is_shown,
@@ -293,7 +294,7 @@ fn a_box_is_handed_back_as_it_is(rt: HostRuntime) -> Result<(), Fail> {
         item: 0,
         text: Octets::from_slice(b"AB"),
     };
-    assert!(rt; matches!(applet_of(5).step(&typed), Act::Done));
+    assert!(rt; matches!(Notebook::new().step(&typed), Act::Done));
     let keeps = match cast.get_mut(5) {
         Some(Some(applet)) => match applet.act(&typed) {
             Act::Keep(note) => note.as_slice() == b"AB".as_slice(),

@@ -1,7 +1,10 @@
 //! A card whose memory shows other bytes than it was given: it goes on as it was last, where those are no card for its boxes.
 
-use crate::boxes::{Notes, NotingSink, boxes};
+use crate::boxes::{Notes, NotingSink};
+use crate::noting_boxes;
 use crate::runs::{blank, carried_out, device_with, sink};
+use applet_trait::Applet;
+use boxed_applets::{Greeter, boxed_applet, in_box};
 use eeprom_model::{BenchEeprom, SwitchedEeprom};
 use std::alloc::Global;
 use std::test::Fail;
@@ -222,7 +225,7 @@ fn goes_on(alloc: Global, trial: &Trial) -> Result<bool, Fail> {
         sink: sink(alloc)?,
         notes: &notes,
     };
-    let cast = boxes(alloc, trial.like, trial.boxes, &notes)?;
+    let cast = noting_boxes!(alloc, trial.boxes, &notes, boxed_applet!(alloc, trial.like));
     let case = case_of(alloc, trial)?;
     let ended = carried_out(alloc, "play", case.as_str(), device, cast, &mut sink)?;
     Ok(ended.status == 0 && ended.is_shown && notes.are(trial.marks))
@@ -250,7 +253,7 @@ fn ends(
         sink: sink(alloc)?,
         notes: &notes,
     };
-    let cast = boxes(alloc, 0, boxes_at, &notes)?;
+    let cast = noting_boxes!(alloc, boxes_at, &notes, in_box!(alloc, Greeter::new()));
     let ended = carried_out(alloc, words, case, device, cast, &mut sink)?;
     Ok((ended.status, ended.is_shown))
 }

@@ -5,8 +5,9 @@ ghost use Rattle.applet_trait.specs.Minds.{fresh};
 ghost use Rattle.applet_trait.specs.Turns.{act};
 
 use applet_trait::{Act, Applet, Stimulus};
-use boxed_applets::{ProgramApplet, applet_of};
+use boxed_applets::boxed_applet;
 use std::rt::HostRuntime;
+use std::test::Fail;
 use toolkit_commands::Proactive;
 use uicc_types::events::PROFILE_DOWNLOAD;
 use uicc_types::{Kept, Octets};
@@ -31,12 +32,12 @@ fn turn_of<B: Applet>(place: &mut Option<B>, kept: &Kept, stimulus: &Stimulus) -
 }
 
 #[test]
-fn an_applet_in_a_place_acts_as_its_kind(rt: HostRuntime) {
+fn an_applet_in_a_place_acts_as_its_kind(rt: HostRuntime) -> Result<(), Fail> {
     let event = Stimulus::Event {
         code: PROFILE_DOWNLOAD,
         body: Octets::new(),
     };
-    let mut place = Some(applet_of(0));
+    let mut place = Some(boxed_applet!(rt.alloc(), 0));
     match turn_of(&mut place, &Kept::new(), &event) {
         Some((kind, Act::Send(Proactive::DisplayText { text }))) => {
             assert_eq!(rt; kind, 1);
@@ -44,6 +45,7 @@ fn an_applet_in_a_place_acts_as_its_kind(rt: HostRuntime) {
         }
         _ => assert!(rt; false),
     }
-    let mut empty: Option<ProgramApplet> = None;
+    let mut empty: Option<Box<dyn Applet>> = None;
     assert!(rt; turn_of(&mut empty, &Kept::new(), &event).is_none());
+    Ok(())
 }

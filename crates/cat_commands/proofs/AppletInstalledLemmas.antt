@@ -10,11 +10,12 @@ use Rattle.card_state.specs.Persistent.{Registration}
 use Rattle.card_state.specs.Sections.{with_row}
 use Rattle.card_state.specs.StateLaws.{StatesAreOfTables}
 use Rattle.card_state.specs.States.{registration_of, rows_of, state_of}
+use Rattle.card_state.specs.AppletKinds.{IsAppletKind}
 use Rattle.access_rules.specs.declared.rules.Verified.{Verified}
 use Rattle.card_commits.specs.Rows.{MayInstall}
 use Rattle.card_commits.proofs.KeepsLemmas.{keeps_done}
-use Rattle.applet_trait.specs.Minds.{AppletState}
-use Rattle.toolkit_model.specs.Installing.{kind_on, InstallationsAreAccepted}
+use Rattle.applet_trait.specs.Minds.{AppletState, kind_on}
+use Rattle.toolkit_model.specs.Installing.{InstallationsAreAccepted}
 use Rattle.toolkit_model.specs.Sound.{InstalledRowsAreSound}
 use Rattle.toolkit_model.specs.Passing.{ToolkitState}
 use Rattle.toolkit_model.specs.Registry.{is_taken, without_row, installed_row}
@@ -85,7 +86,7 @@ module _ (table : Loaded) (minds : List (Option AppletState)) (tables : StatesAr
         ∙ ap (λ (n : ℕ). Ok (record { body = []; passed = installed (registration_of apdu.p2 row) (toolkit old); next_sequence = n + 1 })) has.told.next
         ∙ ap (λ (n : ℕ). Ok (record { body = []; passed = installed (registration_of n row) (toolkit old); next_sequence = old.memory.table.next + 1 })) (sym same)
 
-  module _ (row : Row) (is : tried_here ≡ Ok (registration_of apdu.p2 row)) (shelf : ℕ) (same : shelf ≡ apdu.p2) (sound : InstalledRowsAreSound) (known : IfSome (kind_on minds apdu.p2) (λ each. (1 ≤ each) × (each ≤ 7))) where
+  module _ (row : Row) (is : tried_here ≡ Ok (registration_of apdu.p2 row)) (shelf : ℕ) (same : shelf ≡ apdu.p2) (sound : InstalledRowsAreSound) (known : IfSome (kind_on minds apdu.p2) IsAppletKind) where
     low_at : shelf < 32
     low_at = subst (λ (n : ℕ). n < 32) (sym same) (low_shelf tables sound table (kind_on minds apdu.p2) seen apdu row known is)
 

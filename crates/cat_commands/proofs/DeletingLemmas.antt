@@ -15,7 +15,7 @@ use Rattle.card_state.specs.StateLaws.{RowsComeFromEntries, StatesAreOfTables}
 use Rattle.card_state.specs.States.{rows_of}
 use Rattle.access_rules.specs.declared.rules.Verified.{Verified}
 use Rattle.file_model.specs.Chains.{refused_if}
-use Rattle.file_model.specs.Outcomes.{has_no_data}
+use Rattle.apdu_form.specs.Fields.{has_no_data}
 use Rattle.card_commits.specs.Entries.{HasRowOn}
 use Rattle.card_commits.specs.Rows.{without_row_on, rows_alone}
 use Rattle.timer_table.specs.Timers.{without}

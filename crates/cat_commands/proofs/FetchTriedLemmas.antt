@@ -1,4 +1,5 @@
--- FETCH and TERMINAL RESPONSE, of a session.
+-- From the test of FETCH (`fetch_tried`) or TERMINAL RESPONSE (`response_tried`) to what the abstract card answers: `_out`, a
+-- command is there; `_at`, it is carried out; `_not`, it is refused. The proofs of `fetch` and `take_response` alone stand on these.
 use Rattle.std.proofs.Common.{◌≡◌, refl, sym, ap, ◌∙◌, subst, ℕ, true, List, Option, Some, None, length, is_some, IfSome, option_map, Ok, Err}
 use Rattle.uicc_types.specs.declared.answers.StatusWord.{StatusWord}
 use Rattle.apdu_form.specs.Model.{Apdu}

@@ -20,7 +20,8 @@ use Rattle.card_state.specs.SoundnessLaws.{StandingIsSound}
 use Rattle.card_state.specs.Fitting.{ShareNoCallControl}
 use Rattle.access_rules.specs.declared.rules.Verified.{Verified}
 use Rattle.file_model.specs.Chains.{refused_if}
-use Rattle.file_model.specs.Outcomes.{has_data}
+use Rattle.apdu_form.specs.Fields.{has_data}
+use Rattle.card_state.specs.AppletKinds.{IsAppletKind}
 use Rattle.card_commits.specs.Rows.{MayInstall}
 use Rattle.toolkit_model.specs.Sound.{InstalledRowsAreSound}
 use Rattle.toolkit_model.specs.declared.faults.RowFault.{RowFault}
@@ -157,7 +158,7 @@ room_for text rows is = by_text (text == 0) refl where
 
 -- ---- it may stand there
 
-module _ (tables : StatesAreOfTables) (sound : InstalledRowsAreSound) (table : Loaded) (kind : Option ℕ) (seen : Verified) (apdu : Apdu) (row : Row) (known : IfSome kind (λ each. (1 ≤ each) × (each ≤ 7)))
+module _ (tables : StatesAreOfTables) (sound : InstalledRowsAreSound) (table : Loaded) (kind : Option ℕ) (seen : Verified) (apdu : Apdu) (row : Row) (known : IfSome kind IsAppletKind)
     (is : install_tried (state_of table []) kind seen apdu ≡ Ok (registration_of apdu.p2 row)) where
   abbrev reg : Registration
   reg = registration_of apdu.p2 row

@@ -16,12 +16,11 @@ use Rattle.file_model.specs.Outcomes.{last_of}
 use Rattle.card_commits.specs.Laws.{IsTold}
 use Rattle.card_commits.specs.Entries.{with_row_at}
 use Rattle.card_commits.specs.Rows.{with_row_installed, rows_alone}
-use Rattle.applet_trait.specs.Minds.{AppletState, fresh}
+use Rattle.applet_trait.specs.Minds.{AppletState, fresh, kind_on}
 use Rattle.toolkit_model.specs.Passing.{ToolkitState, Passed, passed_rows}
 use Rattle.toolkit_model.specs.Running.{mind_on, with_mind}
 use Rattle.toolkit_model.specs.Driving.{driven}
 use Rattle.toolkit_model.specs.Commands.{registering, installed}
-use Rattle.toolkit_model.specs.Installing.{kind_on}
 use Rattle.event_dispatch.specs.Commits.{InstallsRow}
 use Rattle.proactive_handler.specs.Boxes.{kinds_of}
 use Rattle.proactive_handler.proofs.MovedLemmas.{kinds_stay}

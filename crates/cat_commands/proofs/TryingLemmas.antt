@@ -6,7 +6,7 @@ use Rattle.apdu_form.specs.Model.{Apdu}
 use Rattle.card_state.specs.Persistent.{Registration}
 use Rattle.access_rules.specs.declared.rules.Verified.{Verified}
 use Rattle.file_model.specs.Chains.{refused_if, given, and_given}
-use Rattle.file_model.specs.Outcomes.{has_data, has_no_data, has_le_alone, has_no_parameters}
+use Rattle.apdu_form.specs.Fields.{has_data, has_no_data, has_le_alone, has_no_parameters}
 use Rattle.file_model.specs.Records.{other_length}
 use Rattle.file_model.proofs.ChainsLemmas.{past_unless, past_given}
 use Rattle.toolkit_commands.specs.declared.commands.Details.{Details}

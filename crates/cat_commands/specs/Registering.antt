@@ -9,7 +9,7 @@ use Rattle.card_state.specs.Persistent.{Registration, Persistent}
 use Rattle.card_state.specs.States.{registration_of, rows_of}
 use Rattle.card_commits.specs.Rows.{MayInstall, with_row_installed}
 use Rattle.card_commits.specs.Laws.{IsTold}
-use Rattle.toolkit_model.specs.Installing.{kind_on}
+use Rattle.applet_trait.specs.Minds.{kind_on}
 use Rattle.toolkit_model.specs.Commands.{registering}
 use Rattle.toolkit_model.specs.Registry.{is_taken}
 use Rattle.proactive_handler.specs.Steps.{Scene, toolkit}

@@ -11,7 +11,7 @@ use Rattle.card_state.specs.Persistent.{Registration, Persistent}
 use Rattle.card_state.specs.States.{registration_of}
 use Rattle.access_rules.specs.declared.rules.Verified.{Verified}
 use Rattle.file_model.specs.Chains.{given, and_given, needs}
-use Rattle.file_model.specs.Outcomes.{has_data, has_no_data, has_le_alone, has_no_parameters}
+use Rattle.apdu_form.specs.Fields.{has_data, has_no_data, has_le_alone, has_no_parameters}
 use Rattle.file_model.specs.Records.{other_length}
 use Rattle.toolkit_commands.specs.declared.commands.Details.{Details}
 use Rattle.toolkit_commands.specs.declared.envelopes.Envelope.{Envelope}

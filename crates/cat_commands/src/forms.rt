@@ -6,7 +6,6 @@ ghost use Rattle.card_model.specs.Toolkit.{row_status};
 ghost use Rattle.cat_commands.specs.Trying.{seen, data_tried, fetch_tried, response_given, response_tried, envelope_given, envelope_tried};
 
 use apdu_form::Command;
-use file_model::{has_data, has_le_alone, has_no_parameters};
 use toolkit_commands::{
     Details, EnvelopeRef, ResponseRef, read_envelope_in_place, read_response_in_place,
 };
@@ -19,9 +18,9 @@ pub(crate) fn try_data(command: &Command<'_>) -> Result<(), StatusWord>
     ensures value { result ≡ data_tried command.now }
     ensures usual { IfErr result (λ status. status.0 ≢ StatusWord.MEMORY_PROBLEM.0) }
 {
-    if !has_no_parameters(command) {
+    if !command.has_no_parameters() {
         Err(StatusWord::WRONG_PARAMETERS)
-    } else if !has_data(command) {
+    } else if !command.has_data() {
         Err(StatusWord::WRONG_LENGTH)
     } else {
         Ok(())
@@ -44,10 +43,10 @@ pub(crate) fn try_fetch(pending: Option<u8>, command: &Command<'_>) -> Result<()
     ensures value { result ≡ fetch_tried pending command.now }
     ensures usual { IfErr result (λ status. status.0 ≢ StatusWord.MEMORY_PROBLEM.0) }
 {
-    if !has_no_parameters(command) {
+    if !command.has_no_parameters() {
         return Err(StatusWord::WRONG_PARAMETERS);
     }
-    if !has_le_alone(command) {
+    if !command.has_le_alone() {
         return Err(StatusWord::WRONG_LENGTH);
     }
     match pending {

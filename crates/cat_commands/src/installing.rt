@@ -4,8 +4,8 @@ ghost use Rattle.card_state.specs.declared.events.TheConstants.{EVENTS_END};
 ghost use Rattle.card_state.specs.declared.sizes.TheConstants.{ROW_COUNT};
 ghost use Rattle.card_state.specs.States.{registration_of, state_of};
 ghost use Rattle.card_state.specs.Memory.{memory};
-ghost use Rattle.applet_trait.specs.Minds.{minds_of};
-ghost use Rattle.toolkit_model.specs.Installing.{kind_on};
+ghost use Rattle.card_state.specs.AppletKinds.{IsAppletKind};
+ghost use Rattle.applet_trait.specs.Minds.{minds_of, kind_on};
 ghost use Rattle.toolkit_model.specs.Commands.{installed};
 ghost use Rattle.applet_registry.specs.Rows.{IsAdmitted};
 ghost use Rattle.proactive_handler.specs.Boxes.{IsSameBox, AreForOthers};
@@ -18,10 +18,10 @@ ghost use Rattle.cat_commands.specs.Trying.{install_tried, registration_for};
 ghost use Rattle.cat_commands.specs.Bounds.{IsBetweenCommands, EndsToolkitWell};
 
 use crate::forms::status_of;
-use crate::shelves::{kind_on, wake};
+use crate::shelves::wake;
 use access_rules::Verified;
 use apdu_form::Command;
-use applet_trait::Applet;
+use applet_trait::{Applet, kind_on};
 use card_commits::{install_row, tables_tell_states};
 use card_state::sizes::ROW_COUNT;
 use card_state::{Loaded, Row, standing_is_sound, states_are_of_entries};
@@ -54,7 +54,7 @@ fn try_install<B: Applet>(
     ensures events { IfOk result (λ row. row.events < EVENTS_END) }
     ensures admitted { IfOk result (IsAdmitted loaded.now command.now.p2) }
     ensures known { IfOk result (λ row. IfSome (kind_on (minds_of B.mind cast.now) command.now.p2)
-        (λ kind. (1 ≤ kind) × (kind ≤ 7))) }
+        IsAppletKind) }
     ensures usual { IfErr result (λ status. status.0 ≢ StatusWord.MEMORY_PROBLEM.0) }
 {
     if !names_place(command) {
@@ -69,7 +69,7 @@ fn try_install<B: Applet>(
     let shelf = Shelf(command.p2);
     match applet_registry::install(
         loaded,
-        kind_on(cast, shelf),
+        kind_on(cast, shelf.0),
         shelf,
         command.p1,
         command.body,

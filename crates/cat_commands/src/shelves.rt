@@ -1,24 +1,11 @@
 //! The box on a shelf.
-ghost use Rattle.std.specs.Prelude.{◌≡◌, ◌≢◌, ◌<◌, ◌≤◌, ℕ, length, IfSome, None, option_map};
+ghost use Rattle.std.specs.Prelude.{◌≡◌, ◌≢◌, ◌<◌, ℕ, length, None, option_map};
 ghost use Rattle.applet_trait.specs.Minds.{fresh, minds_of};
-ghost use Rattle.toolkit_model.specs.Installing.{kind_on};
 ghost use Rattle.toolkit_model.specs.Running.{mind_on, with_mind};
 ghost use Rattle.proactive_handler.specs.Boxes.{IsSameBox};
 
 use applet_trait::Applet;
 use uicc_types::{Kept, Shelf};
-
-/// The kind of the applet in the box on a shelf, if there is one.
-pub(crate) fn kind_on<B: Applet>(cast: &[Option<B>], shelf: Shelf) -> Option<u8>
-    requires { shelf.0 < length cast.now }
-    ensures value { result ≡ kind_on (minds_of B.mind cast.now) shelf.0 }
-    ensures known { IfSome result (λ kind. (1 ≤ kind) × (kind ≤ 7)) }
-{
-    match &cast[usize::from(shelf.0)] {
-        Some(applet) => Some(applet.kind()),
-        None => None,
-    }
-}
 
 // The applet in a box begins anew with these bytes.
 fn wake_in<B: Applet>(place: &mut Option<B>, kept: &Kept)

@@ -1,5 +1,5 @@
 pub mod IsBytesLemmas
-pub mod ObjectAtLemmas
-pub mod OutlineAtLemmas
+mod ObjectAtLemmas
+mod OutlineAtLemmas
 pub mod ReadingLemmas
 pub mod ValueOfLemmas

@@ -1,6 +1,5 @@
 //! The device over a file.
 ghost use Rattle.std.specs.Prelude.{◌≡◌, ◌≤◌, length, is_some};
-ghost use Rattle.uicc_types.specs.Counts.{names_fault};
 ghost use Rattle.eeprom_model.specs.Adapter.{is_planned as planned_for};
 
 use crate::device::{Eeprom, EepromFault, PAGE_LENGTH};
@@ -66,13 +65,6 @@ impl FileEeprom {
             is_fresh: true,
         }
     }
-}
-
-/// Whether the plan names a cut or a failure.
-fn plans_a_fault(plan: &Plan) -> bool
-    ensures { result ≡ names_fault plan.now }
-{
-    plan.cut.is_some() || plan.fail.is_some() || plan.read_fail.is_some()
 }
 
 /// Whether a fault is planned for the call of this number.
@@ -181,8 +173,6 @@ impl Eeprom for FileEeprom {
         self.size
     }
 
-    fn tells_bytes(&self) {}
-
     fn read(&mut self, at: usize, out: &mut [u8]) -> Result<(), EepromFault>
         requires { at + length out.old ≤ self.old.size }
         ensures size { self.new.size ≡ self.old.size }
@@ -252,7 +242,7 @@ impl Eeprom for FileEeprom {
     fn arm(&mut self, plan: Plan)
         ensures { self.new ≡ given_plan plan self.old }
     {
-        if plans_a_fault(&plan) {
+        if plan.names_fault() {
             self.plans = self.plans.saturating_add(1);
             self.latest = plan;
         }

@@ -1,8 +1,7 @@
 //! A device of the bench: a vector in which faults are planned.
 ghost use Rattle.std.specs.Prelude.{◌≡◌, refl, ◌+◌, ◌≤◌, IsTrue, Some, true, false, length, replicate, option_map, slice_range, IfOk, IfSome, OnOk, OnErr, IsErrOf};
 ghost use Rattle.list_laws.specs.Patches.{patched, Torn};
-ghost use Rattle.uicc_types.specs.Counts.{names_fault};
-ghost use Rattle.uicc_types.specs.Told.{AreBytes, Becomes};
+ghost use Rattle.uicc_types.specs.Told.{Becomes};
 ghost use Rattle.eeprom_model.specs.Faults.{HasCause};
 ghost use Rattle.eeprom_model.specs.Ranges.{IsPageWrite};
 ghost use Rattle.eeprom_model.specs.Bench.{new_bench, planned_for, cut_bytes, program_outcome, read_outcome, given_plan};
@@ -10,7 +9,7 @@ ghost use Rattle.eeprom_model.specs.Bench.{new_bench, planned_for, cut_bytes, pr
 use crate::device::{Eeprom, EepromFault};
 use std::alloc::Global;
 use std::marker::Model;
-use uicc_types::{CutAt, FailAt, OutOfMemory, Plan};
+use uicc_types::{CutAt, FailAt, OutOfMemory, Plan, are_bytes};
 
 /// A memory of bytes in a vector. It fails and loses power exactly where its plan says.
 #[derive(Debug, Drop)]
@@ -65,12 +64,6 @@ impl BenchEeprom {
     }
 }
 
-fn names_a_fault(plan: &Plan) -> bool
-    ensures { result ≡ names_fault plan.now }
-{
-    plan.cut.is_some() || plan.fail.is_some() || plan.read_fail.is_some()
-}
-
 // The cut that is planned for the program call of this number.
 fn planned_cut(plan: &Plan, number: u64) -> Option<CutAt>
     ensures { result ≡ planned_for (λ cut. cut.call) number plan.now.cut }
@@ -122,13 +115,6 @@ fn overwrite_in_part(memory: &mut [u8], at: usize, bytes: &[u8], cut: CutAt)
     fill(memory, at + kept, bytes.len() - kept, cut.rest);
 }
 
-// Does nothing. What a slice of bytes has are bytes.
-fn are_bytes(slice: &[u8])
-    ensures { AreBytes slice.now }
-{
-    let _slice = slice;
-}
-
 impl Eeprom for BenchEeprom {
     ghost byte_count = { λ bench. length bench.bytes };
 
@@ -141,11 +127,8 @@ impl Eeprom for BenchEeprom {
     ghost told_length = { λ bench. refl };
 
     fn size(&self) -> usize {
-        self.bytes.len()
-    }
-
-    fn tells_bytes(&self) {
         are_bytes(&self.bytes);
+        self.bytes.len()
     }
 
     #[tactic(auto, unfolding(crate::specs::Bench::read_outcome))]
@@ -213,7 +196,7 @@ impl Eeprom for BenchEeprom {
     fn arm(&mut self, plan: Plan)
         ensures { self.new ≡ given_plan plan self.old }
     {
-        if names_a_fault(&plan) {
+        if plan.names_fault() {
             self.plans = self.plans.saturating_add(1);
             self.latest = plan;
         }

@@ -36,11 +36,9 @@ pub trait Eeprom {
 
     /// How many bytes it has.
     fn size(&self) -> usize
-        ensures { result ≡ byte_count self.now };
-
-    /// Does nothing. What it tells are bytes.
-    fn tells_bytes(&self)
-        ensures { IfSome (contents self.now) AreBytes };
+        ensures size { result ≡ byte_count self.now }
+        // What it tells are bytes.
+        ensures told { IfSome (contents self.now) AreBytes };
 
     /// Reads the bytes from `at` on into the whole of `out`. After a fault `out` holds any bytes.
     fn read(&mut self, at: usize, out: &mut [u8]) -> Result<(), EepromFault>

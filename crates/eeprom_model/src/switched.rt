@@ -50,8 +50,6 @@ impl<E: Eeprom + Drop> Eeprom for SwitchedEeprom<'_, E> {
         self.own.size()
     }
 
-    fn tells_bytes(&self) {}
-
     fn read(&mut self, at: usize, out: &mut [u8]) -> Result<(), EepromFault> {
         self.own.read(at, out)?;
         if self.shows_other.get() && self.other.size() == self.own.size() {

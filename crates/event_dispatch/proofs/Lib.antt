@@ -1,21 +1,21 @@
-pub mod AreListedLemmas
-pub mod ChangesAreFollowedLemmas
-pub mod ComesInLemmas
-pub mod CommitsAreChangesLemmas
-pub mod FramesLemmas
-pub mod InsertLemmas
-pub mod InstallationsAreFollowedLemmas
-pub mod IsTargetLemmas
-pub mod LeftByLemmas
-pub mod PositionFromLemmas
-pub mod RowPlacedLemmas
-pub mod RowsSinceLemmas
-pub mod StandInOneOrderLemmas
-pub mod StandsForLemmas
+mod AreListedLemmas
+mod ChangesAreFollowedLemmas
+mod ComesInLemmas
+mod CommitsAreChangesLemmas
+mod FramesLemmas
+mod InsertLemmas
+mod InstallationsAreFollowedLemmas
+mod IsTargetLemmas
+mod LeftByLemmas
+mod PositionFromLemmas
+mod RowPlacedLemmas
+mod RowsSinceLemmas
+mod StandInOneOrderLemmas
+mod StandsForLemmas
 mod TargetsLemmas
 pub mod TriggerOrderLemmas
-pub mod WaitingCommandsLemmas
-pub mod WithCodeLemmas
-pub mod WithoutCodeLemmas
+mod WaitingCommandsLemmas
+mod WithCodeLemmas
+mod WithoutCodeLemmas
 mod WithoutRowLemmas
 mod worked

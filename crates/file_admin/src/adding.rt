@@ -25,8 +25,8 @@ fn prepare_bytes<S: Store>(store: &mut S, loaded: &Loaded, node: &Node) -> Resul
     prepare_blank(store, loaded, node.place, node.size)
 }
 
-/// Has a new file under this number. After a fault the table is as it was.
-pub fn add<S: Store>(
+/// Prepares the bytes of a new file, and commits its entry under this number, for CREATE FILE. After a fault the table is as it was.
+pub fn add_file<S: Store>(
     store: &mut S,
     loaded: &mut Loaded,
     number: u8,

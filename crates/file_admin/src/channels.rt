@@ -1,7 +1,7 @@
 //! What is selected on the logical channels, where a file comes or goes.
 ghost use Rattle.std.specs.Prelude.{◌≡◌, ◌==◌, ℕ, false, slice_set, option_map};
 ghost use Rattle.std.specs.Option.{option_map_or};
-ghost use Rattle.file_model.specs.Channels.{channel_of, family, names_channel, selected_on};
+ghost use Rattle.file_model.specs.Channels.{selected_on};
 ghost use Rattle.file_model.specs.Files.{descriptor_in};
 ghost use Rattle.file_model.specs.Selections.{selection_of};
 ghost use Rattle.file_model.specs.Creating.{file_made};
@@ -9,27 +9,6 @@ ghost use Rattle.file_model.specs.TreeOutcomes.{df_on, is_current, without_ef, a
 
 use file_model::{NewFile, Selection};
 use file_tree::Channels;
-
-/// The class without the channel.
-pub fn family(class: u8) -> u8
-    ensures { result ≡ family class }
-{
-    class / 16 * 16
-}
-
-/// Whether the lower half of the class names a channel.
-pub fn names_channel(class: u8) -> bool
-    ensures { result ≡ names_channel class }
-{
-    family(class) == 0x00 || family(class) == 0x80
-}
-
-/// The channel that a class names: that in b2 and b1 of `0X` and `8X`, or the basic one.
-pub fn channel_of(class: u8) -> u8
-    ensures { result ≡ channel_of class }
-{
-    if names_channel(class) { class % 4 } else { 0 }
-}
 
 /// The current DF of a channel, or the MF where it is closed.
 pub fn df_on(channels: &Channels, channel: u8) -> u8

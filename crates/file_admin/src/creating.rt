@@ -1,7 +1,8 @@
 //! CREATE FILE.
 ghost use Rattle.std.specs.Prelude.{◌≡◌, true, false, IsTrue, IsOk, OnOk, IsSomeAnd};
 ghost use Rattle.card_state.specs.Memory.{IsMounted, memory};
-ghost use Rattle.file_model.specs.Channels.{channel_of, is_open};
+ghost use Rattle.apdu_form.specs.Classes.{channel_of};
+ghost use Rattle.file_model.specs.Channels.{is_open};
 ghost use Rattle.file_model.specs.Files.{descriptors_of, file_found, is_df};
 ghost use Rattle.file_model.specs.declared.descriptors.Wanted.TheVariants.{Number};
 ghost use Rattle.file_model.specs.Creating.{is_there, created_if_room};
@@ -10,8 +11,8 @@ ghost use Rattle.file_model.specs.TreeOutcomes.{df_on};
 ghost use Rattle.file_model.specs.Templates.{may_be_made};
 ghost use Rattle.file_admin.specs.Outcomes.{PerformsTree, AnswersTree, CommitsTree, IfNothingPasses, EndsTree, ChangesNodes, IsDone, creation_by};
 
-use crate::adding::add;
-use crate::channels::{channel_of, df_on, selection_of};
+use crate::adding::add_file;
+use crate::channels::{df_on, selection_of};
 use crate::new_entries::new_entry;
 use crate::refusals::try_creation;
 use crate::written_files::written_files_stand;
@@ -52,7 +53,7 @@ fn create<S: Store>(
     written_files_stand();
     let df = df_on(channels, channel);
     match new_entry(loaded, df, file) {
-        Some(entry) => match add(store, loaded, entry.number, &entry.node) {
+        Some(entry) => match add_file(store, loaded, entry.number, &entry.node) {
             Ok(()) => {
                 channels.set(channel, selection_of(entry.number, df, file));
                 Ok(StatusWord::DONE)
@@ -84,7 +85,7 @@ fn try_create<S: Store>(
     cards_are_known();
     files_are_found();
     stores_stand();
-    let channel = channel_of(command.class);
+    let channel = command.channel();
     match try_creation(loaded, seen, channels, channel, command) {
         Ok(file) => create(store, loaded, channels, channel, &file),
         Err(status) => Ok(status),

@@ -1,14 +1,15 @@
 //! DELETE FILE.
 ghost use Rattle.std.specs.Prelude.{◌≡◌, true, false, Ok, IsOk, OnOk};
 ghost use Rattle.card_state.specs.Memory.{IsMounted, memory};
-ghost use Rattle.file_model.specs.Channels.{channel_of, is_open};
+ghost use Rattle.apdu_form.specs.Classes.{channel_of};
+ghost use Rattle.file_model.specs.Channels.{is_open};
 ghost use Rattle.file_model.specs.Files.{descriptors_of};
 ghost use Rattle.file_model.specs.Deleting.{is_in_use, deleting};
 ghost use Rattle.file_model.specs.LawfulTrees.{AreSelected};
 ghost use Rattle.file_tree.specs.Tables.{IsNumbered};
 ghost use Rattle.file_admin.specs.Outcomes.{PerformsTree, AnswersTree, CommitsTree, IfNothingPasses, EndsTree, ChangesNodes, IsDone, IsNamedIn, deletion_by};
 
-use crate::channels::{channel_of, leave};
+use crate::channels::leave;
 use crate::entries::entry_of;
 use crate::refusals::try_deletion;
 use crate::written_files::written_files_stand;
@@ -76,7 +77,7 @@ fn try_delete<S: Store>(
     cards_are_known();
     files_are_found();
     stores_stand();
-    let channel = channel_of(command.class);
+    let channel = command.channel();
     match try_deletion(loaded, seen, channels, channel, command) {
         Ok(file) => delete(store, loaded, channels, &file),
         Err(status) => Ok(status),

@@ -1,4 +1,5 @@
-//! CREATE FILE, DELETE FILE and RESIZE FILE (ETSI TS 102 222, 6.3, 6.4 and 6.10), over the store of a card.
+//! CREATE FILE, DELETE FILE and RESIZE FILE (ETSI TS 102 222, 6.3, 6.4 and 6.10), over the store of a card; with the search for
+//! room, the template and the entry of a new file, and what the memory then stands for.
 #![tactic(auto)]
 
 mod adding;
@@ -14,7 +15,6 @@ mod rooms;
 mod templates;
 mod written_files;
 
-pub use channels::{channel_of, family, names_channel};
 pub use creating::create_file;
 pub use deleting::delete_file;
 pub use new_entries::{NewEntry, new_entry};

@@ -19,7 +19,7 @@ use apdu_form::Command;
 use card_state::kinds::{DEACTIVATED, DF, TRANSPARENT};
 use card_state::sizes::{NODE_COUNT, SIZE_LIMIT};
 use card_state::{Loaded, Node};
-use file_model::{Descriptor, NewFile, Wanted, has_data, has_no_parameters};
+use file_model::{Descriptor, NewFile, Wanted};
 use file_tree::{Channels, first_file};
 use uicc_types::{FileId, StatusWord};
 
@@ -78,10 +78,10 @@ pub fn try_creation(
     ensures new { IfOk result (λ file. is_there (descriptors_of loaded.now) (df_on channels.now channel) file ≡ false) }
     ensures usual { IfErr result (λ status. status.0 ≢ StatusWord.MEMORY_PROBLEM.0) }
 {
-    if !has_no_parameters(command) {
+    if !command.has_no_parameters() {
         return Err(StatusWord::WRONG_PARAMETERS);
     }
-    if !has_data(command) {
+    if !command.has_data() {
         return Err(StatusWord::WRONG_LENGTH);
     }
     if !seen.adm1 {
@@ -163,7 +163,7 @@ pub fn try_deletion(
     ensures unused { IfOk result (λ file. is_in_use (descriptors_of loaded.now) channels.now file ≡ false) }
     ensures usual { IfErr result (λ status. status.0 ≢ StatusWord.MEMORY_PROBLEM.0) }
 {
-    if !has_no_parameters(command) {
+    if !command.has_no_parameters() {
         return Err(StatusWord::WRONG_PARAMETERS);
     }
     if command.body.len() != 2 {
@@ -221,7 +221,7 @@ pub fn try_resizing(
     ensures may { IfOk result (λ file. IsTrue (may_have (size_asked command.now))) }
     ensures usual { IfErr result (λ status. status.0 ≢ StatusWord.MEMORY_PROBLEM.0) }
 {
-    if !has_no_parameters(command) {
+    if !command.has_no_parameters() {
         return Err(StatusWord::WRONG_PARAMETERS);
     }
     if command.body.len() != 4 {

@@ -2,7 +2,8 @@
 ghost use Rattle.std.specs.Prelude.{◌≡◌, ◌<◌, List, Option, true, IsTrue, IsOk, OnOk};
 ghost use Rattle.card_state.specs.Kinds.{transparent_kind};
 ghost use Rattle.card_state.specs.Memory.{IsMounted, memory};
-ghost use Rattle.file_model.specs.Channels.{channel_of, is_open};
+ghost use Rattle.apdu_form.specs.Classes.{channel_of};
+ghost use Rattle.file_model.specs.Channels.{is_open};
 ghost use Rattle.file_model.specs.Files.{descriptors_of};
 ghost use Rattle.file_model.specs.declared.selections.Selection.{Selection};
 ghost use Rattle.file_model.specs.LawfulTrees.{AreSelected};
@@ -10,7 +11,6 @@ ghost use Rattle.file_model.specs.Resizing.{may_have, resized_if_room};
 ghost use Rattle.file_tree.specs.Tables.{IsNumbered};
 ghost use Rattle.file_admin.specs.Outcomes.{PerformsTree, AnswersTree, CommitsTree, IfNothingPasses, EndsTree, ChangesNodes, IsDone, resizing_by};
 
-use crate::channels::channel_of;
 use crate::entries::entry_of;
 use crate::growing::grow;
 use crate::refusals::{size_asked, try_resizing};
@@ -145,7 +145,7 @@ fn try_resize<S: Store>(
     cards_are_known();
     files_are_found();
     stores_stand();
-    let channel = channel_of(command.class);
+    let channel = command.channel();
     match try_resizing(loaded, seen, channels, channel, command) {
         Ok(file) => resize_to(store, loaded, &file, size_asked(command)),
         Err(status) => Ok(status),

@@ -60,6 +60,7 @@ pub fn room(loaded: &Loaded, size: u16) -> Option<u16>
     ensures smallest { (content : List ℕ) → IsSmallestRoom (state_of loaded.now content) size result }
     ensures value { (content : List ℕ) → result ≡ room_at (state_of loaded.now content) size }
 {
+    // This call is a law, and does nothing.
     states_are_of_entries();
     let end = end_of_files(loaded.wide);
     let size = u32::from(size);
@@ -79,6 +80,7 @@ pub fn free_number(loaded: &Loaded, df: u8) -> Option<u8>
     ensures value { (content : List ℕ) → result ≡ free_number (state_of loaded.now content) df }
     ensures low { IfSome result (λ number. number < NODE_COUNT) }
 {
+    // This call is a law, and does nothing.
     states_are_of_entries();
     let nodes = loaded.all_nodes();
     for number in usize::from(df) + 1..NODE_COUNT {

@@ -11,7 +11,8 @@ use Rattle.file_model.specs.declared.selections.Selection.{Selection}
 use Rattle.file_model.specs.Files.{descriptor_in, descriptors_in}
 use Rattle.file_model.specs.Selections.{IsSelection}
 use Rattle.file_model.specs.Holdings.{bytes_in}
-use Rattle.file_model.specs.Outcomes.{has_data, has_le_alone, addressed, pointer_before}
+use Rattle.apdu_form.specs.Fields.{has_data, has_le_alone}
+use Rattle.file_model.specs.Outcomes.{addressed, pointer_before}
 use Rattle.file_model.specs.Binaries.{short_in_p1, offset_of, binary_file, binary_to_read, binary_to_update, reading, read_from, binary_read, updating, update_in, binary_updated}
 use Rattle.file_model.specs.Laws.{IsSoundCard, IsLawfulOutcome, IsFileRefusal, IsLawfulCommand}
 use Rattle.file_model.proofs.ChainsLemmas.{unless_so, and_given_so}

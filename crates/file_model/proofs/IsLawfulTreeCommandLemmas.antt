@@ -26,7 +26,8 @@ use Rattle.file_model.proofs.SelectionOfLemmas.{selection_of_df, selection_of_ef
 use Rattle.file_model.specs.Chains.{refused_if, given}
 use Rattle.file_model.specs.Files.{record_width, record_count, descriptor_in, descriptors_in, is_df, is_ef, lies_in, file_found}
 use Rattle.file_model.specs.Laws.{IsSoundCard}
-use Rattle.file_model.specs.Outcomes.{has_no_parameters, has_data, is_deactivated}
+use Rattle.apdu_form.specs.Fields.{has_no_parameters, has_data}
+use Rattle.file_model.specs.Outcomes.{is_deactivated}
 use Rattle.file_model.specs.Selections.{IsSelection, selection_of}
 use Rattle.file_model.specs.declared.asked.NewFile.{NewFile}
 use Rattle.file_model.specs.declared.asked.NewFile.TheVariants.{Df, Ef}

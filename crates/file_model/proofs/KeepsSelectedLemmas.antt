@@ -15,7 +15,8 @@ use Rattle.file_model.specs.declared.descriptors.Descriptor.{Descriptor}
 use Rattle.file_model.specs.declared.descriptors.Wanted.TheVariants.{Number}
 use Rattle.file_model.specs.declared.selections.Selection.{Selection}
 use Rattle.file_model.specs.Files.{descriptor_in, descriptors_in, is_df, file_found}
-use Rattle.file_model.specs.Outcomes.{has_no_parameters, has_data, is_deactivated, last_of}
+use Rattle.apdu_form.specs.Fields.{has_no_parameters, has_data}
+use Rattle.file_model.specs.Outcomes.{is_deactivated, last_of}
 use Rattle.file_model.specs.Selections.{IsSelection, selection_of}
 use Rattle.file_model.specs.declared.asked.NewFile.{NewFile}
 use Rattle.file_model.specs.Creating.{is_there, file_made, place_for, made_in, creating, created}

@@ -8,7 +8,7 @@ pub mod FileResizedLemmas
 mod FindsNearestLemmas
 mod FindsWholePartsLemmas
 pub mod GuardsLemmas
-pub mod HasSameAttributesLemmas
+mod HasSameAttributesLemmas
 mod HasSameShapeLemmas
 mod IsLawfulOutcomeLemmas
 pub mod IsLawfulTreeCommandLemmas

@@ -23,7 +23,8 @@ use Rattle.card_state.specs.Soundness.{AreContents, IsSound, IsSoundFile}
 use Rattle.card_state.specs.StateLaws.{file_with_number}
 use Rattle.file_model.specs.declared.descriptors.Descriptor.{Descriptor}
 use Rattle.file_model.specs.Files.{descriptor_in, descriptors_in}
-use Rattle.file_model.specs.Outcomes.{has_no_parameters, has_data, is_deactivated, last_of}
+use Rattle.apdu_form.specs.Fields.{has_no_parameters, has_data}
+use Rattle.file_model.specs.Outcomes.{is_deactivated, last_of}
 use Rattle.file_model.proofs.HasSameAttributesLemmas.{numbers_ascend}
 use Rattle.file_model.specs.declared.asked.NewFile.{NewFile}
 use Rattle.file_model.specs.declared.asked.NewFile.TheVariants.{Df, Ef}

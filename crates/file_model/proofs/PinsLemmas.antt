@@ -9,7 +9,8 @@ use Rattle.apdu_form.specs.Model.{Apdu}
 use Rattle.card_state.specs.Persistent.{Pin, Persistent}
 use Rattle.card_state.specs.Soundness.{IsSoundPin, slot_of_key, IsSound}
 use Rattle.access_rules.specs.declared.rules.Verified.{Verified}
-use Rattle.file_model.specs.Outcomes.{PinOutcome, has_no_data}
+use Rattle.apdu_form.specs.Fields.{has_no_data}
+use Rattle.file_model.specs.Outcomes.{PinOutcome}
 use Rattle.file_model.specs.Pins.{pin_found, with_pin, marked, pin_addressed, presented, pin_presented, unblock_presented, told, value_presented, new_value, pin_verified, pin_changed, pin_disabled, pin_enabled, pin_unblocked}
 use Rattle.file_model.specs.Laws.{ChangesTriesAlone, TellsTries, IsLawfulPinOutcome, pin_refusals, IsLawfulPinCommand}
 use Rattle.file_model.proofs.ChainsLemmas.{unless_so, given_so}

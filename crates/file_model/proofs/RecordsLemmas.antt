@@ -20,7 +20,8 @@ use Rattle.file_model.specs.declared.selections.Selection.{Selection}
 use Rattle.file_model.specs.Files.{record_width, record_count, descriptor_in, descriptors_in}
 use Rattle.file_model.specs.Selections.{IsSelection}
 use Rattle.file_model.specs.Holdings.{records_held, held_by, records_in, contents_if}
-use Rattle.file_model.specs.Outcomes.{has_data, has_le_alone, addressed, pointer_before, worked_on}
+use Rattle.apdu_form.specs.Fields.{has_data, has_le_alone}
+use Rattle.file_model.specs.Outcomes.{addressed, pointer_before, worked_on}
 use Rattle.file_model.specs.Records.{mode_bits, next_mode, previous_mode, absolute_mode, forward_mode, short_in_p2, is_cyclic, has_record_parameters, next_record, previous_record, absolute_record, record_named, pointer_after, record_file, file_to_read, number_to_read, record_reading, record_read_from, record_read, may_be_updated, number_updated, file_to_update, number_to_update, record_updating, record_update_in, record_updated, has_search_parameters, has_within, numbers_searched, numbers_matched, match_pointer, file_to_search, number_to_search, searching, search_in, searched, short_to_increase, sum_of, may_be_increased, has_increase_parameters, has_increase_length, file_to_increase, sum_to_write, increasing, increase_in, increased}
 use Rattle.file_model.specs.Laws.{HasSameAttributes, IsSoundCard, IsLawfulOutcome, IsFileRefusal, IsLawfulCommand}
 use Rattle.file_model.proofs.ChainsLemmas.{unless_so, given_so, and_given_so}

@@ -1,33 +1,13 @@
--- Logical channels (ETSI TS 102 221, 8.7 and 11.1.17), and the class bytes that name them (10.1.1).
-use Rattle.std.specs.Prelude.{ℕ, ◌/◌, ◌%◌, ◌*◌, ◌==◌, ◌&&◌, ◌||◌, not, Bool, false, if◌then◌else◌, List, [], ◌∷◌, find, slice_index_or, slice_set, nat_le, Option, Some, None, is_some, Result, Ok, Err}
+-- Logical channels (ETSI TS 102 221, 8.7 and 11.1.17).
+use Rattle.std.specs.Prelude.{ℕ, ◌==◌, ◌&&◌, ◌||◌, not, Bool, false, if◌then◌else◌, List, [], ◌∷◌, find, slice_index_or, slice_set, nat_le, Option, Some, None, is_some, Result, Ok, Err}
 use Rattle.uicc_types.specs.declared.answers.StatusWord.{StatusWord}
 use Rattle.uicc_types.specs.declared.answers.TheConstants.StatusWord.{WRONG_LENGTH, WRONG_PARAMETERS, NO_FREE_CHANNEL, CONDITIONS_NOT_SATISFIED}
+use Rattle.apdu_form.specs.Classes.{channel_of}
 use Rattle.apdu_form.specs.Model.{Apdu}
 use Rattle.file_model.specs.Chains.{given, needs}
-use Rattle.file_model.specs.Outcomes.{has_no_data}
+use Rattle.apdu_form.specs.Fields.{has_no_data}
 use Rattle.file_model.specs.declared.selections.Selection.{Selection}
 use Rattle.file_model.specs.declared.selections.TheConstants.Selection.{AT_START}
-
--- ---- class bytes
-
--- the class without the channel: 00, 80 or F0
-abbrev pub family : ℕ → ℕ
-family class = class / 16 * 16
-
--- 0X and 8X name a channel in their lower half
-abbrev pub names_channel : ℕ → Bool
-names_channel class = family class == 0x00 || family class == 0x80
-
-abbrev pub is_class : ℕ → Bool
-is_class class = names_channel class || class == 0xF0
-
--- b4 or b3: secure messaging, which this card does not have
-abbrev pub asks_secure_messaging : ℕ → Bool
-asks_secure_messaging class = names_channel class && not (class / 4 % 4 == 0)
-
--- the channel in b2 and b1; the class F0 stands for the basic channel
-abbrev pub channel_of : ℕ → ℕ
-channel_of class = if names_channel class then class % 4 else 0
 
 -- what is selected on a channel, if it is open
 abbrev pub selected_on : List (Option Selection) → ℕ → Option Selection

@@ -15,7 +15,7 @@ use Rattle.file_model.specs.declared.descriptors.Wanted.TheVariants.{Child, Shor
 use Rattle.file_model.specs.declared.selections.Selection.{Selection}
 use Rattle.file_model.specs.Chains.{refused_if, given, needs}
 use Rattle.file_model.specs.Files.{descriptor_in, descriptors_in, file_found}
-use Rattle.file_model.specs.Outcomes.{has_no_parameters, has_data}
+use Rattle.apdu_form.specs.Fields.{has_no_parameters, has_data}
 use Rattle.file_model.specs.Selections.{selection_of}
 use Rattle.file_model.specs.declared.asked.NewFile.{NewFile}
 use Rattle.file_model.specs.declared.asked.NewFile.TheVariants.{Df, Ef}

@@ -11,7 +11,7 @@ use Rattle.file_model.specs.declared.descriptors.Descriptor.{Descriptor}
 use Rattle.file_model.specs.declared.selections.Selection.{Selection}
 use Rattle.file_model.specs.Chains.{refused_if, given, needs}
 use Rattle.file_model.specs.Files.{descriptors_in, is_df, lies_in}
-use Rattle.file_model.specs.Outcomes.{has_no_parameters}
+use Rattle.apdu_form.specs.Fields.{has_no_parameters}
 use Rattle.file_model.specs.TreeOutcomes.{TreeOutcome, df_on, is_current, all_without_ef, child_named}
 
 -- a DF in which a file lies, or that is the current one of some channel

@@ -14,7 +14,8 @@ use Rattle.file_model.specs.declared.selections.Selection.{Selection}
 use Rattle.file_model.specs.Chains.{and_given, needs}
 use Rattle.file_model.specs.Files.{descriptors_in}
 use Rattle.file_model.specs.Access.{may}
-use Rattle.file_model.specs.Outcomes.{FileOutcome, has_no_data, has_no_parameters, addressed}
+use Rattle.apdu_form.specs.Fields.{has_no_data, has_no_parameters}
+use Rattle.file_model.specs.Outcomes.{FileOutcome, addressed}
 
 -- nothing is committed where the file has this life cycle status already
 unfoldable pub bringing : Persistent → Selection → ℕ → Descriptor → FileOutcome

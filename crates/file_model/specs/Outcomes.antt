@@ -41,24 +41,6 @@ abbrev pub settled_pin : Verified → Result PinOutcome StatusWord → PinOutcom
 settled_pin verified (Err status) = record { status = status; verified = verified; passed = [] }
 settled_pin verified (Ok outcome) = outcome
 
--- ---- what a command may have beside its header
-
--- P1 and P2 are 00
-abbrev pub has_no_parameters : Apdu → Bool
-has_no_parameters apdu = apdu.p1 == 0x00 && apdu.p2 == 0x00
-
--- no data; a Le may be there
-abbrev pub has_no_data : Apdu → Bool
-has_no_data apdu = length apdu.body == 0
-
--- data; a Le may be there
-abbrev pub has_data : Apdu → Bool
-has_data apdu = not (length apdu.body == 0)
-
--- a Le alone
-abbrev pub has_le_alone : Apdu → Bool
-has_le_alone apdu = length apdu.body == 0 && is_some apdu.expected
-
 -- ---- the file that a command works on
 
 -- with a short file identifier the EF of the current DF that has it, or else the current EF

@@ -8,7 +8,8 @@ use Rattle.apdu_form.specs.Model.{Apdu}
 use Rattle.card_state.specs.Persistent.{Pin}
 use Rattle.access_rules.specs.declared.rules.Verified.{Verified}
 use Rattle.file_model.specs.Chains.{refused_if, given, needs}
-use Rattle.file_model.specs.Outcomes.{PinOutcome, has_no_data}
+use Rattle.apdu_form.specs.Fields.{has_no_data}
+use Rattle.file_model.specs.Outcomes.{PinOutcome}
 
 -- ---- keys
 

@@ -15,7 +15,8 @@ use Rattle.file_model.specs.Chains.{refused_if, given, and_given, needs}
 use Rattle.file_model.specs.Files.{descriptors_in}
 use Rattle.file_model.specs.Access.{may}
 use Rattle.file_model.specs.Holdings.{records_in}
-use Rattle.file_model.specs.Outcomes.{FileOutcome, has_data, has_le_alone, addressed, is_deactivated, pointer_before, worked_on}
+use Rattle.apdu_form.specs.Fields.{has_data, has_le_alone}
+use Rattle.file_model.specs.Outcomes.{FileOutcome, addressed, is_deactivated, pointer_before, worked_on}
 
 -- ---- P1 and P2
 

@@ -14,7 +14,8 @@ use Rattle.file_model.specs.declared.descriptors.Descriptor.{Descriptor}
 use Rattle.file_model.specs.declared.selections.Selection.{Selection}
 use Rattle.file_model.specs.Chains.{refused_if, given, needs}
 use Rattle.file_model.specs.Files.{descriptors_in}
-use Rattle.file_model.specs.Outcomes.{has_no_parameters, is_deactivated}
+use Rattle.apdu_form.specs.Fields.{has_no_parameters}
+use Rattle.file_model.specs.Outcomes.{is_deactivated}
 use Rattle.file_model.specs.TreeOutcomes.{TreeOutcome, df_on, child_named}
 use Rattle.file_model.specs.Rooms.{room_at}
 

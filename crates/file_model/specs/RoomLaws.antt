@@ -1,4 +1,4 @@
--- What holds of the definitions, whatever they are given.
+-- What holds of rooms and templates, whatever they are given.
 use Rattle.std.specs.Prelude.{◌≡◌, ℕ, List, Option, Some, IsTrue}
 use Rattle.card_state.specs.Persistent.{Persistent}
 use Rattle.file_model.specs.declared.asked.NewFile.{NewFile}

@@ -11,7 +11,8 @@ use Rattle.file_model.specs.Chains.{given, needs}
 use Rattle.file_model.specs.Files.{descriptors_in, file_found}
 use Rattle.file_model.specs.Selections.{chosen, selection_of}
 use Rattle.file_model.specs.Fcp.{fcp}
-use Rattle.file_model.specs.Outcomes.{FileOutcome, has_no_data, is_deactivated}
+use Rattle.apdu_form.specs.Fields.{has_no_data}
+use Rattle.file_model.specs.Outcomes.{FileOutcome, is_deactivated}
 
 -- ---- SELECT
 

@@ -1,4 +1,4 @@
-//! What holds of the definitions. The functions do nothing: each one's contract is the law.
+//! What holds of commands that make, delete and resize files. The functions do nothing: each one's contract is the law.
 ghost use Rattle.file_model.specs.RoomLaws.{RoomsAreSmallest, RoomsAreOne, ReadsTemplatesAlone, ReadsAllTemplates};
 ghost use Rattle.file_model.specs.OneFile.{CreatesOneFile, DeletesOneFile, ResizesOneFile};
 ghost use Rattle.file_model.specs.declared.tree_commands.TreeCommand.{TreeCommand};

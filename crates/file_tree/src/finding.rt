@@ -78,6 +78,7 @@ pub fn chosen_by_identifier(loaded: &Loaded, df: u8, id: FileId) -> Option<Descr
     ensures value { result ≡ chosen_by_identifier (descriptors_of loaded.now) df id }
     ensures numbered { IfSome result (IsNumbered (descriptors_of loaded.now)) }
 {
+    // This call is a law, and does nothing.
     files_are_found();
     has_all_nodes(loaded);
     let from = first_with(loaded, id);
@@ -167,6 +168,7 @@ pub fn nearest_ef(loaded: &Loaded, df: u8, id: FileId) -> Option<Descriptor>
     ensures value { result ≡ arr_found (descriptors_of loaded.now) df id }
     ensures numbered { IfSome result (IsNumbered (descriptors_of loaded.now)) }
 {
+    // This call is a law, and does nothing.
     files_are_found();
     parents_come_first(loaded);
     let mut df = df;

@@ -61,6 +61,7 @@ pub fn only_file(loaded: &Loaded, wanted: Wanted, number: u8) -> Option<Descript
     ensures value { result ≡ file_found (descriptors_of loaded.now) wanted }
     ensures numbered { IfSome result (IsNumbered (descriptors_of loaded.now)) }
 {
+    // These calls are laws, and do nothing.
     standing_files_hold();
     files_are_found();
     has_all_nodes(loaded);
@@ -137,6 +138,7 @@ pub fn first_by_id(loaded: &Loaded, wanted: Wanted, id: FileId, from: u8) -> Opt
     ensures value { result ≡ file_found (descriptors_of loaded.now) wanted }
     ensures numbered { IfSome result (IsNumbered (descriptors_of loaded.now)) }
 {
+    // These calls are laws, and do nothing.
     standing_files_hold();
     files_are_found();
     has_all_nodes(loaded);
@@ -156,6 +158,7 @@ fn first_by_short(loaded: &Loaded, wanted: Wanted, short: u8) -> Option<Descript
     ensures value { result ≡ file_found (descriptors_of loaded.now) wanted }
     ensures numbered { IfSome result (IsNumbered (descriptors_of loaded.now)) }
 {
+    // These calls are laws, and do nothing.
     standing_files_hold();
     files_are_found();
     has_all_nodes(loaded);

@@ -1,4 +1,4 @@
-pub mod FramesLemmas
-pub mod LodgeLemmas
-pub mod PartedLemmas
-pub mod RoomAndLeaseLemmas
+mod InLineLemmas
+mod KeptLemmas
+mod LodgeLemmas
+mod RoomAndLeaseLemmas

@@ -1,5 +1,4 @@
-//! How a card lies in the 65,536 bytes of a store: its files, PINs and registered applets, in both versions of the
-//! layout, and the writes that change one entry of it.
+//! The entries of a card's layout as bytes, in both versions of it, and the writes that change one of them.
 #![tactic(auto)]
 
 mod laws;

@@ -4,7 +4,7 @@ mod ChangesFileLemmas
 mod ChangesPinLemmas
 mod ChangesRowLemmas
 mod ContentsOfLemmas
-pub mod EnumerateFromLemmas
+mod EnumerateFromLemmas
 mod FormsLemmas
 mod FromHeadLemmas
 mod HasNodeLemmas
@@ -12,12 +12,12 @@ mod IsWellFormedLemmas
 mod KnownLemmas
 pub mod LiesAmongFilesLemmas
 mod MigratingLemmas
-pub mod PinFitting
+mod IsWholePinLemmas
 mod PresentPinsLemmas
 mod ReadsBytesLemmas
 mod RewrittenLemmas
 mod ShownNodeLemmas
-pub mod StandingLawsLemmas
+mod StandingLawsLemmas
 mod StandsLemmas
 mod StoresLemmas
 mod WritesBytesLemmas

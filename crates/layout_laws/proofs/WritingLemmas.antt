@@ -33,7 +33,7 @@ use Rattle.layout_laws.specs.Writing.{IsFileChange, IsPinChange, IsRowChange, Is
 use Rattle.layout_laws.proofs.IsWellFormedLemmas.{now_long, formed_low, formed_apart}
 use Rattle.layout_laws.proofs.HasNodeLemmas.{node_seen, pin_seen, row_seen, pin_key, row_flag, row_keeps, row_events}
 use Rattle.layout_laws.proofs.FormsLemmas.{events_uncut, node_formed, own_key_there, pin_formed, row_formed}
-use Rattle.layout_laws.proofs.PinFitting.{pin_fits}
+use Rattle.layout_laws.proofs.IsWholePinLemmas.{pin_fits}
 use Rattle.layout_laws.proofs.StandsLemmas.{part_long, sound, card, formed, wide_is, has_node, held_alone, carried}
 
 whole_node : AreWholeFields node_fields 16 0 16

@@ -1,6 +1,5 @@
-//! Which contents of a card's memory stand for a state: those that are well formed and whose state is sound; what a commit
-//! changes of the state; and what the memory stands for after it. The functions do nothing: each carries a statement, which a
-//! caller has by calling it.
+//! What a memory holds that stands for a state, what a commit changes of the state, and what the memory stands for after it.
+//! The functions do nothing: each carries a statement, which a caller has by calling it.
 #![tactic(auto)]
 
 mod changes;

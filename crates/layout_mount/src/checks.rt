@@ -9,8 +9,8 @@ use card_state::events::{EVENTS_END, has_call_control};
 use card_state::kinds::{ACTIVATED, CYCLIC, DEACTIVATED, DF, has_records, is_ef, is_free_id};
 use card_state::places::{DATA, MEMORY_SIZE, UPPER_ROWS};
 use card_state::sizes::{
-    KEPT_LIMIT, KEPT_WIDTH, MENU_LIMIT, NODE_WIDTH, PIN_WIDTH, RECORD_LIMIT, ROW_WIDTH, TEXT_LIMIT,
-    TRIES, UNBLOCK_TRIES,
+    KEPT_LIMIT, KEPT_WIDTH, LAST_KIND, MENU_LIMIT, NODE_WIDTH, PIN_WIDTH, RECORD_LIMIT, ROW_WIDTH,
+    TEXT_LIMIT, TRIES, UNBLOCK_TRIES,
 };
 use card_state::{Node, PinSlot, Row};
 use uicc_types::FileId;
@@ -45,7 +45,7 @@ fn numbers_pass(next: u16, row: &Row) -> bool
     ensures { result ≡ has_known_numbers next row.now }
 {
     1 <= row.kind
-        && row.kind <= 7
+        && row.kind <= LAST_KIND
         && 1 <= row.priority
         && row.sequence < next
         && row.events < EVENTS_END

@@ -14,7 +14,7 @@ use card_state::sizes::{
 };
 use std::marker::Model;
 use store_form::{Store, StoreFault};
-use uicc_types::Shelf;
+use uicc_types::{Shelf, are_bytes};
 
 // How many bytes there are from the PIN slots to the files, and from the upper rows on.
 const TABLE_LENGTH: usize = DATA - PINS as usize;
@@ -45,13 +45,6 @@ impl Model for Image {
     ghost use Rattle.layout_mount.specs.Images.{image_of};
 
     ghost view = { image_of };
-}
-
-// Does nothing. What a slice of bytes has are bytes.
-fn are_bytes(slice: &[u8])
-    ensures { AreBytes slice.now }
-{
-    let _slice = slice;
 }
 
 impl Image {

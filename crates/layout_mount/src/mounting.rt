@@ -52,10 +52,9 @@ fn mount_into<S: Store>(store: &mut S, into: &mut Loaded) -> Result<(), MountFau
         (result ≡ Err MountFault.PowerLost) × (S.meter store.new ≡ S.meter store.old)
         × (S.recovered store.new ≡ S.recovered store.old) }
 {
-    // What a store tells, and what an image holds, are bytes: these two calls are laws, and do nothing.
-    store.tells_bytes();
     let mark = store.mark();
     let image = Image::read(store)?;
+    // What an image holds are bytes: a law, which does nothing.
     image.holds_bytes();
     match load(&image, mark, into) {
         Ok(()) => Ok(()),

@@ -11,7 +11,9 @@ use Rattle.card_state.specs.Persistent.{Contents, Files, Bytes, Records, File, P
 use Rattle.card_state.specs.Sections.{if_good, if_file, bytes_filled, record_filled, refilled, with_contents, rows_fit, fits_wide, byte_total_of, needs_wide, with_row, new_row, is_new_row, is_call_control, has_text, Installation, if_installed}
 use Rattle.card_state.specs.declared.installation.Installed.{Installed}
 use Rattle.card_state.specs.Installations.{registered, IsInstalled, ReadsInstallation}
-use Rattle.layout_section.specs.Adding.{Adds, Changes, IsFound, file_numbered, filled, with_record, Rewrites, IsKind}
+use Rattle.card_state.specs.AppletKinds.{IsAppletKind}
+use Rattle.card_state.specs.declared.sizes.TheConstants.{LAST_KIND}
+use Rattle.layout_section.specs.Adding.{Adds, Changes, IsFound, file_numbered, filled, with_record, Rewrites}
 use Rattle.layout_section.specs.Installing.{may_take, has_item, wants_wide_card}
 use Rattle.layout_section.specs.Describing.{has_room_for_row}
 use Rattle.layout_section.proofs.RowTablesLemmas.{code_bit}
@@ -155,10 +157,10 @@ module _ (files : List File) (pins : List Pin) (rows : List Registration) (next 
       ap (λ (l : List ℕ). let r : Registration = record (new_row here shelf priority kind found) { codes = l } in r) (sym is.codes)
       ∙ ap (λ (l : List ℕ). let r : Registration = record row { text = l; kept = found.kept } in r) (sym is.text) ∙ ap (λ (l : List ℕ). let r : Registration = record row { kept = l } in r) (sym is.kept)
 
-  may_is : IsKind kind → is_new_row rows row ≡ may_take rows shelf priority installed
+  may_is : IsAppletKind kind → is_new_row rows row ≡ may_take rows shelf priority installed
   may_is known =
-      kind_step (nat_le shelf 31) (nat_le 1 kind) (nat_le kind 7) (nat_le 1 priority) (not (list_any (λ other. other.shelf == shelf) rows)) (not (is_call_control row && list_any is_call_control rows))
-      (not (has_item installed && nat_le 16 (count_by has_text rows))) (le-leb 1 kind known.0) (le-leb kind 7 known.1)
+      kind_step (nat_le shelf 31) (nat_le 1 kind) (nat_le kind LAST_KIND) (nat_le 1 priority) (not (list_any (λ other. other.shelf == shelf) rows)) (not (is_call_control row && list_any is_call_control rows))
+      (not (has_item installed && nat_le 16 (count_by has_text rows))) (le-leb 1 kind known.0) (le-leb kind LAST_KIND known.1)
       ∙ ap (λ b. nat_le shelf 31 && nat_le 1 priority && not (list_any (λ other. other.shelf == shelf) rows) && not (b && list_any is_call_control rows) && not (has_item installed && nat_le 16 (count_by has_text rows))) (code_bit installed.events)
 
   room_for : rows_fit rows (byte_total_of files) ≡ true → rows_fit (row ∷ rows) (byte_total_of files) ≡ has_room_for_row here shelf installed
@@ -167,14 +169,14 @@ module _ (files : List File) (pins : List Pin) (rows : List Registration) (next 
   abbrev line_of : Registration → Result Persistent SectionFault
   line_of made = if_good (is_new_row rows made) (rows_fit (made ∷ rows) (byte_total_of files)) (record here { rows = with_row rows made; next_sequence = next + 1 })
 
-  pub row_bad : (found : Option Installation) → ReadsInstallation found (Some installed) → IsKind kind → may_take rows shelf priority installed ≡ false
+  pub row_bad : (found : Option Installation) → ReadsInstallation found (Some installed) → IsAppletKind kind → may_take rows shelf priority installed ≡ false
       → Adds (if_installed (Some kind) found (λ k f. let made = new_row here shelf priority k f in if_good (is_new_row rows made) (rows_fit (made ∷ rows) (byte_total_of files)) (record here { rows = with_row rows made; next_sequence = next + 1 }))) here (Err Bad) here
   row_bad None reads known may = absurd reads
   row_bad (Some found) reads known may =
       subst (λ (r : Registration). Adds (line_of r) here (Err Bad) here) (sym (row_is found reads))
       (follows_bad (is_new_row rows row) (rows_fit (row ∷ rows) (byte_total_of files)) (record here { rows = with_row rows row; next_sequence = next + 1 }) here (may_is known ∙ may))
 
-  pub row_no_room : (found : Option Installation) → ReadsInstallation found (Some installed) → IsKind kind → may_take rows shelf priority installed ≡ true → rows_fit rows (byte_total_of files) ≡ true
+  pub row_no_room : (found : Option Installation) → ReadsInstallation found (Some installed) → IsAppletKind kind → may_take rows shelf priority installed ≡ true → rows_fit rows (byte_total_of files) ≡ true
       → has_room_for_row here shelf installed ≡ false
       → Adds (if_installed (Some kind) found (λ k f. let made = new_row here shelf priority k f in if_good (is_new_row rows made) (rows_fit (made ∷ rows) (byte_total_of files)) (record here { rows = with_row rows made; next_sequence = next + 1 }))) here (Err NoRoom) here
   row_no_room None reads known may fit full = absurd reads
@@ -182,7 +184,7 @@ module _ (files : List File) (pins : List Pin) (rows : List Registration) (next 
       subst (λ (r : Registration). Adds (line_of r) here (Err NoRoom) here) (sym (row_is found reads))
       (follows_no_room (is_new_row rows row) (rows_fit (row ∷ rows) (byte_total_of files)) (record here { rows = with_row rows row; next_sequence = next + 1 }) here (may_is known ∙ may) (room_for fit ∙ full))
 
-  pub row_follows : (found : Option Installation) → ReadsInstallation found (Some installed) → IsKind kind → may_take rows shelf priority installed ≡ true → rows_fit rows (byte_total_of files) ≡ true
+  pub row_follows : (found : Option Installation) → ReadsInstallation found (Some installed) → IsAppletKind kind → may_take rows shelf priority installed ≡ true → rows_fit rows (byte_total_of files) ≡ true
       → has_room_for_row here shelf installed ≡ true
       → Adds (if_installed (Some kind) found (λ k f. let made = new_row here shelf priority k f in if_good (is_new_row rows made) (rows_fit (made ∷ rows) (byte_total_of files)) (record here { rows = with_row rows made; next_sequence = next + 1 }))) here (Ok tt) (state_with pins (with_row rows row) (next + 1) files)
   row_follows None reads known may fit room = absurd reads

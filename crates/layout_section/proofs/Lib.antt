@@ -1,17 +1,17 @@
-pub mod AddsLemmas
-pub mod ChecksLemmas
-pub mod EfNumberedLemmas
-pub mod FileAtLemmas
-pub mod FilingLemmas
-pub mod IsWrittenLemmas
-pub mod KeepsFirstLemmas
-pub mod LayingLemmas
-pub mod MadeLemmas
-pub mod NumberedLemmas
-pub mod PatchedLemmas
-pub mod PinSlotsLemmas
-pub mod PresentLemmas
-pub mod RewritesLemmas
-pub mod RowTablesLemmas
-pub mod SpellingLemmas
-pub mod StandsForLemmas
+mod AddsLemmas
+mod ChecksLemmas
+mod EfNumberedLemmas
+mod FileAtLemmas
+mod FilingLemmas
+mod IsWrittenLemmas
+mod KeepsFirstLemmas
+mod LayingLemmas
+mod MadeLemmas
+mod NumberedLemmas
+mod PatchedLemmas
+mod PinSlotsLemmas
+mod PresentLemmas
+mod RewritesLemmas
+mod RowTablesLemmas
+mod SpellingLemmas
+mod StandsForLemmas

@@ -13,6 +13,7 @@ use Rattle.card_state.specs.Places.{data_place}
 use Rattle.card_state.specs.Checks.{key_of_slot, is_free_id}
 use Rattle.card_state.specs.Soundness.{mf}
 use Rattle.card_state.specs.Sections.{SectionLine, line_added, is_key, with_pin, refilled, kind_of, size_of, blank_contents, byte_total_of, child_of}
+use Rattle.card_state.specs.AppletKinds.{IsAppletKind}
 
 -- the new state and Ok, or the line's fault and no change
 abbrev pub Adds : Result Persistent SectionFault → Persistent → Result (Unit {0}) SectionFault → Persistent → Type 0
@@ -48,10 +49,6 @@ abbrev pub AddsPin : Pin → List Pin → Result (Unit {0}) SectionFault → Lis
 AddsPin pin old result new = Changes (is_new_pin old pin) (with_pin old pin) old result new
 
 -- ---- rows
-
--- an applet's kind
-abbrev pub IsKind : ℕ → Type 0
-IsKind kind = (1 ≤ kind) × (kind ≤ 7)
 
 pub record RowList : Type 0 where
   pub list : List Registration

@@ -7,6 +7,7 @@ use Rattle.card_state.specs.Blank.{unused_row}
 use Rattle.card_state.specs.States.{registration_of, used_rows}
 use Rattle.card_state.specs.Checks.{is_call_control, shows_item}
 use Rattle.card_state.specs.Decoding.{bytes_at}
+use Rattle.card_state.specs.AppletKinds.{IsAppletKind}
 use Rattle.layout_entries.specs.Spelling.{row_spelled}
 use Rattle.layout_section.specs.Adding.{RowList}
 use Rattle.layout_section.specs.declared.rows.Rows.TheInside.{Inside}
@@ -23,7 +24,7 @@ wants_wide shelf row = row.used && (nat_lt (LOWER_ROW_COUNT - 1) shelf || nat_lt
 
 -- a row that was added
 pub record IsNewRow (next : ℕ) (row : Row) : Type 0 where
-  pub kind : (1 ≤ row.kind) × (row.kind ≤ 7)
+  pub kind : IsAppletKind row.kind
   pub priority : 1 ≤ row.priority
   pub sequence : row.sequence < next
   pub events : row.events < EVENTS_END

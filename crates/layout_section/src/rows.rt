@@ -6,8 +6,8 @@ ghost use Rattle.card_state.specs.Installations.{HasParts, registered};
 ghost use Rattle.card_state.specs.Blank.{unused_row};
 ghost use Rattle.card_state.specs.Decoding.{bytes_at};
 ghost use Rattle.card_state.specs.Checks.{shows_item};
+ghost use Rattle.card_state.specs.AppletKinds.{IsAppletKind};
 ghost use Rattle.layout_entries.specs.Spelling.{row_spelled};
-ghost use Rattle.layout_section.specs.Adding.{IsKind};
 ghost use Rattle.layout_section.specs.Installing.{answers_calls, has_item, may_take};
 ghost use Rattle.layout_section.specs.RowTables.{controls, wants_wide, IsKeptApart, SpellsRows};
 
@@ -206,7 +206,7 @@ impl Rows {
     /// Adds a row that may stand on this shelf. It takes the next sequence number.
     pub fn add(&mut self, shelf: Shelf, kind: u8, priority: u8, installed: Installed)
         requires may { may_take self.old.list shelf.0 priority installed ≡ true }
-        requires kind { IsKind kind }
+        requires kind { IsAppletKind kind }
         requires parts { HasParts installed }
         ensures list { self.new.list
             ≡ with_row self.old.list (registered shelf.0 kind priority self.old.next installed) }

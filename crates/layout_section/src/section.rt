@@ -6,7 +6,8 @@ ghost use Rattle.card_state.specs.Checks.{is_free_id};
 ghost use Rattle.card_state.specs.Soundness.{mf};
 ghost use Rattle.card_state.specs.Sections.{bare_card, file_at, is_new_short, DfLine, EfLine, FillLine, RecordLine, PinLine, RowLine};
 ghost use Rattle.card_state.specs.NewFiles.{rule_from};
-ghost use Rattle.layout_section.specs.Adding.{IsKind, IsFound, AddsLine};
+ghost use Rattle.card_state.specs.AppletKinds.{IsAppletKind};
+ghost use Rattle.layout_section.specs.Adding.{IsFound, AddsLine};
 ghost use Rattle.layout_section.specs.Installing.{wants_wide_card};
 ghost use Rattle.layout_section.specs.Laying.{SpellsCard, FitsBefore};
 ghost use Rattle.layout_section.specs.Describing.{HasNoPlaceAt, IsPlaceAt, HasNoPlace, IsPlace, has_room, has_room_for_row};
@@ -252,7 +253,7 @@ impl Section {
         content: &[u8],
         kind: Option<u8>,
     ) -> Result<(), SectionFault>
-        requires { IfSome kind IsKind }
+        requires { IfSome kind IsAppletKind }
         ensures { AddsLine (RowLine shelf.0 priority content.now kind) self.old result self.new }
     {
         let Some(kind) = kind else {

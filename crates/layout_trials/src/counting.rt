@@ -74,10 +74,6 @@ impl<E: Eeprom> Eeprom for Counting<E> {
         self.device.size()
     }
 
-    fn tells_bytes(&self) {
-        self.device.tells_bytes();
-    }
-
     fn read(&mut self, at: usize, out: &mut [u8]) -> Result<(), EepromFault> {
         let _noted = self.calls.reads.push(at);
         self.device.read(at, out)

@@ -77,13 +77,11 @@ impl<E: Eeprom> Store for PageStore<E> {
     ghost own_bytes = { λ store k low high _.
         told_own (E.contents store.device) k low high };
 
-    fn mark(&self) -> u8 {
-        1
-    }
-
     #[tactic(auto, using(crate::proofs::KnownOfLemmas::told_bytes))]
-    fn tells_bytes(&self) {
-        self.journal.tells_bytes();
+    fn mark(&self) -> u8 {
+        // What the journal tells are bytes, which it says with its mark.
+        let _mark = self.journal.mark();
+        1
     }
 
     fn read(&mut self, at: usize, out: &mut [u8]) -> Result<(), StoreFault> {

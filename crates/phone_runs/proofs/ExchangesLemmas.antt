@@ -12,7 +12,8 @@ use Rattle.file_model.specs.Records.{other_length}
 use Rattle.file_model.specs.Selecting.{status_told, telling}
 use Rattle.file_model.specs.declared.selections.Selection.{Selection}
 use Rattle.file_model.proofs.ChainsLemmas.{unless_so, given_so}
-use Rattle.file_model.specs.Channels.{is_open, channel_of}
+use Rattle.apdu_form.specs.Classes.{channel_of}
+use Rattle.file_model.specs.Channels.{is_open}
 use Rattle.file_model.specs.declared.commands.FileCommand.TheVariants as file
 use Rattle.file_model.specs.Commands.{file_outcome}
 use Rattle.comprehension_tlv.specs.Writing.{spellings}

@@ -10,7 +10,7 @@ use Rattle.card_state.specs.Persistent.{Persistent}
 use Rattle.file_model.specs.Laws.{IsSoundCard}
 use Rattle.applet_trait.specs.Minds.{AppletState}
 use Rattle.card_model.specs.Runs.{IsRun}
-use Rattle.card_model.specs.States.{Machine, HasBox, AreOfSevenKinds, IsGood, woken, powered}
+use Rattle.card_model.specs.States.{Machine, HasBox, AreOfKnownKinds, IsGood, woken, powered}
 use Rattle.card_laws.specs.Traces.{ins_of}
 use Rattle.handset_model.specs.Legal.{TraceEntry, items_seen, IsLegal, IsBegun}
 
@@ -49,5 +49,5 @@ HandsetsAreServed =
 abbrev pub HandsetsAreServedFromStart : Type 0
 HandsetsAreServedFromStart =
     (persistent : Persistent) (boxes : List (Option AppletState)) (new : Machine) (steps : List Step) (lines : List HandsetLine) (trace : List TraceEntry)
-    → IsSoundCard persistent → length boxes ≡ 32 → All (HasBox boxes) persistent.rows → AreOfSevenKinds boxes → KeepsToRules lines trace → IsRun (powered (woken persistent boxes)) steps (items_seen trace) new
+    → IsSoundCard persistent → length boxes ≡ 32 → All (HasBox boxes) persistent.rows → AreOfKnownKinds boxes → KeepsToRules lines trace → IsRun (powered (woken persistent boxes)) steps (items_seen trace) new
     → AreServed (items_seen trace)

@@ -1,5 +1,5 @@
 //! A handset that serves a card: what it sends goes to the card, and what the card answers goes back to it, until it rests; the
-//! lines of a script, carried out so; a long run, whose lines are made from a number; and what is counted in a trace.
+//! lines of a script, or those of a long run, carried out so.
 #![tactic(auto)]
 
 mod counting;

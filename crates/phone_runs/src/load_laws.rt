@@ -9,6 +9,7 @@ use card_laws::undisturbed_runs_show_no_fault;
 pub fn loads_are_one()
     ensures { LoadRunsAreOne }
 {
+    // These calls are laws, and do nothing.
     phone_runs_are_one();
     undisturbed_runs_show_no_fault();
 }

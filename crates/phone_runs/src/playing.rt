@@ -81,6 +81,7 @@ pub fn play_on_phone<S: Store, B: Applet, W: Sink>(
     ensures tallies { Tallies (tally W.Sink card.old trace.old) (tally W.Sink card.new trace.new)
         (result ≡ Err StepEnd.SinkFailed) }
 {
+    // This call is a law, and does nothing.
     plans_are_set_in_order();
     match line {
         PhoneMove::Hears(line) => hear_line(card, carrier, phone, &line, places, trace),

@@ -96,6 +96,7 @@ fn serve<S: Store, B: Applet, W: Sink>(
     ensures tallies { Tallies (tally W.Sink card.old trace.old) (tally W.Sink card.new trace.new)
         (result ≡ Err StepEnd.SinkFailed) }
 {
+    // These calls are laws, and do nothing.
     runs_are_counted();
     plans_are_set_in_order();
     lines_end();

@@ -10,7 +10,8 @@ use Rattle.card_state.specs.declared.entries.Loaded.{Loaded}
 use Rattle.card_state.specs.Persistent.{Pin, Persistent}
 use Rattle.card_state.specs.Memory.{Memory, held}
 use Rattle.access_rules.specs.declared.rules.Verified.{Verified}
-use Rattle.file_model.specs.Outcomes.{PinOutcome, last_of, settled_pin, has_no_data}
+use Rattle.apdu_form.specs.Fields.{has_no_data}
+use Rattle.file_model.specs.Outcomes.{PinOutcome, last_of, settled_pin}
 use Rattle.file_model.specs.Pins.{pin_found, with_pin, value_presented, tries_left, presented, pin_presented, unblock_presented}
 use Rattle.file_model.specs.declared.commands.PinCommand.{PinCommand}
 use Rattle.file_model.specs.Commands.{pin_outcome, pin_settled}

@@ -14,7 +14,8 @@ use Rattle.access_rules.specs.declared.rules.Verified.{Verified}
 use Rattle.file_model.specs.declared.commands.PinCommand.{PinCommand}
 use Rattle.file_model.specs.declared.commands.PinCommand.TheVariants.{Verify, Change, Disable, Enable, Unblock}
 use Rattle.file_model.specs.Commands.{pin_settled}
-use Rattle.file_model.specs.Outcomes.{PinOutcome, last_of, has_no_data}
+use Rattle.apdu_form.specs.Fields.{has_no_data}
+use Rattle.file_model.specs.Outcomes.{PinOutcome, last_of}
 use Rattle.file_model.specs.Pins.{pin_found, tries_left}
 use Rattle.file_model.specs.Guards.{guard_of, tries_by, TakesATry}
 use Rattle.card_commits.specs.Performing.{with_each}

@@ -8,7 +8,8 @@ use Rattle.card_state.specs.Persistent.{Pin}
 use Rattle.card_state.specs.States.{pins_of, pin_state}
 use Rattle.card_state.specs.Used.{HasPin}
 use Rattle.access_rules.specs.declared.rules.Verified.{Verified}
-use Rattle.file_model.specs.Outcomes.{PinOutcome, settled_pin, has_no_data}
+use Rattle.apdu_form.specs.Fields.{has_no_data}
+use Rattle.file_model.specs.Outcomes.{PinOutcome, settled_pin}
 use Rattle.file_model.specs.Pins.{marked, told, value_presented, pin_presented, unblock_presented}
 use Rattle.card_commits.specs.declared.pins.PinChange.{PinChange}
 use Rattle.card_commits.specs.declared.pins.PinChange.TheVariants.{Tries, UnblockTries, Value, Enabled, Unblocked}

@@ -82,6 +82,7 @@ pub fn named_pin_command<S: Store>(
     ensures ends { AnswersPins (memory S.Store store.old loaded.old) (memory S.Store store.new loaded.new)
         out.new result }
 {
+    // These calls are laws, and do nothing.
     tables_tell_states();
     pins_are_guarded();
     out.body.clear();

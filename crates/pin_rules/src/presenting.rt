@@ -36,6 +36,7 @@ pub fn present_pin<S: Store>(
         (memory S.Store store.old loaded.old) (memory S.Store store.new loaded.new) verified.old verified.new result }
     ensures ends { ChangesPins (memory S.Store store.old loaded.old) (memory S.Store store.new loaded.new) result }
 {
+    // These calls are laws, and do nothing.
     tables_tell_states();
     cards_are_known();
     let tries = held.pin.tries - 1;
@@ -67,6 +68,7 @@ pub fn present_unblock<S: Store>(
         (memory S.Store store.old loaded.old) (memory S.Store store.new loaded.new) verified.old verified.new result }
     ensures ends { ChangesPins (memory S.Store store.old loaded.old) (memory S.Store store.new loaded.new) result }
 {
+    // These calls are laws, and do nothing.
     tables_tell_states();
     cards_are_known();
     let tries = held.pin.unblock_tries - 1;

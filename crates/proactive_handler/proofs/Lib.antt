@@ -6,19 +6,19 @@ mod CarriedLemmas
 mod CarriesLemmas
 mod CaughtUpLemmas
 pub mod CountingLemmas
-pub mod EventsLemmas
-pub mod FilledLemmas
-pub mod FirstIdleLemmas
+mod EventsLemmas
+mod FilledLemmas
+mod FirstIdleLemmas
 mod HasPlacesLemmas
 mod HasRowOnLemmas
 mod InTurnLemmas
-pub mod IsSameItemLemmas
+mod IsSameItemLemmas
 mod IsSessionServedLemmas
 mod LentLemmas
 pub mod MovedLemmas
-pub mod OutstandingLemmas
-pub mod PendingLemmas
-pub mod ReachedLemmas
+mod OutstandingLemmas
+mod PendingLemmas
+mod ReachedLemmas
 mod RowsAreListedLemmas
 mod RunOfRowLemmas
 mod RunOnLemmas
@@ -27,5 +27,5 @@ pub mod SessionsAreServedLemmas
 pub mod StandsForLemmas
 pub mod StopsAtLemmas
 mod TurnsToLemmas
-pub mod WantedLemmas
+mod WantedLemmas
 mod WithTheseRowsLemmas

@@ -1,6 +1,6 @@
 //! What runs the applets of a card: an event triggers them, an answer of the handset resumes one, and driving ends what came late
 //! and puts the next command out. One runs act after act over the card's memory, until it is done, sends a command to the handset,
-//! or did 32 of them.
+//! or did 32 of them. And the toolkit's session in memory.
 #![tactic(auto)]
 
 mod acting;

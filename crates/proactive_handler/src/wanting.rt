@@ -108,6 +108,7 @@ fn event_list_wanted(
     ensures value { result ≡ event_list_wanted profile.now (rows_of loaded.now) announced.now }
     ensures sendable { IfSome result CanBeSent }
 {
+    // This call is a law, and does nothing.
     lengths_of_commands();
     let events = events_for(profile, index);
     if events.as_slice() == announced.events().as_slice() {
@@ -124,6 +125,7 @@ fn menu_wanted(profile: &Profile, announced: &Announced, loaded: &Loaded) -> Opt
     ensures value { result ≡ menu_wanted profile.now (rows_of loaded.now) announced.now }
     ensures sendable { IfSome result CanBeSent }
 {
+    // This call is a law, and does nothing.
     lengths_of_commands();
     let items = menu(loaded);
     if items.is_same(announced.menu()) {
@@ -144,6 +146,7 @@ fn polling_wanted(
     ensures value { result ≡ polling_wanted profile.now (rows_of loaded.now) announced.now }
     ensures sendable { IfSome result CanBeSent }
 {
+    // This call is a law, and does nothing.
     lengths_of_commands();
     if announced.polls() {
         return None;

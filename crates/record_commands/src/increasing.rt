@@ -15,12 +15,11 @@ ghost use Rattle.record_commands.specs.Tables.{KeepsDescriptors};
 ghost use Rattle.record_commands.specs.Targets.{IsRing, IsTarget};
 
 use crate::adding::sum_of;
-use crate::answers::append;
 use crate::holding::record_of;
 use crate::targets::{Demand, LONGEST_INCREASED, Structure, record_file};
 use access_rules::{Op, Verified};
 use apdu_form::Command;
-use binary_commands::{is_allowed, is_card_table, settle, worked_on};
+use binary_commands::{append, is_allowed, is_card_table, settle, worked_on};
 use card_commits::{tables_tell_states, write_newest_record};
 use card_state::Loaded;
 use file_model::{Descriptor, Selection};
@@ -179,6 +178,7 @@ fn try_increase<S: Store>(
         out.old out.new }
     ensures files { KeepsDescriptors loaded.old loaded.new }
 {
+    // This call is a law, and does nothing.
     tables_tell_states();
     is_card_table(store, loaded);
     match file_to_increase(loaded, selection, command) {

@@ -2,7 +2,6 @@
 #![tactic(auto)]
 
 mod adding;
-mod answers;
 mod holding;
 mod increasing;
 mod laws;

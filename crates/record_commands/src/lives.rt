@@ -20,7 +20,7 @@ use binary_commands::{addressed, is_allowed, is_card_table, settle};
 use card_commits::{tables_tell_states, write_life};
 use card_state::Loaded;
 use card_state::kinds::{ACTIVATED, DEACTIVATED};
-use file_model::{Descriptor, Selection, has_no_data, has_no_parameters};
+use file_model::{Descriptor, Selection};
 use store_form::{Store, StoreFault};
 use uicc_types::{Answer, StatusWord};
 
@@ -44,10 +44,10 @@ fn life_file(
     ensures ef { IfOk result (λ file. HasEf loaded.now file.number) }
     ensures usual { IfErr result (λ status. status.0 ≢ StatusWord.MEMORY_PROBLEM.0) }
 {
-    if !has_no_parameters(command) {
+    if !command.has_no_parameters() {
         return Err(StatusWord::WRONG_PARAMETERS);
     }
-    if !has_no_data(command) {
+    if !command.has_no_data() {
         return Err(StatusWord::WRONG_LENGTH);
     }
     addressed(loaded, selection, None)
@@ -112,6 +112,7 @@ fn try_change<S: Store>(
         out.old out.new }
     ensures files { KeepsOtherFiles loaded.old loaded.new }
 {
+    // This call is a law, and does nothing.
     tables_tell_states();
     is_card_table(store, loaded);
     match life_file(loaded, selection, command) {

@@ -20,7 +20,7 @@ use apdu_form::Command;
 use binary_commands::{is_allowed, is_card_table, settle};
 use card_commits::tables_tell_states;
 use card_state::Loaded;
-use file_model::{Descriptor, Selection, has_le_alone};
+use file_model::{Descriptor, Selection};
 use store_form::{Store, StoreFault};
 use uicc_types::{Answer, StatusWord};
 
@@ -38,7 +38,7 @@ fn file_to_read(
 {
     let demand = Demand {
         has_parameters: has_parameters(command),
-        has_length: has_le_alone(command),
+        has_length: command.has_le_alone(),
         structure: Structure::Records,
         short: short_in(command),
     };
@@ -96,6 +96,7 @@ fn try_read<S: Store>(
         out.old out.new }
     ensures reads { Reads (memory S.Store store.old loaded.now) (memory S.Store store.new loaded.now) result }
 {
+    // This call is a law, and does nothing.
     tables_tell_states();
     is_card_table(store, loaded);
     match file_to_read(loaded, selection, command) {

@@ -22,7 +22,7 @@ use apdu_form::Command;
 use binary_commands::{is_allowed, is_card_table, settle, worked_on};
 use card_commits::tables_tell_states;
 use card_state::Loaded;
-use file_model::{Descriptor, Selection, has_data};
+use file_model::{Descriptor, Selection};
 use memchr::memchr;
 use store_form::{Store, StoreFault};
 use uicc_types::{Answer, AnswerData, Full, StatusWord};
@@ -91,7 +91,7 @@ fn file_to_search(
 {
     let demand = Demand {
         has_parameters: has_parameters(command),
-        has_length: has_data(command),
+        has_length: command.has_data(),
         structure: Structure::Records,
         short: short_in(command),
     };
@@ -325,6 +325,7 @@ fn try_search<S: Store>(
         out.old out.new }
     ensures reads { Reads (memory S.Store store.old loaded.now) (memory S.Store store.new loaded.now) result }
 {
+    // This call is a law, and does nothing.
     tables_tell_states();
     is_card_table(store, loaded);
     match file_to_search(loaded, selection, command) {

@@ -24,7 +24,7 @@ use apdu_form::Command;
 use binary_commands::{is_allowed, is_card_table, settle};
 use card_commits::{tables_tell_states, write_newest_record, write_record};
 use card_state::Loaded;
-use file_model::{Descriptor, Selection, has_data};
+use file_model::{Descriptor, Selection};
 use store_form::{Store, StoreFault};
 use uicc_types::{Answer, StatusWord};
 
@@ -42,7 +42,7 @@ fn file_to_update(
 {
     let demand = Demand {
         has_parameters: has_parameters(command),
-        has_length: has_data(command),
+        has_length: command.has_data(),
         structure: Structure::Updated(mode_in(command) == PREVIOUS),
         short: short_in(command),
     };
@@ -129,6 +129,7 @@ fn try_update<S: Store>(
         out.old out.new }
     ensures files { KeepsDescriptors loaded.old loaded.new }
 {
+    // This call is a law, and does nothing.
     tables_tell_states();
     is_card_table(store, loaded);
     match file_to_update(loaded, selection, command) {

@@ -5,7 +5,8 @@ ghost use Rattle.uicc_run.specs.Stores.{IsSizeFor};
 use crate::cases::{Boxes, Calls, Case, ScriptRun};
 use crate::devices::{blank, has_all, prepared, revive};
 use crate::judging::Left;
-use boxed_applets::{ProgramApplet, applet_of, make_applets};
+use applet_trait::Applet;
+use boxed_applets::boxed_applet;
 use byte_streams::{ListSink, SliceSource};
 use card_state::places::MEMORY_SIZE;
 use card_state::sizes::ROW_COUNT;
@@ -83,7 +84,10 @@ fn played(
     script: &[u8],
     device: BenchEeprom,
 ) -> Result<(Left, BenchEeprom), AllocError> {
-    let cast = cast_of(alloc, &one.setup.boxes)?;
+    let mut cast: Vec<Option<Box<dyn Applet>>> = Vec::new(alloc);
+    for shelf in shelves_of(alloc, &one.setup.boxes)? {
+        cast.push(Some(boxed_applet!(alloc, shelf)))?;
+    }
     let mut source = SliceSource::new(script, one.setup.source_fails.as_slice());
     let fails = one.setup.sink_fails.as_slice();
     let mut sink = ListSink::new(alloc, LONGEST_TRACE, fails).map_err(|_| AllocError)?;
@@ -106,16 +110,22 @@ fn played(
     Ok((left, after))
 }
 
-/// The applets on their shelves.
-fn cast_of(alloc: Global, boxes: &Boxes) -> Result<Vec<Option<ProgramApplet>>, AllocError> {
-    let Boxes::From(shelves) = boxes else {
-        return make_applets(alloc);
-    };
-    let mut cast = Vec::new(alloc);
-    for shelf in shelves {
-        cast.push(Some(applet_of(*shelf as usize)))?;
+/// Of which of the program's shelves the applets are, from shelf 0 on.
+fn shelves_of(alloc: Global, boxes: &Boxes) -> Result<Vec<usize>, AllocError> {
+    let mut shelves = Vec::new(alloc);
+    match boxes {
+        Boxes::From(given) => {
+            for shelf in given {
+                shelves.push(*shelf as usize)?;
+            }
+        }
+        Boxes::All => {
+            for shelf in 0..ROW_COUNT {
+                shelves.push(shelf)?;
+            }
+        }
     }
-    Ok(cast)
+    Ok(shelves)
 }
 
 /// Whether a device of so many bytes is one for a run with these words.

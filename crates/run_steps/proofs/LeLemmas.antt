@@ -4,7 +4,7 @@ use Rattle.uicc_types.specs.declared.answers.StatusWord.{StatusWord}
 use Rattle.uicc_types.specs.declared.answers.TheConstants.StatusWord.{WRONG_LENGTH}
 use Rattle.apdu_form.specs.Model.{Apdu, command_in, cut_to}
 use Rattle.file_model.specs.Chains.{given, and_given}
-use Rattle.file_model.specs.Channels.{family}
+use Rattle.apdu_form.specs.Classes.{family}
 use Rattle.card_model.specs.Answers.{Answered, refused, carried_with, cut_answer, settled, tried, with_pending, answer_of}
 use Rattle.card_model.proofs.TriedLemmas.{cut_result}
 use Rattle.card_model.specs.Chained.{Any}

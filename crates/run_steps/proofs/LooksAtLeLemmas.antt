@@ -19,7 +19,8 @@ use Rattle.file_model.specs.TreeCommands.{tree_outcome}
 use Rattle.file_model.specs.Creating.{created}
 use Rattle.file_model.specs.Deleting.{deleted}
 use Rattle.file_model.specs.Resizing.{resized}
-use Rattle.file_model.specs.Channels.{ChannelOutcome, channel_of, channel_opened, channel_closed, channel_tried}
+use Rattle.apdu_form.specs.Classes.{channel_of}
+use Rattle.file_model.specs.Channels.{ChannelOutcome, channel_opened, channel_closed, channel_tried}
 use Rattle.card_model.specs.Answers.{Answered, managed, selection_on, carried_out, is_status, event_told, carried_with}
 use Rattle.card_model.specs.States.{CardState}
 use Rattle.card_model.specs.Toolkit.{profile_taken, response_taken, envelope_taken, applet_installed, applet_deleted, toolkit_outcome}

@@ -1,6 +1,5 @@
 //! How a terminal's commands come to the card.
 ghost use Rattle.std.specs.Prelude.{◌≡◌, IsTrue};
-ghost use Rattle.uicc_types.specs.Told.{AreBytes};
 ghost use Rattle.t0_link.specs.Carrying.{carried};
 ghost use Rattle.run_steps.specs.Ends.{Comes, reply_for};
 ghost use Rattle.run_steps.specs.Stepping.{seen};
@@ -11,7 +10,7 @@ use crate::steps::Reply;
 use applet_trait::Applet;
 use store_form::Store;
 use t0_link::{Endpoint, Link, LinkFault, is_carried};
-use uicc_types::Answer;
+use uicc_types::{Answer, are_bytes};
 
 /// How a terminal's commands come to the card.
 #[derive(Debug, Drop)]
@@ -59,17 +58,11 @@ fn send_over<S: Store, B: Applet>(
     requires { IsTrue (carried apdu.now) }
     ensures { Comes end.old apdu.now (seen result answer.new) end.new }
 {
+    // This call is a law, and does nothing.
     link_changes_no_step();
     are_bytes(apdu);
     end.is_ready();
     reply_of(link.command(end, apdu, answer))
-}
-
-// Does nothing. What a slice of bytes has are bytes.
-fn are_bytes(slice: &[u8])
-    ensures { AreBytes slice.now }
-{
-    let _slice = slice;
 }
 
 // What came of a command that was given to an endpoint.

@@ -72,7 +72,7 @@ impl<S: Store, B: Applet> CardEnd<S, B> {
         ensures is_set { result ≡ is_named self.old.waiting }
     {
         let plan = self.waiting;
-        let is_set = names_fault(&plan);
+        let is_set = plan.names_fault();
         if is_set {
             self.waiting = Plan::NONE;
             self.card.arm(plan);
@@ -98,13 +98,6 @@ impl<S: Store, B: Applet> CardEnd<S, B> {
     }
 }
 
-// Whether a plan names a fault.
-fn names_fault(plan: &Plan) -> bool
-    ensures { result ≡ is_named plan.now }
-{
-    plan.cut.is_some() || plan.fail.is_some() || plan.read_fail.is_some()
-}
-
 // The plan that waits after one more.
 fn joined(waiting: &Plan, plan: &Plan) -> Plan
     ensures { result ≡ plans_joined waiting.now plan.now }
@@ -122,6 +115,7 @@ fn reset<S: Store, B: Applet>(card: &mut CardOver<S, B>) -> ResetOutcome
     ensures takes { TakesReset (parts_of S.Store B.Applet card.old) result (parts_of S.Store B.Applet card.new) }
     ensures ready { IsCardReady (parts_of S.Store B.Applet card.new) }
 {
+    // This call is a law, and does nothing.
     runs_are_counted();
     match card.reset() {
         Ok(()) => ResetOutcome::Done,
@@ -147,6 +141,7 @@ fn send<S: Store, B: Applet>(
         (parts_of S.Store B.Applet card.new).meter.cuts (IsErrOf result LinkFault.PowerLost) }
     ensures empty { OnErr result (out.new.body ≡ []) }
 {
+    // This call is a law, and does nothing.
     runs_are_counted();
     match card.transmit(apdu, out) {
         Ok(()) => Ok(()),

@@ -123,6 +123,7 @@ pub fn exchange<S: Store, B: Applet, W: Sink>(
     ensures tallies { Tallies (tally W.Sink end.old trace.old) (tally W.Sink end.new trace.new)
         (result ≡ Err StepEnd.SinkFailed) }
 {
+    // This call is a law, and does nothing.
     runs_are_counted();
     match write_command(trace, apdu) {
         Ok(()) => {
@@ -179,6 +180,7 @@ pub fn restart<S: Store, B: Applet, W: Sink>(
     ensures tallies { Tallies (tally W.Sink end.old trace.old) (tally W.Sink end.new trace.new)
         (result ≡ Err StepEnd.SinkFailed) }
 {
+    // This call is a law, and does nothing.
     runs_are_counted();
     let is_set = end.set_plan();
     let outcome = end.reset();

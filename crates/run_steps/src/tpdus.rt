@@ -44,6 +44,7 @@ fn deliver<S: Store, B: Applet>(
     ensures stays { (IsPassed (link_answer link.old tpdu.now) → ⊥) → end.new ≡ end.old }
     ensures kept { end.old.parts.meter.faults ≤ end.new.parts.meter.faults }
 {
+    // This call is a law, and does nothing.
     runs_are_counted();
     let is_set = prepare(end, tpdu);
     let outcome = link.exchange(end, tpdu, answer);

@@ -1,11 +1,9 @@
 -- Bytes written in hexadecimal digits, one after the other.
-use Rattle.std.proofs.Common.{◌≡◌, ℕ, zero, suc, ◌+◌, ◌*◌, ◌/◌, ◌%◌, ◌<◌, List, [], ◌∷◌, ◌++◌, length, take, drop, slice_index, refl, sym, ap, ◌∙◌, arith}
-use Rattle.std.specs.List.{range_with_len}
-use Rattle.std.proofs.lemmas.List.{append-nil, append_assoc, drop-drop, drop_all, drop_more, take_more}
-use Rattle.std.proofs.lemmas.List.FromFn.{get_or-range_with_len, length-range_with_len}
-use Rattle.hex.specs.Hex.{encode_upper, encode_with, upper_digits}
-use Rattle.hex.proofs.Pairs.{drop-pair}
-use Rattle.script_form.specs.declared.trace.TheConstants.{DIGITS}
+use Rattle.std.proofs.Common.{◌≡◌, ℕ, zero, suc, ◌*◌, ◌/◌, ◌%◌, List, [], ◌∷◌, ◌++◌, length, take, map, slice_index, refl, sym, ap, ◌∙◌, arith}
+use Rattle.std.specs.Char.{to_ascii_uppercase}
+use Rattle.std.proofs.lemmas.List.{append-nil, append_assoc, take-map, take_at}
+use Rattle.hex.proofs.HexLemmas.{length-encode_with}
+use Rattle.hex.specs.Hex.{encode_lower, encode_upper, encode_with, lower_digits, upper_digits}
 
 -- of no bytes there is no digit
 pub encode_none : (t front : List ℕ) → front ++ encode_with t [] ≡ front
@@ -19,43 +17,39 @@ encode_with-append t [] second = refl
 encode_with-append t (byte ∷ first) second =
     ap (λ (rest : List ℕ). slice_index t (byte / 16) ∷ slice_index t (byte % 16) ∷ rest) (encode_with-append t first second)
 
--- one text is the one before with the digits of a byte at its end
-pub encode_more : (t front bytes before after : List ℕ) (i : ℕ) → i < length bytes
-    → before ≡ front ++ encode_with t (take i bytes)
-    → after ≡ before ++ encode_with t (slice_index bytes i ∷ [])
-    → after ≡ front ++ encode_with t (take (i + 1) bytes)
-encode_more t front bytes before after i lt so_far more =
-    rw (more, so_far, take_more bytes i 0 lt, encode_with-append) (append_assoc front (encode_with t (take i bytes)) _)
+-- of the bytes that are left a few more are written
+pub few_more : (t front few behind rest after total : List ℕ) → few ++ behind ≡ rest → after ≡ front ++ encode_with t few
+    → front ++ encode_with t rest ≡ total → after ++ encode_with t behind ≡ total
+few_more t front few behind rest after total parts more so_far =
+    ap (λ (xs : List ℕ). xs ++ encode_with t behind) more ∙ append_assoc front (encode_with t few) (encode_with t behind)
+    ∙ ap (λ (xs : List ℕ). front ++ xs) (sym (encode_with-append t few behind) ∙ ap (λ (xs : List ℕ). encode_with t xs) parts) ∙ so_far
+
+-- every byte is written
+pub all_written : (t front rest total : List ℕ) → length rest ≡ 0 → front ++ encode_with t rest ≡ total → front ≡ total
+all_written t front [] total none so_far = sym (encode_none t front) ∙ so_far
+all_written t front (byte ∷ rest) total none so_far = absurd (omega (arith, none))
 
 pub ruleset joined_digits = (encode_with-append, append_assoc)
 
--- ---- the table
+-- a letter that is raised is the one of the other table
+digit_raised : (place : ℕ) → to_ascii_uppercase (slice_index lower_digits place) ≡ slice_index upper_digits place
+digit_raised place = sym (at_place lower_digits place)
+  where
+    at_place : (digits : List ℕ) (place : ℕ) → slice_index (map to_ascii_uppercase digits) place ≡ to_ascii_uppercase (slice_index digits place)
+    at_place [] place = refl
+    at_place (digit ∷ digits) zero = refl
+    at_place (digit ∷ digits) (suc place) = at_place digits place
 
--- two digits for each byte are passed over
-drop_encoded : (t bytes : List ℕ) (place : ℕ) → drop (2 * place) (encode_with t bytes) ≡ encode_with t (drop place bytes)
+-- digits that are written in lower case are those of the upper case, once their letters are raised
+pub raised : (bytes : List ℕ) → map to_ascii_uppercase (encode_lower bytes) ≡ encode_upper bytes
 unfolding encode_with
-drop_encoded t bytes zero = refl
-drop_encoded t [] (suc place) = drop_all (2 * suc place) [] (omega arith)
-drop_encoded t (byte ∷ bytes) (suc place) =
-    let two : 2 * suc place ≡ 2 + 2 * place = omega arith in
-    ap (λ (k : ℕ). drop k (encode_with t (byte ∷ bytes))) two ∙ sym (drop-drop (2 * place) 2 (encode_with t (byte ∷ bytes))) ∙ drop_encoded t bytes place
+raised [] = refl
+raised (byte ∷ bytes) = rw (digit_raised (byte / 16), digit_raised (byte % 16), raised bytes) refl
 
-first_encoded : (t : List ℕ) (byte : ℕ) (bytes : List ℕ) → take 2 (encode_with t (byte ∷ bytes)) ≡ encode_with t (byte ∷ [])
-unfolding encode_with
-first_encoded t byte bytes = refl
-
-table_is : DIGITS ≡ encode_upper (range_with_len 0 256)
-unfolding encode_with
-table_is = refl
-
--- what the table has for each byte
-pub digits_read : (byte : ℕ) → byte < 256 → slice_index DIGITS (2 * byte) ∷ slice_index DIGITS (2 * byte + 1) ∷ [] ≡ encode_upper (byte ∷ [])
-digits_read byte within =
-    let bytes : List ℕ = range_with_len 0 256 in
-    let as_is : 0 + byte ≡ byte = omega arith in
-    let next : drop byte bytes ≡ byte ∷ drop (byte + 1) bytes =
-    drop_more bytes byte 0 (omega (arith, within, length-range_with_len 0 256)) ∙ ap (λ (b : ℕ). b ∷ drop (byte + 1) bytes) (get_or-range_with_len 0 256 byte 0 within ∙ as_is) in
-    sym (ap (take 2) (drop-pair DIGITS byte (omega (arith, within))))
-    ∙ ap (λ (table : List ℕ). take 2 (drop (2 * byte) table)) table_is
-    ∙ ap (take 2) (drop_encoded upper_digits bytes byte ∙ ap (encode_with upper_digits) next)
-    ∙ first_encoded upper_digits byte (drop (byte + 1) bytes)
+-- the same of digits at the front of a list
+pub front_raised : (bytes out rest : List ℕ) → out ≡ encode_lower bytes
+    → take (2 * length bytes) (map to_ascii_uppercase (out ++ rest)) ≡ encode_upper bytes
+front_raised bytes out rest written =
+    let size : length out ≡ 2 * length bytes = ap (λ (xs : List ℕ). length xs) written ∙ length-encode_with lower_digits bytes in
+    take-map to_ascii_uppercase (2 * length bytes) (out ++ rest)
+    ∙ ap (map to_ascii_uppercase) (take_at out rest (2 * length bytes) size ∙ written) ∙ raised bytes

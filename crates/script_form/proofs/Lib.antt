@@ -1,9 +1,9 @@
-pub mod EncodeWithLemmas
+mod EncodeWithLemmas
 mod IsBoundedLemmas
-pub mod IsCommandLineLemmas
-pub mod IsHexLemmas
-pub mod IsNumberLemmas
-pub mod IsRuleLemmas
-pub mod PathLemmas
-pub mod WordsLemmas
+mod IsCommandLineLemmas
+mod IsHexLemmas
+mod IsNumberLemmas
+mod IsRuleLemmas
+mod PathLemmas
+mod WordsLemmas
 mod worked

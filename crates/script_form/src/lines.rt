@@ -1,6 +1,7 @@
 //! What a line of a script says.
 ghost use Rattle.std.specs.Prelude.{◌≡◌, ◌≤◌, ◌<◌, ◌++◌, ◌∷◌, [], length};
 
+use arrayvec::ArrayVec;
 use std::marker::Model;
 use uicc_types::{ApduBytes, CutAt, FailAt, FileId, Octets, Pin8};
 
@@ -13,20 +14,19 @@ pub(crate) const LONGEST_PATH: usize = 2 * DEEPEST;
 /// The names of a file and of the DFs above it, from the MF down and without the MF's own: 1 to 8 identifiers.
 #[derive(Debug, Drop)]
 pub struct Path {
-    identifiers: [FileId; DEEPEST],
-    depth: usize,
+    identifiers: ArrayVec<FileId, DEEPEST>,
 }
 
 impl Model for Path {
-    ghost use Rattle.std.specs.Prelude.{List, ◌≤◌, take, length, ◌≡◌};
+    ghost use Rattle.std.specs.Prelude.{List, ◌≤◌, length};
     ghost use Rattle.uicc_types.specs.declared.identifiers.FileId.{FileId};
     ghost use Rattle.script_form.specs.declared.lines.TheConstants.{DEEPEST};
 
     ghost Value = { List FileId };
 
-    ghost view = { λ path. take path.depth path.identifiers };
+    ghost view = { λ path. path.identifiers.items };
 
-    ghost invariant = { λ path. (1 ≤ path.depth) × (path.depth ≤ DEEPEST) };
+    ghost invariant = { λ path. (1 ≤ length path.identifiers.items) × (length path.identifiers.items ≤ DEEPEST) };
 }
 
 impl Path {
@@ -34,10 +34,9 @@ impl Path {
     pub fn new(identifier: FileId) -> Self
         ensures { result ≡ identifier ∷ [] }
     {
-        Path {
-            identifiers: [identifier; DEEPEST],
-            depth: 1,
-        }
+        let mut identifiers = ArrayVec::new();
+        identifiers.push(identifier);
+        Path { identifiers }
     }
 
     /// Goes on to a file inside the one that the path leads to.
@@ -45,8 +44,7 @@ impl Path {
         requires { length self.old < DEEPEST }
         ensures { self.new ≡ self.old ++ identifier ∷ [] }
     {
-        self.identifiers[self.depth] = identifier;
-        self.depth += 1;
+        self.identifiers.push(identifier);
     }
 
     /// The identifiers, from the MF down.
@@ -55,7 +53,7 @@ impl Path {
         ensures filled { 1 ≤ length result.now }
         ensures fits { length result.now ≤ DEEPEST }
     {
-        &self.identifiers[..self.depth]
+        self.identifiers.as_slice()
     }
 }
 

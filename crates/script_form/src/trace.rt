@@ -12,6 +12,7 @@ use crate::handset::Note;
 use crate::notes::{LONGEST_NOTE, put_note};
 use arrayvec::ArrayVec;
 use byte_streams::{Failed, Sink};
+use hex::encode_to_slice;
 use itoa::Buffer;
 use uicc_types::{Answer, ApduBytes, LONGEST_COMMAND, Octets, StatusWord};
 
@@ -164,23 +165,8 @@ const SHORT_BYTES: usize = 30;
 /// The bytes of a line of `SHORT_BYTES` bytes: a mark of two bytes, their digits, and the end.
 const SHORT: usize = 2 + 2 * SHORT_BYTES + 1;
 
-/// The two digits of each byte, one after the other: most bytes of a trace are written in digits, and a table costs least.
-static DIGITS: [u8; 512] = *b"000102030405060708090A0B0C0D0E0F\
-101112131415161718191A1B1C1D1E1F\
-202122232425262728292A2B2C2D2E2F\
-303132333435363738393A3B3C3D3E3F\
-404142434445464748494A4B4C4D4E4F\
-505152535455565758595A5B5C5D5E5F\
-606162636465666768696A6B6C6D6E6F\
-707172737475767778797A7B7C7D7E7F\
-808182838485868788898A8B8C8D8E8F\
-909192939495969798999A9B9C9D9E9F\
-A0A1A2A3A4A5A6A7A8A9AAABACADAEAF\
-B0B1B2B3B4B5B6B7B8B9BABBBCBDBEBF\
-C0C1C2C3C4C5C6C7C8C9CACBCCCDCECF\
-D0D1D2D3D4D5D6D7D8D9DADBDCDDDEDF\
-E0E1E2E3E4E5E6E7E8E9EAEBECEDEEEF\
-F0F1F2F3F4F5F6F7F8F9FAFBFCFDFEFF";
+/// The most bytes whose digits are written at once. Most lines show few, and letters are raised at once where their number is known.
+const FEW: usize = 16;
 
 /// Puts the text of the line, with its end, into an empty buffer.
 #[tactic(auto, using(crate::proofs::EncodeWithLemmas::joined_digits), unfolding(crate::specs::Traces::trace_text))]
@@ -308,16 +294,27 @@ pub fn put_hex<const N: usize>(text: &mut ArrayVec<u8, N>, bytes: &[u8])
     ensures items { text.new.items ≡ text.old.items ++ encode_upper bytes.now }
     ensures size { length text.new.items ≡ length text.old.items + 2 * length bytes.now }
 {
-    for byte in bytes {
-        put_text(text, &digits_of(*byte));
+    let mut rest = bytes;
+    while !rest.is_empty() {
+        let (few, behind) = rest.split_at(rest.len().min(FEW));
+        put_few(text, few);
+        rest = behind;
     }
 }
 
-/// The two digits of a byte.
-fn digits_of(byte: u8) -> [u8; 2]
-    ensures value { result ≡ encode_upper (byte ∷ []) }
-    ensures size { length result ≡ 2 }
+/// Adds the digits of at most `FEW` bytes.
+fn put_few<const N: usize>(text: &mut ArrayVec<u8, N>, bytes: &[u8])
+    requires few { length bytes.now ≤ FEW }
+    requires room { length text.old.items + 2 * length bytes.now ≤ N }
+    ensures items { text.new.items ≡ text.old.items ++ encode_upper bytes.now }
+    ensures size { length text.new.items ≡ length text.old.items + 2 * length bytes.now }
 {
-    let place = 2 * usize::from(byte);
-    [DIGITS[place], DIGITS[place + 1]]
+    let mut digits = [0; 2 * FEW];
+    let size = 2 * bytes.len();
+    match encode_to_slice(bytes, &mut digits[..size]) {
+        Ok(()) => {}
+        Err(_) => unreachable!(),
+    }
+    digits.make_ascii_uppercase();
+    put_text(text, &digits[..size]);
 }

@@ -1,13 +1,12 @@
 //! The values of a script line, each read from one word.
-ghost use Rattle.std.specs.Prelude.{◌≡◌, ◌≤◌, ◌<◌, ◌^◌, ◌↔◌, ℕ, [], length, IsErr, IsSome, IfSome, MatchOption, Ok, unwrap_or};
-ghost use Rattle.hex.specs.Hex.{hex_digit_value, pair_value};
+ghost use Rattle.std.specs.Prelude.{◌≡◌, ◌≤◌, ◌<◌, ◌^◌, ◌↔◌, [], length, IsSome, IfSome};
 ghost use Rattle.std.specs.Char.{is_ascii_digit};
 ghost use Rattle.std.specs.List.{list_all};
 ghost use Rattle.std.specs.Str.Parse.{AllDigits, digits_value};
 ghost use Rattle.script_form.specs.Reads.{Reads, ReadsInto};
 ghost use Rattle.script_form.specs.Values.{IsByte, IsDialled, IsHex, IsNumber, IsSized, IsTyped, is_printable as is_shown};
 
-use hex::FromHex;
+use hex::{FromHex, decode_to_slice};
 use uicc_types::{ByteList, Full, Octets};
 
 /// A number from `least` to `most`, which has at most nine digits.
@@ -106,55 +105,20 @@ pub fn read_bytes<const N: usize>(word: &[u8], bytes: &mut ByteList<N>) -> Optio
     ensures { ReadsInto (IsHex N word.now) result bytes.new }
 {
     let count = word.len() / 2;
-    if count == 0 || count > N || word.len() % 2 == 1 {
+    if count == 0 || count > N {
         return None;
     }
-    for place in 0..count {
-        let value = pair_of(word[2 * place], word[2 * place + 1]);
-        if value > 255 {
-            return None;
-        }
-        match bytes.push(value as u8) {
-            Ok(()) => {}
-            Err(Full) => unreachable!(),
-        }
+    let mut places = [0; N];
+    let read = &mut places[..count];
+    match decode_to_slice(word, read) {
+        Ok(()) => {}
+        Err(_) => return None,
     }
-    Some(())
+    match bytes.append(read) {
+        Ok(()) => Some(()),
+        Err(Full) => unreachable!(),
+    }
 }
-
-/// The byte that two digits write, the upper one first; 256 or more where one of them is none.
-fn pair_of(upper: u8, lower: u8) -> u32
-    ensures byte { (place : ℕ) → result ≤ 255 → pair_value upper lower place ≡ Ok result }
-    ensures none { (place : ℕ) → 255 < result → IsErr (pair_value upper lower place) }
-{
-    digit_of(upper) * 16 + digit_of(lower)
-}
-
-/// The value of a hexadecimal digit of either case; 256 where it is none.
-fn digit_of(digit: u8) -> u32
-    ensures value { result ≡ unwrap_or (hex_digit_value digit) 256 }
-    ensures small { result ≤ 256 }
-{
-    VALUES[usize::from(digit)]
-}
-
-/// What `digit_of` answers for each byte: most bytes of a script are hexadecimal digits, and a table needs no branch.
-static VALUES: [u32; 256] = [
-    256, 256, 256, 256, 256, 256, 256, 256, 256, 256, 256, 256, 256, 256, 256, 256, 256, 256, 256,
-    256, 256, 256, 256, 256, 256, 256, 256, 256, 256, 256, 256, 256, 256, 256, 256, 256, 256, 256,
-    256, 256, 256, 256, 256, 256, 256, 256, 256, 256, 0, 1, 2, 3, 4, 5, 6, 7, 8, 9, 256, 256, 256,
-    256, 256, 256, 256, 10, 11, 12, 13, 14, 15, 256, 256, 256, 256, 256, 256, 256, 256, 256, 256,
-    256, 256, 256, 256, 256, 256, 256, 256, 256, 256, 256, 256, 256, 256, 256, 256, 10, 11, 12, 13,
-    14, 15, 256, 256, 256, 256, 256, 256, 256, 256, 256, 256, 256, 256, 256, 256, 256, 256, 256,
-    256, 256, 256, 256, 256, 256, 256, 256, 256, 256, 256, 256, 256, 256, 256, 256, 256, 256, 256,
-    256, 256, 256, 256, 256, 256, 256, 256, 256, 256, 256, 256, 256, 256, 256, 256, 256, 256, 256,
-    256, 256, 256, 256, 256, 256, 256, 256, 256, 256, 256, 256, 256, 256, 256, 256, 256, 256, 256,
-    256, 256, 256, 256, 256, 256, 256, 256, 256, 256, 256, 256, 256, 256, 256, 256, 256, 256, 256,
-    256, 256, 256, 256, 256, 256, 256, 256, 256, 256, 256, 256, 256, 256, 256, 256, 256, 256, 256,
-    256, 256, 256, 256, 256, 256, 256, 256, 256, 256, 256, 256, 256, 256, 256, 256, 256, 256, 256,
-    256, 256, 256, 256, 256, 256, 256, 256, 256, 256, 256, 256, 256, 256, 256, 256, 256, 256, 256,
-    256, 256, 256,
-];
 
 /// Exactly `N` bytes.
 pub fn sized_of<const N: usize>(word: &[u8]) -> Option<[u8; N]>

@@ -10,8 +10,7 @@ use Rattle.card_state.specs.Sections.{Installation, bytes_filled, df_added, df_f
 use Rattle.card_state.specs.declared.faults.SectionFault.{SectionFault}
 use Rattle.card_state.specs.declared.shapes.Shape.{Shape}
 use Rattle.card_state.specs.declared.shapes.Shape.TheVariants as shape
-use Rattle.applet_trait.specs.Minds.{AppletState}
-use Rattle.section_lines.specs.Cast.{kind_of_box}
+use Rattle.applet_trait.specs.Minds.{AppletState, kind_on}
 use Rattle.section_lines.specs.Script.{described, then_on, with_lines}
 use Rattle.section_lines.proofs.WithLinesLemmas.{splits}
 use Rattle.section_lines.specs.RowLaws.{IsOfItsBox, AreOfTheirBoxes, RowsHaveBoxes}
@@ -67,9 +66,9 @@ in_installed cast None found known each = tt
 in_installed cast (Some kind) None known each = tt
 in_installed cast (Some kind) (Some installed) known each = each kind installed refl
 
-row_kept : (cast : List (Option AppletState)) (state : Persistent) (shelf priority : ℕ) (content : List ℕ) → AreOfTheirBoxes cast state → AreKept cast (row_added state shelf priority content (kind_of_box cast shelf))
+row_kept : (cast : List (Option AppletState)) (state : Persistent) (shelf priority : ℕ) (content : List ℕ) → AreOfTheirBoxes cast state → AreKept cast (row_added state shelf priority content (kind_on cast shelf))
 row_kept cast state shelf priority content all =
-    in_installed cast (kind_of_box cast shelf) _ _ (λ kind installed is. good_kept cast _ _ _ (with_row_kept cast state.rows _ all is))
+    in_installed cast (kind_on cast shelf) _ _ (λ kind installed is. good_kept cast _ _ _ (with_row_kept cast state.rows _ all is))
 
 described_kept : (cast : List (Option AppletState)) (state : Persistent) (line : ScriptLine) → AreOfTheirBoxes cast state → AreKept cast (described cast state line)
 described_kept cast state Passed all = all

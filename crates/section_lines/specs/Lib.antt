@@ -1,4 +1,3 @@
-pub mod Cast
 pub mod RowLaws
 pub mod Script
 pub mod SectionReading

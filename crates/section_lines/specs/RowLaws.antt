@@ -2,13 +2,12 @@
 use Rattle.std.specs.Prelude.{All, ◌≡◌, List, Option, Some, Ok}
 use Rattle.script_form.specs.declared.lines.ScriptLine.{ScriptLine}
 use Rattle.card_state.specs.Persistent.{Registration, Persistent}
-use Rattle.applet_trait.specs.Minds.{AppletState}
-use Rattle.section_lines.specs.Cast.{kind_of_box}
+use Rattle.applet_trait.specs.Minds.{AppletState, kind_on}
 use Rattle.section_lines.specs.Script.{with_lines}
 
 -- there is a box on the row's shelf, and the row is of its kind
 abbrev pub IsOfItsBox : List (Option AppletState) → Registration → Type 0
-IsOfItsBox cast row = kind_of_box cast row.shelf ≡ Some row.kind
+IsOfItsBox cast row = kind_on cast row.shelf ≡ Some row.kind
 
 abbrev pub AreOfTheirBoxes : List (Option AppletState) → Persistent → Type 0
 AreOfTheirBoxes cast state = All (IsOfItsBox cast) state.rows

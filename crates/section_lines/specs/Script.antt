@@ -8,8 +8,7 @@ use Rattle.card_state.specs.Sections.{line_added, DfLine, EfLine, FillLine, Reco
 use Rattle.card_state.specs.declared.faults.SectionFault.{SectionFault}
 use Rattle.card_state.specs.declared.faults.SectionFault.TheVariants.{Bad}
 use Rattle.card_state.specs.declared.shapes.Shape.TheVariants as shape
-use Rattle.applet_trait.specs.Minds.{AppletState}
-use Rattle.section_lines.specs.Cast.{kind_of_box}
+use Rattle.applet_trait.specs.Minds.{AppletState, kind_on}
 
 -- the state with the EF that a line describes, or why there is none
 abbrev pub ef_described : Persistent → ScriptLine → Result Persistent SectionFault
@@ -29,7 +28,7 @@ file_described state line = ef_described state line
 abbrev pub described : List (Option AppletState) → Persistent → ScriptLine → Result Persistent SectionFault
 described cast state Passed = Ok state
 described cast state (Pin key value enabled unblock) = line_added state (PinLine key value.0 enabled unblock.0)
-described cast state (Row shelf priority content) = line_added state (RowLine shelf priority content (kind_of_box cast shelf))
+described cast state (Row shelf priority content) = line_added state (RowLine shelf priority content (kind_on cast shelf))
 described cast state line = file_described state line
 
 -- what goes on with what an earlier step came to, or stops at its fault

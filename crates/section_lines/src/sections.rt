@@ -1,16 +1,15 @@
 //! The first part of a script: what the card holds.
-ghost use Rattle.std.specs.Prelude.{◌≡◌, ◌<◌, List, ℕ, Option, IfSome, Ok, Err, true, false};
+ghost use Rattle.std.specs.Prelude.{◌≡◌, ◌<◌, List, ℕ, Option, Ok, Err, true, false};
 ghost use Rattle.uicc_types.specs.Counts.{CountsFailure};
 ghost use Rattle.byte_streams.specs.Reading.{IsWithin};
 ghost use Rattle.script_reader.specs.Reading.{reading, room_of};
 ghost use Rattle.card_state.specs.Persistent.{Persistent};
-ghost use Rattle.layout_section.specs.Adding.{Adds, IsKind};
-ghost use Rattle.applet_trait.specs.Minds.{minds_of};
-ghost use Rattle.section_lines.specs.Cast.{kind_of_box};
+ghost use Rattle.layout_section.specs.Adding.{Adds};
+ghost use Rattle.applet_trait.specs.Minds.{minds_of, kind_on};
 ghost use Rattle.section_lines.specs.SectionReading.{GivesSection, GivesSectionLine, InSection, IsAdded};
 ghost use Rattle.section_lines.specs.Script.{described, ef_described, file_described};
 
-use applet_trait::Applet;
+use applet_trait::{Applet, kind_on};
 use byte_streams::Source;
 use card_state::{SectionFault, Shape};
 use layout_section::Section;
@@ -111,17 +110,6 @@ pub fn describe<B: Applet>(
             kind_on(cast, *shelf),
         ),
         _ => describe_file(section, line),
-    }
-}
-
-/// The kind of the applet in the box on this shelf, or none where there is no box.
-pub fn kind_on<B: Applet>(cast: &[Option<B>], shelf: u8) -> Option<u8>
-    ensures kind { result ≡ kind_of_box (minds_of B.mind cast.now) shelf }
-    ensures known { IfSome result IsKind }
-{
-    match cast.get(usize::from(shelf)) {
-        Some(Some(applet)) => Some(applet.kind()),
-        _ => None,
     }
 }
 

@@ -49,11 +49,9 @@ pub trait Store {
 
     /// The byte by which the card's layout tells the kinds of stores apart.
     fn mark(&self) -> u8
-        ensures { result ≡ store_mark self.now };
-
-    /// Does nothing. What it tells are bytes.
-    fn tells_bytes(&self)
-        ensures { IfSome (stable self.now) AreBytes };
+        ensures mark { result ≡ store_mark self.now }
+        // What it tells are bytes.
+        ensures told { IfSome (stable self.now) AreBytes };
 
     /// Reads the stable bytes from `at` on into the whole of `out`. After a fault `out` holds any bytes.
     fn read(&mut self, at: usize, out: &mut [u8]) -> Result<(), StoreFault>

@@ -1,3 +1,3 @@
 pub mod CommandAnswerLemmas
-pub mod CourseLemmas
+mod CourseLemmas
 mod worked

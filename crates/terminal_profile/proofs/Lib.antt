@@ -1,2 +1,2 @@
-pub mod ConsultedLemmas
+mod ConsultedLemmas
 mod worked

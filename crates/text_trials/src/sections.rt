@@ -2,11 +2,12 @@
 
 use crate::shown::put_number;
 use crate::written::{fails, text_of};
+use applet_trait::kind_on;
 use boxed_applets::Clock;
 use byte_streams::SliceSource;
 use layout_section::Section;
 use script_reader::{ScriptFault, ScriptReader};
-use section_lines::{kind_on, read_section};
+use section_lines::read_section;
 use std::alloc::Global;
 use unit_tables::{Failure, small_number};
 

@@ -1,2 +1,2 @@
-pub mod IsSmallestFreeLemmas
+mod IsSmallestFreeLemmas
 mod worked

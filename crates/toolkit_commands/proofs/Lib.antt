@@ -1,15 +1,15 @@
-pub mod FourFaultsLemmas
-pub mod IsCommandLemmas
-pub mod IsEnvelopeLemmas
-pub mod IsProperLemmas
-pub mod ItemsOfLemmas
+mod FourFaultsLemmas
+mod IsCommandLemmas
+mod IsEnvelopeLemmas
+mod IsProperLemmas
+mod ItemsOfLemmas
 pub mod LengthsOfCommandsLemmas
-pub mod NeededLemmas
-pub mod ProactiveOfLemmas
-pub mod ProactiveReadLemmas
+mod NeededLemmas
+mod ProactiveOfLemmas
+mod ProactiveReadLemmas
 pub mod RenumberedLemmas
-pub mod RepliesLemmas
-pub mod SpelledLemmas
-pub mod SpellingsLemmas
-pub mod ValuesLemmas
+mod RepliesLemmas
+mod SpelledLemmas
+mod SpellingsLemmas
+mod ValuesLemmas
 mod worked

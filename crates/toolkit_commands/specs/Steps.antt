@@ -1,4 +1,5 @@
--- The reader step by step, as its own functions cite it. What it comes to is the table of Reading.
+-- How the bytes of a proactive command are read, step by step, as the functions of this crate cite it; bip_channels cites `Gives`,
+-- `template_in` and `needed` too. What it comes to is the table of Reading.
 use Rattle.std.specs.Prelude.{◌≡◌, ℕ, ◌&&◌, List, Option, Some, None, Result, Ok, Err, nat_le, ◌==◌, if◌then◌else◌}
 use Rattle.comprehension_tlv.specs.Reading.{outline, value_of, template_of}
 use Rattle.comprehension_tlv.specs.declared.faults.TlvFault.{TlvFault}

@@ -8,13 +8,13 @@ use Rattle.list_laws.proofs.CondLemmas.{chosen}
 use Rattle.list_laws.proofs.AllPairsLemmas.{pairs_nil, pairs_cons, pairs_head, pairs_tail}
 use Rattle.card_state.specs.Persistent.{Registration, Persistent}
 use Rattle.card_state.specs.Sections.{Installation, is_installation, is_code, are_different, counted, installation_of, has_text, new_row, needs_wide, with_row}
-use Rattle.applet_trait.specs.Minds.{AppletState}
+use Rattle.applet_trait.specs.Minds.{AppletState, kind_on}
 use Rattle.toolkit_model.specs.declared.faults.RowFault.{RowFault}
 use Rattle.toolkit_model.specs.declared.faults.RowFault.TheVariants.{BadData, NoBox, Narrow, Taken, MenuFull, Spent}
 use Rattle.toolkit_model.specs.Registry.{faulty_if, unless_missing, is_on, is_taken, is_menu_full, last_sequence, installed_row}
 use Rattle.toolkit_model.specs.Running.{mind_on}
 use Rattle.toolkit_model.specs.Steps.{AreRows, HasMind}
-use Rattle.toolkit_model.specs.Installing.{kind_on, InstallationsAreAccepted}
+use Rattle.toolkit_model.specs.Installing.{InstallationsAreAccepted}
 
 -- ---- in its place
 

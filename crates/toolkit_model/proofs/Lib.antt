@@ -1,21 +1,21 @@
 pub mod AreRowsLemmas
 pub mod AsksLemmas
 pub mod BegunLemmas
-pub mod CarriedLemmas
+mod CarriedLemmas
 pub mod CommandsLemmas
-pub mod DrivenLemmas
-pub mod DrivingLemmas
+mod DrivenLemmas
+mod DrivingLemmas
 pub mod FetchingLemmas
-pub mod FilledLemmas
+mod FilledLemmas
 pub mod InstallationsAreAcceptedLemmas
-pub mod IsInOrderLemmas
-pub mod KindsLemmas
+mod IsInOrderLemmas
+mod KindsLemmas
 pub mod LateTriggerLemmas
-pub mod LosesNothingLemmas
-pub mod MovedByLemmas
-pub mod ReachesWhoAskedLemmas
+mod LosesNothingLemmas
+mod MovedByLemmas
+mod ReachesWhoAskedLemmas
 pub mod RunOfRowLemmas
-pub mod RunOnLemmas
-pub mod SoundLemmas
+mod RunOnLemmas
+mod SoundLemmas
 pub mod TriggerOrderLemmas
 mod worked

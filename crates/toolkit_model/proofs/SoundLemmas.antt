@@ -1,4 +1,5 @@
--- Rows that a card may keep, step by step.
+-- Each accepted command leaves a good toolkit (`steps_stay_good`, for the law `steps_leave_good`), and the row that INSTALL
+-- answers is sound (`installed_sound`, for `installed_rows_are_sound`). All else is private.
 use Rattle.std.proofs.Common.{◌≡◌, ℕ, zero, suc, ◌+◌, ◌≤◌, ◌<◌, Bool, true, false, cond, List, [], ◌∷◌, ◌++◌, length, map, Option, Some, None, Result, Ok, Err, get_or, arith, refl, sym, ◌∙◌, ap, subst, ⊎_elim, ◌==◌, not, ◌&&◌, ◌||◌, nat_le, nat_lt, filter, All, AllPairs, Contains, is_some, IfSome, IsSomeAnd, length-set}
 use Rattle.std.specs.List.{list_any, list_all, enumerate_from}
 use Rattle.std.proofs.lemmas.Bool.{eqb-false, eqb-true, leb-true, ltb-false, or_parts, cond_both, and_parts}
@@ -16,6 +17,7 @@ use Rattle.card_state.specs.Places.{row_count, kept_limit}
 use Rattle.card_state.specs.Sections.{Installation, is_installation, is_code, are_different, counted, installation_of, needs_wide, is_call_control, sorted_codes, new_row, with_row}
 use Rattle.card_state.specs.Soundness.{AreEventCodes, IsSoundRow}
 use Rattle.card_state.proofs.SortedCodesLemmas.{of_sorted}
+use Rattle.card_state.specs.AppletKinds.{IsAppletKind}
 use Rattle.toolkit_commands.specs.declared.commands.Proactive.{Proactive}
 use Rattle.toolkit_commands.specs.declared.responses.Response.{Response as Reply}
 use Rattle.timer_table.specs.Timers.{smallest_free}
@@ -95,12 +97,12 @@ abbrev AreApart : Registration → Registration → Type 0
 AreApart a b = Answers a → Answers b → ⊥
 
 -- sound rows, with what the toolkit asks of them by itself
-record Hold (wide : Bool) (next : ℕ) (rows : List Registration) : Type 0 where
+record AreSoundByParts (wide : Bool) (next : ℕ) (rows : List Registration) : Type 0 where
   are : AreRows rows
   each : All (IsSoundRow wide next) rows
   apart : AllPairs AreApart rows
 
-sound_of : (wide : Bool) (next : ℕ) (rows : List Registration) → Hold wide next rows → AreSoundRows wide next rows
+sound_of : (wide : Bool) (next : ℕ) (rows : List Registration) → AreSoundByParts wide next rows → AreSoundRows wide next rows
 sound_of wide next rows hold = record {
   each = hold.each;
   different = λ i j d less low. record { shelf = hold.are.shelves i j d less low; sequence = hold.are.sequences i j d less low; call_control = hold.apart i j d less low };
@@ -115,7 +117,7 @@ rows_of wide next rows sound = record {
   few_texts = sound.texts;
 }
 
-hold_of : (wide : Bool) (next : ℕ) (rows : List Registration) → AreSoundRows wide next rows → Hold wide next rows
+hold_of : (wide : Bool) (next : ℕ) (rows : List Registration) → AreSoundRows wide next rows → AreSoundByParts wide next rows
 hold_of wide next rows sound = record { are = rows_of wide next rows sound; each = sound.each; apart = λ i j d less low. (sound.different i j d less low).call_control }
 
 -- the next number may rise
@@ -137,7 +139,7 @@ record IsSound (wide : Bool) (next : ℕ) (change : Registration → Registratio
   sound : (row : Registration) → IsSoundRow wide next row → IsSoundRow wide next (change row)
 
 changed_hold : (wide : Bool) (next : ℕ) (change : Registration → Registration) (shelf : ℕ) (rows : List Registration) → IsSound wide next change
-    → AllPairs (λ a b. AreApart (cond (is_on shelf a) (change a) a) (cond (is_on shelf b) (change b) b)) rows → Hold wide next rows → Hold wide next (with_changed rows shelf change)
+    → AllPairs (λ a b. AreApart (cond (is_on shelf a) (change a) a) (cond (is_on shelf b) (change b) b)) rows → AreSoundByParts wide next rows → AreSoundByParts wide next (with_changed rows shelf change)
 changed_hold wide next change shelf rows is apart hold =
     let one : Registration → Registration = λ row. cond (is_on shelf row) (change row) row in
     record {
@@ -187,7 +189,7 @@ no_other shelf (row ∷ others) none =
 
 module _ (wide : Bool) (next : ℕ) where
   abbrev Sound : List Registration → Type 0
-  Sound rows = Hold wide next rows
+  Sound rows = AreSoundByParts wide next rows
 
   code_sound : (code : ℕ) → IsSound wide next (λ row. record row { codes = sorted_codes (code ∷ row.codes) })
   code_sound code = record {
@@ -287,6 +289,7 @@ module _ (wide : Bool) (next : ℕ) where
 
   -- ---- steps
 
+  -- what each step keeps: sound rows, 32 shelves, and applets of the kinds of their rows
   record Stands (state : ToolkitState) : Type 0 where
     rows : Sound state.rows
     shelves : length state.minds ≡ 32
@@ -477,7 +480,7 @@ steps_stay_good laws same wide next later command state good less accepted bring
         };
         session = now.session;
       };
-      commits = All-weaker (Hold wide later) (AreSoundRows wide later) (sound_of wide later) (passed_rows (moved command state).log) left.commits;
+      commits = All-weaker (AreSoundByParts wide later) (AreSoundRows wide later) (sound_of wide later) (passed_rows (moved command state).log) left.commits;
     }
 
 -- ---- INSTALL
@@ -497,7 +500,7 @@ read_parts content found is =
     (chosen (is_installation read) (Some read) None (Some found) text.1)
 
 abbrev IsKind : ℕ → Type 0
-IsKind kind = (1 ≤ kind) × (kind ≤ 7)
+IsKind kind = IsAppletKind kind
 
 -- a row that a card has room for
 shelf_fits : (wide : Bool) (row : Registration) → (needs_wide row && not wide) ≡ false → row.shelf < 32 → length row.kept ≤ 64 → (row.shelf < row_count wide) × (length row.kept ≤ kept_limit wide)

@@ -1,15 +1,10 @@
 -- What an INSTALL command that is not refused is to the toolkit.
-use Rattle.std.specs.Prelude.{◌≡◌, ℕ, ◌<◌, List, All, Option, Ok, option_map}
+use Rattle.std.specs.Prelude.{◌≡◌, ℕ, ◌<◌, List, All, Ok}
 use Rattle.card_state.specs.Persistent.{Registration, Persistent}
-use Rattle.applet_trait.specs.Minds.{AppletState}
+use Rattle.applet_trait.specs.Minds.{kind_on}
 use Rattle.toolkit_model.specs.Passing.{ToolkitState}
 use Rattle.toolkit_model.specs.Registry.{installed_row}
-use Rattle.toolkit_model.specs.Running.{mind_on}
 use Rattle.toolkit_model.specs.Steps.{AreRows, Install, IsAccepted}
-
--- the kind of the applet on a shelf, if there is one
-abbrev pub kind_on : List (Option AppletState) → ℕ → Option ℕ
-kind_on minds shelf = option_map (λ mind. mind.kind) (mind_on minds shelf)
 
 -- Where the rows are such, and the next sequence number is above theirs: the row that INSTALL answers may be registered.
 abbrev pub InstallationsAreAccepted : Type 0

@@ -5,7 +5,6 @@ pub mod Driving
 pub mod Fetching
 pub mod Installing
 pub mod Kinds
-pub mod Model
 pub mod Order
 pub mod Orderly
 pub mod OrderlySessions

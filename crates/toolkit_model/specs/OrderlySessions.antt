@@ -1,11 +1,12 @@
--- A session in order over its rows.
+-- A toolkit in order between two commands, and a session that was driven.
 use Rattle.std.specs.Prelude.{◌≡◌, All, None, []}
 use Rattle.toolkit_model.specs.Sessions.{SessionState}
 use Rattle.toolkit_model.specs.Orderly.{IsSuspended, IsOrderly}
 use Rattle.toolkit_model.specs.Passing.{ToolkitState}
 use Rattle.toolkit_model.specs.Steps.{AreRows, HaveMinds}
 
--- the rows and the session, and an applet for each row
+-- A toolkit in order, as the contracts of cat_commands and card_core ask for it: its rows are as `AreRows` says, its session is
+-- in order over them (`IsOrderly`), and each row has an applet.
 pub record IsInOrder (state : ToolkitState) : Type 0 where
   pub rows : AreRows state.rows
   pub session : IsOrderly state.rows state.session

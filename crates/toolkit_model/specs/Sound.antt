@@ -4,6 +4,7 @@ use Rattle.card_state.specs.declared.sizes.TheConstants.{MENU_LIMIT}
 use Rattle.card_state.specs.Persistent.{Registration, Persistent}
 use Rattle.card_state.specs.Sections.{has_text}
 use Rattle.card_state.specs.Soundness.{IsSoundRow, AreDifferent}
+use Rattle.card_state.specs.AppletKinds.{IsAppletKind}
 use Rattle.applet_trait.specs.Minds.{AppletState}
 use Rattle.toolkit_model.specs.Orderly.{IsOrderly}
 use Rattle.toolkit_model.specs.Passing.{ToolkitState, Passed, passed_rows}
@@ -49,9 +50,9 @@ StepsLeaveGood =
     (wide : Bool) (next later : ℕ) (command : ToolkitInput) (state : ToolkitState)
     → IsGoodToolkit wide next state → next ≤ later → IsAccepted command state → BringsSound wide later command → LeavesGood wide later (moved command state)
 
--- the row that INSTALL answers, for one of 32 shelves and with a priority of 1 or more, where the applets are of the seven kinds
+-- the row that INSTALL answers, for one of 32 shelves and with a priority of 1 or more, where the applets are of known kinds
 abbrev pub InstalledRowsAreSound : Type 0
 InstalledRowsAreSound =
     (card : Persistent) (kind : Option ℕ) (shelf priority : ℕ) (content : List ℕ) (row : Registration)
-    → shelf < 32 → 1 ≤ priority → IfSome kind (λ each. (1 ≤ each) × (each ≤ 7))
+    → shelf < 32 → 1 ≤ priority → IfSome kind IsAppletKind
     → installed_row card kind shelf priority content ≡ Ok row → IsSoundRow card.is_wide (card.next_sequence + 1) row

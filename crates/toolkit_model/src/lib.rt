@@ -1,6 +1,5 @@
-//! What the toolkit's part of a card knows between two commands, and how commands move it, as definitions; what a terminal says
-//! of itself (ETSI TS 102 223, 5.2); who holds each of the eight timers; and what holds of the toolkit over whole runs of commands,
-//! by functions that do nothing: each carries a statement, which a caller has by calling it.
+//! What the toolkit's part of a card knows between two commands, and how commands move it, as definitions; and what holds of the
+//! toolkit over whole runs of commands, by functions that do nothing: each carries a statement, which a caller has by calling it.
 #![tactic(auto)]
 
 mod answering;

@@ -2,16 +2,17 @@
 //! writes the trace of every command and answer.
 #![tactic(auto)]
 
-ghost use Rattle.std.specs.Prelude.{◌≡◌, ◌≤◌, ◌↔◌, [], length, map, option_map};
-ghost use Rattle.card_state.specs.declared.sizes.TheConstants.{ROW_COUNT};
+ghost use Rattle.std.specs.Prelude.{◌≡◌, ◌↔◌, [], IfOk, OnErr};
 ghost use Rattle.boxed_applets.specs.Casts.{program_boxes};
 ghost use Rattle.uicc_run.specs.Answering.{HasLoadedOnBench, HasRunOnBench, HasServed, KeepsToScripts, NameNoImage};
 ghost use Rattle.uicc_run.specs.Pages.{AsksForNone, words_of};
 ghost use Rattle.uicc_run.specs.Worlds.{outside};
 
 use applet_trait::Applet;
-use boxed_applets::{ProgramApplet, make_applets};
+use boxed_applets::{boxed_applet, put_on_shelf};
 use byte_streams::{InputSource, OutputSink, Sink, Source};
+use card_state::sizes::ROW_COUNT;
+use std::alloc::AllocError;
 use std::fs::File;
 use std::io::ErrorKind;
 use std::process::ExitCode;
@@ -30,40 +31,53 @@ enum NoWords {
 fn main(rt: HostRuntime) -> ExitCode {
     let mut script = InputSource::new(rt.reader());
     let mut output = OutputSink::new(io::writer(&rt));
-    let status = match (arguments_of(&rt), make_applets(rt.alloc())) {
-        (Ok(arguments), Ok(cast)) => serve(&rt, &arguments, &mut script, &mut output, cast),
-        (Err(NoWords::NotText), Ok(cast)) => serve(&rt, &[], &mut script, &mut output, cast),
-        (Err(NoWords::NoMemory), _) | (_, Err(_)) => close(&Ending::NoMemory, &mut output),
+    let served = match arguments_of(&rt) {
+        Ok(arguments) => serve(&rt, &arguments, &mut script, &mut output),
+        Err(NoWords::NotText) => serve(&rt, &[], &mut script, &mut output),
+        Err(NoWords::NoMemory) => Err(AllocError),
+    };
+    let status = match served {
+        Ok(status) => status,
+        Err(AllocError) => close(&Ending::NoMemory, &mut output),
     };
     ExitCode::from(status)
 }
 
-/// Answers with the applets of the program on their shelves, as they were made, and lets them go.
+/// Answers with an applet on each shelf, each in its box, and lets them go, or finds no memory for them.
 fn serve<H: Files<File = File> + Eprint + AllocGlobal, R: Source, W: Sink>(
     rt: &H,
     arguments: &[String],
     script: &mut R,
     output: &mut W,
-    cast: Vec<Option<ProgramApplet>>,
-) -> u8
-    requires made { map (option_map ⟦<ProgramApplet as Applet>⟧.mind) cast.items ≡ program_boxes }
-    requires shelves { length cast.items ≤ ROW_COUNT }
-    ensures script { AsksForNone (words_of arguments.now) → KeepsToScripts (words_of arguments.now) result
+) -> Result<u8, AllocError>
+    ensures script { IfOk result (λ status. AsksForNone (words_of arguments.now) → KeepsToScripts (words_of arguments.now) status
         (outside R.Source W.Sink script.old output.old program_boxes)
-        (outside R.Source W.Sink script.new output.new []) }
-    ensures trace { AsksForNone (words_of arguments.now) → NameNoImage (words_of arguments.now)
-        → HasRunOnBench (words_of arguments.now) result
+        (outside R.Source W.Sink script.new output.new [])) }
+    ensures trace { IfOk result (λ status. AsksForNone (words_of arguments.now) → NameNoImage (words_of arguments.now)
+        → HasRunOnBench (words_of arguments.now) status
         (outside R.Source W.Sink script.old output.old program_boxes)
-        (outside R.Source W.Sink script.new output.new []) }
-    ensures load { AsksForNone (words_of arguments.now) → NameNoImage (words_of arguments.now)
-        → HasLoadedOnBench (words_of arguments.now) result
+        (outside R.Source W.Sink script.new output.new [])) }
+    ensures load { IfOk result (λ status. AsksForNone (words_of arguments.now) → NameNoImage (words_of arguments.now)
+        → HasLoadedOnBench (words_of arguments.now) status
         (outside R.Source W.Sink script.old output.old program_boxes)
-        (outside R.Source W.Sink script.new output.new []) }
-    ensures bip { AsksForNone (words_of arguments.now) → HasServed (words_of arguments.now) result
+        (outside R.Source W.Sink script.new output.new [])) }
+    ensures bip { IfOk result (λ status. AsksForNone (words_of arguments.now) → HasServed (words_of arguments.now) status
         (outside R.Source W.Sink script.old output.old program_boxes)
-        (outside R.Source W.Sink script.new output.new []) }
+        (outside R.Source W.Sink script.new output.new [])) }
+    // Without memory for the applets nothing is read, and nothing is written.
+    ensures unread { OnErr result (script.new ≡ script.old) }
+    ensures unwritten { OnErr result (output.new ≡ output.old) }
 {
-    answer(rt, arguments, script, output, cast)
+    // No function may hand such boxes out, so they are made here.
+    let mut cast: Vec<Option<Box<dyn Applet>>> = Vec::new(rt.alloc());
+    for shelf in 0..ROW_COUNT {
+        boxed_applet!(
+            rt.alloc(),
+            shelf,
+            |applet| put_on_shelf(&mut cast, shelf, applet)?
+        );
+    }
+    Ok(answer(rt, arguments, script, output, cast))
 }
 
 /// The program's name and the words after it.

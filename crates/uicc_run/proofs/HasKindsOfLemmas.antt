@@ -6,7 +6,7 @@ use Rattle.uicc_types.specs.declared.identifiers.Shelf.{Shelf}
 use Rattle.uicc_types.specs.declared.plans.TheConstants.Plan.{NONE}
 use Rattle.card_state.specs.Migration.{ends_low, migrated}
 use Rattle.card_state.specs.Persistent.{Persistent, Registration}
-use Rattle.applet_trait.specs.Minds.{AppletState}
+use Rattle.applet_trait.specs.Minds.{AppletState, kind_on}
 use Rattle.toolkit_model.specs.Registry.{row_on}
 use Rattle.toolkit_model.specs.Commands.{woken_boxes, woken_mind}
 use Rattle.card_model.specs.States.{CardState, HasBox, IsGood, Machine, woken}
@@ -15,7 +15,6 @@ use Rattle.card_core.specs.Cards.{boxes_kept, card_of, card_with, held_by}
 use Rattle.card_core.specs.Openings.{with_all_shelves}
 use Rattle.card_core.specs.Parts.{CardParts}
 use Rattle.card_core.proofs.RestartLemmas.{had_box}
-use Rattle.section_lines.specs.Cast.{kind_of_box}
 use Rattle.run_steps.specs.Ends.{End, moment_at}
 use Rattle.run_steps.specs.Runs.{machine_of}
 use Rattle.run_steps.proofs.StandingLemmas.{machine_is}
@@ -27,7 +26,7 @@ kind_in : (row : Option Registration) (box : Option AppletState) → option_map 
 kind_in row None = refl
 kind_in row (Some mind) = ap Some (woken_kind row mind mind.kind refl)
 
-woken_kinds : (rows : List Registration) (boxes : List (Option AppletState)) (shelf : ℕ) → kind_of_box (woken_boxes rows boxes) shelf ≡ kind_of_box boxes shelf
+woken_kinds : (rows : List Registration) (boxes : List (Option AppletState)) (shelf : ℕ) → kind_on (woken_boxes rows boxes) shelf ≡ kind_on boxes shelf
 woken_kinds rows boxes shelf = ap (option_map (λ (mind : AppletState). mind.kind)) (woken_at rows boxes shelf) ∙ kind_in (row_on rows shelf) (slice_index_or boxes shelf None)
 
 -- the box that leaves is the only one that may be left out

@@ -15,7 +15,6 @@ mod ScriptsLemmas
 mod ServingLemmas
 mod ShowingLemmas
 mod ShowsAsManyLemmas
-mod StandardNumbers
 mod StoresLemmas
 mod TerminalsLemmas
 mod WithLineLemmas

@@ -15,6 +15,7 @@ pub mod Runs
 pub mod Scripts
 pub mod Serving
 pub mod Showing
+pub mod StandardNumbers
 pub mod Steps
 pub mod Stores
 pub mod Terminals

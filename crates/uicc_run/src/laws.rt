@@ -1,5 +1,6 @@
-//! Laws of whole runs. The functions do nothing: each one's contract is the law.
+//! Laws of whole runs, and the numbers that they rest on. The functions do nothing: each one's contract is the law.
 ghost use Rattle.uicc_run.specs.Determined.{LoadsAreOne, ServedTracesAreOne, TracesAreOne};
+ghost use Rattle.uicc_run.specs.StandardNumbers.{StandardNumbers};
 
 use card_laws::runs_are_one;
 use phone_runs::phone_runs_are_one;
@@ -19,3 +20,8 @@ pub fn served_traces_are_one()
 {
     phone_runs_are_one();
 }
+
+/// The constants that the code shares by name with its definitions are the numbers that the standards and the layout have.
+pub fn numbers_are_standard()
+    ensures { StandardNumbers }
+{}

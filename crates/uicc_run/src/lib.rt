@@ -17,5 +17,6 @@ mod terminals;
 pub use answering::{answer, device_size};
 pub use command_line::{Devices, devices};
 pub use endings::Ending;
-pub use laws::{served_traces_are_one, traces_are_one};
+pub use laws::{numbers_are_standard, served_traces_are_one, traces_are_one};
+pub use run_steps::CardEnd;
 pub use running::{close, run};

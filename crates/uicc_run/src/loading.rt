@@ -122,6 +122,7 @@ fn load_over<S: Store, B: Applet>(
         → IfSome (S.stable result.1) (λ content. stands_for (S.store_mark store) content ≡ Ok section.now) }
     ensures ends { EndsLoad result.0 (S.meter store) (S.meter result.1) ⊥ (result.2.items ≡ cast.items) }
 {
+    // This call is a law, and does nothing.
     runs_are_counted();
     match format(&mut store, section) {
         Ok(()) => open_and_load(alloc, start, count, store, cast),
@@ -150,6 +151,7 @@ fn open_and_load<S: Store, B: Applet>(
     ensures bytes { result.0 ≡ Ending.NoMemory → S.stable result.1 ≡ S.stable store }
     ensures ends { EndsLoad result.0 (S.meter store) (S.meter result.1) ⊥ (result.2.items ≡ cast.items) }
 {
+    // These calls are laws, and do nothing.
     runs_are_counted();
     phone_runs_are_lawful();
     match CardOver::open(alloc, store, cast) {

@@ -127,6 +127,7 @@ fn play_line<S: Store, B: Applet, R: Source, W: Sink>(
         (R.faults source.old) (R.faults source.new) (λ end. result ≡ Err end) }
     ensures nearer { OnOk result (room_of script.new < room_of script.old) }
 {
+    // These calls are laws, and do nothing.
     runs_are_counted();
     plans_are_set_in_order();
     match read_behind(script, source, line) {

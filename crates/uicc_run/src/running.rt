@@ -288,6 +288,7 @@ fn make_and_play<S: Store, R: Source, W: Sink, B: Applet>(
         (stored R.Source W.Sink S.Store B.Applet script.new trace.new result.1 result.2.items)
         (trace.new ≡ trace.old) ⊥ (result.2.items ≡ cast.items) }
 {
+    // This call is a law, and does nothing.
     runs_are_counted();
     match make(&mut store, card) {
         Ok(()) => open_and_play(alloc, listener, reader, script, trace, store, cast),
@@ -349,6 +350,7 @@ fn open_and_play<S: Store, R: Source, W: Sink, B: Applet>(
         (stored R.Source W.Sink S.Store B.Applet script.new trace.new result.1 result.2.items)
         (trace.new ≡ trace.old) ⊥ (result.2.items ≡ cast.items) }
 {
+    // This call is a law, and does nothing.
     runs_are_counted();
     match CardOver::open(alloc, store, cast) {
         Err((fault, store, cast)) => (ending_of(fault), store, cast),
@@ -387,6 +389,7 @@ fn carry_on<S: Store, B: Applet, R: Source, W: Sink>(
     ensures tallies { TalliesLines (tally W.Sink card.old trace.old) (tally W.Sink card.new trace.new)
         (R.faults script.old) (R.faults script.new) (λ end. result ≡ end) }
 {
+    // This call is a law, and does nothing.
     phone_runs_are_lawful();
     let mut phone = Phone::new();
     let mut places = Places::new();

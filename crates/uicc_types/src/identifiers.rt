@@ -1,7 +1,7 @@
 //! The names of files, applets' shelves and PIN values.
 
 /// A file identifier (ETSI TS 102 221, 8.2). The MF has `3F00`.
-#[derive(Clone, Copy, Debug, PartialEq, Eq)]
+#[derive(Clone, Copy, Debug, Default, PartialEq, Eq)]
 pub struct FileId(pub u16);
 
 impl FileId {
@@ -16,5 +16,5 @@ impl FileId {
 pub struct Pin8(pub [u8; 8]);
 
 /// The number of the place that a registered applet has in the card.
-#[derive(Clone, Copy, Debug, PartialEq, Eq)]
+#[derive(Clone, Copy, Debug, Default, PartialEq, Eq)]
 pub struct Shelf(pub u8);

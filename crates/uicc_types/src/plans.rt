@@ -1,5 +1,6 @@
 //! Planned faults of the memory, for tests: at which call it loses power or fails.
 ghost use Rattle.std.specs.Prelude.{◌≡◌, None};
+ghost use Rattle.uicc_types.specs.Counts.{names_fault};
 
 /// A loss of power in a program call.
 #[derive(Clone, Copy, Debug, PartialEq, Eq)]
@@ -37,4 +38,11 @@ impl Plan {
         fail: None,
         read_fail: None,
     };
+
+    /// Whether it names a fault.
+    pub fn names_fault(&self) -> bool
+        ensures { result ≡ names_fault self.now }
+    {
+        self.cut.is_some() || self.fail.is_some() || self.read_fail.is_some()
+    }
 }

@@ -1,9 +1,7 @@
 //! What the rows of a table work on, and which unit a row's word names.
 
 use crate::apdus::{show_answer, show_apdu};
-use crate::applets::{
-    applet_of_kind, applet_of_shelf, show_boxed, show_shelves, show_turn, wake_applet,
-};
+use crate::applets::{Applets, show_boxed, show_shelf, show_shelves};
 use crate::bip::show_channels;
 use crate::commands::{
     show_envelope, show_found_details, show_read_command, show_response, show_sameness,
@@ -19,7 +17,6 @@ use crate::timers::show_timers;
 use crate::tlv::{show_first, show_objects, show_template, show_written};
 use crate::writes::show_writes;
 use bip_channels::Bip;
-use boxed_applets::ProgramApplet;
 use card_state::Loaded;
 use layout_section::Section;
 use std::alloc::Global;
@@ -31,8 +28,7 @@ use unit_tables::{Bench, Failure};
 #[derive(Drop)]
 pub struct CardBench {
     alloc: Global,
-    /// The applet that woke last.
-    applet: Option<ProgramApplet>,
+    applets: Applets,
     timers: Timers,
     /// The terminal's channels.
     channels: Option<Bip>,
@@ -46,7 +42,7 @@ impl Bench for CardBench {
     fn new(alloc: Global) -> Self {
         CardBench {
             alloc,
-            applet: None,
+            applets: Applets::new(),
             timers: Timers::new(),
             channels: None,
             registry: Loaded::new(),
@@ -87,7 +83,10 @@ impl CardBench {
         match unit {
             "timers" => show_timers(&mut self.timers, words, shown),
             "bip" => show_channels(alloc, &mut self.channels, words, shown),
-            "applet" | "shelf" | "wake" | "on" => self.carry_out_applet(unit, words, shown),
+            "applet" => self.applets.wake_kind(alloc, words, shown),
+            "wake" => self.applets.wake(alloc, words, shown),
+            "on" => self.applets.turn(alloc, words, shown),
+            "shelf" => show_shelf(alloc, words, shown),
             "shelves" => show_shelves(alloc, shown),
             "boxed" => show_boxed(alloc, words, shown),
             "registry" => make_registry(&mut self.registry, words, shown),
@@ -117,29 +116,6 @@ impl CardBench {
             "place" => show_place(words, shown),
             "fault" => show_section_fault(words, shown),
             "section" => self.carry_out_section(words, shown),
-            _ => Err(Failure::NotARow),
-        }
-    }
-
-    /// `applet KIND KEPT` and `shelf NUMBER KEPT`: a new applet wakes. `wake KEPT`: the last one wakes again. `on STIMULUS`: what it does.
-    fn carry_out_applet(
-        &mut self,
-        unit: &str,
-        words: &[&str],
-        shown: &mut String,
-    ) -> Result<(), Failure> {
-        let alloc = self.alloc;
-        match (unit, words, &mut self.applet) {
-            ("applet", [kind, words @ ..], applet) => {
-                let applet = applet.insert(applet_of_kind(kind)?);
-                wake_applet(alloc, applet, words, shown)
-            }
-            ("shelf", [shelf, words @ ..], applet) => {
-                let applet = applet.insert(applet_of_shelf(shelf)?);
-                wake_applet(alloc, applet, words, shown)
-            }
-            ("wake", _, Some(applet)) => wake_applet(alloc, applet, words, shown),
-            ("on", _, Some(applet)) => show_turn(alloc, applet, words, shown),
             _ => Err(Failure::NotARow),
         }
     }

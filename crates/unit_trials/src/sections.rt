@@ -1,6 +1,6 @@
 //! The section of a card, which stays from row to row.
 ghost use Rattle.std.specs.Prelude.{IfOk, IfSome};
-ghost use Rattle.layout_section.specs.Adding.{IsKind};
+ghost use Rattle.card_state.specs.AppletKinds.{IsAppletKind};
 
 use crate::entries::pin;
 use card_state::{SectionFault, Shape};
@@ -121,7 +121,7 @@ fn rule_of(word: &str) -> Result<(FileId, u8), Failure> {
 
 /// The kind of the applet's object, from 1 to 7, or `-` for none.
 fn kind_of(word: &str) -> Result<Option<u8>, Failure>
-    ensures { IfOk result (λ kind. IfSome kind IsKind) }
+    ensures { IfOk result (λ kind. IfSome kind IsAppletKind) }
 {
     match optional(word) {
         None => Ok(None),

@@ -1,4 +1,5 @@
--- An image with FF in place of the journal's own bytes, byte by byte.
+-- Lemmas on `hidden` of Journal: the image with FF in place of the journal's own bytes, from 64 (`OWN_START`) up to 832
+-- (`OWN_END`). They stand in specs/ since Laws, and so the store's facts `told_length` and `own_bytes`, rest on them.
 use Rattle.std.specs.Prelude.{◌≡◌, ℕ, ◌+◌, ◌-◌, ◌≤◌, ◌<◌, List, ◌++◌, length, take, drop, slice_range, replicate}
 use Rattle.std.proofs.Common.{get_or, ◌∙◌, arith, length-append}
 use Rattle.std.proofs.lemmas.List.{length-take, length-drop, length-replicate, get_or-replicate, get_or_append_left, get_or-append_right}

@@ -1,4 +1,5 @@
--- What the test of well formed pieces says of them.
+-- Lemmas: pieces that are read back from the journal are such as a commit may have (`usable_from_area`). They stand in specs/
+-- since Laws, and so the store's facts, rest on that.
 use Rattle.std.specs.Prelude.{◌≡◌, ℕ, Bool, true, false, ◌&&◌, nat_le, if◌then◌else◌, List, [], ◌∷◌, length, Option, Some, None, option_and_then, All}
 use Rattle.std.proofs.Common.{refl, sym, subst, arith}
 use Rattle.std.proofs.lemmas.Bool.Decides.{nat_tests}
@@ -8,6 +9,7 @@ use Rattle.std.proofs.lemmas.Bool.{and_parts}
 use Rattle.store_form.specs.Pieces.{Piece, IsUsablePiece}
 use Rattle.update_journal.specs.Entries.{is_usable, are_well_formed, if_well_formed, first_pieces, pieces_in}
 
+-- whether a commit may have this piece, in a memory of this size
 abbrev pub test : ℕ → Piece → Bool
 test size piece = is_usable size piece.place (length piece.bytes)
 

@@ -1,4 +1,5 @@
-//! A store over any device: a journal that makes each commit whole or not at all, whenever power is lost.
+//! A store over any device: a journal that makes each commit whole or not at all, whenever power is lost. And a law: what is
+//! spelled in the journal is read.
 #![tactic(auto)]
 
 mod device;

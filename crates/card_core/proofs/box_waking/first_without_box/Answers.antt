@@ -1,8 +1,8 @@
--- The loop keeps that all shelves so far have their box, of one of the seven kinds; so the shelf that lacks one is the first.
+-- The loop keeps that all shelves so far have their box, of a known kind; so the shelf that lacks one is the first.
 use Rattle.std.proofs.Common.{◌≡◌, ◌<◌, ℕ, false, length, slice_get, slice_index_or, Option, Some, None, option_map, sym, ◌∙◌, ap, subst, arith, IfSome}
 use Rattle.std.proofs.lemmas.List.{length-map}
 use Rattle.applet_trait.specs.Minds.{AppletState, minds_of}
-use Rattle.card_model.specs.States.{IsOfSevenKinds}
+use Rattle.card_model.specs.States.{IsOfKnownKind}
 use Rattle.card_core.specs.Boxes.{lacks_box}
 use Rattle.card_core.proofs.LacksBoxLemmas.{all_have, first_found, have_more, one_more, all_of_kinds, box_at, row_at}
 use Rattle.card_core.proofs.box_waking.first_without_box.Goals as goal
@@ -25,8 +25,8 @@ loop-shelf-preserved g c =
     let box_is : slice_index_or (minds_of g.B.Applet.mind c.args.boxes.now) c.loop-shelf.shelf None ≡ option_map g.B.Applet.mind c.index-boxes-at.result =
     box_at g.B.Applet.mind c.args.boxes.now c.loop-shelf.shelf c.index-boxes-at.result low (subst (λ (at : ℕ). c.index-boxes-at.result ≡ slice_index_or c.args.boxes.now at c.index-boxes-at.result) c.from-at.ensures c.index-boxes-at.is) in
     let has : lacks_box c.index-rows-at.result (slice_index_or (minds_of g.B.Applet.mind c.args.boxes.now) c.loop-shelf.shelf None) ≡ false = ap (lacks_box c.index-rows-at.result) box_is ∙ sym c.lacks.ensures.value ∙ c.if-lacks.false in
-    let kind : IfSome (slice_index_or (minds_of g.B.Applet.mind c.args.boxes.now) c.loop-shelf.shelf None) IsOfSevenKinds =
-    subst (λ (box : Option AppletState). IfSome box IsOfSevenKinds) (sym box_is) c.lacks.ensures.kind in (
+    let kind : IfSome (slice_index_or (minds_of g.B.Applet.mind c.args.boxes.now) c.loop-shelf.shelf None) IsOfKnownKind =
+    subst (λ (box : Option AppletState). IfSome box IsOfKnownKind) (sym box_is) c.lacks.ensures.kind in (
       have_more c.args.loaded.now (minds_of g.B.Applet.mind c.args.boxes.now) c.loop-shelf.shelf c.index-rows-at.result there has c.loop-shelf.invariant.0,
       one_more (minds_of g.B.Applet.mind c.args.boxes.now) c.loop-shelf.shelf kind c.loop-shelf.invariant.1,
     )

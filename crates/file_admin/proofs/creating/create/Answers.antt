@@ -6,8 +6,8 @@ use Rattle.file_admin.proofs.AnswersTreeLemmas.{refused, not_still, carried_out,
 use Rattle.file_admin.proofs.CreatingLemmas.{full, change, passes_one, beside, written, done_answers}
 use Rattle.file_admin.proofs.creating.create.Goals as goal
 
-pub add-requires-clause-free : goal.add-requires-clause-free
-add-requires-clause-free g c =
+pub add_file-requires-clause-free : goal.add_file-requires-clause-free
+add_file-requires-clause-free g c =
     beside c.cards_are_known.ensures.card c.cards_are_known.ensures.table c.files_are_found.ensures.told c.args.loaded.now c.args.channels.now c.args.channel c.df_on-df.result c.df_on-df.ensures c.args.file.now c.new_entry.result c.new_entry.ensures.made c.in-Some.entry c.in-Some.is c.in-Some.ensures.node c.written_files_stand.ensures.beside c.cards_are_known.ensures.files
     (g.S.Store.store_mark c.args.store.now) c.requires.mounted.agrees.content c.requires.mounted.agrees.state c.requires.mounted.agrees.stands
 
@@ -17,7 +17,7 @@ returns-in-Ok-clause-done g c =
     (subst (λ (n : ℕ). is_there (descriptors_of c.args.loaded.now) n c.args.file.now ≡ false) (sym c.df_on-df.ensures) c.requires.new) c.in-Some.ensures.ranges
     (subst (λ (n : ℕ). IsSomeAnd (file_found (descriptors_of c.args.loaded.now) (Number n)) (λ f. IsTrue (is_df f))) (sym c.df_on-df.ensures) c.requires.df)) in
     carried_out c.cards_are_known.ensures.table c.stores_stand.ensures.known _ c.requires.mounted c.args.channels.now (λ state. created_if_room state c.args.channels.now c.args.channel c.args.file.now) (change c.cards_are_known.ensures.card c.cards_are_known.ensures.table c.files_are_found.ensures.told c.args.loaded.now c.args.channels.now c.args.channel c.df_on-df.result c.df_on-df.ensures c.args.file.now c.new_entry.result c.new_entry.ensures.made c.in-Some.entry c.in-Some.is) (passes_one c.cards_are_known.ensures.card c.cards_are_known.ensures.table c.files_are_found.ensures.told c.args.loaded.now c.args.channels.now c.args.channel c.df_on-df.result c.df_on-df.ensures c.args.file.now c.new_entry.result c.new_entry.ensures.made c.in-Some.entry c.in-Some.is) c.in-Ok.field-0 _ _ _
-    (done_answers c.cards_are_known.ensures.card c.cards_are_known.ensures.table c.files_are_found.ensures.told c.args.loaded.now c.args.channels.now c.args.channel c.df_on-df.result c.df_on-df.ensures c.args.file.now c.new_entry.result c.new_entry.ensures.made c.in-Some.entry c.in-Some.is c.in-Some.ensures.node over c.args.channel c.set.new.self c.selection_of.result c.add.new.loaded refl c.set.ensures (c.selection_of.ensures c.in-Some.entry.node.place) c.in-Ok.ensures.table)
+    (done_answers c.cards_are_known.ensures.card c.cards_are_known.ensures.table c.files_are_found.ensures.told c.args.loaded.now c.args.channels.now c.args.channel c.df_on-df.result c.df_on-df.ensures c.args.file.now c.new_entry.result c.new_entry.ensures.made c.in-Some.entry c.in-Some.is c.in-Some.ensures.node over c.args.channel c.set.new.self c.selection_of.result c.add_file.new.loaded refl c.set.ensures (c.selection_of.ensures c.in-Some.entry.node.place) c.in-Ok.ensures.table)
     (c.in-Ok.ensures.committed _ over)
 
 pub returns-in-Ok-clause-still : goal.returns-in-Ok-clause-still

@@ -1,5 +1,5 @@
 use Rattle.std.proofs.Common.{◌≡◌, sym, ◌∙◌, Ok}
-use Rattle.file_model.specs.Channels.{channel_of}
+use Rattle.apdu_form.specs.Classes.{channel_of}
 use Rattle.file_model.specs.Deleting.{deleting, deleted}
 use Rattle.file_admin.proofs.AnswersTreeLemmas.{refused, alike, still_alike}
 use Rattle.file_admin.proofs.StandsLemmas.{listed}
@@ -7,20 +7,20 @@ use Rattle.file_admin.proofs.deleting.try_delete.Goals as goal
 
 pub returns-in-Ok-clause-done : goal.returns-in-Ok-clause-done
 returns-in-Ok-clause-done g c =
-    let same_channel : c.channel_of-channel.result ≡ channel_of c.args.command.now.class = c.channel_of-channel.ensures ∙ (λ i. channel_of (c.command.view_is i).class) in
+    let same_channel : c.channel-channel.result ≡ channel_of c.args.command.now.class = c.channel-channel.ensures in
     alike c.cards_are_known.ensures.table c.stores_stand.ensures.known _ c.requires.mounted c.args.channels.now (λ state. deleted state c.args.seen.now c.args.channels.now (channel_of c.args.command.now.class) c.args.command.now) (λ state. Ok (deleting state c.args.channels.now c.in-Ok.file))
     (λ mark content state stands. sym (λ i. deleted state c.args.seen.now c.args.channels.now (same_channel i) c.args.command.now) ∙ c.in-Ok.ensures.found state (listed c.cards_are_known.ensures.card c.cards_are_known.ensures.table mark content c.args.loaded.now state stands c.files_are_found.ensures.told))
     c.delete.result _ _ (c.delete.ensures.done)
 
 pub returns-in-Ok-clause-still : goal.returns-in-Ok-clause-still
 returns-in-Ok-clause-still g c =
-    let same_channel : c.channel_of-channel.result ≡ channel_of c.args.command.now.class = c.channel_of-channel.ensures ∙ (λ i. channel_of (c.command.view_is i).class) in
+    let same_channel : c.channel-channel.result ≡ channel_of c.args.command.now.class = c.channel-channel.ensures in
     still_alike c.cards_are_known.ensures.table c.stores_stand.ensures.known _ c.requires.mounted c.args.channels.now (λ state. deleted state c.args.seen.now c.args.channels.now (channel_of c.args.command.now.class) c.args.command.now) (λ state. Ok (deleting state c.args.channels.now c.in-Ok.file))
     (λ mark content state stands. sym (λ i. deleted state c.args.seen.now c.args.channels.now (same_channel i) c.args.command.now) ∙ c.in-Ok.ensures.found state (listed c.cards_are_known.ensures.card c.cards_are_known.ensures.table mark content c.args.loaded.now state stands c.files_are_found.ensures.told))
     (c.delete.ensures.still)
 
 pub returns-in-Err-clause-done : goal.returns-in-Err-clause-done
 returns-in-Err-clause-done g c =
-    let same_channel : c.channel_of-channel.result ≡ channel_of c.args.command.now.class = c.channel_of-channel.ensures ∙ (λ i. channel_of (c.command.view_is i).class) in
+    let same_channel : c.channel-channel.result ≡ channel_of c.args.command.now.class = c.channel-channel.ensures in
     refused c.cards_are_known.ensures.table c.stores_stand.ensures.known _ c.requires.mounted c.args.channels.now (λ state. deleted state c.args.seen.now c.args.channels.now (channel_of c.args.command.now.class) c.args.command.now) c.in-Err.status
     (λ mark content state stands. sym (λ i. deleted state c.args.seen.now c.args.channels.now (same_channel i) c.args.command.now) ∙ c.in-Err.ensures.refused state (listed c.cards_are_known.ensures.card c.cards_are_known.ensures.table mark content c.args.loaded.now state stands c.files_are_found.ensures.told))

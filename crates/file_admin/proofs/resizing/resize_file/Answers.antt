@@ -1,5 +1,5 @@
 use Rattle.std.proofs.Common.{rules}
-use Rattle.file_model.specs.Channels.{channel_of}
+use Rattle.apdu_form.specs.Classes.{channel_of}
 use Rattle.file_model.specs.Resizing.{resized}
 use Rattle.file_admin.proofs.IsTreeOutcomeLemmas.{performs, selected_there}
 use Rattle.file_admin.proofs.resizing.resize_file.Goals as goal

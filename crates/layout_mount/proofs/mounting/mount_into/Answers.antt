@@ -7,9 +7,9 @@ pub returns-in-Ok-clause-mounts : goal.returns-in-Ok-clause-mounts
 returns-in-Ok-clause-mounts g c = record {
   ready = c.in_ok-image.ensures.ready;
   table =
-      subst (λ (mark : ℕ). IsTable mark (g.S.Store.stable c.args.store.now) c.load.new.into) c.mark-mark.ensures
+      subst (λ (mark : ℕ). IsTable mark (g.S.Store.stable c.args.store.now) c.load.new.into) c.mark-mark.ensures.mark
       (is_table (g.S.Store.byte_count c.args.store.now) c.requires.size c.in_ok-image.image c.holds_bytes.ensures (g.S.Store.stable c.args.store.now) c.mark-mark.result c.load.new.into (g.met.S.Store.told_length c.args.store.now)
-      c.tells_bytes.ensures c.in_ok-image.ensures.image c.in-Ok.ensures.found c.in-Ok.ensures.checked);
+      c.mark-mark.ensures.told c.in_ok-image.ensures.image c.in-Ok.ensures.found c.in-Ok.ensures.checked);
 }
 
 pub returns-in-Err-clause-no_card : goal.returns-in-Err-clause-no_card
@@ -19,7 +19,7 @@ returns-in-Err-clause-no_card g c =
     record {
       ready = c.in_ok-image.ensures.ready;
       no_card =
-          subst (λ (mark : ℕ). HoldsNoCard mark (g.S.Store.stable c.args.store.now) at) c.mark-mark.ensures
+          subst (λ (mark : ℕ). HoldsNoCard mark (g.S.Store.stable c.args.store.now) at) c.mark-mark.ensures.mark
           (is_no_card (g.S.Store.byte_count c.args.store.now) c.requires.size c.in_ok-image.image c.holds_bytes.ensures (g.S.Store.stable c.args.store.now) c.mark-mark.result at (g.met.S.Store.told_length c.args.store.now)
-          c.tells_bytes.ensures c.in_ok-image.ensures.image (c.in-Err.ensures.checked ∙ ap (λ (n : ℕ). Some n) place));
+          c.mark-mark.ensures.told c.in_ok-image.ensures.image (c.in-Err.ensures.checked ∙ ap (λ (n : ℕ). Some n) place));
     }

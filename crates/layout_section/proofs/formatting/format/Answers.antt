@@ -9,7 +9,7 @@ pub returns-clause-stands : goal.returns-clause-stands
 returns-clause-stands g c =
     on_ok_weaker c.commit_first.result
     (λ is.
-    subst (λ (mark : ℕ). IfSome (g.S.Store.stable c.commit_first.new.store) (λ content. stands_for mark content ≡ Ok c.args.section.now)) (c.mark-mark.ensures ∙ c.in_ok-recover.ensures.keeps.mark)
+    subst (λ (mark : ℕ). IfSome (g.S.Store.stable c.commit_first.new.store) (λ content. stands_for mark content ≡ Ok c.args.section.now)) (c.mark-mark.ensures.mark ∙ c.in_ok-recover.ensures.keeps.mark)
     (told_stands (g.S.Store.stable c.commit_first.new.store) c.mark-mark.result c.args.section.now c.spelled-card.result c.spelled-card.ensures.spells is))
     c.commit_first.ensures.written
 
@@ -22,7 +22,7 @@ returns-clause-first_last g c =
     (⊎_elim {C = (g.S.Store.stable c.commit_first.new.store ≡ g.S.Store.stable c.prepare_card.new.store) ⊎ IfSome (g.S.Store.stable c.commit_first.new.store) (λ content. stands_for (g.S.Store.store_mark c.args.store.now) content ≡ Ok c.args.section.now)}
     (λ same. inl same)
     (λ is. inr
-    (subst (λ (mark : ℕ). IfSome (g.S.Store.stable c.commit_first.new.store) (λ content. stands_for mark content ≡ Ok c.args.section.now)) (c.mark-mark.ensures ∙ c.in_ok-recover.ensures.keeps.mark)
+    (subst (λ (mark : ℕ). IfSome (g.S.Store.stable c.commit_first.new.store) (λ content. stands_for mark content ≡ Ok c.args.section.now)) (c.mark-mark.ensures.mark ∙ c.in_ok-recover.ensures.keeps.mark)
     (told_stands (g.S.Store.stable c.commit_first.new.store) c.mark-mark.result c.args.section.now c.spelled-card.result c.spelled-card.ensures.spells is)))
     whole))
     c.commit_first.ensures.whole

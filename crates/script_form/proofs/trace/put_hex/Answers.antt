@@ -1,26 +1,23 @@
-use Rattle.std.proofs.Common.{ℕ, List, ◌++◌, ◌∙◌, ap, sym, arith, take_all}
+use Rattle.std.proofs.Common.{◌≡◌, ◌++◌, ℕ, List, length, ap, arith, length-append, take-append-drop}
+use Rattle.std.proofs.lemmas.Bool.Decides.{nat_tests}
 use Rattle.hex.specs.Hex.{upper_digits}
-use Rattle.script_form.proofs.EncodeWithLemmas.{encode_more, encode_none}
+use Rattle.script_form.proofs.EncodeWithLemmas.{all_written, few_more}
 use Rattle.script_form.proofs.trace.put_hex.Goals as goal
 
-pub loop-byte-init : goal.loop-byte-init
-loop-byte-init g c = record { items = sym (encode_none upper_digits c.args.text.now.items); size = omega arith }
-
-pub put_text-requires : goal.put_text-requires
-put_text-requires g c = omega (arith, c.loop-byte.invariant.size, c.digits_of.ensures.size)
-
-pub loop-byte-preserved : goal.loop-byte-preserved
-loop-byte-preserved g c = record {
-  items =
-      encode_more upper_digits c.args.text.now.items c.args.bytes.now c.loop-byte.text.items c.put_text.new.text.items
-      c.loop-byte.byte-index c.loop-byte-test.true c.loop-byte.invariant.items (c.put_text.ensures.items ∙ ap (λ (part : List ℕ). c.loop-byte.text.items ++ part) c.digits_of.ensures.value);
-  size = omega (arith, c.loop-byte.invariant.size, c.put_text.ensures.size, c.digits_of.ensures.size);
-}
+pub loop-rest-preserved : goal.loop-rest-preserved
+loop-rest-preserved g c =
+    let few = c.split_at.result.0.now in
+    let behind = c.split_at.result.1.now in
+    let parts : few ++ behind ≡ c.loop-rest.rest.now =
+    rw (c.split_at.ensures.front, c.split_at.ensures.back) (take-append-drop c.min.result c.loop-rest.rest.now) in
+    let size = ap (λ (xs : List ℕ). length xs) parts in
+    record {
+      items = few_more upper_digits c.loop-rest.text.items few behind c.loop-rest.rest.now c.put_few.new.text.items _ parts c.put_few.ensures.items c.loop-rest.invariant.items;
+      size = omega (arith, c.put_few.ensures.size, c.loop-rest.invariant.size, size, length-append few behind);
+    }
 
 pub returns : goal.returns
-returns g c =
-    let whole = take_all c.loop-byte.byte-index c.args.bytes.now (omega arith) in
-    record {
-      items = rw whole at c.loop-byte.invariant.items;
-      size = omega (arith, c.loop-byte.invariant.size);
-    }
+returns g c = record {
+  items = all_written upper_digits c.loop-rest.text.items c.loop-rest.rest.now _ (grind (arith, nat_tests, c.is_empty.ensures, c.loop-rest-test.false)) c.loop-rest.invariant.items;
+  size = grind (arith, nat_tests, c.is_empty.ensures, c.loop-rest-test.false, c.loop-rest.invariant.size);
+}

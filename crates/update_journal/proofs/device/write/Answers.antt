@@ -14,7 +14,7 @@ loop-rest-init g c = record {
 }
 
 pub overflow_add-place : goal.overflow_add-place
-overflow_add-place g c = omega (arith, c.loop-rest.invariant.ahead, c.requires, c.size-size.ensures, c.size-size.type_inv, c.split_at.ensures.front_len, c.split_at.ensures.back_len)
+overflow_add-place g c = omega (arith, c.loop-rest.invariant.ahead, c.requires, c.size-size.ensures.size, c.size-size.type_inv, c.split_at.ensures.front_len, c.split_at.ensures.back_len)
 
 pub returns-in_err-program-clause-torn : goal.returns-in_err-program-clause-torn
 returns-in_err-program-clause-torn g c =

@@ -6,4 +6,4 @@ pub returns : goal.returns
 returns c =
     let w = c.self.inside in
     let inside : w.start + c.args.count ≤ w.end = omega (arith, length-take {A = ℕ}, length-drop {A = ℕ}, ap length c.self.view_is) in
-    let_go w.bytes w.start w.end c.args.count inside ∙ ap (drop c.args.count) c.self.view_is
+    let_go w.bytes.items w.start w.end c.args.count inside ∙ ap (drop c.args.count) c.self.view_is

@@ -10,7 +10,8 @@ use Rattle.file_model.specs.Access.{keys_seen}
 use Rattle.file_model.specs.Files.{descriptors_of}
 use Rattle.file_model.specs.declared.selections.Selection.{Selection}
 use Rattle.file_model.specs.declared.selections.TheConstants.Selection.{AT_START}
-use Rattle.file_model.specs.Channels.{channel_of, selected_on}
+use Rattle.apdu_form.specs.Classes.{channel_of}
+use Rattle.file_model.specs.Channels.{selected_on}
 use Rattle.file_model.specs.LawfulTrees.{AreSelected}
 use Rattle.file_model.specs.Commands.{file_outcome}
 use Rattle.file_model.specs.declared.commands.FileCommand.{FileCommand}
@@ -36,14 +37,14 @@ use Rattle.card_core.proofs.cards.CardOver.carry_out_on_files.Goals as goal
 pub returns-in-Ok-clause-settled : goal.returns-in-Ok-clause-settled
 returns-in-Ok-clause-settled g c = record {
   settles =
-      let channel : c.channel_of-channel.result ≡ channel_of c.args.apdu.now.class = c.channel_of-channel.ensures ∙ ap (λ (apdu : Apdu). channel_of apdu.class) c.apdu.view_is in
+      let channel : c.channel-channel.result ≡ channel_of c.args.apdu.now.class = c.channel-channel.ensures in
       files_settle c.args.command c.tables_tell_states.ensures _ _ c.requires.underway.rests c.requires.underway.running.mounted.agrees c.args.apdu.now c.in-Some.selection
       (ap (selected_on c.args.self.now.channels) (sym channel) ∙ sym c.selected.ensures ∙ c.in-Some.is)
       (keys_seen (pins_of c.deref_mut.result.now) c.args.self.now.verified) (ap (λ (table : Loaded). keys_seen (pins_of table) c.args.self.now.verified) c.deref_mut.ensures.value)
       _ c.on_files.new.selection c.on_files.new.out c.in-Ok.ensures.performs c.requires.underway.rests
       (c.set.ensures ∙ ap (λ (at : ℕ). slice_set c.args.self.now.channels at (Some c.on_files.new.selection)) channel) refl refl refl;
   counts =
-      let channel : c.channel_of-channel.result ≡ channel_of c.args.apdu.now.class = c.channel_of-channel.ensures ∙ ap (λ (apdu : Apdu). channel_of apdu.class) c.apdu.view_is in
+      let channel : c.channel-channel.result ≡ channel_of c.args.apdu.now.class = c.channel-channel.ensures in
       files_counts c.args.command c.tables_tell_states.ensures (parts_of g.S.Store g.B.Applet c.args.self.now) _ c.requires.underway.rests c.requires.underway.running.mounted.agrees c.args.apdu.now c.in-Some.selection
       (ap (selected_on c.args.self.now.channels) (sym channel) ∙ sym c.selected.ensures ∙ c.in-Some.is)
       (keys_seen (pins_of c.deref_mut.result.now) c.args.self.now.verified) (ap (λ (table : Loaded). keys_seen (pins_of table) c.args.self.now.verified) c.deref_mut.ensures.value)
@@ -62,7 +63,7 @@ returns-in-Ok-clause-goes_on g c = record {
     mounted = c.in-Ok.ensures.ends.keeps.mounted;
     selected =
         subst (λ (channels : List (Option Selection)). AreSelected (descriptors_of c.on_files.new.loaded) channels) (sym c.set.ensures)
-        (set_selected (descriptors_of c.on_files.new.loaded) c.args.self.now.channels c.channel_of-channel.result c.on_files.new.selection c.in-Ok.ensures.ends.selected
+        (set_selected (descriptors_of c.on_files.new.loaded) c.args.self.now.channels c.channel-channel.result c.on_files.new.selection c.in-Ok.ensures.ends.selected
         (kept_selected _ (descriptors_of c.on_files.new.loaded) c.args.self.now.channels c.on_files.ensures.files.others
         (subst (λ (table : Loaded). AreSelected (descriptors_of table) c.args.self.now.channels) (sym c.deref_mut.ensures.value) c.requires.underway.running.selected)));
     toolkit = toolkit_kept c.args.self.now.loaded.value c.on_files.new.loaded _ _ _ (rows_beside_files _ _ c.on_files.ensures.files.files ∙ ap rows_of c.deref_mut.ensures.value) c.requires.underway.running.toolkit;
@@ -76,7 +77,7 @@ pub returns-in-Err-clause-settled : goal.returns-in-Err-clause-settled
 returns-in-Err-clause-settled g c = record {
   settles =
       let old = parts_of g.S.Store g.B.Applet c.args.self.now in
-      let channel : c.channel_of-channel.result ≡ channel_of c.args.apdu.now.class = c.channel_of-channel.ensures ∙ ap (λ (apdu : Apdu). channel_of apdu.class) c.apdu.view_is in
+      let channel : c.channel-channel.result ≡ channel_of c.args.apdu.now.class = c.channel-channel.ensures in
       fault_left c.cards_go_on.ensures.rows (File c.args.command) c.args.apdu.now refl (card_of old) _ c.requires.underway.running.stays (card_boxes old c.requires.underway.rests)
       (cards_in_order c.tables_tell_states.ensures c.tables_have_rows.ensures old c.requires.underway.running c.requires.underway.rests)
       (files_fault c.args.command c.tables_tell_states.ensures (parts_of g.S.Store g.B.Applet c.args.self.now) (parts_of g.S.Store g.B.Applet c.args.self.now) c.requires.underway.rests c.requires.underway.running.mounted.agrees c.args.apdu.now c.in-Some.selection
@@ -84,7 +85,7 @@ returns-in-Err-clause-settled g c = record {
       (keys_seen (pins_of c.deref_mut.result.now) c.args.self.now.verified) (ap (λ (table : Loaded). keys_seen (pins_of table) c.args.self.now.verified) c.deref_mut.ensures.value)
       (standing (g.S.Store.store_mark c.on_files.new.store) (g.S.Store.stable c.on_files.new.store)) c.in-Err.ensures.performs.passes);
   counts =
-      let channel : c.channel_of-channel.result ≡ channel_of c.args.apdu.now.class = c.channel_of-channel.ensures ∙ ap (λ (apdu : Apdu). channel_of apdu.class) c.apdu.view_is in
+      let channel : c.channel-channel.result ≡ channel_of c.args.apdu.now.class = c.channel-channel.ensures in
       files_counts c.args.command c.tables_tell_states.ensures (parts_of g.S.Store g.B.Applet c.args.self.now) _ c.requires.underway.rests c.requires.underway.running.mounted.agrees c.args.apdu.now c.in-Some.selection
       (ap (selected_on c.args.self.now.channels) (sym channel) ∙ sym c.selected.ensures ∙ c.in-Some.is)
       (keys_seen (pins_of c.deref_mut.result.now) c.args.self.now.verified) (ap (λ (table : Loaded). keys_seen (pins_of table) c.args.self.now.verified) c.deref_mut.ensures.value)
@@ -95,7 +96,7 @@ returns-in-Err-clause-settled g c = record {
 
 pub returns-in-Ok-clause-still : goal.returns-in-Ok-clause-still
 returns-in-Ok-clause-still g c = λ is.
-    let channel : c.channel_of-channel.result ≡ channel_of c.args.apdu.now.class = c.channel_of-channel.ensures ∙ ap (λ (apdu : Apdu). channel_of apdu.class) c.apdu.view_is in
+    let channel : c.channel-channel.result ≡ channel_of c.args.apdu.now.class = c.channel-channel.ensures in
     let there : selected_on c.args.self.now.channels (channel_of c.args.apdu.now.class) ≡ Some c.in-Some.selection = ap (selected_on c.args.self.now.channels) (sym channel) ∙ sym c.selected.ensures ∙ c.in-Some.is in
     let some = some_told c.tables_tell_states.ensures (g.S.Store.store_mark c.args.self.now.store) (g.S.Store.stable c.args.self.now.store) c.args.self.now.loaded.value c.requires.underway.running.mounted.agrees in
     let seen = keys_seen (pins_of c.deref_mut.result.now) c.args.self.now.verified in
@@ -116,7 +117,7 @@ returns-in-Ok-clause-still g c = λ is.
 
 pub returns-in-Ok-clause-acts : goal.returns-in-Ok-clause-acts
 returns-in-Ok-clause-acts g c =
-    let channel : c.channel_of-channel.result ≡ channel_of c.args.apdu.now.class = c.channel_of-channel.ensures ∙ ap (λ (apdu : Apdu). channel_of apdu.class) c.apdu.view_is in
+    let channel : c.channel-channel.result ≡ channel_of c.args.apdu.now.class = c.channel-channel.ensures in
     let there : selected_on c.args.self.now.channels (channel_of c.args.apdu.now.class) ≡ Some c.in-Some.selection = ap (selected_on c.args.self.now.channels) (sym channel) ∙ sym c.selected.ensures ∙ c.in-Some.is in
     files_act {X = Unit} (Ok c.in-Ok.field-0) c.args.apdu.now (parts_of g.S.Store g.B.Applet c.args.self.now) _ c.on_files.new.out c.args.command
     (some_told c.tables_tell_states.ensures (g.S.Store.store_mark c.args.self.now.store) (g.S.Store.stable c.args.self.now.store) c.args.self.now.loaded.value c.requires.underway.running.mounted.agrees)
@@ -143,7 +144,7 @@ returns-in-Ok-clause-acts g c =
             ∙ put_back c.args.self.now.channels (channel_of c.args.apdu.now.class) c.in-Some.selection there);
       },
     ))
-    (files_moved (channel_of c.args.apdu.now.class) c.channel_of-channel.result (parts_of g.S.Store g.B.Applet c.args.self.now) _ (Some c.on_files.new.selection)
+    (files_moved (channel_of c.args.apdu.now.class) c.channel-channel.result (parts_of g.S.Store g.B.Applet c.args.self.now) _ (Some c.on_files.new.selection)
     (subst (λ (table : Loaded). HasOtherFiles table c.on_files.new.loaded) c.deref_mut.ensures.value c.on_files.ensures.files.files) channel c.set.ensures refl refl refl)
     (returns-in-Ok-clause-still g c)
 
@@ -154,7 +155,7 @@ returns-in-Err-clause-still g c = λ is.
 
 pub returns-in-Err-clause-acts : goal.returns-in-Err-clause-acts
 returns-in-Err-clause-acts g c =
-    let channel : c.channel_of-channel.result ≡ channel_of c.args.apdu.now.class = c.channel_of-channel.ensures ∙ ap (λ (apdu : Apdu). channel_of apdu.class) c.apdu.view_is in
+    let channel : c.channel-channel.result ≡ channel_of c.args.apdu.now.class = c.channel-channel.ensures in
     let there : selected_on c.args.self.now.channels (channel_of c.args.apdu.now.class) ≡ Some c.in-Some.selection = ap (selected_on c.args.self.now.channels) (sym channel) ∙ sym c.selected.ensures ∙ c.in-Some.is in
     files_act {X = Unit} (Err c.in-Err.fault) c.args.apdu.now (parts_of g.S.Store g.B.Applet c.args.self.now) _ c.on_files.new.out c.args.command
     (some_told c.tables_tell_states.ensures (g.S.Store.store_mark c.args.self.now.store) (g.S.Store.stable c.args.self.now.store) c.args.self.now.loaded.value c.requires.underway.running.mounted.agrees)

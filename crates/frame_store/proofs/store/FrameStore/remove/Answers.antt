@@ -1,25 +1,51 @@
-use Rattle.std.proofs.Common.{◌≤◌, ap, subst, ◌∙◌, drop, take, sum, get_or, remove, slice_range, length, ◌+◌, ◌-◌, ◌++◌, arith, List, ℕ}
-use Rattle.std.proofs.Math.Seq.{paste}
-use Rattle.std.specs.Vec.{with_items_from}
-use Rattle.frame_store.specs.Model.{Frames, parted}
-use Rattle.frame_store.proofs.FramesLemmas.{changed, counts, placed, moved_down, moved_long, removed}
+use Rattle.std.proofs.Common.{rules, arith, subst, ap, ◌∙◌, sym, ◌≡◌, ◌-◌, ◌≤◌, length, remove, ℕ}
+use Rattle.frame_store.specs.Model.{Frames, with_parts, AreKept}
+use Rattle.frame_store.proofs.InLineLemmas.{count_of}
+use Rattle.frame_store.proofs.KeptLemmas.{held, kept, fits_at, removed, bytes_in_removed, length_removed}
 use Rattle.frame_store.proofs.store.FrameStore.remove.Goals as goal
+use Rattle.frame_store.proofs.store.FrameStore.remove.Goals.{After-span_of-start, After-close_gap}
+
+bounds : (c : After-span_of-start) → (c.span_of-start.result.0 ≤ c.span_of-start.result.1) × (c.span_of-start.result.1 ≤ c.self.inside.used)
+bounds c =
+    let s = c.self.inside in let before = subst (λ (frames : Frames). AreKept frames s.used s.block.items) c.self.view_is c.self.invariant.0 in
+    let fits = fits_at c.args.self.now s.used s.block.items before c.args.at c.requires in
+    (omega (arith, fits, c.span_of-start.ensures), omega (arith, fits, c.span_of-start.ensures))
+
+-- the others are what the store holds afterwards
+others : (c : After-close_gap)
+    → (let s = c.self.inside in let span = c.span_of-start.result in let next = c.close_gap.new.block.items in let now = held (s.count - 1) next s.most s.room in
+    (now ≡ record { parts = remove c.args.self.now.parts c.args.at; most = s.most; room = s.room }) × AreKept now (s.used - (span.1 - span.0)) next)
+others c =
+    let s = c.self.inside in let old = c.args.self.now in let span = c.span_of-start.result in let says = c.span_of-start.ensures in let next = c.close_gap.new.block.items in
+    let before = subst (λ (frames : Frames). AreKept frames s.used s.block.items) c.self.view_is c.self.invariant.0 in
+    let fits = fits_at old s.used s.block.items before c.args.at c.requires in
+    let counted : length old.parts ≡ s.count = sym (ap (λ (frames : Frames). length frames.parts) c.self.view_is) ∙ count_of s.count s.block.items in
+    let most = ap (λ (frames : Frames). frames.most) c.self.view_is in let room = ap (λ (frames : Frames). frames.room) c.self.view_is in
+    kept (remove old.parts c.args.at) (s.count - 1) (s.used - (span.1 - span.0)) s.most s.room next
+    (removed old.parts c.args.at s.used span.0 span.1 s.block.items next before.in_place c.requires says.start says.end (omega (arith, fits, says)) before.inside c.close_gap.ensures.closed)
+    (omega (arith, before.inside, c.close_gap.ensures.len))
+    (length_removed old.parts c.args.at c.requires ∙ ap (λ (n : ℕ). n - 1) counted)
+    (omega (arith, counted, before.few, most))
+    (omega (arith, bytes_in_removed old.parts c.args.at c.requires, before.small, room))
+    (omega (arith, c.self.invariant.0.roomy, c.close_gap.ensures.len))
+    (omega (arith, c.close_gap.ensures.len, s.block.ok, s.block.small))
+
+pub close_gap-requires-clause-in_order : goal.close_gap-requires-clause-in_order
+close_gap-requires-clause-in_order c = bounds (goal.at.close_gap-requires-clause-in_order c).After-span_of-start
+
+pub overflow_sub-self-2 : goal.overflow_sub-self-2
+overflow_sub-self-2 c = let b = bounds (goal.at.overflow_sub-self-2 c).After-span_of-start in omega (arith, b)
+
+pub overflow_sub-self-3 : goal.overflow_sub-self-3
+overflow_sub-self-3 c =
+    let s = c.self.inside in
+    let counted : length c.args.self.now.parts ≡ s.count = sym (ap (λ (frames : Frames). length frames.parts) c.self.view_is) ∙ count_of s.count s.block.items in
+    omega (arith, counted, c.requires)
+
+pub invariant_of-self : goal.invariant_of-self
+invariant_of-self c = let now = others (goal.at.invariant_of-self c).After-close_gap in (now.1, search rules, search rules, search rules)
 
 pub returns : goal.returns
 returns c =
-    let s = c.self.inside in let at = c.args.at in let span = c.span_of-start.result in let says = c.span_of-start.ensures in let kept = c.as_slice.ensures.value in
-    let n = span.1 - span.0 in
-    let fits : s.used ≤ length s.bytes.items = omega (arith, c.self.invariant.1, c.self.invariant.2) in
-    let within : span.1 ≤ sum s.lengths.items = subst (λ (ns : List ℕ). span.1 ≤ sum ns) kept says.within in
-    let starts : span.0 ≤ s.used = omega (arith, says.end, within, c.self.invariant.0) in
-    let later = slice_range s.bytes.items span.0 s.used in
-    let behind = drop (length later - n) later in
-    let now = counts s.lengths.items s.bytes.items s.used c.self.invariant.0 fits c.args.self.now.parts (ap (λ (f : Frames). f.parts) c.self.view_is) in
-    let new_of = λ (bs : List ℕ). take (s.used - n) (with_items_from s.bytes span.0 bs).items in
-    changed c.args.self.now (parted s.lengths.items (take s.used s.bytes.items)) (parted c.remove.new.self.items (new_of c.copy_within.new.self)) s.most s.room
-    (λ (ps : List (List ℕ)). remove ps at) c.self.view_is
-    (ap (λ (ns : List ℕ). parted ns (new_of c.copy_within.new.self)) c.remove.ensures.items
-    ∙ ap (λ (bs : List ℕ). parted (remove s.lengths.items at) (new_of bs)) (c.copy_within.ensures.after ∙ ap (λ (later : List ℕ). paste later 0 (drop n later) (length later - n)) c.slice_mut.ensures.value ∙ moved_down later n)
-    ∙ ap (λ (bs : List ℕ). parted (remove s.lengths.items at) (take (s.used - n) bs)) (placed s.bytes.items (drop n later ++ behind) s.bytes.len span.0 s.bytes.ok.0 (moved_long s.bytes.items s.used span.0 n starts fits))
-    ∙ removed s.lengths.items s.bytes.items behind s.used at span.0 span.1 c.self.invariant.0 fits (omega (arith, now.0, c.requires))
-    (says.start ∙ ap (λ (ns : List ℕ). sum (take at ns)) kept) (says.end ∙ ap (λ (ns : List ℕ). span.0 + get_or ns at 0) kept) within)
+    let now = others (goal.at.returns c).After-close_gap in
+    now.0 ∙ ap (λ (frames : Frames). with_parts (remove c.args.self.now.parts c.args.at) frames) c.self.view_is

@@ -1,1 +1,0 @@
--- The definitions, for the crates that stand on this one.

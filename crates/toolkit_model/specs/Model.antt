@@ -1,1 +1,0 @@
--- The records of the toolkit and what commands make of it, for the crates that stand on this one.
