@@ -1,7 +1,7 @@
 -- What the class byte of a command says (ETSI TS 102 221, 10.1.1).
 use Rattle.std.specs.Prelude.{ℕ, ◌/◌, ◌%◌, ◌*◌, ◌==◌, ◌&&◌, ◌||◌, not, Bool, if◌then◌else◌}
 
--- the class without the channel: 00, 80 or F0
+-- the class without its lower half, in which 0X and 8X name a channel
 abbrev pub family : ℕ → ℕ
 family class = class / 16 * 16
 
