@@ -1,8 +1,12 @@
 """What the tests of tools/ share."""
+import contextlib
+import dataclasses
 import importlib.machinery
 import importlib.util
+import io
 import os
 import sys
+import unittest.mock
 
 sys.dont_write_bytecode = True
 TOOLS = os.path.dirname(os.path.dirname(os.path.abspath(__file__)))
@@ -47,3 +51,29 @@ def load(name):
     module = importlib.util.module_from_spec(importlib.util.spec_from_loader(name, loader))
     loader.exec_module(module)
     return module
+
+
+@dataclasses.dataclass(frozen=True)
+class Done:
+    """What a command printed, and the status that it ended with."""
+    returncode: int
+    stdout: str
+    stderr: str
+
+
+def in_process(name, *words, text=""):
+    """A command of tools/ in this process: to start one for each question takes longer than all the rest."""
+    command, streams = load(name), [io.TextIOWrapper(io.BytesIO(part), encoding="utf-8", newline="") for part in (text.encode(), b"", b"")]
+    with contextlib.ExitStack() as stack:
+        for place, given in (("argv", [name, *words]), *zip(("stdin", "stdout", "stderr"), streams)):
+            stack.enter_context(unittest.mock.patch.object(sys, place, given))
+        try:
+            status = command.main()
+        except SystemExit as end:
+            status = end.code
+    return Done(status or 0, *(written(stream) for stream in streams[1:]))
+
+
+def written(stream):
+    stream.flush()
+    return stream.buffer.getvalue().decode()

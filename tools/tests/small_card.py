@@ -4,7 +4,8 @@
 It writes as a journal does: the pieces of a commit, the open gate, the places themselves, the closed gate. So a cut at each of these
 leaves what is before or after. It knows SELECT, READ and UPDATE BINARY, READ and UPDATE RECORD by number, and VERIFY.
 
-SMALL_CARD_TEARS in the environment has it write the places without a journal, so that a cut tears them."""
+SMALL_CARD_TEARS in the environment has it write the places without a journal, so that a cut tears them. A test may have it in its own
+process by `played`."""
 import os
 import sys
 
@@ -146,24 +147,20 @@ class SmallCard:
         return bytes((0x63, 0xC0 | pin.tries)) if pin.tries else b"\x69\x83"
 
 
-def say(line):
-    print(line, flush=True)
-
-
-def section():
-    """The lines of standard input up to `start`."""
+def section(given):
+    """The lines up to `start`."""
     lines = []
-    for line in sys.stdin:
+    for line in given:
         lines.append(line)
         if line.strip() == "start":
             return lint.read("".join(lines))
     return lint.read("".join(lines))
 
 
-def main():
-    words = sys.argv[1:]
+def run(words, lines, say):
+    """Plays lines as they come, says each line of the trace, and answers the status."""
     path = words[words.index("--image") + 1] if "--image" in words else None
-    script = section()
+    script = section(lines)
     bad = script.first()
     if bad:
         say(f"line {bad.line}")
@@ -177,8 +174,7 @@ def main():
     else:
         content = spelled(script.card)
     card = SmallCard(content)
-    status = 0
-    for number, line in enumerate(sys.stdin, len(script.lines) + 1):
+    for line in lines:
         said = read_line(line.rstrip("\n"))
         if isinstance(said, Apdu):
             say("> " + said.command.hex().upper())
@@ -191,8 +187,15 @@ def main():
     if path:
         with open(path, "wb") as file:
             file.write(card.content)
-    return status
+    return 0
+
+
+def played(words, text):
+    """As `uicc.process.played` has it."""
+    trace = []
+    status = run(words, iter(text.splitlines(keepends=True)), trace.append)
+    return trace, status, ""
 
 
 if __name__ == "__main__":
-    sys.exit(main())
+    sys.exit(run(sys.argv[1:], iter(sys.stdin.readline, ""), lambda line: print(line, flush=True)))

@@ -1,7 +1,5 @@
 """tools/cuts --again: a script that is stopped in its writes, and run again from its beginning."""
 import os
-import subprocess
-import sys
 import tempfile
 import unittest
 
@@ -34,7 +32,7 @@ def is_built():
 
 
 def cuts(*words):
-    return subprocess.run([sys.executable, "-B", os.path.join(common.TOOLS, "cuts"), *words], capture_output=True, text=True, check=False)
+    return common.in_process("cuts", *words)
 
 
 @unittest.skipUnless(is_built(), "the program isn't built")

@@ -1,13 +1,11 @@
 """The module and the prompt over it, `tools/cuts --all` and the rest that wants the built program; skipped where it isn't there."""
 import os
 import pathlib
-import subprocess
-import sys
 import tempfile
 import tomllib
 import unittest
 
-from common import TOOLS
+from common import in_process
 from uicc import Card, CardError, NoSuchFile, NotBuilt, PowerLost, Status, StatusError, cutting, image, importing, lint, process, profile, terminal
 
 EXAMPLES = os.path.join(process.TOP, "examples")
@@ -22,8 +20,7 @@ def is_built():
 
 
 def tool(name, *words, text=""):
-    words = [sys.executable, "-B", os.path.join(TOOLS, name), *words]
-    return subprocess.run(words, input=text, capture_output=True, text=True, timeout=120, check=False)
+    return in_process(name, *words, text=text)
 
 
 @unittest.skipUnless(is_built(), "the program isn't built")

@@ -1,12 +1,11 @@
 """Cases, read and judged, by tables; and what tools/expect makes of them, with a stand-in for the program."""
 import os
 import stat
-import subprocess
-import sys
 import tempfile
 import unittest
+import unittest.mock
 
-from common import STAND_IN, TOOLS
+from common import STAND_IN, in_process, load
 from uicc import carrying, cases, line_objects, stored
 
 
@@ -269,8 +268,8 @@ class Expect(unittest.TestCase):
         return path
 
     def expect(self, *words):
-        words = [sys.executable, "-B", os.path.join(TOOLS, "expect"), *words]
-        return subprocess.run(words, env={**os.environ, "UICC_RUN": self.program}, capture_output=True, text=True, timeout=60, check=False)
+        with unittest.mock.patch.dict(os.environ, {"UICC_RUN": self.program}):
+            return in_process("expect", *words)
 
     def test_what_differs_is_told(self):
         done = self.expect(self.put("a.cases", FILE))

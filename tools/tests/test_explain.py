@@ -5,8 +5,9 @@ import subprocess
 import sys
 import tempfile
 import unittest
+import unittest.mock
 
-from common import STAND_IN, TOOLS
+from common import STAND_IN, TOOLS, in_process
 from uicc import cases, decode, follow, lint, process, stored, trace
 
 EXAMPLES = os.path.join(process.TOP, "examples")
@@ -156,8 +157,12 @@ class Following(unittest.TestCase):
 
 class Explain(unittest.TestCase):
     def explain(self, *words, text="", **more):
-        words = [sys.executable, "-B", os.path.join(TOOLS, "explain"), *words]
-        return subprocess.run(words, input=text, capture_output=True, text=True, timeout=60, check=False, env={**os.environ, **more})
+        """In this process, but where a trace comes by standard input."""
+        if text:
+            words = [sys.executable, "-B", os.path.join(TOOLS, "explain"), *words]
+            return subprocess.run(words, input=text, capture_output=True, text=True, timeout=60, check=False, env={**os.environ, **more})
+        with unittest.mock.patch.dict(os.environ, more):
+            return in_process("explain", *words)
 
     def test_examples(self):
         """Each line of each example's trace is shown, plainly, with its meaning."""

@@ -2,13 +2,11 @@
 import csv
 import os
 import re
-import subprocess
-import sys
 import tempfile
 import unittest
 
 import fuzz_profile
-from common import TOOLS
+from common import in_process
 from uicc import access, batch, comparing, contents, image, lint, process, profile, profile_text, rights, stored
 
 EXAMPLES = os.path.join(process.TOP, "examples")
@@ -108,7 +106,7 @@ class Images(unittest.TestCase):
             with self.subTest(why=why), self.assertRaises(image.NoCard) as caught:
                 image.sound_card_in(stored.read(self.path))
             self.assertIn(why, str(caught.exception))
-        done = subprocess.run([sys.executable, "-B", os.path.join(TOOLS, "profile"), "export", self.path], capture_output=True, text=True, timeout=60, check=False)
+        done = in_process("profile", "export", self.path)
         self.assertEqual(done.returncode, 2)
         self.assertTrue(done.stderr.startswith("profile: the image holds no card"), done.stderr)
 
@@ -226,8 +224,7 @@ class Batch(unittest.TestCase):
 
     def batch(self, text, *words):
         self.put(self.list, text)
-        words = [sys.executable, "-B", os.path.join(TOOLS, "profile"), "batch", self.card, self.list, "-o", self.folder, *words]
-        return subprocess.run(words, capture_output=True, text=True, timeout=300, check=False)
+        return in_process("profile", "batch", self.card, self.list, "-o", self.folder, *words)
 
     def test_cards(self):
         done = self.batch(self.HEAD + self.GOOD, "--images")
@@ -248,8 +245,8 @@ class Batch(unittest.TestCase):
         # as many files as `check` says
         self.assertEqual({row["files"] for row in rows}, {str(len(card.files) - 1)})
         # the image holds the same card
-        words = [sys.executable, "-B", os.path.join(TOOLS, "profile"), "diff", *(os.path.join(self.folder, number + ending) for ending in (".script", ".img"))]
-        self.assertEqual(subprocess.run(words, capture_output=True, text=True, timeout=60, check=False).stdout, "the cards hold the same\n")
+        words = ["profile", "diff", *(os.path.join(self.folder, number + ending) for ending in (".script", ".img"))]
+        self.assertEqual(in_process(*words).stdout, "the cards hold the same\n")
 
     def held(self):
         """What the files of the folder hold."""

@@ -1,13 +1,11 @@
 """What files hold, by fields: each kind of content from values to bytes and back; all standard files by their names; the same fields in the
 shell and in Python. Bytes are those of the specifications' examples, or are worked by hand."""
 import os
-import subprocess
-import sys
 import tempfile
 import tomllib
 import unittest
 
-from common import TOOLS
+from common import in_process
 from uicc import Card, StatusError, checking, contents, fields, lint, located, names, process, profile
 from uicc.coding import BadContent
 
@@ -219,8 +217,7 @@ size = 600
                 self.assertIn(why, str(caught.exception))
 
     def shell(self, *lines):
-        words = [sys.executable, "-B", os.path.join(TOOLS, "shell"), self.script]
-        return subprocess.run(words, input="".join(line + "\n" for line in lines), capture_output=True, text=True, timeout=120, check=False)
+        return in_process("shell", self.script, text="".join(line + "\n" for line in lines))
 
     def test_in_the_shell(self):
         lines, wanted = ["verify pin1 1234", "verify adm 88888888"], []

@@ -1,13 +1,11 @@
 """tools/profile import: what dumps become, and what of them is left out."""
 import json
 import os
-import subprocess
-import sys
 import tempfile
 import tomllib
 import unittest
 
-from common import TOOLS
+from common import in_process
 from uicc import importing, lint, profile, rules
 
 # control parameters: transparent, linear fixed, cyclic, and a file of objects
@@ -353,8 +351,7 @@ def as_export(file):
 
 class Command(unittest.TestCase):
     def tool(self, name, *words):
-        words = [sys.executable, "-B", os.path.join(TOOLS, name), *words]
-        return subprocess.run(words, capture_output=True, text=True, timeout=60, check=False)
+        return in_process(name, *words)
 
     def test_from_a_dump_to_a_tree(self):
         text = exported("MF/ADF.USIM/EF.IMSI", "update_binary 082926108967452301", fcp=IMSI_FCP)

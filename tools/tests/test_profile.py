@@ -1,13 +1,11 @@
 """tools/profile: what profiles become, and what is found in cards."""
 import os
-import subprocess
-import sys
 import tempfile
 import tomllib
 import unittest
 
 import fuzz_profile
-from common import TOOLS
+from common import in_process
 from uicc import access, checking, lint, located, process, profile, rules
 
 EXAMPLES = os.path.join(process.TOP, "examples")
@@ -334,8 +332,7 @@ class Checking(unittest.TestCase):
 
 class Command(unittest.TestCase):
     def profile(self, *words):
-        words = [sys.executable, "-B", os.path.join(TOOLS, "profile"), *words]
-        return subprocess.run(words, capture_output=True, text=True, timeout=60, check=False)
+        return in_process("profile", *words)
 
     def test_from_a_profile_to_a_tree(self):
         with tempfile.TemporaryDirectory() as folder:

@@ -1,7 +1,5 @@
 """tools/sequence: how files are read, how a terminal is judged, and that one that is wrong fails just the sequences that it must."""
 import contextlib
-import dataclasses
-import io
 import os
 import random
 import subprocess
@@ -13,8 +11,8 @@ import unittest
 import unittest.mock
 import xml.etree.ElementTree
 
+from common import TOOLS, in_process
 import able_terminal
-from common import TOOLS, load
 from uicc import Answer, Card, PowerLost, decode, handset, process, sequence, tlv, undertest, verdict
 from uicc.player import BOTH, CARD, PLAYER, Player
 from uicc.sequence import Act, BadSequence, Give, Quiet, Respond, Restart, Shown, Tell
@@ -24,22 +22,8 @@ IN_THE_BOX = os.path.join(EXAMPLES, "sequences")
 USIM = os.path.join(EXAMPLES, "usim.script")
 
 
-@dataclasses.dataclass(frozen=True)
-class Done:
-    returncode: int
-    stdout: str
-    stderr: str
-
-
 def tool(*words):
-    """The command, in this process: to start one for each question takes longer than all the rest."""
-    command, out, err = load("sequence"), io.StringIO(), io.StringIO()
-    with unittest.mock.patch.object(sys, "argv", ["sequence", *words]), contextlib.redirect_stdout(out), contextlib.redirect_stderr(err):
-        try:
-            status = command.main()
-        except SystemExit as end:
-            status = end.code
-    return Done(status, out.getvalue(), err.getvalue())
+    return in_process("sequence", *words)
 
 
 def in_the_box():
@@ -617,6 +601,12 @@ class BreaksDown(able_terminal.AbleTerminal):
 
 
 class Verdicts(unittest.TestCase):
+    def setUp(self):
+        # a file of one's own lies beside nothing of the tools
+        folder = tempfile.TemporaryDirectory()
+        self.addCleanup(folder.cleanup)
+        self.enterContext(contextlib.chdir(folder.name))
+
     def told(self, terminal, *lines):
         outcome = verdict.judged(read(*lines)[0], terminal, Obliging())
         return outcome.verdict, outcome.why, outcome.step and outcome.step.text

@@ -1,11 +1,9 @@
 """tools/shell: what is typed, what is told, and what the card holds then."""
 import os
-import subprocess
-import sys
 import tempfile
 import unittest
 
-from common import TOOLS
+from common import in_process
 from uicc import Card, contents, image, process, texts
 
 USIM = os.path.join(process.TOP, "examples", "usim.script")
@@ -20,8 +18,7 @@ def is_built():
 
 
 def shell(text, *words):
-    return subprocess.run([sys.executable, "-B", os.path.join(TOOLS, "shell"), *words], input=text, capture_output=True, text=True, timeout=120,
-                          check=False)
+    return in_process("shell", *words, text=text)
 
 
 @unittest.skipUnless(is_built(), "the program isn't built")

@@ -1,16 +1,14 @@
 """What wants a card, over a stand-in with an image: the module, the prompt, cuts of all commands, and cases with a memory."""
 import os
-import stat
-import subprocess
-import sys
 import tempfile
 import unittest
 import unittest.mock
 
-from common import TOOLS
-from uicc import Card, NoSuchFile, PowerLost, StatusError, cutting, image, picture, terminal
+import common
+import small_card
+from uicc import Card, NoSuchFile, PowerLost, StatusError, cutting, image, picture, process, terminal
 
-SMALL_CARD = os.path.join(TOOLS, "tests", "small_card.py")
+SMALL_CARD = os.path.join(common.TOOLS, "tests", "small_card.py")
 SCRIPT = """pin 01 31323334FFFFFFFF on 3132333435363738
 ef 2FE2 t 10 2 -
 fill 2FE2 0 989909010000103254F0
@@ -32,23 +30,25 @@ reset
 apdu 00B0820002
 """
 
-# keeps the words that it was given in the file beside it, and goes on as the stand-in
 PHONE = "ef 2FE2 t 4 2 -\nstart\nuser ok\n"
-KEEPS_WORDS = """#!/bin/sh
-echo "$@" >> "$0.words"
-exec {program} "$@"
-"""
 
 
 class SmallCards(unittest.TestCase):
+    """Whole runs are played in this process, and dialogues by a stand-in of their own; `runs` has the words of the former."""
+
     def setUp(self):
         folder = tempfile.TemporaryDirectory()
         self.addCleanup(folder.cleanup)
         self.folder, self.script = folder.name, os.path.join(folder.name, "small.script")
         self.put("small.script", SCRIPT)
-        patch = unittest.mock.patch.dict(os.environ, {"UICC_RUN": SMALL_CARD})
-        patch.start()
-        self.addCleanup(patch.stop)
+        self.runs = []
+        for patch in (unittest.mock.patch.dict(os.environ, {"UICC_RUN": SMALL_CARD}), unittest.mock.patch.object(process, "played", self.played)):
+            patch.start()
+            self.addCleanup(patch.stop)
+
+    def played(self, words, text):
+        self.runs.append(" ".join(words))
+        return small_card.played(words, text)
 
     def put(self, name, text):
         path = os.path.join(self.folder, name)
@@ -57,8 +57,7 @@ class SmallCards(unittest.TestCase):
         return path
 
     def tool(self, name, *words, text=""):
-        words = [sys.executable, "-B", os.path.join(TOOLS, name), *words]
-        return subprocess.run(words, input=text, capture_output=True, text=True, timeout=120, check=False)
+        return common.in_process(name, *words, text=text)
 
     # the module
 
@@ -172,16 +171,13 @@ class SmallCards(unittest.TestCase):
     ]
 
     def test_the_words_of_the_runs(self):
-        program = self.put("program", KEEPS_WORDS.format(program=SMALL_CARD))
-        os.chmod(program, stat.S_IRWXU)
-        os.environ["UICC_RUN"] = program
         for words, begins in self.WORDS:
+            self.runs.clear()
             self.tool("cuts", self.put("few.script", "ef 2FE2 t 4 2 -\nstart\napdu 00D6820002AABB\n" if "--phone" not in words else PHONE), *words)
-            with open(program + ".words", encoding="ascii") as kept, self.subTest(words=words):
-                runs = [line for line in kept if not line.startswith("open")]
+            with self.subTest(words=words):
+                runs = [line for line in self.runs if not line.startswith("open")]
                 self.assertGreater(len(runs), 0)
                 self.assertEqual([line for line in runs if not line.startswith(begins)], [])
-            os.remove(program + ".words")
 
     # the last lines of a script, and what is told: where nothing reads back what the last command changes, the image tells it; what
     # the script plans for it is left out, and what stands after it passed over

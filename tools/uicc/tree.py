@@ -1,4 +1,6 @@
 """A card as a tree of its files with what they hold, its PINs and its applets."""
+import textwrap
+
 from . import contents, decode, names
 from .follow import is_usim_card
 
@@ -34,39 +36,58 @@ def shortened(text):
     return text if len(text) <= LONGEST else text[:LONGEST - 2] + ".."
 
 
-def meanings(file, usim):
-    """What a file holds, a line for each record that isn't blank."""
+def held(file, usim):
+    """What a file holds: the number of each record that isn't blank, the kind of its content, and its bytes; of a transparent file the number
+    is None."""
     entry = names.file(file.path, usim)
     kind = entry.get("content") if entry and entry.get("structure", file.structure) == file.structure else None
-    if file.structure == "t":
-        text = meaning(kind, bytes(file.content))
-        return [text] if text else []
-    found = ((number, meaning(kind, record)) for number, record in enumerate(file.records(), 1))
-    return [f"{number}: {text}" for number, text in found if text]
+    found = [(None, bytes(file.content))] if file.structure == "t" else enumerate(map(bytes, file.records()), 1)
+    return [(number, kind, content) for number, content in found if not contents.is_blank(content)]
 
 
-def meaning(kind, content):
-    """The decoded content, or its bytes, as far as there is room in a line; None where it is blank."""
-    text = whole_meaning(kind, content)
-    return text and shortened(text)
+def meanings(file, usim):
+    """What a file holds, a line for each record that isn't blank, as far as there is room in it."""
+    return [numbered(number, shortened(whole_meaning(kind, content))) for number, kind, content in held(file, usim)]
+
+
+def numbered(number, text):
+    return text if number is None else f"{number}: {text}"
+
+
+def told(number, kind, content, whole):
+    """The same in as many lines as it takes; of bytes that aren't decoded, unless `whole`, no more than one."""
+    words = in_words(kind, content)
+    text = words or in_bytes(content)
+    return wrapped(numbered(number, text if words or whole else shortened(text)))
+
+
+def wrapped(text):
+    return textwrap.wrap(text, LONGEST, subsequent_indent="  ", break_on_hyphens=False)
 
 
 def whole_meaning(kind, content):
     """The decoded content, or its bytes; None where it is blank."""
-    if contents.is_blank(content):
-        return None
+    return None if contents.is_blank(content) else in_words(kind, content) or in_bytes(content)
+
+
+def in_words(kind, content):
+    """The decoded content; None where its kind isn't known."""
     try:
-        text = contents.decode(kind, content) if kind else None
+        return contents.decode(kind, content) if kind else None
     except contents.BadContent as fault:
-        text = f"not right ({fault}): {decode.hexed(content)}"
-    return text or decode.hexed(content.rstrip(b"\xFF")) + " .." * content.endswith(b"\xFF")
+        return f"not right ({fault}): {decode.hexed(content)}"
 
 
-def lines(card, with_contents=True):
-    """The tree, line by line."""
+def in_bytes(content):
+    return decode.hexed(content.rstrip(b"\xFF")) + " .." * content.endswith(b"\xFF")
+
+
+def lines(card, with_contents=True, whole=False):
+    """The tree, line by line. What is decoded goes on in a next line where it is long; bytes that aren't end with `..` there, unless they are
+    shown whole."""
     usim = is_usim_card(card)
     yield "MF 3F00"
-    yield from below(card, (), "", usim, with_contents)
+    yield from below(card, (), "", usim, with_contents, whole)
     for pin in sorted(card.pins.values(), key=lambda pin: (0x01, 0x81, 0x0A).index(pin.key)):
         state = "enabled" if pin.enabled else "disabled"
         yield (f"{names.key(pin.key)}: {decode.pin_value(pin.value)}, {state}, {pin.tries} tries left, unblocked by "
@@ -78,7 +99,7 @@ def lines(card, with_contents=True):
             yield f"    {'  ' * line.depth}{line.label}: {line.text}"
 
 
-def below(card, path, margin, usim, with_contents):
+def below(card, path, margin, usim, with_contents, whole):
     children = card.children(path)
     for place, file in enumerate(children):
         last = place == len(children) - 1
@@ -87,9 +108,10 @@ def below(card, path, margin, usim, with_contents):
         name = f"{file.path[-1]} {entry['name'] if entry else ''}".rstrip()
         if file.is_df:
             yield f"{margin}{branch}{name}"
-            yield from below(card, file.path, margin + rest, usim, with_contents)
+            yield from below(card, file.path, margin + rest, usim, with_contents, whole)
         else:
             yield f"{margin}{branch}{name:<18} {facts(card, file)}"
             if with_contents:
-                for text in meanings(file, usim):
-                    yield f"{margin}{rest}     {text}"
+                for one in held(file, usim):
+                    for text in told(*one, whole):
+                        yield f"{margin}{rest}     {text}"
