@@ -215,7 +215,8 @@ class Mistakes(unittest.TestCase):
           "line 13: [EF_ACC] acc: entry 2: an access control class is", "line 13: [EF_ACC] acc: entry 4: an access control class is",
           "line 14: [EF_ACC] read: `pin3` is no condition", "line 16: [EF_SPN] spn: `too long for the file` has 21 bytes",
           "line 18: [EF_ADN] entries has a wrong entry 3: it has a wrong `nme`: it isn't known: `name` is",
-          "line 18: [EF_ADN] entries has a wrong entry 3: it has a wrong `number`: it is a number", "line 19: [EF_PNNN] EF_PNNN: no standard",
+          "line 18: [EF_ADN] entries has a wrong entry 3: it has a wrong `number`: it is a number",
+          "line 18: [EF_ADN] entries: entry 1: `x` is no number", "line 19: [EF_PNNN] EF_PNNN: no standard",
           'line 21: ["7F20/6F46"] is the same file as [EF_SPN]', "line 23: [[applet]]: the applet on shelf 6: `locaton` is no event",
           "line 23: [[applet]]: the applet on shelf 6: `shw A` is no action", "line 23: [[applet]]: the applet on shelf 6: `tone`: tone has",
           "line 26: [[applet]]: an applet has a shelf, or a kind"]),
@@ -229,9 +230,21 @@ class Mistakes(unittest.TestCase):
         ('like = "usim"\n[EF_IMSI]\nimsi = 0123456\n[EF_SPN]\nspn = "Nord\n[EF_ACC]\nacc = [10]\n',
          ["line 3: Expected newline or end of document after a statement: digits that begin with 0", "line 5: Illegal character",
           "line 7: [EF_ACC] acc: an access"]),
-        ('like = "usim"\n[EF_IMSI\nimsi = "1"\n[EF_ACC]\nacc = [10]\n', ["line 2: Expected ']'"]),
+        ('like = "usim"\n[EF_IMSI\nimsi = "1"\n[EF_ACC]\nacc = [10]\n', ["line 2: `]` is missing", "line 5: [EF_ACC] acc: an access"]),
         ('like = "usim"\n[EF IMSI]\nimsi = "1"\n[EF_ACC]\nacc = [10]\n', ["line 2: Expected ']'", "line 5: [EF_ACC] acc: an access"]),
-        ('like = "usim"\n[EF_ADN]\nentries = [{ name = "A" },\n[EF_ACC]\nacc = [10]\n', ["line 4: Invalid value"]),
+        # brackets that aren't closed, and what stands after them
+        ('like = "usim"\n[EF_ADN]\nentries = [{ name = "A" },\n[EF_ACC]\nacc = [10]\n', ["line 3: `]` is missing", "line 5: [EF_ACC] acc: an access"]),
+        ('like = "usim"\n[EF_FPLMN]\nplmns = [\n  "262-01"\nsize = "12"\n[EF_SPN]\nspn = "a [b"\n[EF_ACC]\nacc = [9\n',
+         ["line 3: `]` is missing", "line 5: [EF_FPLMN] size is text", "line 9: `]` is missing"]),
+        ('like = "usim"\n[EF_ADN]\nentries = [\n  { name = "A" },\n  { name = "B", number = "1x" }\n  { name = "C" },\n]\n[EF_ACC]\nacc = [10]\n',
+         ["line 3: [EF_ADN] entries: entry 2: `1x` is no", "line 6: Unclosed array: a comma is missing before it", "line 9: [EF_ACC] acc: an access"]),
+        ('like = "usim"\n[pins]\npin1 = { value = "12",\n  unblock = "12345678" }\n[EF_ACC]\nacc = [10]\n',
+         ["line 3: Invalid initial character for a key part: a table in { } stands in one line", "line 6: [EF_ACC] acc: an access"]),
+        ('like = "usim"\n[EF_ACC]\nacc = [9]\nacc = [9]\nread = "pin3"\n', ["line 4: Cannot overwrite a value: it stands there twice",
+                                                                          "line 5: [EF_ACC] read: `pin3` is no condition"]),
+        # entries that are wrong beside others that are of no form
+        ('like = "usim"\n[EF_ADN]\nentries = [{ name = "A", number = "x" }, { nme = "B" }, { name = "C", number = "1" }]\n',
+         ["line 3: [EF_ADN] entries has a wrong entry 2: it has a wrong `nme`", "line 3: [EF_ADN] entries: entry 1: `x` is no number"]),
     ]
 
     def test_all_mistakes_in_one_run(self):
@@ -348,6 +361,21 @@ class Command(unittest.TestCase):
                 out.write("size = 3\n")
             done = self.profile("build", given)
             self.assertEqual((done.returncode, "9 bytes, and its size is 3" in done.stderr), (2, True))
+
+    def test_a_tree_is_whole(self):
+        """What is decoded goes on in a next line, and of other bytes a line is shown, or all."""
+        text = 'like = "usim"\n["7F10/6F99"]\nhex = "' + "AB" * 120 + '"\n'
+        with tempfile.TemporaryDirectory() as folder:
+            given = os.path.join(folder, "card.toml")
+            with open(given, "w", encoding="ascii") as out:
+                out.write(text)
+            shown, whole = self.profile("tree", given).stdout, self.profile("tree", given, "--whole").stdout
+        together = " ".join(line.lstrip("│ ") for line in shown.splitlines())
+        self.assertIn("19 service provider name, 20 user controlled PLMN selector with access technology, 21 MSISDN, 27 GSM access, 33", together)
+        self.assertEqual((shown.count("AB"), whole.count("AB")), (49, 120))
+        self.assertIn("ABAB..\n", shown)
+        for text in (shown, whole):
+            self.assertLessEqual(max(map(len, text.splitlines())), 120)
 
     def test_check_ends_with_1(self):
         done = self.profile("check", os.path.join(EXAMPLES, "usim.script"))

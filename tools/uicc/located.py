@@ -9,6 +9,15 @@ CURLY = re.compile("[\u201c\u201d\u201e\u2018\u2019]")
 # a word after a key that isn't in quotes
 BARE = re.compile(r"=\s*(?!(?:true|false|inf|nan)\b)[A-Za-z_+]")
 INSIDE = re.compile(r'=\s*"[^"]*"\s*[^\s,\]}#"]')
+# what no bracket is looked for in: texts, and a comment
+OF_TEXT = re.compile(rb'"(?:[^"\\]|\\.)*"|\'[^\']*\'|#.*')
+HEAD_OF_TABLE, HEAD_OF_VALUE = re.compile(rb"""\s*\[{1,2}[\w."'/ -]+\]{1,2}\s*(#.*)?$"""), re.compile(rb"""\s*(\w|"[^"]*"|-)+\s*=""")
+# so many lines are one statement at most
+LONGEST_STATEMENT = 400
+# what Python says of a key or a table that stands there already
+TWICE = ("Cannot overwrite a value", "Cannot declare", "Cannot mutate immutable namespace")
+# an entry of a list, at the beginning of a line
+AFTER_COMMA = re.compile(r'\s*["{\'\d]')
 AT_LINE = re.compile(r" \(at line (\d+), column \d+\)$")
 
 
@@ -37,35 +46,54 @@ def read(content):
 
 
 def read_on(content):
-    """The tables of a file's bytes, its text, and what can't be read of it. A line that is no TOML by itself is passed over; there are no
-    tables where that doesn't help."""
+    """The tables of a file's bytes, its text, and what can't be read of it. A statement that is no TOML by itself is passed over: a line, or
+    what stands in a bracket that isn't closed. There are no tables where that doesn't help."""
     faults = []
     while True:
         try:
             given, text = read(content)
             return given, text, faults
         except Unreadable as fault:
-            if faults and (fault.line is None or fault.line <= faults[-1].line):
-                return None, None, faults
             lines = content.split(b"\n")
-            if fault.line is None or not is_wrong_alone(lines[fault.line - 1]):
-                # it may come of what stands before it
+            place, end, why = wrong_statement(lines, fault)
+            if place is None or not any(line.strip() for line in lines[place:end]):
                 return None, None, faults or [fault]
-            faults.append(fault)
-            for place in range(fault.line - 1, end_of(lines, fault.line - 1)):
-                lines[place] = b""
+            faults.append(why)
+            lines[place:end] = [b""] * (end - place)
             content = b"\n".join(lines)
+
+
+def wrong_statement(lines, fault):
+    """From which line to which a statement is no TOML by itself, and why; the places are None where the fault may come of another one."""
+    if fault.line is None:
+        return None, None, fault
+    at = fault.line - 1
+    if is_wrong_alone(lines[at]) or str(fault).startswith(TWICE):
+        return at, end_of(lines, at), fault
+    place = first_unread(lines)
+    if place is None:
+        return None, None, fault
+    end, closing = end_of_brackets(lines, place)
+    if closing is None:
+        return None, None, fault
+    return place, end, Unreadable(f"`{closing}` is missing", place + 1) if closing else fault
 
 
 def is_wrong_alone(line):
     """Whether a line is wrong by itself, and not for what stands before or after it."""
-    if any(line.count(one) != line.count(other) for one, other in ((b"[", b"]"), (b"{", b"}"))) or b'"""' in line or b"'''" in line:
+    if any(opened(line)) or b'"""' in line or b"'''" in line:
         return False
     try:
         tomllib.loads(line.decode())
     except (ValueError, RecursionError):
         return True
     return False
+
+
+def opened(line):
+    """How many more brackets of each kind a line opens than it closes, whatever stands in its texts and its comment."""
+    plain = OF_TEXT.sub(b"", line)
+    return [plain.count(one) - plain.count(other) for one, other in ((b"[", b"]"), (b"{", b"}"))]
 
 
 def end_of(lines, place):
@@ -75,6 +103,39 @@ def end_of(lines, place):
         while end < len(lines) and not lines[end].lstrip().startswith(b"["):
             end += 1
     return end
+
+
+def first_unread(lines):
+    """The line with which the first statement begins that is no TOML; None where each is."""
+    at = 0
+    while at < len(lines):
+        for end in range(at + 1, min(at + LONGEST_STATEMENT, len(lines)) + 1):
+            try:
+                tomllib.loads(b"\n".join(lines[at:end]).decode())
+                break
+            except (ValueError, RecursionError):
+                pass
+        else:
+            return at
+        at = end
+    return None
+
+
+def end_of_brackets(lines, place):
+    """The place after the brackets that a statement opens, and the bracket that is missing there; no text where all are closed, and None
+    where it opens none. Brackets that aren't closed end before the next statement."""
+    depths = opened(lines[place])
+    if not any(depth > 0 for depth in depths):
+        return None, None
+    if lines[place].lstrip().startswith(b"["):
+        return end_of(lines, place), "]"
+    end = place + 1
+    while any(depth > 0 for depth in depths):
+        if end == len(lines) or HEAD_OF_TABLE.match(lines[end]) or depths[1] <= 0 and HEAD_OF_VALUE.match(lines[end]):
+            return end, "]" if depths[0] > 0 else "}"
+        depths = [one + other for one, other in zip(depths, opened(lines[end]))]
+        end += 1
+    return end, ""
 
 
 def deepest(text):
@@ -92,8 +153,18 @@ def told(reason, text):
     found = AT_LINE.search(reason)
     line = int(found[1]) if found else None
     lines = lines_in(text)
-    hint = hint_for(lines[min(line or len(lines), len(lines)) - 1])
+    shown = lines[min(line or len(lines), len(lines)) - 1]
+    hint = hint_by(reason, shown) or hint_for(shown)
     return Unreadable((reason[:found.start()] if found else reason) + hint, line or len(lines) or None)
+
+
+def hint_by(reason, line):
+    """What Python's reason means on such a line; nothing where it says so itself."""
+    if reason.startswith(TWICE):
+        return ": it stands there twice"
+    if reason.startswith("Unclosed") and AFTER_COMMA.match(line):
+        return ": a comma is missing before it"
+    return ": a table in { } stands in one line" if reason.startswith("Invalid initial") and opened(line.encode())[1] > 0 else ""
 
 
 def hint_for(line):

@@ -1,4 +1,5 @@
 """Profiles: a card in TOML, with names in place of numbers. Reads one, over a template, and writes the script that it says."""
+import contextlib
 import copy
 import os
 import re
@@ -186,13 +187,31 @@ def judged(profile, is_part=False):
     tables = [(name, value) for name, value in profile.items() if is_file_table(name, value)]
     usim = is_usim(path for name, _ in tables if (path := path_or_none(name)))
     for name, value in tables:
-        faults += faults_of_file(name, value, usim)
+        found = list(faults_of_file(name, value, usim))
+        faults += found + list(faults_beside(name, value, found, usim))
     builder = Builder(without(profile, [fault.path for fault in faults]), usim)
     builder.build()
     faults += [fault for fault in builder.faults if is_own(fault, faults, is_part)]
     bad, doubtful = findings_in(builder)
     spoilt = {part_of(fault.path) for fault in faults}
     return builder.lines, builder.doubts + doubtful, faults + [fault for fault in bad if not is_part and part_of(fault.path) not in spoilt]
+
+
+def faults_beside(name, given, faults, usim):
+    """What is wrong with the entries of a list that are of the right form, where others of it aren't, and nothing else of the file is wrong."""
+    key = next((key for key in given if key in fields.KEYS), None)
+    if not faults or any(fault.path != (name, key) for fault in faults) or not isinstance(given[key], list):
+        return
+    path = path_of(name)
+    with contextlib.suppress(ValueError):
+        # a ValueError: the file holds nothing of the kind
+        form = fields.kind_for(key, names.file(path, usim)).form
+        found = [(place, entry) for place, entry in enumerate(given[key], 1) if isinstance(form, forms.ListOf) and not list(form.one.faults(entry))]
+        for place, entry in found:
+            try:
+                described(path, given | {key: [entry]}, usim)
+            except ValueError as fault:
+                yield Fault((name, key), dump.printable(f"{shown_name(name)} {key}: entry {place}: {fault}"))
 
 
 def findings_in(builder):
