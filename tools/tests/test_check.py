@@ -1,5 +1,8 @@
 """What tools/check makes of what other programs print."""
+import os
+import tempfile
 import unittest
+import unittest.mock
 
 from common import load
 import osmosim_client
@@ -86,6 +89,26 @@ reset
         for answers in ([], ["AB9000"]):
             with self.assertRaises(check.Wrong):
                 check.compare(["00B0000001"], answers, ["AA9000"])
+
+    # what a terminal made of sequences, and whether the page tells the same
+    TOLD = "And so it is:\n\n    $ tools/sequence examples/sequences --on ofono | grep FAILED\n    FAILED  a.sequence:3: B, twice\n" \
+        "    4 sequences on oFono 1.31: 1 passed, 1 failed, 1 inconclusive, 1 not supported\n\nThat is all.\n"
+    FOUND = {"A": "ok", "B, twice": "not ok", "C": "inconclusive", "D": "not supported"}
+    OTHERS = [(FOUND, True), ({**FOUND, "A": "not ok"}, False), ({**FOUND, "D": "ok"}, False), ({**FOUND, "B, twice": "ok", "A": "not ok"}, False),
+              ({**FOUND, "E": "ok"}, False)]
+
+    def test_what_the_page_tells_of_sequences(self):
+        check = load("check")
+        with tempfile.TemporaryDirectory() as folder:
+            with open(os.path.join(folder, "page.md"), "w", encoding="ascii") as out:
+                out.write(self.TOLD)
+            for found, agree in self.OTHERS:
+                with self.subTest(found=found), unittest.mock.patch.object(check, "TOLD", os.path.join(folder, "page.md")):
+                    if agree:
+                        check.expect_told(found, "1.31")
+                    else:
+                        with self.assertRaisesRegex(check.Wrong, "tells something else: [-+] "):
+                            check.expect_told(found, "1.31")
 
 
 if __name__ == "__main__":
