@@ -4,7 +4,7 @@ import unittest
 import unittest.mock
 
 import common  # noqa: F401 (the path)
-from uicc import cutting, image, kept, lint, process, terminal
+from uicc import cutting, image, kept, lint, process, section, terminal
 
 EXAMPLES = os.path.join(process.TOP, "examples")
 HEAD = """pin 01 31323334FFFFFFFF on 3132333435363738
@@ -27,6 +27,32 @@ def is_built():
 def updates(count):
     """So many updates of a record, by its number."""
     return HEAD + "apdu 00A4000C022F05\n" + "".join(f"apdu 00DC{n % 5 + 1:02X}0404{n:08X}\n" for n in range(count))
+
+
+# a card with a menu, a watcher of the location, a note and a bar; and a day of its handset, which is switched off and on at its end
+OF_HANDSET = """row 1 2 00044D656E75
+row 3 1 02030400
+row 5 3 0140044E6F7465
+row 4 1 01450442617273313233
+start
+user type Milk
+"""
+DAY = ("user pick 2", "user pick 1", "user ok", "net place 00F1100001{:04X}", "user ok", "user pick 5", "user type {}", "user dial 1234567", "reset",
+       "user ok")
+
+
+def days(count):
+    return OF_HANDSET + "".join(line.format(100 + day) + "\n" for day in range(count) for line in DAY)
+
+
+def counted(total):
+    """What plays a script, and puts the number of its lines to others."""
+    played = process.played
+
+    def play(words, text):
+        total.append(text.count("\n"))
+        return played(words, text)
+    return unittest.mock.patch.object(process, "played", play)
 
 
 @unittest.skipUnless(is_built(), "the program isn't built")
@@ -69,12 +95,8 @@ class Kept(unittest.TestCase):
     def test_the_lines_that_are_played_grow_with_the_script(self):
         """And not with its square: twice as many commands are some twice as many lines, of all runs together."""
         def lines_played(count):
-            played, total = process.played, []
-
-            def counted(words, text):
-                total.append(text.count("\n"))
-                return played(words, text)
-            with unittest.mock.patch.object(process, "played", counted):
+            total = []
+            with counted(total):
                 places = kept.places(["play"], lint.read(updates(count)))
                 cutting.Outcome(cutting.Step(["play"], lint.read(updates(count)), count, kept.nearest(places, count))).try_all()
             self.assertEqual(len(places), 1 + count // kept.STEPS_BETWEEN)
@@ -88,6 +110,45 @@ class Kept(unittest.TestCase):
             return [place.at for place in kept.places(["play"], lint.read(HEAD + "".join(line + "\n" for line in lines)), 1)]
         self.assertEqual(places(self.DONE["power that is lost"]), [0, 1, 6, 7, 9])
         self.assertEqual(places([VERIFY, "apdu 00B0820004", "apdu 00B0820004"]), [0, 1, 2])
+
+    def test_a_handset_goes_on_from_its_resets(self):
+        """Over a card that is described as it stood there: what is told is the same as from the beginning, and the lines that are played
+        grow with the script."""
+        for words in (["phone"], ["phone", "--store", "pages"]):
+            script = lint.read(days(3), "phone")
+            self.assertIsNone(script.first())
+            self.assertEqual([place.at for place in kept.places(words, script, 5)], [0, 10, 20, 30])
+            self.assertEqual(self.outcomes(words, script, 5), self.outcomes(words, script, 10_000))
+
+        def lines_played(count):
+            """Of the last steps' runs."""
+            script, total = lint.read(days(count), "phone"), []
+            places = kept.places(["phone"], script)
+            with counted(total):
+                for step in range(len(script.steps) - 5, len(script.steps)):
+                    cutting.Outcome(cutting.Step(["phone"], script, step, kept.nearest(places, step))).try_all()
+            return sum(total)
+        self.assertLess(lines_played(12), 1.5 * lines_played(6))
+
+    def test_a_reset_from_which_a_handset_cannot_go_on(self):
+        """What describes the card would make another one."""
+        lines = "pin 01 31323334FFFFFFFF on 3132333435363738\nstart\nnet poll\nreset\n"
+        with unittest.mock.patch.object(image, "card_in", lambda content, whole=image.card_in: self.with_another_pin(whole(content))):
+            self.assertEqual([place.at for place in kept.places(["phone"], lint.read(lines, "phone"), 1)], [0])
+        self.assertEqual([place.at for place in kept.places(["phone"], lint.read(lines, "phone"), 1)], [0, 2])
+
+    def with_another_pin(self, card):
+        card.pins[1].value = b"0000" + b"\xFF" * 4
+        return card
+
+    def test_a_card_is_described_as_it_is_held(self):
+        for name in ("usim", "telephone", "menu", "day", "folders"):
+            with open(os.path.join(EXAMPLES, name + ".script"), encoding=process.ENCODING) as text:
+                head = text.read().partition("\nstart\n")[0].splitlines()
+            held = kept.Place(["play"], 0, [*head, "start"]).play([]).image
+            again = kept.Place(["play"], 0, [*section.lines(image.card_in(held)), "start"]).play([]).image
+            with self.subTest(script=name):
+                self.assertEqual(image.settled(again), image.settled(held))
 
     def test_images_are_in_memory(self):
         with kept.folder() as place:

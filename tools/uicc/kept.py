@@ -2,13 +2,16 @@
 
 A script of many commands is not played from its beginning for each run: at some places of it the image is kept, with the lines that
 have the card stand as it stood there, the same files selected and the same values presented. Each such place was tried: what is played
-from it shows the same, and leaves the same, as what is played from the place before it."""
+from it shows the same, and leaves the same, as what is played from the place before it.
+
+A handset can't be made to stand as it stood, but for a reset: after it, it is as after `start`. So a run for a handset continues from the
+resets of its script, over a card that is described as it stood there."""
 import functools
 import itertools
 import os
 import tempfile
 
-from . import decode, follow, image, trace
+from . import decode, follow, image, section, trace
 from . import process as simulator
 from .grammar import Apdu, Plan, Reset, Tpdu
 
@@ -86,11 +89,12 @@ def lines_of(script, first, end):
 
 
 def places(words, script, between=STEPS_BETWEEN):
-    """The places of a script at which the image is kept, in order; the first is its beginning. A handset can't be made to stand as it
-    stood, so that its script has that one alone."""
+    """The places of a script at which runs may continue, in order; the first is its beginning."""
+    if words[0] == "phone":
+        return restarts(words, script, between)
     found = [beginning(words, script)]
     bounds = [at for at in range(between, len(script.steps), between) if not isinstance(script.steps[at - 1][1], Plan)]
-    if words[0] == "phone" or not bounds:
+    if not bounds:
         return found
     shown = Shown(words, script)
     for at, end in zip(bounds, [*bounds[1:], len(script.steps)]):
@@ -102,6 +106,36 @@ def places(words, script, between=STEPS_BETWEEN):
         if goes_on and image.settled(goes_on.image) == image.settled(whole.image):
             found.append(place)
     return found
+
+
+def restarts(words, script, between):
+    """The places of a handset's script: some of its resets, where the rest shows the same, and leaves the same, over a card that is described
+    as it stood there. The handset knows nothing else from before it that the rest would show."""
+    found = [beginning(words, script)]
+    bounds = [at for at, (_, said) in enumerate(script.steps) if isinstance(said, Reset)]
+    if not bounds:
+        return found
+    whole = found[0].play(lines_of(script, 0, len(script.steps)))
+    marks = [place for place, line in enumerate(whole.trace) if line == simulator.RESET]
+    if len(marks) != len(bounds):
+        # some of them are a REFRESH, or in one the power was lost
+        return found
+    for at, mark in zip(bounds, marks):
+        if at + 1 - found[-1].at < between:
+            continue
+        held = found[-1].play(lines_of(script, found[-1].at, at)).image
+        place = Place(words, at + 1, [*section.lines(image.card_in(held)), "start"])
+        rest = place.play(lines_of(script, at + 1, len(script.steps)))
+        is_same = rest.trace == whole.trace[mark + 1:] and image.settled(rest.image) == image.settled(whole.image)
+        if is_same and image.settled(described(place).image) == image.settled(held):
+            place.known = len(place.play([]).trace)
+            found.append(place)
+    return found
+
+
+def described(place):
+    """The card of a handset, before the handset is switched on."""
+    return Place(["play", *options_of(place.words)], 0, place.begin).play([])
 
 
 def nearest(found, at):
