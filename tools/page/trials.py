@@ -25,6 +25,11 @@ CUTS_ARE_DONE = ("uicc.cut.trials && uicc.cut.trials.played === uicc.played && u
                  " && uicc.cut.trials.outcomes.size === 4 * uicc.cut.trials.writes.length")
 
 
+# whether the card is shown as it stands after the last step of this run
+CARD_IS_SHOWN = ("document.querySelector('#files .tree')"
+                 " && document.getElementById('files').innerText.includes(`after line ${uicc.played.steps.at(-1).line},`)")
+
+
 def play(browser, mode, script, then=""):
     """Plays a script in the page, and answers its trace. `then` is done at once after it."""
     browser.evaluate(f"""(async () => {{
@@ -353,7 +358,7 @@ def causes(browser):
 def terms(browser):
     """What the page says is in the standard's terms."""
     play(browser, "play", GUARDED + "apdu 00A4000C023F00\napdu 00A40004023F00\n")
-    browser.wait("document.querySelector('#files .tree')")
+    browser.wait(CARD_IS_SHOWN)
     trace, card = (browser.evaluate(f"document.getElementById('{part}').innerText") for part in ("trace", "files"))
     for words, text in (("no data returned", trace), ("PIN 1 enabled", trace), ("PIN 1 enabled, 1234, 3 tries left", card), ("kept data", card)):
         expect(f"whether `{words}` is said", words in text, True)
@@ -395,7 +400,7 @@ def names_in_files(browser):
     """A name in a file is read in each form that it may have."""
     records = "".join(f"rec 7F106F3A {number} {digits.ljust(28, 'F')}{'FF' * 14}\n" for number, (digits, _) in enumerate(NAMES, 1))
     play(browser, "play", f"df 7F10\nef 7F106F3A l 28 {len(NAMES)} - -\n{records}start\nreset\n")
-    browser.wait("document.querySelector('#files .tree')")
+    browser.wait(CARD_IS_SHOWN)
     shown = text_of(browser, "#files")
     expect("the names that aren't shown", [name for _, name in NAMES if f"{name}: no number" not in shown], [])
     return f"{len(NAMES)} names"
