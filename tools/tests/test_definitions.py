@@ -75,12 +75,19 @@ pub fn run(x: u8) -> u8
 {
     x
 }
+
+/// Makes one.
+#[macro_export]
+macro_rules! made {
+    ($x:expr) => {};
+}
 """.splitlines()
     OF_SOURCE = [
         ("LONGEST", "const", 2, "How long a line is.", ""),
         ("End", "enum", 6, "What ends.", ""), ("Finished", "variant", 8, "", "End"), ("Bad", "variant", 9, "", "End"),
         ("Plan", "struct", 12, "", ""), ("call", "field", 13, "", "Plan"),
         ("run", "fn", 17, "Runs.", ""), ("small", "clause", 18, "", "run"), ("trace", "clause", 20, "Why.", "run"),
+        ("made", "macro_rules", 28, "Makes one.", ""),
     ]
     # a line that uses something: the name in the file, the crate, the module, the name there, whether it is handed on
     USED = [
