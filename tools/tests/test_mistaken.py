@@ -1,11 +1,10 @@
 """A file of another kind than the one that a tool takes: a line says which it is, and what takes it."""
+import contextlib
 import os
-import subprocess
-import sys
 import tempfile
 import unittest
 
-from common import TOOLS
+from common import in_process
 from uicc import image, mistaken
 
 
@@ -58,9 +57,8 @@ class Kinds(unittest.TestCase):
                 with open(os.path.join(folder, name), "wb") as out:
                     out.write(content)
             for words, said in self.TOLD:
-                with self.subTest(words=words):
-                    done = subprocess.run([sys.executable, "-B", os.path.join(TOOLS, words[0]), *words[1:]], cwd=folder, capture_output=True,
-                                          text=True, timeout=120, check=False)
+                with self.subTest(words=words), contextlib.chdir(folder):
+                    done = in_process(*words)
                     self.assertEqual((done.returncode, done.stdout, len(done.stderr.splitlines())), (2, "", 1), done.stderr)
                     self.assertIn(f": {said}", done.stderr)
 
