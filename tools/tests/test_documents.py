@@ -168,6 +168,8 @@ class Trials(unittest.TestCase):
         ("```console\n$ echo one > a.txt\n$ cat a.txt\ntwo\n```", [":3: `cat a.txt` shows something else"]),
         ("```console\n$ echo one\ntwo\n```", [":2: `echo one` shows something else"]),
         ("```console\n$ echo one >&2\none\n```", []),
+        # what the launcher says where a source has changed since the release
+        ("```console\n$ echo \"uicc_run: the released program runs, and the sources that stand here are other ones: build\" >&2; echo one\none\n```", []),
         ("```console\n$ tools/lynt x\nany\n```", [":2: there is no program", ":2: `tools/lynt x` shows"]),
         ("```sh\n# why\ntools/lint --phones x     # and why\n```", [":3: tools/lint knows no --phones"]),
         ("```cases\n#case a\n#run play\nstart\napdu 00\n#< 9000\n#status 0\n```", []),
