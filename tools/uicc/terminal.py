@@ -12,8 +12,8 @@ def has_colours(stream):
 
 
 class Painter:
-    def __init__(self, stream=sys.stdout):
-        self.on = has_colours(stream)
+    def __init__(self, stream=None):
+        self.on = has_colours(stream or sys.stdout)
 
     def __call__(self, colour, text):
         return f"\x1b[{COLOURS[colour]}m{text}\x1b[0m" if self.on and text else text
