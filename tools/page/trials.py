@@ -191,6 +191,23 @@ def narrow(browser):
     return f"{len(keys)} keys on a narrow screen"
 
 
+def turned(browser):
+    """The line of the chosen step stays in sight where the screen becomes a narrow one; one that wasn't in sight stays out of it."""
+    in_sight = "uicc.script.isInSight(uicc.script.bands.chosen.line)"
+    play(browser, "play", "# a comment\n" * 60 + "start\n" + "reset\n" * 5)
+    for scrolled, wanted in (("", True), ("uicc.script.area.scrollTop = 0;", False)):
+        browser.size(*WIDE)
+        browser.evaluate(f"uicc.script.reveal(uicc.script.bands.chosen.line); {scrolled} 0")
+        browser.wait(f"uicc.script.isChosenInSight === {in_sight}")
+        expect("whether the chosen line is in sight", browser.evaluate(in_sight), wanted)
+        browser.size(*NARROW)
+        browser.wait("uicc.script.area.clientHeight < 400")
+        browser.evaluate("new Promise((done) => requestAnimationFrame(() => requestAnimationFrame(() => done(0))))")
+        expect("whether the chosen line is in sight on a narrow screen", browser.evaluate(in_sight), wanted)
+    browser.size(*WIDE)
+    return "a screen that is turned"
+
+
 # by keyboard
 
 FOCUSED = "document.activeElement.dataset.key ?? document.activeElement.className"
@@ -480,6 +497,6 @@ def trap(browser):
 
 
 ALL = (
-    typing, refuses, takes_back, narrow, keyboard, toolkit, first_sight, colours, causes, terms, bad_line, many_writes, names_in_files,
+    typing, refuses, takes_back, narrow, turned, keyboard, toolkit, first_sight, colours, causes, terms, bad_line, many_writes, names_in_files,
     signs, words_of_a_script, link, trap,
 )

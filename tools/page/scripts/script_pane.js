@@ -14,6 +14,7 @@ export class ScriptPane {
         this.bands = { chosen: { band: byId("band-chosen"), line: 0 }, bad: { band: byId("band-bad"), line: 0 } };
         this.lineCount = 0;
         this.isTyping = false;
+        this.isChosenInSight = false;
         this.lastCaretLine = 0;
         this.area.addEventListener("input", () => this.hearTyping(changed));
         this.area.addEventListener("blur", () => { this.lastCaretLine = 0; });
@@ -25,7 +26,7 @@ export class ScriptPane {
                 asked();
             }
         });
-        new ResizeObserver(() => this.place()).observe(this.area);
+        new ResizeObserver(() => this.hearResize()).observe(this.area);
     }
 
     get text() {
@@ -115,12 +116,24 @@ export class ScriptPane {
         return parseFloat(getComputedStyle(this.area).paddingTop) + (line - 1) * this.lineHeight();
     }
 
-    // Brings a line into sight, unless the user is in the script: the place where somebody writes isn't moved.
-    reveal(line) {
+    isInSight(line) {
         const top = this.topOf(line);
         const { scrollTop, clientHeight } = this.area;
-        if (line && !this.isFocused && (top < scrollTop || top + this.lineHeight() > scrollTop + clientHeight)) {
-            this.area.scrollTop = Math.max(0, top - clientHeight / 3);
+        return top >= scrollTop && top + this.lineHeight() <= scrollTop + clientHeight;
+    }
+
+    // The chosen line stays in sight where it was, as on a screen that is turned.
+    hearResize() {
+        if (this.isChosenInSight) {
+            this.reveal(this.bands.chosen.line);
+        }
+        this.place();
+    }
+
+    // Brings a line into sight, unless the user is in the script: the place where somebody writes isn't moved.
+    reveal(line) {
+        if (line && !this.isFocused && !this.isInSight(line)) {
+            this.area.scrollTop = Math.max(0, this.topOf(line) - this.area.clientHeight / 3);
         }
     }
 
@@ -136,5 +149,6 @@ export class ScriptPane {
             band.hidden = line === 0;
             band.style.top = `${this.topOf(line) - scrollTop}px`;
         }
+        this.isChosenInSight = this.isInSight(this.bands.chosen.line);
     }
 }
