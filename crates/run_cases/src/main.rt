@@ -1,6 +1,7 @@
 //! `run_cases`: carries out files of cases, which are scripts with what each of their lines must show, and writes which differ.
 #![tactic(auto)]
 
+mod boxes;
 mod cases;
 mod devices;
 mod expectations;

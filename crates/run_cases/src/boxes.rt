@@ -1,21 +1,24 @@
-//! Boxes and a sink that note what happens to them, where the test sees it.
+//! Boxes and a sink that note what happens to them.
+
 use applet_trait::{Act, Applet, Stimulus};
 use byte_streams::{Failed, ListSink, Sink};
+use std::alloc::{AllocError, Global};
 use std::cell::Cell;
 use uicc_types::Kept;
 
-const MOST: usize = 64;
+/// So many marks are noted, and none after them.
+const MOST_MARKS: usize = 128;
 
-/// The mark of a line of the trace.
-const LINE: u8 = b'.';
+/// The mark of a line of the trace, and of a shelf without a box.
+const DOT: u8 = b'.';
 
 /// The mark of a box that was let go.
 const GONE: u8 = b'-';
 
 #[derive(Clone, Copy)]
 struct Marks {
-    size: usize,
-    bytes: [u8; MOST],
+    count: usize,
+    bytes: [u8; MOST_MARKS],
 }
 
 /// What was noted: one mark after the other, and how many lines the trace has.
@@ -23,51 +26,49 @@ struct Marks {
 pub struct Notes {
     marks: Cell<Marks>,
     lines: Cell<u32>,
-    // Whether lines are marked, too.
-    has_lines: bool,
-    // From so many lines on the memory shows other bytes.
+    /// From so many lines on a switched memory shows the other bytes.
     switches_at: u32,
     pub shows_other: Cell<bool>,
 }
 
 impl Notes {
-    pub fn new(has_lines: bool, switches_at: u32) -> Self {
+    pub fn new(switches_at: u32) -> Self {
         Notes {
             marks: Cell::new(Marks {
-                size: 0,
-                bytes: [0; MOST],
+                count: 0,
+                bytes: [DOT; MOST_MARKS],
             }),
             lines: Cell::new(0),
-            has_lines,
             switches_at,
             shows_other: Cell::new(switches_at == 0),
         }
     }
 
-    /// Whether these marks were noted, in this order.
-    pub fn are(&self, marks: &str) -> bool {
-        let noted = self.marks.get();
-        match noted.bytes.get(..noted.size) {
-            Some(bytes) => bytes == marks.as_bytes(),
-            None => false,
+    /// The marks, in their order, with or without those of lines.
+    pub fn text(&self, alloc: Global, has_lines: bool) -> Result<String, AllocError> {
+        let marks = self.marks.get();
+        let mut text = String::new(alloc);
+        for mark in marks.bytes.iter().take(marks.count) {
+            if has_lines || *mark != DOT {
+                text.push(char::from(*mark))?;
+            }
         }
+        Ok(text)
     }
 
     fn add(&self, mark: u8) {
         let mut marks = self.marks.get();
-        if marks.size < MOST {
-            marks.bytes[marks.size] = mark;
-            marks.size += 1;
+        if let Some(place) = marks.bytes.get_mut(marks.count) {
+            *place = mark;
+            marks.count = marks.count.saturating_add(1);
+            self.marks.set(marks);
         }
-        self.marks.set(marks);
     }
 
     fn add_line(&self) {
         let lines = self.lines.get().saturating_add(1);
         self.lines.set(lines);
-        if self.has_lines {
-            self.add(LINE);
-        }
+        self.add(DOT);
         if lines == self.switches_at {
             self.shows_other.set(true);
         }
@@ -81,15 +82,14 @@ pub struct Noting<'a> {
     notes: &'a Notes,
 }
 
-impl Noting<'_> {
-    /// What it notes at each step.
-    pub fn mark(&self) -> u8 {
-        self.mark
-    }
-
-    /// What the applet in it does next.
-    pub fn act(&mut self, stimulus: &Stimulus) -> Act {
-        self.applet.step(stimulus)
+impl<'a> Noting<'a> {
+    /// The box of a shelf, whose mark is `A` on shelf 0, `B` on shelf 1, and so on.
+    pub fn new(applet: Box<dyn Applet>, shelf: u8, notes: &'a Notes) -> Self {
+        Noting {
+            applet,
+            mark: shelf.saturating_add(b'A'),
+            notes,
+        }
     }
 }
 
@@ -124,29 +124,16 @@ impl Drop for Noting<'_> {
     }
 }
 
-/// A box with each of these marks, on the shelf of its place, and none where a dot stands, each round a box that `$boxed` makes. It
-/// is a macro, since a function may not hand out boxes that it makes.
-#[macro_export]
-macro_rules! noting_boxes {
-    ($alloc:expr, $marks:expr, $notes:expr, $boxed:expr) => {{
-        let mut cast = Vec::new($alloc);
-        for mark in $marks.as_bytes() {
-            cast.push($crate::boxes::noting_box(*mark, $boxed, $notes))?;
-        }
-        cast
-    }};
-}
-
-/// The applet in a box that notes this mark, or none where the mark is a dot.
-pub fn noting_box(mark: u8, applet: Box<dyn Applet>, notes: &Notes) -> Option<Noting<'_>> {
-    match mark {
-        LINE => None,
-        mark => Some(Noting {
-            applet,
-            mark,
-            notes,
-        }),
+/// The mark of the box on each shelf, with a dot where there is none, up to the last box.
+pub fn marks_of(alloc: Global, cast: &[Option<Noting<'_>>]) -> Result<String, AllocError> {
+    let mut marks = String::new(alloc);
+    for place in cast {
+        marks.push(match place {
+            Some(noting) => char::from(noting.mark),
+            None => char::from(DOT),
+        })?;
     }
+    String::from_str(alloc, marks.as_str().trim_end_matches('.'))
 }
 
 /// A sink that notes each line.
