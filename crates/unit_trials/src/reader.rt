@@ -63,7 +63,7 @@ fn go_over<R: Files<File = File> + Print + AllocGlobal>(
     Ok(())
 }
 
-/// What a row comes to, and whether it is to come to that: to what stands after ` => `, or to `ok` where nothing is said; or, behind the
+/// What a row comes to, and whether it is to come to that: to what stands after ` => `, or to `ok` where nothing is said; or, after the
 /// word `differs`, to anything else.
 fn outcome_of<'a, R: Files<File = File> + AllocGlobal>(
     rt: &R,
