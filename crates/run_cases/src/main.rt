@@ -43,15 +43,25 @@ fn main(rt: HostRuntime) -> ExitCode {
 /// before the files it carries out those cases alone that have this text in their names.
 fn carry_out_files<R: Env + Files + Input + Print + AllocGlobal>(rt: &R) -> io::Result<usize> {
     let arguments: Vec<String> = env::args(rt)?.collect(rt.alloc())?;
+    match arguments.as_slice() {
+        [_, option, text, paths @ ..] if option.as_str() == "--case" => {
+            carry_out_all(rt, paths, text.as_str())
+        }
+        [_, paths @ ..] => carry_out_all(rt, paths, ""),
+        [] => carry_out_all(rt, &[], ""),
+    }
+}
+
+/// Carries out the cases of these files, or else of standard input, that have the wanted text in their names.
+fn carry_out_all<R: Files + Input + Print + AllocGlobal>(
+    rt: &R,
+    paths: &[String],
+    wanted: &str,
+) -> io::Result<usize> {
     let mut tally = Tally {
         cases: 0,
         runs: 0,
         differ: 0,
-    };
-    let words = arguments.get(1..).unwrap_or(&[]);
-    let (wanted, paths) = match words {
-        [option, text, paths @ ..] if option.as_str() == "--case" => (text.as_str(), paths),
-        _ => ("", words),
     };
     for path in paths {
         let text = fs::read_to_string(rt, path.as_str())?;

@@ -8,9 +8,9 @@ use boxed_applets::{
 };
 use std::alloc::AllocError;
 
-/// An applet of each kind, and the name of the kind that woke last.
+/// An applet of each kind, and which of them woke last.
 #[derive(Drop)]
-pub struct Applets<'a> {
+pub struct Applets {
     greeter: Greeter,
     menu: Menu,
     clock: Clock,
@@ -18,7 +18,33 @@ pub struct Applets<'a> {
     barrier: Barrier,
     notebook: Notebook,
     table: Table,
-    awake: &'a str,
+    awake: Option<Kind>,
+}
+
+/// The kinds of applets.
+#[derive(Clone, Copy)]
+enum Kind {
+    Greeter,
+    Menu,
+    Clock,
+    Watcher,
+    Barrier,
+    Notebook,
+    Table,
+}
+
+/// The kind with this name.
+fn kind_named(name: &str) -> Option<Kind> {
+    match name {
+        "greeter" => Some(Kind::Greeter),
+        "menu" => Some(Kind::Menu),
+        "clock" => Some(Kind::Clock),
+        "watcher" => Some(Kind::Watcher),
+        "barrier" => Some(Kind::Barrier),
+        "notebook" => Some(Kind::Notebook),
+        "table" => Some(Kind::Table),
+        _ => None,
+    }
 }
 
 /// What a row asks of an applet.
@@ -30,9 +56,9 @@ pub enum Asked {
     Turn,
 }
 
-impl<'a> Applets<'a> {
+impl Applets {
     /// One of each kind, of which none woke yet.
-    pub fn new() -> Applets<'a> {
+    pub fn new() -> Applets {
         Applets {
             greeter: Greeter::new(),
             menu: Menu::new(),
@@ -41,27 +67,27 @@ impl<'a> Applets<'a> {
             barrier: Barrier::new(),
             notebook: Notebook::new(),
             table: Table::new(),
-            awake: "",
+            awake: None,
         }
     }
 
     /// `applet KIND KEPT`: an applet of the kind wakes with the bytes that it keeps, as a new one does.
-    pub fn wake_kind(&mut self, row: &mut Row<'a>) {
-        self.awake = row.word();
+    pub fn wake_kind(&mut self, row: &mut Row<'_>) {
+        self.awake = kind_named(row.word());
         self.show(Asked::Wake, row);
     }
 
     /// `wake KEPT`, `on STIMULUS`: what the applet that woke last does.
     pub fn show(&mut self, asked: Asked, row: &mut Row<'_>) {
         match self.awake {
-            "greeter" => show_asked(&mut self.greeter, asked, row),
-            "menu" => show_asked(&mut self.menu, asked, row),
-            "clock" => show_asked(&mut self.clock, asked, row),
-            "watcher" => show_asked(&mut self.watcher, asked, row),
-            "barrier" => show_asked(&mut self.barrier, asked, row),
-            "notebook" => show_asked(&mut self.notebook, asked, row),
-            "table" => show_asked(&mut self.table, asked, row),
-            _ => row.reject(),
+            Some(Kind::Greeter) => show_asked(&mut self.greeter, asked, row),
+            Some(Kind::Menu) => show_asked(&mut self.menu, asked, row),
+            Some(Kind::Clock) => show_asked(&mut self.clock, asked, row),
+            Some(Kind::Watcher) => show_asked(&mut self.watcher, asked, row),
+            Some(Kind::Barrier) => show_asked(&mut self.barrier, asked, row),
+            Some(Kind::Notebook) => show_asked(&mut self.notebook, asked, row),
+            Some(Kind::Table) => show_asked(&mut self.table, asked, row),
+            None => row.reject(),
         }
     }
 }
@@ -82,15 +108,15 @@ fn show_asked<A: Applet>(applet: &mut A, asked: Asked, row: &mut Row<'_>) {
 /// `boxed KIND KEPT STIMULUS`: the kind of an applet in a box, and what it does once it woke.
 pub fn show_boxed(row: &mut Row<'_>) -> Result<(), AllocError> {
     let alloc = row.alloc();
-    let applet = match row.word() {
-        "greeter" => in_box!(alloc, Greeter::new()),
-        "menu" => in_box!(alloc, Menu::new()),
-        "clock" => in_box!(alloc, Clock::new()),
-        "watcher" => in_box!(alloc, Watcher::new()),
-        "barrier" => in_box!(alloc, Barrier::new()),
-        "notebook" => in_box!(alloc, Notebook::new()),
-        "table" => in_box!(alloc, Table::new()),
-        _ => return Ok(row.reject()),
+    let applet = match kind_named(row.word()) {
+        Some(Kind::Greeter) => in_box!(alloc, Greeter::new()),
+        Some(Kind::Menu) => in_box!(alloc, Menu::new()),
+        Some(Kind::Clock) => in_box!(alloc, Clock::new()),
+        Some(Kind::Watcher) => in_box!(alloc, Watcher::new()),
+        Some(Kind::Barrier) => in_box!(alloc, Barrier::new()),
+        Some(Kind::Notebook) => in_box!(alloc, Notebook::new()),
+        Some(Kind::Table) => in_box!(alloc, Table::new()),
+        None => return Ok(row.reject()),
     };
     show_turn(applet, row);
     Ok(())

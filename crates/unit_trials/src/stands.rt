@@ -79,12 +79,11 @@ impl<'a> Stand<'a> {
 
     /// `journal`, `pages`, `down`: puts a store over a device of the bench, or takes it away.
     pub fn move_to(&mut self, unit: &str, row: &mut Row<'_>) {
-        *self = match (unit, mem::replace(self, Stand::Nothing)) {
-            ("down", Stand::Journal(store)) => Stand::Bench(store.into_store().into_device()),
-            ("down", Stand::Pages(store)) => Stand::Bench(store.into_store().into_device()),
-            ("journal", Stand::Bench(device)) => under_journal(device),
-            ("pages", Stand::Bench(device)) => under_pages(device),
-            _ => Stand::Nothing,
+        let stand = mem::replace(self, Stand::Nothing);
+        *self = match unit {
+            "journal" => under_journal(stand),
+            "pages" => under_pages(stand),
+            _ => taken_down(stand),
         };
         if matches!(self, Stand::Nothing) {
             row.reject();
@@ -104,19 +103,48 @@ impl<'a> Stand<'a> {
     }
 }
 
-fn under_journal<'a>(device: Bench) -> Stand<'a> {
-    if device.size() == SIZE {
-        Stand::Journal(Stored::new(Journal::new(device)))
-    } else {
-        Stand::Nothing
+fn under_journal(stand: Stand<'_>) -> Stand<'_> {
+    let Stand::Bench(device) = stand else {
+        return Stand::Nothing;
+    };
+    match journal_over(device) {
+        Some(store) => Stand::Journal(store),
+        None => Stand::Nothing,
     }
 }
 
-fn under_pages<'a>(device: Bench) -> Stand<'a> {
-    if device.size() == DEVICE_SIZE {
-        Stand::Pages(Stored::new(PageStore::new(device)))
+fn under_pages(stand: Stand<'_>) -> Stand<'_> {
+    let Stand::Bench(device) = stand else {
+        return Stand::Nothing;
+    };
+    match pages_over(device) {
+        Some(store) => Stand::Pages(store),
+        None => Stand::Nothing,
+    }
+}
+
+fn journal_over<E: Eeprom + Drop>(device: E) -> Option<Stored<Journal<E>>> {
+    if device.size() == SIZE {
+        Some(Stored::new(Journal::new(device)))
     } else {
-        Stand::Nothing
+        None
+    }
+}
+
+fn pages_over<E: Eeprom + Drop>(device: E) -> Option<Stored<PageStore<E>>> {
+    if device.size() == DEVICE_SIZE {
+        Some(Stored::new(PageStore::new(device)))
+    } else {
+        None
+    }
+}
+
+/// The device under a store.
+fn taken_down(stand: Stand<'_>) -> Stand<'_> {
+    match stand {
+        Stand::Journal(store) => Stand::Bench(store.into_store().into_device()),
+        Stand::Pages(store) => Stand::Bench(store.into_store().into_device()),
+        _ => Stand::Nothing,
     }
 }
 

@@ -44,7 +44,7 @@ use uicc_types::OutOfMemory;
 /// The values that stay from one row of a table to the next.
 #[derive(Drop)]
 pub struct Bench<'a> {
-    applets: Applets<'a>,
+    applets: Applets,
     timers: Timers,
     /// The terminal's channels.
     channels: Bip,
@@ -77,10 +77,10 @@ impl<'a> Bench<'a> {
 }
 
 /// Carries out a row: its unit is its first word.
-pub fn carry_out<'a, R: Files<File = File> + AllocGlobal>(
+pub fn carry_out<R: Files<File = File> + AllocGlobal>(
     rt: &R,
-    bench: &mut Bench<'a>,
-    row: &mut Row<'a>,
+    bench: &mut Bench<'_>,
+    row: &mut Row<'_>,
 ) {
     match row.word() {
         "image" => bench.stand.make_image(rt, row),
@@ -90,7 +90,7 @@ pub fn carry_out<'a, R: Files<File = File> + AllocGlobal>(
 }
 
 /// The units of the wire and of the toolkit's vocabulary.
-fn on_wire<'a>(bench: &mut Bench<'a>, unit: &str, row: &mut Row<'a>) {
+fn on_wire(bench: &mut Bench<'_>, unit: &str, row: &mut Row<'_>) {
     match unit {
         "apdu" => show_apdu(row),
         "answer" => show_answer(row),
@@ -112,7 +112,7 @@ fn on_wire<'a>(bench: &mut Bench<'a>, unit: &str, row: &mut Row<'a>) {
 }
 
 /// The units of the toolkit and of the handset.
-fn on_toolkit<'a>(bench: &mut Bench<'a>, unit: &str, row: &mut Row<'a>) {
+fn on_toolkit(bench: &mut Bench<'_>, unit: &str, row: &mut Row<'_>) {
     match unit {
         "timers" => show_timers(&mut bench.timers, row),
         "bip" => show_channels(&mut bench.channels, row),
@@ -142,7 +142,7 @@ fn on_toolkit<'a>(bench: &mut Bench<'a>, unit: &str, row: &mut Row<'a>) {
 }
 
 /// The units of the text that goes in and out of a run.
-fn on_text<'a>(bench: &mut Bench<'a>, unit: &str, row: &mut Row<'a>) {
+fn on_text(bench: &mut Bench<'_>, unit: &str, row: &mut Row<'_>) {
     match unit {
         "line" => show_line(row),
         "lines" => show_lines(row),
@@ -172,7 +172,7 @@ fn on_text<'a>(bench: &mut Bench<'a>, unit: &str, row: &mut Row<'a>) {
 }
 
 /// The units of the layout and of a memory.
-fn on_layout<'a>(bench: &mut Bench<'a>, unit: &str, row: &mut Row<'a>) {
+fn on_layout(bench: &mut Bench<'_>, unit: &str, row: &mut Row<'_>) {
     match unit {
         "section" => sections::show_line(&mut bench.section, row),
         "table" => show_table(&bench.table, row),
