@@ -14,7 +14,7 @@ WORDS = ("capture", "cuts", "expect", "explain", "lint", "modem", "ofono", "prof
 HELPERS = ("modemmanager_client.py", "ofono_client.py")
 LAUNCHER, PROGRAM, PAGE, LIST = "uicc_run", "dist/uicc_program", "dist/uicc_run.html", "dist/release.txt"
 # what tells of the sources alone
-OF_SOURCES = ("docs/ARCHITECTURE.md", "docs/DECISIONS.md", "docs/TABLES.md")
+OF_SOURCES = ("docs/ARCHITECTURE.md", "docs/DECISIONS.md")
 CALLED = re.compile(rf"(?<![\w./$])tools/(check|{'|'.join(WORDS)})(?![\w/]|\.\w)")
 STARTED = re.compile(r"(?<![\w/$])\./uicc_run\b")
 INTERPRETER = "#!/usr/bin/env python3\n"

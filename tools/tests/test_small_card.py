@@ -265,7 +265,7 @@ apdu 00B0820002
 
     def test_a_plan_that_tears(self):
         os.environ["SMALL_CARD_TEARS"] = "1"
-        done = self.tool("expect", self.put("a.cases", self.CASES), "--only", "wherever")
+        done = self.tool("expect", self.put("a.cases", self.CASES), "--case", "wherever")
         self.assertEqual(done.returncode, 1)
         self.assertIn("00009000", done.stdout)
 

@@ -3,7 +3,7 @@ import dataclasses
 import re
 
 ALWAYS, MET, UNMET = "always", "met", "unmet"
-SETTING_UP = ("#blank", "#plan", "#bytes", "#boxes", "#source", "#sink", "#power")
+SETTING_UP = ("#blank", "#plan", "#bytes", "#boxes", "#source", "#sink", "#switch", "#power")
 EXPECTING = ("#<", "#>", "#!", "#*", "#=", "#..", "#met")
 
 
@@ -26,6 +26,7 @@ class Setup:
     boxes: str = "all"
     source: str = ""
     sink: str = ""
+    switch: str = ""
     powered: bool = True
     armed: bool = False
 
@@ -44,6 +45,9 @@ class Run:
     met_status: int = 0
     shows: list = dataclasses.field(default_factory=list)
     calls: tuple | None = None
+    # what is noted of boxes: a case of the library alone
+    marks: str | None = None
+    left: str | None = None
 
 
 @dataclasses.dataclass
@@ -66,7 +70,9 @@ class Case:
             setup = run.setup
             for asked, why in ((setup.boxes != "all", "other applets"), (setup.source, "a script that can't be read on"),
                                (setup.sink, "a trace that can't be written on"), (not setup.powered, "a memory without power"),
-                               (setup.armed, "a fault before the script begins"), (run.calls, "the calls of source and sink")):
+                               (setup.armed, "a fault before the script begins"), (run.calls, "the calls of source and sink"),
+                               (setup.switch, "a memory that shows other bytes"),
+                               ((run.marks, run.left) != (None, None), "what is done with boxes")):
                 if asked:
                     return f"asks for {why}, which the program can't be given"
         return None
@@ -204,11 +210,11 @@ class CaseDraft:
             self.setup.armed = True
         elif word == "#bytes":
             self.setup.patches.append(patch(rest))
-        elif word in ("#boxes", "#source", "#sink"):
+        elif word in ("#boxes", "#source", "#sink", "#switch"):
             setattr(self.setup, word[1:], rest)
         elif word == "#power" and rest == "off":
             self.setup.powered = False
-        elif word in ("#shows", "#calls"):
+        elif word in ("#shows", "#calls", "#marks", "#left"):
             self._ask_of_last_run(word, rest)
         elif (word, rest) != ("", "") and not is_remark(word):
             self._set_case(word, rest)
@@ -236,6 +242,8 @@ class CaseDraft:
             raise Mistake("no run stands before it")
         if word == "#shows":
             self.case.runs[-1].shows.append(patch(rest))
+        elif word in ("#marks", "#left"):
+            setattr(self.case.runs[-1], word[1:], rest)
         else:
             takes, _, puts = rest.partition(" ")
             self.case.runs[-1].calls = number(takes), number(puts)

@@ -1,7 +1,6 @@
 //! The pages that the program shows in place of a run.
 
-use crate::boxes::Noting;
-use crate::runs::words_of;
+use boxed_applets::Clock;
 use byte_streams::{ListSink, SliceSource};
 use std::rt::HostRuntime;
 use std::test::Fail;
@@ -26,10 +25,13 @@ const PAGES: [Page; 9] = [
 #[test]
 fn a_page_is_shown_for_its_word_alone(rt: HostRuntime) -> Result<(), Fail> {
     for (command_line, fails, beginning, status) in PAGES {
-        let arguments = words_of(rt.alloc(), command_line)?;
+        let mut arguments = Vec::new(rt.alloc());
+        for word in command_line.split(' ') {
+            arguments.push(String::from_str(rt.alloc(), word)?)?;
+        }
         let mut source = SliceSource::new(b"start\n", &[]);
         let mut sink = ListSink::new(rt.alloc(), 8192, fails)?;
-        let cast: Vec<Option<Noting<'_>>> = Vec::new(rt.alloc());
+        let cast: Vec<Option<Clock>> = Vec::new(rt.alloc());
         let got = answer(&rt, &arguments, &mut source, &mut sink, cast);
         assert_eq!(rt; got, status, "{command_line}");
         assert!(rt;

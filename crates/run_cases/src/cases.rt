@@ -59,6 +59,10 @@ pub struct ScriptRun {
     /// Bytes that the device must have afterwards.
     pub patches: Vec<Patch>,
     pub calls: Option<Calls>,
+    /// What is noted of boxes and lines, if that is said.
+    pub marks: Option<String>,
+    /// On which shelves boxes are handed back, if that is said.
+    pub left: Option<String>,
 }
 
 impl ScriptRun {
@@ -73,6 +77,8 @@ impl ScriptRun {
             met_status: 0,
             patches: Vec::new(alloc),
             calls: None,
+            marks: None,
+            left: None,
         }
     }
 }
@@ -91,6 +97,8 @@ pub struct Setup {
     pub sink_fails: Vec<u32>,
     /// Whether the device has power.
     pub powered: bool,
+    /// From how many lines of the trace on a new device shows the bytes that the device had, if it is to.
+    pub switches_at: Option<u32>,
     /// Whether the device is armed with the plan, so that it can be met before the script's first command.
     pub armed: bool,
 }
@@ -104,6 +112,7 @@ impl Setup {
             source_fails: Vec::new(alloc),
             sink_fails: Vec::new(alloc),
             powered: true,
+            switches_at: None,
             armed: false,
         }
     }
@@ -114,8 +123,8 @@ impl Setup {
 pub enum Boxes {
     /// The program's own.
     All,
-    /// From shelf 0 on those that the program has on these shelves.
-    From(Vec<u32>),
+    /// From shelf 0 on those that the program has on these shelves, or none.
+    From(Vec<Option<u32>>),
 }
 
 /// Bytes at a place of the device.

@@ -54,7 +54,7 @@ fn remade(
 }
 
 /// Gives the device power, and takes its plan away.
-pub fn revive(device: &mut BenchEeprom) {
+pub fn revive<E: Eeprom>(device: &mut E) {
     device.arm(Plan::NONE);
     device.power_up();
 }
@@ -77,7 +77,7 @@ fn put_byte(device: &mut BenchEeprom, at: usize, byte: u8) {
 }
 
 /// Whether the device has all these bytes.
-pub fn has_all(device: &mut BenchEeprom, patches: &[Patch]) -> bool {
+pub fn has_all<E: Eeprom>(device: &mut E, patches: &[Patch]) -> bool {
     let mut holds = true;
     for patch in patches {
         let mut at = patch.at;
@@ -90,7 +90,7 @@ pub fn has_all(device: &mut BenchEeprom, patches: &[Patch]) -> bool {
 }
 
 /// The byte at a place, where the device has one there.
-fn byte_at(device: &mut BenchEeprom, at: usize) -> Option<u8> {
+fn byte_at<E: Eeprom>(device: &mut E, at: usize) -> Option<u8> {
     if at >= device.size() {
         return None;
     }

@@ -13,6 +13,10 @@ pub struct Left {
     pub calls: Calls,
     /// Whether the device has the bytes that it must have.
     pub has_bytes: bool,
+    /// What was noted of boxes and lines.
+    pub marks: String,
+    /// On which shelves boxes were handed back.
+    pub left: String,
 }
 
 /// Where a run stands in a repetition.
@@ -105,6 +109,18 @@ fn difference_at_end(
     }
     if !left.has_bytes {
         return Ok(Some(String::from_str(alloc, "the device has other bytes")?));
+    }
+    if let Some(marks) = &run.marks
+        && *marks != left.marks
+    {
+        let got = left.marks.as_str();
+        return Ok(Some(format!(in alloc; "the marks are '{got}'")?));
+    }
+    if let Some(shelves) = &run.left
+        && *shelves != left.left
+    {
+        let got = left.left.as_str();
+        return Ok(Some(format!(in alloc; "the boxes that are left are '{got}'")?));
     }
     Ok(None)
 }

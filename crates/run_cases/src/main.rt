@@ -1,6 +1,7 @@
 //! `run_cases`: carries out files of cases, which are scripts with what each of their lines must show, and writes which differ.
 #![tactic(auto)]
 
+mod boxes;
 mod cases;
 mod devices;
 mod expectations;
@@ -38,25 +39,37 @@ fn main(rt: HostRuntime) -> ExitCode {
     }
 }
 
-/// Carries out the files that the command line names, or else standard input, and answers how many cases differ.
+/// Carries out the files that the command line names, or else standard input, and answers how many cases differ. With `--case TEXT`
+/// before the files it carries out those cases alone that have this text in their names.
 fn carry_out_files<R: Env + Files + Input + Print + AllocGlobal>(rt: &R) -> io::Result<usize> {
     let arguments: Vec<String> = env::args(rt)?.collect(rt.alloc())?;
+    match arguments.as_slice() {
+        [_, option, text, paths @ ..] if option.as_str() == "--case" => {
+            carry_out_all(rt, paths, text.as_str())
+        }
+        [_, paths @ ..] => carry_out_all(rt, paths, ""),
+        [] => carry_out_all(rt, &[], ""),
+    }
+}
+
+/// Carries out the cases of these files, or else of standard input, that have the wanted text in their names.
+fn carry_out_all<R: Files + Input + Print + AllocGlobal>(
+    rt: &R,
+    paths: &[String],
+    wanted: &str,
+) -> io::Result<usize> {
     let mut tally = Tally {
         cases: 0,
         runs: 0,
         differ: 0,
     };
-    match arguments.as_slice() {
-        [_, paths @ ..] if !paths.is_empty() => {
-            for path in paths {
-                let text = fs::read_to_string(rt, path.as_str())?;
-                carry_out(rt, text.as_str(), &mut tally)?;
-            }
-        }
-        _ => {
-            let text = io::read_to_string(rt.alloc(), rt.reader())?;
-            carry_out(rt, text.as_str(), &mut tally)?;
-        }
+    for path in paths {
+        let text = fs::read_to_string(rt, path.as_str())?;
+        carry_out(rt, text.as_str(), wanted, &mut tally)?;
+    }
+    if paths.is_empty() {
+        let text = io::read_to_string(rt.alloc(), rt.reader())?;
+        carry_out(rt, text.as_str(), wanted, &mut tally)?;
     }
     let Tally {
         cases,
@@ -67,9 +80,17 @@ fn carry_out_files<R: Env + Files + Input + Print + AllocGlobal>(rt: &R) -> io::
     Ok(differ)
 }
 
-/// Carries out the cases of a file.
-fn carry_out<R: Print + AllocGlobal>(rt: &R, text: &str, tally: &mut Tally) -> io::Result<()> {
+/// Carries out the cases of a file that have the wanted text in their names.
+fn carry_out<R: Print + AllocGlobal>(
+    rt: &R,
+    text: &str,
+    wanted: &str,
+    tally: &mut Tally,
+) -> io::Result<()> {
     for case in &read_cases(rt.alloc(), text)? {
+        if !case.name.as_str().contains(wanted) {
+            continue;
+        }
         let found = verdict_of(rt.alloc(), case)?;
         tally.cases = tally.cases.saturating_add(1);
         tally.runs = tally.runs.saturating_add(found.runs);

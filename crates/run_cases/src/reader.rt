@@ -101,6 +101,7 @@ impl CaseDraft {
             ("#bytes", patch) => self.setup.patches.push(patch_of(self.alloc, patch)?)?,
             ("#boxes", boxes) => self.setup.boxes = boxes_of(self.alloc, boxes)?,
             ("#source", calls) => self.setup.source_fails = numbers_of(self.alloc, calls)?,
+            ("#switch", lines) => self.setup.switches_at = Some(number_of(lines)?),
             ("#sink", calls) => self.setup.sink_fails = numbers_of(self.alloc, calls)?,
             _ => return self.set_case(word, rest),
         }
@@ -124,7 +125,9 @@ impl CaseDraft {
             ("#in-turn", "") => self.case.in_turn = true,
             ("#each", shapes) => return self.add_plans(shapes),
             ("#at-least", count) => self.case.least = number_of(count)?,
-            ("#shows" | "#calls", _) => return self.ask_of_last_run(word, rest),
+            ("#shows" | "#calls" | "#marks" | "#left", _) => return self.ask_of_last_run(
+                word, rest,
+            ),
             ("", "") => {}
             _ if is_remark(word) => {}
             _ => return Err(Fault::Mistake("no word of a case")),
@@ -147,14 +150,17 @@ impl CaseDraft {
         let Some(run) = self.case.runs.last_mut() else {
             return Err(Fault::Mistake("no run stands before it"));
         };
-        if word == "#shows" {
-            run.patches.push(patch_of(self.alloc, rest)?)?;
-        } else {
-            let (takes, puts) = first_word(rest);
-            run.calls = Some(Calls {
-                takes: u64::from(number_of(takes)?),
-                puts: u64::from(number_of(puts)?),
-            });
+        match word {
+            "#shows" => run.patches.push(patch_of(self.alloc, rest)?)?,
+            "#marks" => run.marks = Some(String::from_str(self.alloc, rest)?),
+            "#left" => run.left = Some(String::from_str(self.alloc, rest)?),
+            _ => {
+                let (takes, puts) = first_word(rest);
+                run.calls = Some(Calls {
+                    takes: u64::from(number_of(takes)?),
+                    puts: u64::from(number_of(puts)?),
+                });
+            }
         }
         Ok(())
     }

@@ -2,6 +2,7 @@
 ghost use Rattle.std.specs.Prelude.{IsTrue, map, string_bytes};
 ghost use Rattle.uicc_run.specs.Stores.{IsSizeFor};
 
+use crate::boxes::{Notes, Noting, NotingSink, marks_of};
 use crate::cases::{Boxes, Calls, Case, ScriptRun};
 use crate::devices::{blank, has_all, prepared, revive};
 use crate::judging::Left;
@@ -11,7 +12,7 @@ use byte_streams::{ListSink, SliceSource};
 use card_state::places::MEMORY_SIZE;
 use card_state::sizes::ROW_COUNT;
 use command_line::devices;
-use eeprom_model::{BenchEeprom, Eeprom};
+use eeprom_model::{Eeprom, SwitchedEeprom};
 use std::alloc::{AllocError, Global};
 use uicc_run::{device_size, run};
 
@@ -31,19 +32,40 @@ pub fn carried_out(
     let mut device = blank(alloc, MEMORY_SIZE)?;
     let mut all = Vec::new(alloc);
     for one in &case.runs {
-        let words = words_of(alloc, one, in_pages)?;
+        let words = command_line_of(alloc, one, in_pages)?;
         let size = size_for(&words, device.size());
         device = prepared(alloc, device, size, &one.setup, plan)?;
         let script = script_of(alloc, one, plan)?;
-        let (left, after) = played(alloc, one, &words, script.as_slice(), device)?;
+        let notes = Notes::new(one.setup.switches_at.unwrap_or(u32::MAX));
+        let left = if one.setup.switches_at.is_some() {
+            let new = blank(alloc, size)?;
+            let switched = SwitchedEeprom::new(new, device, &notes.shows_other);
+            device = blank(alloc, size)?;
+            let (left, _switched) = played(
+                alloc,
+                one,
+                &words,
+                script.as_slice(),
+                switched,
+                &notes,
+            )?;
+            left
+        } else {
+            let (left, after) = played(alloc, one, &words, script.as_slice(), device, &notes)?;
+            device = after;
+            left
+        };
         all.push(left)?;
-        device = after;
     }
     Ok(all)
 }
 
 /// The words of the run's command line.
-fn words_of(alloc: Global, one: &ScriptRun, in_pages: bool) -> Result<Vec<String>, AllocError> {
+fn command_line_of(
+    alloc: Global,
+    one: &ScriptRun,
+    in_pages: bool,
+) -> Result<Vec<String>, AllocError> {
     let mut words = Vec::new(alloc);
     for word in &one.words {
         words.push(word.clone()?)?;
@@ -77,51 +99,73 @@ fn script_of(alloc: Global, one: &ScriptRun, plan: &str) -> Result<Vec<u8>, Allo
 }
 
 /// Carries out one run, and hands back the device with power.
-fn played(
+fn played<E: Eeprom + Drop>(
     alloc: Global,
     one: &ScriptRun,
     words: &[String],
     script: &[u8],
-    device: BenchEeprom,
-) -> Result<(Left, BenchEeprom), AllocError> {
-    let mut cast: Vec<Option<Box<dyn Applet>>> = Vec::new(alloc);
-    for shelf in shelves_of(alloc, &one.setup.boxes)? {
-        cast.push(Some(boxed_applet!(alloc, shelf)))?;
-    }
+    device: E,
+    notes: &Notes,
+) -> Result<(Left, E), AllocError> {
+    let cast = cast_of(alloc, &one.setup.boxes, notes)?;
     let mut source = SliceSource::new(script, one.setup.source_fails.as_slice());
     let fails = one.setup.sink_fails.as_slice();
-    let mut sink = ListSink::new(alloc, LONGEST_TRACE, fails).map_err(|_| AllocError)?;
-    let (status, mut after) = if fits(words, device.size()) && cast.len() <= ROW_COUNT {
-        let (status, after, _cast) = run(alloc, words, &mut source, &mut sink, device, cast);
-        (status, after)
+    let mut sink = NotingSink {
+        sink: ListSink::new(alloc, LONGEST_TRACE, fails).map_err(|_| AllocError)?,
+        notes,
+    };
+    let (status, mut after, cast) = if fits(words, device.size()) && cast.len() <= ROW_COUNT {
+        run(alloc, words, &mut source, &mut sink, device, cast)
     } else {
-        (NO_STATUS, device)
+        (NO_STATUS, device, cast)
     };
     revive(&mut after);
+    let has_lines = one
+        .marks
+        .as_ref()
+        .is_some_and(|marks| marks.as_str().contains('.'));
     let left = Left {
-        trace: Vec::from_slice(alloc, sink.taken())?,
+        trace: Vec::from_slice(alloc, sink.sink.taken())?,
         status,
         calls: Calls {
             takes: source.calls(),
-            puts: sink.calls(),
+            puts: sink.sink.calls(),
         },
         has_bytes: has_all(&mut after, one.patches.as_slice()),
+        marks: notes.text(alloc, has_lines)?,
+        left: marks_of(alloc, cast.as_slice())?,
     };
     Ok((left, after))
 }
 
+/// The boxes on the shelves.
+fn cast_of<'a>(
+    alloc: Global,
+    boxes: &Boxes,
+    notes: &'a Notes,
+) -> Result<Vec<Option<Noting<'a>>>, AllocError> {
+    let mut cast = Vec::new(alloc);
+    for (shelf, like) in (0..u8::MAX).zip(shelves_of(alloc, boxes)?) {
+        cast.push(match like {
+            Some(like) => Some(Noting::new(boxed_applet!(alloc, like), shelf, notes)),
+            None => None,
+        })?;
+    }
+    Ok(cast)
+}
+
 /// Of which of the program's shelves the applets are, from shelf 0 on.
-fn shelves_of(alloc: Global, boxes: &Boxes) -> Result<Vec<usize>, AllocError> {
+fn shelves_of(alloc: Global, boxes: &Boxes) -> Result<Vec<Option<usize>>, AllocError> {
     let mut shelves = Vec::new(alloc);
     match boxes {
         Boxes::From(given) => {
             for shelf in given {
-                shelves.push(*shelf as usize)?;
+                shelves.push(shelf.map(|shelf| shelf as usize))?;
             }
         }
         Boxes::All => {
             for shelf in 0..ROW_COUNT {
-                shelves.push(shelf)?;
+                shelves.push(Some(shelf))?;
             }
         }
     }

@@ -54,6 +54,19 @@ pub fn boxes_of(alloc: Global, text: &str) -> Result<Boxes, Fault> {
     match text {
         "all" => Ok(Boxes::All),
         "none" => Ok(Boxes::From(Vec::new(alloc))),
-        _ => Ok(Boxes::From(numbers_of(alloc, text)?)),
+        _ => Ok(Boxes::From(shelves_of(alloc, text)?)),
     }
+}
+
+/// Numbers of shelves, where `-` stands for a place without a box.
+fn shelves_of(alloc: Global, text: &str) -> Result<Vec<Option<u32>>, Fault> {
+    let mut shelves = Vec::new(alloc);
+    for word in text.split_whitespace() {
+        shelves.push(if word == "-" {
+            None
+        } else {
+            Some(number_of(word)?)
+        })?;
+    }
+    Ok(shelves)
 }

@@ -1,47 +1,44 @@
 //! Command and answer APDUs.
 
+use crate::rows::Row;
 use apdu_form::{Command, WrongLength, read_command, write_answer};
-use std::alloc::{AllocError, Global};
 use uicc_types::{Answer, StatusWord};
-use unit_tables::{Failure, bytes, double_byte, joined_bytes, show_bytes};
 
 /// `apdu BYTES`: the command that is read.
-pub fn show_apdu(alloc: Global, words: &[&str], shown: &mut String) -> Result<(), Failure> {
-    match read_command(joined_bytes(alloc, words)?.as_slice()) {
-        Ok(command) => show_command(&command, shown)?,
-        Err(WrongLength) => shown.push_str("wrong length")?,
+pub fn show_apdu(row: &mut Row<'_>) {
+    match read_command(row.all_bytes().as_slice()) {
+        Ok(command) => show_command(&command, row),
+        Err(WrongLength) => row.show("wrong length"),
     }
-    Ok(())
 }
 
-fn show_command(command: &Command<'_>, shown: &mut String) -> Result<(), AllocError> {
-    let Command {
-        class,
-        ins,
-        p1,
-        p2,
-        ..
-    } = command;
-    write!(shown, "{class:02X} {ins:02X} {p1:02X} {p2:02X} with ")?;
-    show_bytes(shown, command.body)?;
-    match command.expected {
-        Some(expected) => write!(shown, ", {expected} expected"),
-        None => Ok(()),
+fn show_command(command: &Command<'_>, row: &mut Row<'_>) {
+    row.show_byte("", command.class);
+    row.show_byte(" ", command.ins);
+    row.show_byte(" ", command.p1);
+    row.show_byte(" ", command.p2);
+    row.show_bytes(" with ", command.body);
+    if let Some(expected) = command.expected {
+        row.show_number(", ", expected);
+        row.show(" expected");
     }
 }
 
 /// `answer DATA STATUS`: the bytes that are written, and what is left behind them of a buffer of FF.
-pub fn show_answer(alloc: Global, words: &[&str], shown: &mut String) -> Result<(), Failure> {
-    let [body, status] = words else {
-        return Err(Failure::NotARow);
-    };
+pub fn show_answer(row: &mut Row<'_>) {
     let mut answer = Answer::new();
-    answer.body.append(bytes(alloc, body)?.as_slice())?;
-    answer.status = StatusWord(double_byte(status)?);
+    answer.body = row.list();
+    answer.status = StatusWord(row.double_byte());
     let mut buffer = [0xFF; 258];
     let end = write_answer(&answer, &mut buffer);
-    show_bytes(shown, buffer.get(..end).unwrap_or(&[]))?;
-    shown.push_str(", then ")?;
-    show_bytes(shown, buffer.get(end..).unwrap_or(&[]))?;
-    Ok(())
+    let (written, left) = buffer.split_at(end);
+    row.show_bytes("", written);
+    row.show_bytes(", then ", left);
+}
+
+/// `new-answer`: its status and its data.
+pub fn show_new_answer(row: &mut Row<'_>) {
+    let answer = Answer::new();
+    row.show_double_byte("", answer.status.0);
+    row.show_bytes(" ", answer.body.as_slice());
 }

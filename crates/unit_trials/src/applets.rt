@@ -1,13 +1,12 @@
 //! The applets: one of each kind that stays from row to row, those of the shelves, and those in boxes.
 
+use crate::rows::Row;
 use crate::turns::{show_act, stimulus};
 use applet_trait::Applet;
 use boxed_applets::{
     Barrier, Clock, Greeter, Menu, Notebook, Table, Watcher, boxed_applet, in_box,
 };
-use card_state::sizes::ROW_COUNT;
-use std::alloc::Global;
-use unit_tables::{Failure, byte_list, small_number};
+use std::alloc::AllocError;
 
 /// An applet of each kind, and which of them woke last.
 #[derive(Drop)]
@@ -22,7 +21,7 @@ pub struct Applets {
     awake: Option<Kind>,
 }
 
-/// The kinds of applets, in their order from 1 on.
+/// The kinds of applets.
 #[derive(Clone, Copy)]
 enum Kind {
     Greeter,
@@ -34,26 +33,27 @@ enum Kind {
     Table,
 }
 
-fn kind_named(word: &str) -> Result<Kind, Failure> {
-    Ok(match word {
-        "greeter" => Kind::Greeter,
-        "menu" => Kind::Menu,
-        "clock" => Kind::Clock,
-        "watcher" => Kind::Watcher,
-        "barrier" => Kind::Barrier,
-        "notebook" => Kind::Notebook,
-        "table" => Kind::Table,
-        _ => return Err(Failure::NotARow),
-    })
+/// The kind with this name.
+fn kind_named(name: &str) -> Option<Kind> {
+    match name {
+        "greeter" => Some(Kind::Greeter),
+        "menu" => Some(Kind::Menu),
+        "clock" => Some(Kind::Clock),
+        "watcher" => Some(Kind::Watcher),
+        "barrier" => Some(Kind::Barrier),
+        "notebook" => Some(Kind::Notebook),
+        "table" => Some(Kind::Table),
+        _ => None,
+    }
 }
 
 /// What a row asks of an applet.
-#[derive(Drop)]
-enum Asked<'a> {
-    /// To wake with what it keeps.
-    Wake(&'a [&'a str]),
+#[derive(Clone, Copy)]
+pub enum Asked {
+    /// To wake with what it keeps, and to tell its kind.
+    Wake,
     /// To take a stimulus.
-    Turn(&'a [&'a str]),
+    Turn,
 }
 
 impl Applets {
@@ -71,130 +71,71 @@ impl Applets {
         }
     }
 
-    /// `KIND KEPT`: an applet of the kind wakes with the bytes that it keeps, as a new one does, and tells its kind.
-    pub fn wake_kind(
-        &mut self,
-        alloc: Global,
-        words: &[&str],
-        shown: &mut String,
-    ) -> Result<(), Failure> {
-        let [kind, kept @ ..] = words else {
-            return Err(Failure::NotARow);
-        };
-        self.awake = Some(kind_named(kind)?);
-        self.wake(alloc, kept, shown)
+    /// `applet KIND KEPT`: an applet of the kind wakes with the bytes that it keeps, as a new one does.
+    pub fn wake_kind(&mut self, row: &mut Row<'_>) {
+        self.awake = kind_named(row.word());
+        self.show(Asked::Wake, row);
     }
 
-    /// `KEPT`: the applet that woke last wakes again.
-    pub fn wake(
-        &mut self,
-        alloc: Global,
-        words: &[&str],
-        shown: &mut String,
-    ) -> Result<(), Failure> {
-        self.show(alloc, &Asked::Wake(words), shown)
-    }
-
-    /// `STIMULUS`: what the applet that woke last does.
-    pub fn turn(
-        &mut self,
-        alloc: Global,
-        words: &[&str],
-        shown: &mut String,
-    ) -> Result<(), Failure> {
-        self.show(alloc, &Asked::Turn(words), shown)
-    }
-
-    fn show(
-        &mut self,
-        alloc: Global,
-        asked: &Asked<'_>,
-        shown: &mut String,
-    ) -> Result<(), Failure> {
+    /// `wake KEPT`, `on STIMULUS`: what the applet that woke last does.
+    pub fn show(&mut self, asked: Asked, row: &mut Row<'_>) {
         match self.awake {
-            Some(Kind::Greeter) => show_asked(alloc, &mut self.greeter, asked, shown),
-            Some(Kind::Menu) => show_asked(alloc, &mut self.menu, asked, shown),
-            Some(Kind::Clock) => show_asked(alloc, &mut self.clock, asked, shown),
-            Some(Kind::Watcher) => show_asked(alloc, &mut self.watcher, asked, shown),
-            Some(Kind::Barrier) => show_asked(alloc, &mut self.barrier, asked, shown),
-            Some(Kind::Notebook) => show_asked(alloc, &mut self.notebook, asked, shown),
-            Some(Kind::Table) => show_asked(alloc, &mut self.table, asked, shown),
-            None => Err(Failure::NotARow),
+            Some(Kind::Greeter) => show_asked(&mut self.greeter, asked, row),
+            Some(Kind::Menu) => show_asked(&mut self.menu, asked, row),
+            Some(Kind::Clock) => show_asked(&mut self.clock, asked, row),
+            Some(Kind::Watcher) => show_asked(&mut self.watcher, asked, row),
+            Some(Kind::Barrier) => show_asked(&mut self.barrier, asked, row),
+            Some(Kind::Notebook) => show_asked(&mut self.notebook, asked, row),
+            Some(Kind::Table) => show_asked(&mut self.table, asked, row),
+            None => row.reject(),
         }
     }
 }
 
-fn show_asked<A: Applet>(
-    alloc: Global,
-    applet: &mut A,
-    asked: &Asked<'_>,
-    shown: &mut String,
-) -> Result<(), Failure> {
-    match *asked {
-        Asked::Wake([bytes]) => {
-            applet.wake(&byte_list(alloc, bytes)?);
-            let kind = applet.kind();
-            write!(shown, "kind {kind}")?;
-            Ok(())
+fn show_asked<A: Applet>(applet: &mut A, asked: Asked, row: &mut Row<'_>) {
+    match asked {
+        Asked::Wake => {
+            applet.wake(&row.list());
+            row.show_number("kind ", applet.kind());
         }
-        Asked::Wake(_) => Err(Failure::NotARow),
-        Asked::Turn(words) => {
-            let act = applet.step(&stimulus(alloc, words)?);
-            show_act(&act, shown)?;
-            Ok(())
+        Asked::Turn => {
+            let stimulus = stimulus(row);
+            show_act(&applet.step(&stimulus), row);
         }
     }
 }
 
 /// `boxed KIND KEPT STIMULUS`: the kind of an applet in a box, and what it does once it woke.
-pub fn show_boxed(alloc: Global, words: &[&str], shown: &mut String) -> Result<(), Failure> {
-    let [kind, told @ ..] = words else {
-        return Err(Failure::NotARow);
+pub fn show_boxed(row: &mut Row<'_>) -> Result<(), AllocError> {
+    let alloc = row.alloc();
+    let applet = match kind_named(row.word()) {
+        Some(Kind::Greeter) => in_box!(alloc, Greeter::new()),
+        Some(Kind::Menu) => in_box!(alloc, Menu::new()),
+        Some(Kind::Clock) => in_box!(alloc, Clock::new()),
+        Some(Kind::Watcher) => in_box!(alloc, Watcher::new()),
+        Some(Kind::Barrier) => in_box!(alloc, Barrier::new()),
+        Some(Kind::Notebook) => in_box!(alloc, Notebook::new()),
+        Some(Kind::Table) => in_box!(alloc, Table::new()),
+        None => return Ok(row.reject()),
     };
-    let made = match kind_named(kind)? {
-        Kind::Greeter => in_box!(alloc, Greeter::new()),
-        Kind::Menu => in_box!(alloc, Menu::new()),
-        Kind::Clock => in_box!(alloc, Clock::new()),
-        Kind::Watcher => in_box!(alloc, Watcher::new()),
-        Kind::Barrier => in_box!(alloc, Barrier::new()),
-        Kind::Notebook => in_box!(alloc, Notebook::new()),
-        Kind::Table => in_box!(alloc, Table::new()),
-    };
-    show_box_turn(alloc, made, told, shown)
-}
-
-fn show_box_turn(
-    alloc: Global,
-    mut applet: Box<dyn Applet>,
-    words: &[&str],
-    shown: &mut String,
-) -> Result<(), Failure> {
-    let [bytes, told @ ..] = words else {
-        return Err(Failure::NotARow);
-    };
-    applet.wake(&byte_list(alloc, bytes)?);
-    let kind = applet.kind();
-    write!(shown, "kind {kind}, ")?;
-    let act = applet.step(&stimulus(alloc, told)?);
-    show_act(&act, shown)?;
+    show_turn(applet, row);
     Ok(())
 }
 
-/// `NUMBER KEPT STIMULUS`: the same of the applet of the program's shelf of this number.
-pub fn show_shelf(alloc: Global, words: &[&str], shown: &mut String) -> Result<(), Failure> {
-    let [shelf, told @ ..] = words else {
-        return Err(Failure::NotARow);
-    };
-    let applet = boxed_applet!(alloc, usize::from(small_number(shelf)?));
-    show_box_turn(alloc, applet, told, shown)
+/// `shelf NUMBER KEPT STIMULUS`: the same of the applet of the program's shelf of this number; `shelf NUMBER`: its kind alone.
+pub fn show_shelf(row: &mut Row<'_>) -> Result<(), AllocError> {
+    let shelf = usize::from(row.small_number());
+    let applet = boxed_applet!(row.alloc(), shelf);
+    show_turn(applet, row);
+    Ok(())
 }
 
-/// `shelves`: the kinds of the applets that the program gives a card, from shelf 0 on.
-pub fn show_shelves(alloc: Global, shown: &mut String) -> Result<(), Failure> {
-    shown.push_str("kinds")?;
-    for shelf in 0..ROW_COUNT {
-        let kind = boxed_applet!(alloc, shelf).kind();
-        write!(shown, " {kind}")?;
+fn show_turn(mut applet: Box<dyn Applet>, row: &mut Row<'_>) {
+    row.show_number("kind ", applet.kind());
+    if let Some(kept) = row.next() {
+        applet.wake(&row.list_in(kept));
+        row.show(", ");
+        let stimulus = stimulus(row);
+        show_act(&applet.step(&stimulus), row);
     }
-    Ok(())
 }

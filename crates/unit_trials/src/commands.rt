@@ -1,169 +1,129 @@
 //! The vocabulary of the card toolkit: proactive commands, terminal responses and envelopes.
-ghost use Rattle.std.specs.Prelude.{◌≤◌, length, IfOk};
+ghost use Rattle.std.specs.Prelude.{◌≤◌, length};
 ghost use Rattle.toolkit_commands.specs.Table.{HasWritableTime};
 
+use crate::rows::Row;
 use crate::spelled::show_proactive;
-use std::alloc::{AllocError, Global};
 use toolkit_commands::{
     Details, Envelope, Proactive, ProactiveFault, TooLong, details_of, found_details,
     lengths_of_commands, read_envelope, read_proactive, read_response, spell,
 };
-use unit_tables::{Failure, byte, bytes, joined_bytes, show_bytes, show_text};
 
 /// No command, response or envelope has more bytes.
 const MOST_BYTES: usize = 256;
 
-/// The message of these bytes, if they aren't too many for one.
-fn message(bytes: &Vec<u8>) -> Result<&[u8], Failure>
-    ensures { IfOk result (λ message. length message.now ≤ MOST_BYTES) }
+/// The message of these bytes; of too many for one the first.
+fn message(bytes: &[u8]) -> &[u8]
+    ensures { length result.now ≤ MOST_BYTES }
 {
     if bytes.len() > MOST_BYTES {
-        return Err(Failure::NotARow);
+        return &bytes[..MOST_BYTES];
     }
-    Ok(bytes.as_slice())
+    bytes
 }
 
-fn show_details(details: &Details, shown: &mut String) -> Result<(), AllocError> {
-    let Details {
-        number,
-        kind,
-        qualifier,
-    } = details;
-    write!(shown, "{number:02X} {kind:02X} {qualifier:02X}")
+fn show_details(details: &Details, row: &mut Row<'_>) {
+    row.show_byte("", details.number);
+    row.show_byte(" ", details.kind);
+    row.show_byte(" ", details.qualifier);
 }
 
 /// `details BYTES`: the command details that are found.
-pub fn show_found_details(
-    alloc: Global,
-    words: &[&str],
-    shown: &mut String,
-) -> Result<(), Failure> {
-    let bytes = joined_bytes(alloc, words)?;
-    show_details(&found_details(message(&bytes)?), shown)?;
-    Ok(())
+pub fn show_found_details(row: &mut Row<'_>) {
+    let bytes = row.all_bytes();
+    show_details(&found_details(message(bytes.as_slice())), row);
 }
 
 /// `command BYTES`: the details and the command that are read, and how it is spelled.
-pub fn show_read_command(alloc: Global, words: &[&str], shown: &mut String) -> Result<(), Failure> {
-    let bytes = joined_bytes(alloc, words)?;
-    let read = message(&bytes)?;
+pub fn show_read_command(row: &mut Row<'_>) {
+    let bytes = row.all_bytes();
+    let read = message(bytes.as_slice());
     // A law: what is read can be spelled.
     lengths_of_commands();
     match read_proactive(read) {
         Ok((details, command)) => {
-            show_details(&details, shown)?;
-            shown.push(' ')?;
-            show_proactive(&command, shown)?;
-            show_spelling(&command, details.number, read, shown)?;
-            show_otherness(&command, &details, read, shown)?;
+            show_details(&details, row);
+            row.show(" ");
+            show_proactive(&command, row);
+            show_spelling(&command, details.number, read, row);
+            if found_details(read) != details {
+                row.show(", other details are found");
+            }
+            if details_of(&command, details.number) != details {
+                row.show(", other details are its own");
+            }
         }
-        Err(fault) => show_fault(fault, shown)?,
+        Err(fault) => show_fault(fault, row),
     }
-    Ok(())
 }
 
 /// Shows how a command is spelled where it was read from these bytes.
-fn show_spelling(
-    command: &Proactive,
-    number: u8,
-    read: &[u8],
-    shown: &mut String,
-) -> Result<(), AllocError>
+fn show_spelling(command: &Proactive, number: u8, read: &[u8], row: &mut Row<'_>)
     requires { HasWritableTime command.now }
 {
     match spell(command, number) {
-        Ok(bytes) if bytes.as_slice() == read => shown.push_str(", spelled so"),
-        Ok(bytes) => {
-            shown.push_str(", spelled ")?;
-            show_bytes(shown, bytes.as_slice())
-        }
-        Err(TooLong) => shown.push_str(", too long to be spelled"),
+        Ok(bytes) if bytes.as_slice() == read => row.show(", spelled so"),
+        Ok(bytes) => row.show_bytes(", spelled ", bytes.as_slice()),
+        Err(TooLong) => row.show(", too long to be spelled"),
     }
 }
 
-/// Shows where other details are found than were read, or are those of the command.
-fn show_otherness(
-    command: &Proactive,
-    details: &Details,
-    read: &[u8],
-    shown: &mut String,
-) -> Result<(), AllocError> {
-    if found_details(read) != *details {
-        shown.push_str(", other details are found")?;
-    }
-    if details_of(command, details.number) != *details {
-        shown.push_str(", other details are its own")?;
-    }
-    Ok(())
-}
-
-fn show_fault(fault: ProactiveFault, shown: &mut String) -> Result<(), AllocError> {
+fn show_fault(fault: ProactiveFault, row: &mut Row<'_>) {
     match fault {
-        ProactiveFault::Tlv => shown.push_str("no list"),
-        ProactiveFault::Missing => shown.push_str("missing"),
-        ProactiveFault::UnknownType(kind) => write!(shown, "unknown type {kind:02X}"),
-        ProactiveFault::BadData => shown.push_str("bad data"),
+        ProactiveFault::Tlv => row.show("no list"),
+        ProactiveFault::Missing => row.show("missing"),
+        ProactiveFault::UnknownType(kind) => row.show_byte("unknown type ", kind),
+        ProactiveFault::BadData => row.show("bad data"),
     }
 }
 
 /// `same BYTES BYTES`: whether the commands that are read are the same.
-pub fn show_sameness(alloc: Global, words: &[&str], shown: &mut String) -> Result<(), Failure> {
-    let [one, other] = words else {
-        return Err(Failure::NotARow);
-    };
-    let one = proactive(alloc, one)?;
-    let other = proactive(alloc, other)?;
-    let is_same = one.is_same(&other.copy());
-    shown.push_str(if is_same { "yes" } else { "no" })?;
-    Ok(())
+pub fn show_sameness(row: &mut Row<'_>) {
+    match (proactive(row), proactive(row)) {
+        (Some(one), Some(other)) => {
+            let is_same = one.is_same(&other.copy());
+            row.show(if is_same { "yes" } else { "no" });
+        }
+        _ => row.reject(),
+    }
 }
 
-fn proactive(alloc: Global, word: &str) -> Result<Proactive, Failure> {
-    let bytes = bytes(alloc, word)?;
-    match read_proactive(message(&bytes)?) {
-        Ok((_, command)) => Ok(command),
-        Err(_) => Err(Failure::NotARow),
+fn proactive(row: &mut Row<'_>) -> Option<Proactive> {
+    match read_proactive(message(row.bytes().as_slice())) {
+        Ok((_, command)) => Some(command),
+        Err(_) => None,
     }
 }
 
 /// `response NUMBER TYPE QUALIFIER BYTES`: the response to the command with these details.
-pub fn show_response(alloc: Global, words: &[&str], shown: &mut String) -> Result<(), Failure> {
-    let [number, kind, qualifier, response @ ..] = words else {
-        return Err(Failure::NotARow);
-    };
+pub fn show_response(row: &mut Row<'_>) {
     let details = Details {
-        number: byte(number)?,
-        kind: byte(kind)?,
-        qualifier: byte(qualifier)?,
+        number: row.byte(),
+        kind: row.byte(),
+        qualifier: row.byte(),
     };
-    let bytes = joined_bytes(alloc, response)?;
-    match read_response(message(&bytes)?, &details) {
+    match read_response(message(row.all_bytes().as_slice()), &details) {
         Ok(response) => {
-            let result = response.result;
-            let item = response.item;
-            write!(shown, "result {result:02X} item {item} text ")?;
-            show_text(shown, response.text.as_slice())?;
+            row.show_byte("result ", response.result);
+            row.show_number(" item ", response.item);
+            row.show_text(" text ", response.text.as_slice());
         }
-        Err(_) => shown.push_str("mismatch")?,
+        Err(_) => row.show("mismatch"),
     }
-    Ok(())
 }
 
 /// `envelope BYTES`: what it reports.
-pub fn show_envelope(alloc: Global, words: &[&str], shown: &mut String) -> Result<(), Failure> {
-    let bytes = joined_bytes(alloc, words)?;
-    match read_envelope(message(&bytes)?) {
-        Ok(Envelope::Menu { item }) => write!(shown, "menu item {item}")?,
+pub fn show_envelope(row: &mut Row<'_>) {
+    match read_envelope(message(row.all_bytes().as_slice())) {
+        Ok(Envelope::Menu { item }) => row.show_number("menu item ", item),
         Ok(Envelope::CallControl { address }) => {
-            shown.push_str("call control ")?;
-            show_bytes(shown, address.as_slice())?;
+            row.show_bytes("call control ", address.as_slice())
         }
         Ok(Envelope::Event { code, body }) => {
-            write!(shown, "event {code:02X} ")?;
-            show_bytes(shown, body.as_slice())?;
+            row.show_byte("event ", code);
+            row.show_bytes(" ", body.as_slice());
         }
-        Ok(Envelope::Timer { timer }) => write!(shown, "timer {timer}")?,
-        Err(_) => shown.push_str("no envelope")?,
+        Ok(Envelope::Timer { timer }) => row.show_number("timer ", timer),
+        Err(_) => row.show("no envelope"),
     }
-    Ok(())
 }

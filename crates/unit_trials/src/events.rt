@@ -1,27 +1,22 @@
 //! The events of a row, as bits.
 
+use crate::rows::Row;
 use card_state::events::{events_of, has_event, is_event, with_event, without_event};
-use unit_tables::{Failure, byte, double_byte};
 
 /// `event CODE` and one of: `of a row`, whether a row may have it; `alone`, its bit; `with BITS`, `without BITS`, `among BITS`.
-pub fn show_event(words: &[&str], shown: &mut String) -> Result<(), Failure> {
-    let [code, question @ ..] = words else {
-        return Err(Failure::NotARow);
+pub fn show_event(row: &mut Row<'_>) {
+    let code = row.byte();
+    let bits = match row.word() {
+        "of-a-row" => return show_answer(is_event(code), row),
+        "among" => return show_answer(has_event(row.double_byte(), code), row),
+        "alone" => events_of(&[code]),
+        "with" => with_event(row.double_byte(), code),
+        "without" => without_event(row.double_byte(), code),
+        _ => return row.reject(),
     };
-    let code = byte(code)?;
-    let bits = match question {
-        ["of", "a", "row"] => return show_answer(is_event(code), shown),
-        ["among", bits] => return show_answer(has_event(double_byte(bits)?, code), shown),
-        ["alone"] => events_of(&[code]),
-        ["with", bits] => with_event(double_byte(bits)?, code),
-        ["without", bits] => without_event(double_byte(bits)?, code),
-        _ => return Err(Failure::NotARow),
-    };
-    write!(shown, "{bits:04X}")?;
-    Ok(())
+    row.show_double_byte("", bits);
 }
 
-fn show_answer(answer: bool, shown: &mut String) -> Result<(), Failure> {
-    shown.push_str(if answer { "yes" } else { "no" })?;
-    Ok(())
+fn show_answer(answer: bool, row: &mut Row<'_>) {
+    row.show(if answer { "yes" } else { "no" });
 }

@@ -1,30 +1,31 @@
 //! Terminal profiles.
 
-use std::alloc::Global;
+use crate::rows::Row;
 use terminal_profile::Profile;
 use toolkit_commands::{Items, Proactive, TimeValue};
 use uicc_types::{Octets, ShortText};
-use unit_tables::{Failure, List, joined_bytes};
 
 /// `profile BYTES`: the commands and the events that it allows. `profile` alone is that of no terminal.
-pub fn show_profile(alloc: Global, words: &[&str], shown: &mut String) -> Result<(), Failure> {
-    let profile = match words {
-        [] => Profile::none(),
-        _ => Profile::read(joined_bytes(alloc, words)?.as_slice()),
+pub fn show_profile(row: &mut Row<'_>) {
+    let bytes = row.all_bytes();
+    let profile = if bytes.is_empty() {
+        Profile::none()
+    } else {
+        Profile::read(bytes.as_slice())
     };
-    let mut list = List::new(shown);
     for (name, command) in &commands() {
         if profile.allows(command) {
-            list.next()?.push_str(name)?;
+            row.part();
+            row.show(name);
         }
     }
     for code in 0..=u8::MAX {
         if profile.allows_event(code) {
-            write!(list.next()?, "event {code:02X}")?;
+            row.part();
+            row.show_byte("event ", code);
         }
     }
-    list.finish()?;
-    Ok(())
+    row.end_list();
 }
 
 fn timer(action: u8) -> Proactive {

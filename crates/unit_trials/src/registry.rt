@@ -5,23 +5,20 @@ ghost use Rattle.card_state.specs.States.{rows_of};
 ghost use Rattle.card_state.specs.Checks.{shows_item};
 ghost use Rattle.toolkit_model.specs.Registry.{row_on};
 
+use crate::rows::Row;
 use crate::spelled::show_items;
 use applet_registry::{delete, deregister, install, menu, register};
 use card_state::events::{with_event, without_event};
-use card_state::sizes::{MENU_LIMIT, ROW_COUNT};
-use card_state::{Loaded, Row, states_are_of_entries};
-use std::alloc::{AllocError, Global};
+use card_state::sizes::MENU_LIMIT;
+use card_state::{Loaded, Row as AppletRow, states_are_of_entries};
 use toolkit_model::RowFault;
 use uicc_types::{Kept, Shelf, ShortText};
-use unit_tables::{
-    Failure, List, byte, joined_bytes, number, optional, show_bytes, show_text, small_number,
-};
 
 /// The bit of call control among a row's events.
 const CALL_CONTROL_BIT: u16 = 0x800;
 
-fn row(sequence: u16, events: u16, text: ShortText) -> Row {
-    Row {
+fn applet_row(sequence: u16, events: u16, text: ShortText) -> AppletRow {
+    AppletRow {
         used: true,
         kind: 1,
         priority: 1,
@@ -34,69 +31,50 @@ fn row(sequence: u16, events: u16, text: ShortText) -> Row {
 
 /// `registry WIDTH [next NUMBER] [texts COUNT] [calls SHELF]`: makes the table of a narrow or a wide card with this next sequence
 /// number, rows with the text "A" on its first shelves and one for call control on a shelf.
-pub fn make_registry(
-    table: &mut Loaded,
-    words: &[&str],
-    shown: &mut String,
-) -> Result<(), Failure> {
-    let [width, properties @ ..] = words else {
-        return Err(Failure::NotARow);
-    };
+pub fn make_registry(table: &mut Loaded, row: &mut Row<'_>) {
     *table = Loaded::new();
-    table.wide = match *width {
-        "wide" => true,
-        "narrow" => false,
-        _ => return Err(Failure::NotARow),
-    };
-    let (properties, _) = properties.as_chunks::<2>();
-    for [property, value] in properties {
-        set_property(table, property, number(value)?)?;
+    table.wide = row.word() == "wide";
+    for _ in 0..3 {
+        match row.next() {
+            Some("next") => table.next = row.number(),
+            Some("texts") => add_texts(table, row.number()),
+            Some("calls") => {
+                let entry = applet_row(100, CALL_CONTROL_BIT, ShortText::new());
+                put_row(table, row.small_number(), entry);
+            }
+            Some(_) => row.reject(),
+            None => break,
+        }
     }
     let count = table.rows.iter().filter(|row| row.used).count();
-    write!(shown, "{count} rows")?;
-    Ok(())
+    row.show_number("", count as u64);
+    row.show(" rows");
 }
 
-fn set_property(table: &mut Loaded, property: &str, value: u16) -> Result<(), Failure> {
-    match property {
-        "next" => table.next = value,
-        "texts" => {
-            for (sequence, entry) in (0..value).zip(table.rows.iter_mut()) {
-                *entry = row(sequence, 0, ShortText::from_slice(b"A"));
-            }
-        }
-        "calls" => put_row(table, value, row(100, CALL_CONTROL_BIT, ShortText::new()))?,
-        _ => return Err(Failure::NotARow),
+fn add_texts(table: &mut Loaded, count: u16) {
+    for (sequence, entry) in (0..count).zip(table.rows.iter_mut()) {
+        *entry = applet_row(sequence, 0, ShortText::from_slice(b"A"));
     }
-    Ok(())
 }
 
-fn put_row(table: &mut Loaded, shelf: u16, row: Row) -> Result<(), Failure> {
-    let entry = table.rows.get_mut(usize::from(shelf));
-    *entry.ok_or(Failure::NotARow)? = row;
-    Ok(())
+/// Puts a row on a shelf, where there is one.
+fn put_row(table: &mut Loaded, shelf: u8, row: AppletRow) {
+    if let Some(entry) = table.rows.get_mut(usize::from(shelf)) {
+        *entry = row;
+    }
 }
 
-fn show_row(row: &Row, shown: &mut String) -> Result<(), AllocError> {
-    let Row {
-        kind,
-        priority,
-        sequence,
-        events,
-        ..
-    } = row;
-    write!(
-        shown,
-        "kind {kind} priority {priority} sequence {sequence} "
-    )?;
-    write!(shown, "events {events:04X} text ")?;
-    show_text(shown, row.text.as_slice())?;
-    shown.push_str(" kept ")?;
-    show_bytes(shown, row.kept.as_slice())
+fn show_row(applet: &AppletRow, row: &mut Row<'_>) {
+    row.show_number("kind ", applet.kind);
+    row.show_number(" priority ", applet.priority);
+    row.show_number(" sequence ", applet.sequence);
+    row.show_double_byte(" events ", applet.events);
+    row.show_text(" text ", applet.text.as_slice());
+    row.show_bytes(" kept ", applet.kept.as_slice());
 }
 
-fn show_fault(fault: RowFault, shown: &mut String) -> Result<(), AllocError> {
-    shown.push_str(match fault {
+fn show_fault(fault: RowFault, row: &mut Row<'_>) {
+    row.show(match fault {
         RowFault::BadData => "bad data",
         RowFault::NoBox => "no box",
         RowFault::Narrow => "narrow",
@@ -105,51 +83,35 @@ fn show_fault(fault: RowFault, shown: &mut String) -> Result<(), AllocError> {
         RowFault::Spent => "spent",
         RowFault::NoRow => "no row",
         RowFault::NotIdle => "not idle",
-    })
+    });
 }
 
 /// `install KIND SHELF PRIORITY DATA`: the row that the applet of this kind, or of none, takes, and the table has it.
-pub fn show_install(
-    alloc: Global,
-    table: &mut Loaded,
-    words: &[&str],
-    shown: &mut String,
-) -> Result<(), Failure> {
-    let [kind, shelf, priority, content @ ..] = words else {
-        return Err(Failure::NotARow);
-    };
-    let kind = match optional(kind) {
-        Some(kind) => Some(small_number(kind)?),
-        None => None,
-    };
-    let shelf = small_number(shelf)?;
-    let content = joined_bytes(alloc, content)?;
-    let priority = small_number(priority)?;
+pub fn show_install(table: &mut Loaded, row: &mut Row<'_>) {
+    let kind = row.optional_number();
+    let shelf = row.small_number();
+    let priority = row.small_number();
+    let content = row.all_bytes();
     match install(table, kind, Shelf(shelf), priority, content.as_slice()) {
-        Ok(row) => {
-            show_row(&row, shown)?;
-            put_row(table, u16::from(shelf), row)?;
+        Ok(applet) => {
+            show_row(&applet, row);
+            put_row(table, shelf, applet);
             table.next = table.next.saturating_add(1);
         }
-        Err(fault) => show_fault(fault, shown)?,
+        Err(fault) => show_fault(fault, row),
     }
-    Ok(())
 }
 
 /// `delete SHELF idle` or `busy`: whether the row may go, and the table has it no more.
-pub fn show_delete(table: &mut Loaded, words: &[&str], shown: &mut String) -> Result<(), Failure> {
-    let [shelf, state] = words else {
-        return Err(Failure::NotARow);
-    };
-    let shelf = small_number(shelf)?;
-    match delete(table, Shelf(shelf), *state == "idle") {
+pub fn show_delete(table: &mut Loaded, row: &mut Row<'_>) {
+    let shelf = row.small_number();
+    match delete(table, Shelf(shelf), row.word() == "idle") {
         Ok(()) => {
-            put_row(table, u16::from(shelf), Row::unused())?;
-            shown.push_str("gone")?;
+            put_row(table, shelf, AppletRow::unused());
+            row.show("gone");
         }
-        Err(fault) => show_fault(fault, shown)?,
+        Err(fault) => show_fault(fault, row),
     }
-    Ok(())
 }
 
 /// Whether a shelf has a row.
@@ -167,60 +129,45 @@ pub enum Change {
 }
 
 /// `register SHELF CODE`, `deregister SHELF CODE`: whether the events of the row change, and those that it has then.
-pub fn show_change(
-    table: &mut Loaded,
-    change: Change,
-    words: &[&str],
-    shown: &mut String,
-) -> Result<(), Failure> {
-    let [shelf, code] = words else {
-        return Err(Failure::NotARow);
-    };
-    let shelf = Shelf(small_number(shelf)?);
-    let code = byte(code)?;
+pub fn show_change(table: &mut Loaded, change: Change, row: &mut Row<'_>) {
+    let shelf = Shelf(row.small_number());
+    let code = row.byte();
     if !has_row(table, shelf) {
-        return Err(Failure::NotARow);
+        return row.reject();
     }
     let answer = match change {
         Change::Register => register(table, shelf, code),
         Change::Deregister => deregister(table, shelf, code),
     };
     match answer {
-        Ok(true) => shown.push_str("changed, ")?,
-        Ok(false) => shown.push_str("unchanged, ")?,
-        Err(fault) => return Ok(show_fault(fault, shown)?),
+        Ok(changed) => {
+            row.show(if changed { "changed" } else { "unchanged" });
+            show_changed(table, shelf, change, code, row);
+        }
+        Err(fault) => show_fault(fault, row),
     }
-    let events = changed_events(table, shelf, change, code)?;
-    write!(shown, "events {events:04X}")?;
-    Ok(())
 }
 
-/// Makes the change, and answers the events that the row has then.
-fn changed_events(
-    table: &mut Loaded,
-    shelf: Shelf,
-    change: Change,
-    code: u8,
-) -> Result<u16, Failure> {
-    let entry = table.rows.get_mut(usize::from(shelf.0));
-    let row = entry.ok_or(Failure::NotARow)?;
-    row.events = match change {
-        Change::Register => with_event(row.events, code),
-        Change::Deregister => without_event(row.events, code),
-    };
-    Ok(row.events)
+/// Makes the change, and shows the events that the row has then.
+fn show_changed(table: &mut Loaded, shelf: Shelf, change: Change, code: u8, row: &mut Row<'_>) {
+    if let Some(entry) = table.rows.get_mut(usize::from(shelf.0)) {
+        entry.events = match change {
+            Change::Register => with_event(entry.events, code),
+            Change::Deregister => without_event(entry.events, code),
+        };
+        row.show_double_byte(", events ", entry.events);
+    }
 }
 
 /// `menu`: its items.
-pub fn show_menu(table: &Loaded, shown: &mut String) -> Result<(), Failure> {
+pub fn show_menu(table: &Loaded, row: &mut Row<'_>) {
     if text_count(table) > MENU_LIMIT {
-        return Err(Failure::NotARow);
+        return row.reject();
     }
-    show_items(shown, &menu(table))?;
-    Ok(())
+    show_items(&menu(table), row);
 }
 
-fn shows_item(row: &Row) -> bool
+fn shows_item(row: &AppletRow) -> bool
     ensures { result ≡ shows_item row.now }
 {
     row.used && row.text.as_slice().len() != 0

@@ -1,133 +1,116 @@
 //! The section of a card, which stays from row to row.
-ghost use Rattle.std.specs.Prelude.{IfOk, IfSome};
+ghost use Rattle.std.specs.Prelude.{IfSome};
 ghost use Rattle.card_state.specs.AppletKinds.{IsAppletKind};
 
 use crate::entries::pin;
+use crate::rows::Row;
 use card_state::{SectionFault, Shape};
 use layout_section::Section;
-use std::alloc::Global;
 use uicc_types::{FileId, Shelf};
-use unit_tables::{
-    Failure, byte, bytes, double_byte, joined_bytes, number, optional, small_number,
-};
 
-/// `section LINE`: whether the line is added. `df PATH`, `ef PATH SHAPE SHORT RULE`, `fill PATH OFFSET BYTES`,
+/// `section LINE`: whether the line is added. `new`, `df PATH`, `ef PATH SHAPE SHORT RULE`, `fill PATH OFFSET BYTES`,
 /// `record PATH NUMBER BYTES`, `pin KEY VALUE on|off UNBLOCK`, `row SHELF PRIORITY KIND DATA`.
-pub fn show_line(
-    alloc: Global,
-    section: &mut Section,
-    words: &[&str],
-    shown: &mut String,
-) -> Result<(), Failure> {
-    shown.push_str(match add(alloc, section, words)? {
+pub fn show_line(section: &mut Section, row: &mut Row<'_>) {
+    let added = match row.word() {
+        "new" => return make_new(section, row),
+        "df" => section.add_df(path(row).as_slice()),
+        "ef" => add_ef(section, row),
+        "fill" => {
+            let (path, offset, content) = (path(row), row.number(), row.bytes());
+            section.fill(path.as_slice(), offset, content.as_slice())
+        }
+        "record" => {
+            let (path, number, content) = (path(row), row.small_number(), row.bytes());
+            section.set_record(path.as_slice(), number, content.as_slice())
+        }
+        "pin" => section.pin(row.byte(), pin(row), row.word() == "on", pin(row)),
+        "row" => add_row(section, row),
+        _ => return row.reject(),
+    };
+    row.show(match added {
         Ok(()) => "added",
         Err(SectionFault::Bad) => "bad",
         Err(SectionFault::NoRoom) => "no room",
-    })?;
-    Ok(())
+    });
 }
 
-fn add(
-    alloc: Global,
-    section: &mut Section,
-    words: &[&str],
-) -> Result<Result<(), SectionFault>, Failure> {
-    Ok(match words {
-        ["df", file] => section.add_df(path(alloc, file)?.as_slice()),
-        ["ef", file, shape, rest @ ..] => add_ef(alloc, section, file, shape_of(shape)?, rest)?,
-        ["fill", file, offset, content] => section.fill(
-            path(alloc, file)?.as_slice(),
-            number(offset)?,
-            bytes(alloc, content)?.as_slice(),
-        ),
-        ["record", file, index, content] => section.set_record(
-            path(alloc, file)?.as_slice(),
-            small_number(index)?,
-            bytes(alloc, content)?.as_slice(),
-        ),
-        ["pin", key, value, enabled, unblock] => section.pin(
-            byte(key)?,
-            pin(alloc, value)?,
-            *enabled == "on",
-            pin(alloc, unblock)?,
-        ),
-        ["row", shelf, priority, kind, content @ ..] => section.row(
-            Shelf(small_number(shelf)?),
-            small_number(priority)?,
-            joined_bytes(alloc, content)?.as_slice(),
-            kind_of(kind)?,
-        ),
-        _ => return Err(Failure::NotARow),
-    })
+/// Begins anew.
+fn make_new(section: &mut Section, row: &mut Row<'_>) {
+    match Section::new(row.alloc()) {
+        Ok(new) => {
+            *section = new;
+            row.show("the MF");
+        }
+        Err(fault) => row.need::<(), _>(Err(fault)),
+    }
 }
 
 /// Identifiers joined by `/`, or `-` for the MF.
-fn path(alloc: Global, word: &str) -> Result<Vec<FileId>, Failure> {
-    let mut path = Vec::new(alloc);
-    if let Some(word) = optional(word) {
+fn path(row: &mut Row<'_>) -> Vec<FileId> {
+    let mut path = Vec::new(row.alloc());
+    let word = row.word();
+    if word != "-" {
         for id in word.split('/') {
-            path.push(FileId(double_byte(id)?))?;
+            let id = FileId(row.double_byte_in(id));
+            row.need(path.push(id));
         }
     }
-    Ok(path)
+    path
 }
 
-fn add_ef(
-    alloc: Global,
-    section: &mut Section,
-    file: &str,
-    shape: Shape,
-    words: &[&str],
-) -> Result<Result<(), SectionFault>, Failure> {
-    let [short, rule] = words else {
-        return Err(Failure::NotARow);
-    };
-    let short = match optional(short) {
-        Some(short) => Some(small_number(short)?),
-        None => None,
-    };
-    let rule = match optional(rule) {
-        Some(rule) => Some(rule_of(rule)?),
-        None => None,
-    };
-    Ok(section.add_ef(path(alloc, file)?.as_slice(), shape, short, rule))
+fn add_ef(section: &mut Section, row: &mut Row<'_>) -> Result<(), SectionFault> {
+    let path = path(row);
+    let shape = shape(row);
+    let short = row.optional_number();
+    let rule = rule(row);
+    section.add_ef(path.as_slice(), shape, short, rule)
 }
 
 /// `SIZE`, `LENGTHxCOUNT` or `ring:LENGTHxCOUNT`.
-fn shape_of(word: &str) -> Result<Shape, Failure> {
-    if let Some(records) = word.strip_prefix("ring:") {
-        let (length, count) = length_and_count(records)?;
-        return Ok(Shape::Cyclic { length, count });
+fn shape(row: &mut Row<'_>) -> Shape {
+    let word = row.word();
+    let (is_ring, records) = match word.strip_prefix("ring:") {
+        Some(records) => (true, records),
+        None => (false, word),
+    };
+    match records.split_once('x') {
+        Some((length, count)) => {
+            let (length, count) = (row.small_number_in(length), row.small_number_in(count));
+            if is_ring {
+                Shape::Cyclic { length, count }
+            } else {
+                Shape::Linear { length, count }
+            }
+        }
+        None => Shape::Transparent {
+            size: row.number_in(word),
+        },
     }
-    if word.contains('x') {
-        let (length, count) = length_and_count(word)?;
-        return Ok(Shape::Linear { length, count });
-    }
-    Ok(Shape::Transparent {
-        size: number(word)?,
-    })
 }
 
-fn length_and_count(word: &str) -> Result<(u8, u8), Failure> {
-    let (length, count) = word.split_once('x').ok_or(Failure::NotARow)?;
-    Ok((small_number(length)?, small_number(count)?))
+/// `ARR:RECORD`, or `-` for none.
+fn rule(row: &mut Row<'_>) -> Option<(FileId, u8)> {
+    let (arr, record) = row.word().split_once(':')?;
+    Some((FileId(row.double_byte_in(arr)), row.small_number_in(record)))
 }
 
-/// `ARR:RECORD`
-fn rule_of(word: &str) -> Result<(FileId, u8), Failure> {
-    let (arr, record) = word.split_once(':').ok_or(Failure::NotARow)?;
-    Ok((FileId(double_byte(arr)?), small_number(record)?))
+fn add_row(section: &mut Section, row: &mut Row<'_>) -> Result<(), SectionFault> {
+    let shelf = Shelf(row.small_number());
+    let priority = row.small_number();
+    let kind = kind(row);
+    section.row(shelf, priority, row.all_bytes().as_slice(), kind)
 }
 
 /// The kind of the applet's object, from 1 to 7, or `-` for none.
-fn kind_of(word: &str) -> Result<Option<u8>, Failure>
-    ensures { IfOk result (λ kind. IfSome kind IsAppletKind) }
+fn kind(row: &mut Row<'_>) -> Option<u8>
+    ensures { IfSome result IsAppletKind }
 {
-    match optional(word) {
-        None => Ok(None),
-        Some(word) => match small_number(word)? {
-            kind @ 1..=7 => Ok(Some(kind)),
-            _ => Err(Failure::NotARow),
-        },
+    match row.optional_number() {
+        Some(kind @ 1..=7) => Some(kind),
+        Some(_) => {
+            row.reject();
+            None
+        }
+        None => None,
     }
 }

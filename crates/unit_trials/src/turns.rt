@@ -1,47 +1,46 @@
 //! What an applet is told, and what it does.
 
+use crate::rows::Row;
 use crate::spelled::show_proactive;
 use applet_trait::{Act, Stimulus};
-use std::alloc::{AllocError, Global};
-use unit_tables::{Failure, byte, byte_list, show_bytes, small_number};
 
-/// The stimulus of these words.
-pub fn stimulus(alloc: Global, words: &[&str]) -> Result<Stimulus, Failure> {
-    match words {
-        ["event", code, body] => Ok(Stimulus::Event {
-            code: byte(code)?,
-            body: byte_list(alloc, body)?,
-        }),
-        ["response", result, item, text] => Ok(Stimulus::Response {
-            result: byte(result)?,
-            item: small_number(item)?,
-            text: byte_list(alloc, text)?,
-        }),
-        ["went"] => Ok(Stimulus::Went),
-        ["refused"] => Ok(Stimulus::Refused),
-        ["timer", timer] => Ok(Stimulus::Timer {
-            timer: small_number(timer)?,
-        }),
-        _ => Err(Failure::NotARow),
+/// The stimulus of a row's further words.
+pub fn stimulus(row: &mut Row<'_>) -> Stimulus {
+    match row.word() {
+        "event" => Stimulus::Event {
+            code: row.byte(),
+            body: row.list(),
+        },
+        "response" => Stimulus::Response {
+            result: row.byte(),
+            item: row.small_number(),
+            text: row.list(),
+        },
+        "timer" => Stimulus::Timer {
+            timer: row.small_number(),
+        },
+        "went" => Stimulus::Went,
+        "refused" => Stimulus::Refused,
+        _ => {
+            row.reject();
+            Stimulus::Went
+        }
     }
 }
 
 /// Shows what an applet does.
-pub fn show_act(act: &Act, shown: &mut String) -> Result<(), AllocError> {
+pub fn show_act(act: &Act, row: &mut Row<'_>) {
     match act {
-        Act::Done => shown.push_str("done"),
+        Act::Done => row.show("done"),
         Act::Send(command) => {
-            shown.push_str("send ")?;
-            show_proactive(command, shown)
+            row.show("send ");
+            show_proactive(command, row);
         }
-        Act::Keep(kept) => {
-            shown.push_str("keep ")?;
-            show_bytes(shown, kept.as_slice())
-        }
-        Act::Register(code) => write!(shown, "register {code:02X}"),
-        Act::Deregister(code) => write!(shown, "deregister {code:02X}"),
-        Act::TakeTimer => shown.push_str("take timer"),
-        Act::FreeTimer(timer) => write!(shown, "free timer {timer}"),
-        Act::Answer(allowed) => shown.push_str(if *allowed { "allow" } else { "bar" }),
+        Act::Keep(kept) => row.show_bytes("keep ", kept.as_slice()),
+        Act::Register(code) => row.show_byte("register ", *code),
+        Act::Deregister(code) => row.show_byte("deregister ", *code),
+        Act::TakeTimer => row.show("take timer"),
+        Act::FreeTimer(timer) => row.show_number("free timer ", *timer),
+        Act::Answer(allowed) => row.show(if *allowed { "allow" } else { "bar" }),
     }
 }
