@@ -1,0 +1,11 @@
+use Rattle.std.proofs.Common.{refl, sym, ap, ◌∙◌, eqb-true}
+use Rattle.uicc_run.specs.Stores.{size_of}
+use Rattle.surface_trials.proofs.runs.fits.Goals as goal
+
+pub returns-in-None : goal.returns-in-None
+returns-in-None c = λ holds asked is. absurd (c.in-None.ensures asked.devices (record { asked = asked; words_are = is; devices = refl }))
+
+pub returns-in-Some : goal.returns-in-Some
+returns-in-Some c = λ holds asked is.
+    let same = c.in-Some.ensures.only asked.devices (record { asked = asked; words_are = is; devices = refl }) in
+    eqb-true c.args.size c.device_size.result holds ∙ c.device_size.ensures ∙ ap (λ d. size_of d.pages) (sym same)

@@ -1,0 +1,28 @@
+//! Each public call of the card, the handset and what is below them, called once with the types that its callers write: devices,
+//! stores, streams, applets and ends of a link of one's own too. There is no code beside the tests.
+#![tactic(auto)]
+
+#[cfg(test)]
+mod applets;
+#[cfg(test)]
+mod cards;
+#[cfg(test)]
+mod commands;
+#[cfg(test)]
+mod files;
+#[cfg(test)]
+mod handsets;
+#[cfg(test)]
+mod layouts;
+#[cfg(test)]
+mod memories;
+#[cfg(test)]
+mod own;
+#[cfg(test)]
+mod runs;
+#[cfg(test)]
+mod sessions;
+#[cfg(test)]
+mod toolkits;
+#[cfg(test)]
+mod words;
