@@ -12,7 +12,8 @@ from . import antt, evaluation, names, process
 PLACE = os.path.join(names.DATA, "kinds.json")
 TABLE = "table"
 # where the sources say it
-TURNS, SHELVES, SIZES = ("applet_trait", "specs", "Turns.antt"), ("boxed_applets", "specs", "Casts.antt"), ("card_state", "src", "sizes.rt")
+TURNS, MINDS = ("applet_trait", "specs", "Turns.antt"), ("applet_trait", "specs", "Minds.antt")
+SHELVES, SIZES = ("boxed_applets", "specs", "Casts.antt"), ("card_state", "src", "sizes.rt")
 HOW_MANY = 32
 # what isn't read from a definition, but is here once for all
 PRIMITIVES = ("value_in",)
@@ -122,6 +123,16 @@ class Collected:
         return next(filter(None, (self.made_of(each, (*seen, name)) for each in sorted(used))), None)
 
 
+def collected_from(crates, path, name, *needed):
+    """A definition with all that it is made of, of which some are needed."""
+    collected = Collected(crates)
+    collected.add(path, name)
+    for each in (name, *needed):
+        if each not in collected.definitions:
+            raise Faulty(f"the definition of {each} isn't read: {collected.unreadable.get(each, 'it is not there')}")
+    return collected
+
+
 def kinds_in(by_kind):
     """The names of the kinds, from 1 on: those of the chain that parts them."""
     (_, chain), = by_kind
@@ -136,24 +147,20 @@ def kinds_in(by_kind):
 
 def of_sources(crates, known=()):
     """The kinds as the sources have them; `known` are those whose words stand in data/kinds.json."""
-    collected, turns, shelves = Collected(crates), source(crates, *TURNS), source(crates, *SHELVES)
-    for path, name in ((turns, "act"), (turns, "by_kind"), (shelves, "applet_on")):
-        collected.add(path, name)
-    for name in ("act", "by_kind", "applet_on", "fresh"):
-        if name in collected.unreadable or name not in collected.definitions:
-            raise Faulty(f"the definition of {name} isn't read: {collected.unreadable.get(name, 'it is not there')}")
+    placed = collected_from(crates, source(crates, *SHELVES), "applet_on", "fresh")
+    collected = collected_from(crates, source(crates, *TURNS), "act", "by_kind")
+    collected.add(source(crates, *MINDS), "fresh")
     found = kinds_in(collected.definitions["by_kind"])
     last = antt.constants_of(source(crates, *SIZES)).get("LAST_KIND")
     if last != len(found):
         raise Faulty(f"LAST_KIND of card_state is {last}, and by_kind of applet_trait has {len(found)} kinds")
-    meaning = evaluation.Definitions(collected.definitions, collected.constants)
+    meaning = evaluation.Definitions(placed.definitions, placed.constants)
     does = {kind["name"]: kind["does"] for kind in known}
     of_shelves = [meaning.call("applet_on", shelf).parts[0]["kind"] for shelf in range(HOW_MANY)]
     unreadable = {name: collected.made_of(name) for name in found if collected.made_of(name)}
-    definitions = {name: clauses for name, clauses in sorted(collected.definitions.items()) if name != "applet_on"}
     return {
         "kinds": [{"name": name, "does": does.get(name, f"is a {name}")} for name in found], "shelves": of_shelves,
-        "constants": dict(sorted(collected.constants.items())), "definitions": definitions, "unreadable": unreadable,
+        "constants": dict(sorted(collected.constants.items())), "definitions": dict(sorted(collected.definitions.items())), "unreadable": unreadable,
     }
 
 
