@@ -380,13 +380,21 @@ def in_proofs(crates, old, new):
             yield text
 
 
-def rows_with(crates, text):
-    """The stored rows and cases that show a text: their files, and how many lines do."""
-    quoted, spelled = f'"{text}"', text.encode().hex().upper()
-    for crate in sorted(os.listdir(crates)):
-        folder = os.path.join(crates, crate, "data")
-        for name in sorted(os.listdir(folder)) if os.path.isdir(folder) else ():
-            with open(os.path.join(folder, name), encoding="utf-8", errors="replace") as content:
-                count = sum(quoted in line or f"8D{len(text) + 1:02X}04{spelled}" in line for line in content)
-            if count:
-                yield f"crates/{crate}/data/{name}", count
+def places_with(crates, text):
+    """The stored rows, the cases and the worked proofs that show a text, which nobody changes: their files, and how many lines do."""
+    quoted, spelled = f'"{text}"', f"8D{len(text) + 1:02X}04{text.encode().hex().upper()}"
+    in_bytes = " ∷ ".join(f"0x{byte:02X}" for byte in text.encode())
+    for path in sorted(files_above(crates, "data")) + sorted(files_above(crates, os.path.join("proofs", "worked"))):
+        with open(os.path.join(crates, path), encoding="utf-8", errors="replace") as content:
+            count = sum(quoted in line or spelled in line or in_bytes in line for line in content)
+        if count:
+            yield f"crates/{path}", count
+
+
+def files_above(crates, folder):
+    """The files of a folder in the crates that stand on the applets' one."""
+    with open(os.path.join(os.path.dirname(crates), "crates.txt"), encoding="utf-8") as rows:
+        names = [line.split(":")[0].strip() for line in rows if re.search(r":.* applet_trait\b", line)]
+    for name in names:
+        for place, _, files in os.walk(os.path.join(crates, name, folder)):
+            yield from (os.path.relpath(os.path.join(place, file), crates) for file in files)
