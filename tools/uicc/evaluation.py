@@ -7,8 +7,6 @@ from . import tlv
 # what a constructor makes of its parts
 Made = collections.namedtuple("Made", "name parts")
 NONE = Made("None", ())
-# a definition that calls itself deeper than this has no end
-DEEPEST = 400
 
 
 class Unknown(Exception):
@@ -97,24 +95,19 @@ class Definitions:
     def __init__(self, definitions, constants):
         self.definitions = definitions
         self.constants = {name: tuple(value) if isinstance(value, list) else value for name, value in constants.items()}
-        self.depth = 0
 
     def call(self, name, *values):
         """What a definition comes to for these values."""
-        self.depth = 0
-        return self._called(name, values)
+        try:
+            return self._called(name, values)
+        except RecursionError:
+            raise Unknown(f"{name} has no end that is reached") from None
 
     def _called(self, name, values):
-        self.depth += 1
-        if self.depth > DEEPEST:
-            raise Unknown(f"{name} has no end")
-        try:
-            for patterns, body in self.definitions[name]:
-                names = all_bound(patterns, values)
-                if names is not None:
-                    return self._value(body, names)
-        finally:
-            self.depth -= 1
+        for patterns, body in self.definitions[name]:
+            names = all_bound(patterns, values)
+            if names is not None:
+                return self._value(body, names)
         raise Unknown(f"{name} says nothing of this case")
 
     def _named(self, name, names):

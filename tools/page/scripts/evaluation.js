@@ -3,8 +3,6 @@
 import { BadTlv, objectsOf } from "./tlv.js";
 
 const NONE = made("None");
-// a definition that calls itself deeper than this has no end
-const DEEPEST = 400;
 
 // What a definition comes to can't be worked out.
 export class Unknown extends Error {}
@@ -113,26 +111,22 @@ export class Definitions {
     constructor(definitions, constants) {
         this.definitions = definitions;
         this.constants = constants;
-        this.depth = 0;
     }
 
     // What a definition comes to for these values.
     call(name, ...values) {
-        this.depth = 0;
-        return this.called(name, values);
+        try {
+            return this.called(name, values);
+        } catch (fault) {
+            throw fault instanceof RangeError ? new Unknown(`${name} has no end that is reached`) : fault;
+        }
     }
 
     called(name, values) {
-        this.depth += 1;
-        if (this.depth > DEEPEST) {
-            throw new Unknown(`${name} has no end`);
-        }
         for (const [patterns, body] of this.definitions[name]) {
             const names = allBound(patterns, values);
             if (names) {
-                const found = this.value(body, names);
-                this.depth -= 1;
-                return found;
+                return this.value(body, names);
             }
         }
         throw new Unknown(`${name} says nothing of this case`);
