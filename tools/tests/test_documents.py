@@ -199,6 +199,8 @@ class Trials(unittest.TestCase):
     def setUp(self):
         self.folder = self.enterContext(tempfile.TemporaryDirectory())
         self.enterContext(mock.patch.dict(os.environ, UICC_RUN=self.written("program", STAND_IN)))
+        # of the sources that a page changes these tests look at few
+        self.enterContext(mock.patch.object(documents, "NOT_COPIED", ("out", "__pycache__", "proofs", "specs", "data")))
         os.chmod(os.path.join(self.folder, "program"), 0o755)
 
     def written(self, name, text):

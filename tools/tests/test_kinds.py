@@ -94,7 +94,8 @@ class Reading(unittest.TestCase):
 
     def test_constants(self):
         with tempfile.NamedTemporaryFile("w", suffix=".rt", encoding="utf-8") as source:
-            source.write('//! Text.\npub const A: u8 = 0x0A;\npub const B: &[u8] = b"Hi";\npub const C: usize = 1_000;\nconst D: u8 = 1;\npub const E: T = T::new();\n')
+            source.write('//! Text.\npub const A: u8 = 0x0A;\npub const B: &[u8] = b"Hi";\npub const C: usize = 1_000;\n'
+                         'const D: u8 = 1;\npub const E: T = T::new();\n')
             source.flush()
             self.assertEqual(antt.constants_of(source.name), {"A": 10, "B": [72, 105], "C": 1000})
 

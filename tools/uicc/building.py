@@ -294,7 +294,8 @@ class Builder:
             given = layout.installation(content)
         except (ValueError, layout.Wrong) as fault:
             raise BadContent(f"the applet on shelf {shelf}: {fault}") from None
-        self.say(f"an applet on shelf {shelf} that {kinds.of_program().does_on(shelf)}: events {', '.join(f'{code:02X}' for code in given.events) or 'none'}"
+        does = kinds.of_program().does_on(shelf)
+        self.say(f"an applet on shelf {shelf} that {does}: events {', '.join(f'{code:02X}' for code in given.events) or 'none'}"
                  + (f", menu entry `{given.text.decode()}`" if given.text else ""))
         for event, actions in applet.get("on", {}).items():
             self.say(f"on {event}: {', '.join(actions)}")

@@ -38,6 +38,10 @@ def dropped_while(does, items):
     return items[len(taken_while(does, items)):]
 
 
+def numbered_from(first, items):
+    return tuple(enumerate(items, first))
+
+
 def item_or(items, at, otherwise):
     return items[at] if at < len(items) else otherwise
 
@@ -45,15 +49,16 @@ def item_or(items, at, otherwise):
 # the words of the standard library that the tables may use: how many parts each takes, and what it comes to
 WORDS = {
     "not": (1, lambda truth: not truth), "nat_eq": (2, lambda one, other: one == other), "nat_le": (2, lambda one, other: one <= other),
-    "nat_lt": (2, lambda one, other: one < other), "min": (2, min), "max": (2, max), "length": (1, len), "map": (2, lambda does, items: tuple(map(does, items))),
+    "nat_lt": (2, lambda one, other: one < other), "min": (2, min), "max": (2, max), "length": (1, len),
+    "map": (2, lambda does, items: tuple(map(does, items))), "filter": (2, lambda does, items: tuple(filter(does, items))),
     "take": (2, lambda count, items: items[:count]), "drop": (2, lambda count, items: items[count:]), "reverse": (1, lambda items: items[::-1]),
-    "filter": (2, lambda does, items: tuple(item for item in items if does(item))), "find": (2, found_first),
-    "take_while": (2, taken_while), "drop_while": (2, dropped_while), "flat_map": (2, lambda does, items: tuple(each for item in items for each in does(item))),
-    "starts_with": (3, lambda same, items, first: len(first) <= len(items) and all(same(*both) for both in zip(items, first))),
-    "enumerate_from": (2, lambda first, items: tuple(enumerate(items, first))), "unwrap_or": (2, lambda option, other: option.parts[0] if option.parts else other),
-    "option_map": (2, mapped_option), "list_any": (2, lambda does, items: any(map(does, items))), "list_all": (2, lambda does, items: all(map(does, items))),
-    "slice_index": (2, lambda items, at: item_or(items, at, 0)), "slice_index_or": (3, item_or), "get_or": (3, item_or), "codes": (1, lambda text: text),
-    "replicate": (2, lambda count, item: (item,) * count), "value_in": (2, value_in),
+    "take_while": (2, taken_while), "drop_while": (2, dropped_while), "find": (2, found_first),
+    "flat_map": (2, lambda does, items: tuple(each for item in items for each in does(item))), "enumerate_from": (2, numbered_from),
+    "starts_with": (3, lambda same, items, first: len(first) <= len(items) and all(map(same, items, first))),
+    "list_any": (2, lambda does, items: any(map(does, items))), "list_all": (2, lambda does, items: all(map(does, items))),
+    "unwrap_or": (2, lambda option, other: option.parts[0] if option.parts else other), "option_map": (2, mapped_option),
+    "slice_index": (2, lambda items, at: item_or(items, at, 0)), "slice_index_or": (3, item_or), "get_or": (3, item_or),
+    "replicate": (2, lambda count, item: (item,) * count), "codes": (1, lambda text: text), "value_in": (2, value_in),
 }
 OPERATIONS = {
     "==": lambda one, other: one == other, "∷": lambda head, rest: (head, *rest), "++": lambda one, other: one + other,

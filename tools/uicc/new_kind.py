@@ -114,6 +114,13 @@ boxed {name} "AB" event 40 - => kind {number}, done
 """
 
 
+# a line for each kind in the trials of units
+LINES = (
+    "    {name}: {type},\n", "            {name}: {type}::new(),\n", '        "{name}" => Kind::{type},\n',
+    "            Some(Kind::{type}) => show_asked(alloc, &mut self.{name}, asked, shown),\n", "        Kind::{type} => in_box!(alloc, {type}::new()),\n",
+)
+
+
 class Refused(Exception):
     """There can be no such kind or text, or the sources are in another form than those that are known here."""
 
@@ -191,9 +198,8 @@ class Kind:
     def taken(self):
         """The names that stand where this kind's are to stand."""
         found = set(WORDS)
-        for crate, *place in (("applet_trait", "specs", "Tables.antt"), ("applet_trait", "specs", "Turns.antt"), ("applet_trait", "specs", "Minds.antt"),
-                              ("applet_trait", "proofs", "IsLawfulLemmas.antt"), ("applet_trait", "proofs", "IsProperActLemmas.antt")):
-            file = antt.File(os.path.join(self.crates, crate, *place))
+        for place in ("specs/Tables", "specs/Turns", "specs/Minds", "proofs/IsLawfulLemmas", "proofs/IsProperActLemmas"):
+            file = antt.File(os.path.join(self.crates, "applet_trait", place + ".antt"))
             found |= set(file.uses) | set(file.heads)
         source = os.path.join(self.crates, "boxed_applets", "src")
         for file in os.listdir(source):
@@ -223,9 +229,9 @@ class Kind:
         numbers.sub(rf"^(  pub applets : bound\.LAST_KIND .*\n +≡ ){before}(?= ∷)", rf"\g<1>{now}")
         found = [sizes, numbers]
         # these two have the number in their steps, where they don't name LAST_KIND
-        for text, old, new in ((registration, f"row.kind ≤ {before}", f"row.kind ≤ {now}"), (checks, f"(row k).kind {before}", f"(row k).kind {now}")):
-            if old in text.text:
-                text.many(old, new)
+        for text, words in ((registration, "row.kind ≤"), (checks, "(row k).kind")):
+            if f"{words} {before}" in text.text:
+                text.many(f"{words} {before}", f"{words} {now}")
                 found.append(text)
         return found
 
@@ -257,7 +263,8 @@ class Kind:
         specs.add_line(f"pub mod {self.words['module']}", "pub mod ")
         arm = r"\$crate::in_box!\(\$alloc, \$crate::(\w+)::new\(\), \|\$applet\| \$does\),"
         found = casts.match(rf"^            _ => {arm}$")
-        casts.replace(found[0], found[0].replace("_ =>", f"{self.number - 1} =>") + "\n" + found[0].replace(f"::{found[1]}::", f"::{self.words['type']}::"))
+        before, last = found[0].replace("_ =>", f"{self.number - 1} =>"), found[0].replace(f"::{found[1]}::", f"::{self.words['type']}::")
+        casts.replace(found[0], f"{before}\n{last}")
         self._prove_arm(serve)
         return [library, specs, casts, serve]
 
@@ -277,13 +284,12 @@ class Kind:
         """It stands among the kinds of the trials of units, with rows of its own."""
         source, table = self.file("unit_trials", "src", "applets.rt"), self.file("unit_trials", "data", "applets.table")
         stdout = self.file("unit_trials", "stdout")
-        name, kind = self.words["name"], self.words["type"]
-        last, last_kind = self.last, type_of(self.last)
+        kind = self.words["type"]
         source.sub(r"^use boxed_applets::\{\n    ([^}]*?),?\n\};", lambda found: imported(found[1], kind))
-        for old in (f"    {last}: {last_kind},\n", f"            {last}: {last_kind}::new(),\n", f"            Some(Kind::{last_kind}) => show_asked(alloc, &mut self.{last}, asked, shown),\n",
-                    f"        \"{last}\" => Kind::{last_kind},\n", f"        Kind::{last_kind} => in_box!(alloc, {last_kind}::new()),\n"):
-            source.replace(old, old + old.replace(last_kind, kind).replace(f"{last}:", f"{name}:").replace(f".{last},", f".{name},").replace(f'"{last}"', f'"{name}"'))
-        source.replace(f"    {last_kind},\n}}", f"    {last_kind},\n    {kind},\n}}")
+        for line in LINES:
+            last = line.format(name=self.last, type=type_of(self.last))
+            source.replace(last, last + line.format(**self.words))
+        source.replace(f"    {type_of(self.last)},\n}}", f"    {type_of(self.last)},\n    {kind},\n}}")
         table.before("# One applet of each kind in a box", ROWS.format(**self.words))
         table.sub(rf"^(shelves => kinds (?:\d+ ){{{self.shelf}}})\d+", rf"\g<1>{self.number}")
         table.text = re.sub(rf"^(shelf {self.shelf} .* => kind )\d+, .*$", rf"\g<1>{self.number}, done", table.text, flags=re.MULTILINE)

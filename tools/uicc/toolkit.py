@@ -92,7 +92,8 @@ SPELLED = {
     "PlayTone": lambda tone: Command(PLAY_TONE, 0, TO_EARPIECE, bytes((0x8E, 1, tone))),
     "DisplayText": lambda text: Command(DISPLAY_TEXT, BY_USER, TO_DISPLAY, text_object(text)),
     "GetInkey": lambda text: Command(GET_INKEY, WITH_LETTERS, TO_TERMINAL, text_object(text)),
-    "GetInput": lambda text, digits, least, most: Command(GET_INPUT, 0 if digits else WITH_LETTERS, TO_TERMINAL, text_object(text) + bytes((0x91, 2, least, most))),
+    "GetInput": lambda text, digits, least, most: Command(
+        GET_INPUT, 0 if digits else WITH_LETTERS, TO_TERMINAL, text_object(text) + bytes((0x91, 2, least, most))),
     "SelectItem": lambda title, items: choice(SELECT_ITEM, bytes(title), [(item["id"], bytes(item["text"])) for item in items]),
     "SetUpMenu": lambda title, items: choice(SET_UP_MENU, bytes(title), [(item["id"], bytes(item["text"])) for item in items]),
     "LocalInformation": lambda what: Command(PROVIDE_LOCAL_INFORMATION, what), "TimerManagement": timer_command,
@@ -197,8 +198,8 @@ class AppletNow:
 class ToolkitNow:
     """What the toolkit of a card is doing, worked out from what the card was sent; it prints as lines. `applets` are the registered applets by
     their shelves. `outstanding` is the name of the command that the terminal has to answer, None where there is none; `owner` the shelf of
-    its applet, None where it is the card's own, -1 where it isn't known whose it is; `is_fetched` whether it waits for its response. `late` are the events that applets which
-    wait are told later, each a shelf and a name; `timers` the shelves that hold them, by their numbers; `events` the shelves that an
+    its applet, None where it is the card's own, -1 where it isn't known whose it is; `is_fetched` whether it waits for its response. `late`
+    are the events that applets which wait are told later, each a shelf and a name; `timers` the shelves that hold them, by their numbers; `events` the shelves that an
     event wakes, in the order in which it does, by its name. `doubt` says why this may not be so, after a loss of power say."""
     has_profile: bool
     outstanding: str | None
