@@ -9,7 +9,7 @@ HERE = os.path.dirname(os.path.abspath(__file__))
 TOOLS = os.path.dirname(HERE)
 TOP = os.path.dirname(TOOLS)
 # what has a use without the sources of the program
-WORDS = ("capture", "cuts", "expect", "explain", "lint", "modem", "ofono", "profile", "reader", "sequence", "shell")
+WORDS = ("applet", "capture", "cuts", "expect", "explain", "lint", "modem", "ofono", "profile", "reader", "sequence", "shell")
 # what a tool starts as a process of its own
 HELPERS = ("modemmanager_client.py", "ofono_client.py")
 LAUNCHER, PROGRAM, PAGE, LIST = "uicc_run", "dist/uicc_program", "dist/uicc_run.html", "dist/release.txt"

@@ -22,7 +22,7 @@ PROGRAM = "uicc_program"
 SHORT = 12
 STACK = 8 << 20
 RELEASED = os.path.join(TOP, "dist", "uicc_run.html")
-TABLES = ("alphabet", "commands", "files", "status", "toolkit")
+TABLES = ("alphabet", "commands", "files", "kinds", "status", "toolkit")
 PACKED = re.compile(r'(?<=const packedModule = ")[^"]*')
 GIVEN = "The module of this page was given and not built with it, so that nothing is known of its proof."
 TAKEN = "The module of this page was taken from the released one, and the rest of it is what stood beside it."

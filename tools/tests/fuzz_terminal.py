@@ -15,11 +15,10 @@ import tempfile
 sys.dont_write_bytecode = True
 HERE = os.path.dirname(os.path.abspath(__file__))
 sys.path.insert(0, os.path.dirname(HERE))
-from uicc import Card, Ended, Terminal, process, terminal
+from uicc import Card, Ended, Terminal, kinds, process, terminal
 
-KINDS = 7
 SHELVES = 16
-MENU, BARS, TABLE = 1, 4, 6
+MENU, BARS, TABLE = "menu", "barrier", "table"
 DOWNLOADED = (0x00, 0x01, 0x02, 0x03, 0x04, 0x05, 0x07, 0x09, 0x0A)
 PROFILE, STATUS, CALL_CONTROL, MENU_ENTRY, TIMER = 0x40, 0x41, 0x45, 0x43, 0x44
 ACTIONS = range(0x01, 0x0C)
@@ -41,8 +40,8 @@ class Maker:
 
     def events(self, kind):
         """The events that an applet of a kind does something for, and now and then others."""
-        liked = {0: [PROFILE], MENU: [], 2: [PROFILE], 3: [0x03, 0x04, 0x05], BARS: [], 5: [PROFILE],
-                 TABLE: self.random.sample((PROFILE, STATUS, 0x03, 0x04, 0x05), self.random.randint(1, 3))}[kind]
+        liked = {MENU: [], "watcher": [0x03, 0x04, 0x05], BARS: [],
+                 TABLE: self.random.sample((PROFILE, STATUS, 0x03, 0x04, 0x05), self.random.randint(1, 3))}.get(kind, [PROFILE])
         found = [code for code in liked if self.chance(0.9)]
         if self.chance(0.2):
             found.append(self.random.choice((*DOWNLOADED, STATUS)))
@@ -69,10 +68,10 @@ class Maker:
         return b"".join(triples)
 
     def row(self, shelf):
-        kind = shelf % KINDS
+        kind = kinds.of_program().name_on(shelf)
         events = self.events(kind)
         menu = self.some(b"", b"Menu", b"A", b"0123456789") if kind != MENU else b"Menu"
-        kept = {3: b"", BARS: self.some(b"", b"123"), 5: self.some(b"", b"Milk"), TABLE: self.table(events)}.get(kind, b"")
+        kept = {BARS: self.some(b"", b"123"), "notebook": self.some(b"", b"Milk"), TABLE: self.table(events)}.get(kind, b"")
         content = bytes((len(events), *events, len(menu))) + menu + kept
         return f"row {shelf} {self.random.randint(1, 3)} {content.hex().upper()}"
 

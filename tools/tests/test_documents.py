@@ -129,7 +129,7 @@ class Names(unittest.TestCase):
     # a name, the crate whose README names it (none: another page), and the part that is unknown
     NAMES = [
         ("IsRun", None, None), ("IsRin", None, "IsRin"), ("uicc_run::run", None, None), ("uicc_run::rum", None, "rum"),
-        ("card_model", None, None), ("guesses_are_bounded", "card_laws", None), ("guesses_are_bounded", "uicc_types", "guesses_are_bounded"),
+        ("card_model", None, None), ("boxed_applet", "boxed_applets", None), ("guesses_are_bounded", "card_laws", None), ("guesses_are_bounded", "uicc_types", "guesses_are_bounded"),
         ("IsRun", "card_laws", None), ("Store", "page_store", None), ("IsRun", "uicc_types", "IsRun"), ("room", "uicc_types", None),
         ("HEX", None, None), ("00A4", None, None), ("a b", None, None), ("LineReader::next()", None, None), ("no_line", None, None),
     ]
@@ -178,6 +178,16 @@ class Trials(unittest.TestCase):
         ("```diff\n-greeter mind _ = done mind\n+greeter mind _ = other\n..\n greeter mind _ = other\n```", []),
         ("```diff\n+IsRin = other\n```\n`IsRin`, `IsRan`", [":4: `IsRan`"]),
         ("```diff\n+greeter mind _ = other\n-greeter mind _ = none\n```", [":3: the line `greeter mind _ = none`"]),
+        # a change to a file is done in a copy of the sources, and seen by commands there
+        ("```diff crates/applet_trait/src/texts.rt\n-pub const GREETING: &[u8] = b\"Hi\";\n+pub const GREETING: &[u8] = b\"Ho\";\n \n pub const CHOICE_TITLE: "
+         "&[u8] = b\"Pick\";\n..\n pub const LOST: &[u8] = b\"Lost\";\n+\n+pub const MORE: &[u8] = b\"More\";\n```\n"
+         "```console copy\n$ grep -c 'Ho\\|More' crates/applet_trait/src/texts.rt\n2\n```\n"
+         "```console\n$ grep -c Hi crates/applet_trait/src/texts.rt\n1\n```", []),
+        ("```diff crates/applet_trait/src/texts.rt\n-pub const GREETING: &[u8] = b\"Ho\";\n+other\n```", [":2: these lines don't follow each other in crates/applet_trait/src/texts.rt"]),
+        ("```diff crates/applet_trait/src/texts.rt\n pub const LOST: &[u8] = b\"Lost\";\n+other\n..\n pub const TICK: &[u8] = b\"Tick\";\n```",
+         [":5: these lines don't follow each other"]),
+        ("```diff crates/applet_trait/src/text.rt\n-a\n```", [":2: there is no crates/applet_trait/src/text.rt to be changed"]),
+        ("```diff crates/applet_trait/src/texts.rt\n+other\n```", [":2: these lines don't follow each other"]),
         ("`IsRin` and `docs/CASE.md`, `--stoor`", [":1: `IsRin`", ":1: `docs/CASE.md`", ":1: `--stoor`"]),
         ("`tools/lint [--phone | --open] SCRIPT..` `tools/lint --x`", [":1: tools/lint knows no --x"]),
         ("[a](none.md)\n[b](#there)\n[c](#not-there)\n# There", [":1: the link none.md", ":3: the link #not-there"]),
@@ -191,6 +201,8 @@ class Trials(unittest.TestCase):
     def setUp(self):
         self.folder = self.enterContext(tempfile.TemporaryDirectory())
         self.enterContext(mock.patch.dict(os.environ, UICC_RUN=self.written("program", STAND_IN)))
+        # of the sources that a page changes these tests look at few
+        self.enterContext(mock.patch.object(documents, "NOT_COPIED", ("out", "__pycache__", "proofs", "specs", "data")))
         os.chmod(os.path.join(self.folder, "program"), 0o755)
 
     def written(self, name, text):

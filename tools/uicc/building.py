@@ -1,11 +1,10 @@
 """Makes the lines of a script of a profile."""
 import contextlib
 
-from . import coding, contents, dump, fields, forms, grammar, layout, names, rules, structured, tree
+from . import coding, contents, dump, fields, forms, grammar, kinds, layout, names, rules, structured, tree
 from .coding import BadContent
 from .profile_names import ARR, OPERATIONS, PIN_KEYS, Fault, is_arr_in_folder, is_file_table, path_of, told_origin
 
-KINDS = ("greeter", "menu", "clock", "watcher", "barrier", "notebook", "table")
 MOST_EVENTS = len(layout.EVENTS)
 LONGEST_COMMENT = 130
 PUK_DIGITS = 8
@@ -295,8 +294,8 @@ class Builder:
             given = layout.installation(content)
         except (ValueError, layout.Wrong) as fault:
             raise BadContent(f"the applet on shelf {shelf}: {fault}") from None
-        kind = names.table("toolkit")["kinds"][str(shelf % len(KINDS))]
-        self.say(f"an applet on shelf {shelf} that {kind}: events {', '.join(f'{code:02X}' for code in given.events) or 'none'}"
+        does = kinds.of_program().does_on(shelf)
+        self.say(f"an applet on shelf {shelf} that {does}: events {', '.join(f'{code:02X}' for code in given.events) or 'none'}"
                  + (f", menu entry `{given.text.decode()}`" if given.text else ""))
         for event, actions in applet.get("on", {}).items():
             self.say(f"on {event}: {', '.join(actions)}")
@@ -326,9 +325,10 @@ def rule_shown(content):
 
 
 def free_shelf(kind, taken):
-    if kind not in KINDS:
-        raise BadContent(f"an applet has a shelf, or a kind of {', '.join(KINDS)}, and not {kind or 'neither'}")
-    free = [shelf for shelf in range(KINDS.index(kind), layout.SHELVES, len(KINDS)) if shelf not in taken]
+    known = kinds.of_program()
+    if kind not in known.names:
+        raise BadContent(f"an applet has a shelf, or a kind of {', '.join(known.names)}, and not {kind or 'neither'}")
+    free = [shelf for shelf in known.shelves_of(kind) if shelf not in taken]
     if not free:
         raise BadContent(f"no shelf of a {kind} is free")
     return free[0]

@@ -2,7 +2,7 @@
 import dataclasses
 import os
 
-from . import access, contents, decode, names, profile, rules, tree
+from . import access, contents, decode, kinds, names, rules, tree
 from .follow import is_usim_card
 
 ONE, OTHER = "- ", "+ "
@@ -122,7 +122,7 @@ def pin_words(pin):
 def row_words(row):
     if row is None:
         return None
-    kind = names.table("toolkit")["kinds"][str(row.shelf % len(profile.KINDS))]
+    kind = kinds.of_program().does_on(row.shelf)
     text = f", menu entry `{row.text.decode('latin-1')}`" if row.text else ""
     events = " ".join(f"{code:02X}" for code in row.events) or "none"
     return f"{kind}, priority {row.priority}, events {events}{text}, keeps {decode.hexed(row.kept) or 'nothing'}"

@@ -7,13 +7,13 @@ import tomllib
 import typing
 
 from . import dump, fields, forms, lint, located, names
-from .building import KINDS, Builder, described, nearest_arr
+from .building import Builder, described, nearest_arr
 from .profile_faults import OF_FILE, faults_at_top, faults_of_file
 from .profile_names import (
     ARR, OPERATIONS, PIN_KEYS, BadProfile, Fault, is_arr_in_folder, is_file_table, parts_of, path_of, path_or_none, same_path, shown_name,
     told_origin)
 
-__all__ = ["ARR", "KINDS", "OF_FILE", "PIN_KEYS", "BadProfile", "build", "described", "is_arr_in_folder", "is_usim", "made", "made_in", "made_of",
+__all__ = ["ARR", "OF_FILE", "PIN_KEYS", "BadProfile", "build", "described", "is_arr_in_folder", "is_usim", "made", "made_in", "made_of",
            "merged", "nearest_arr", "path_of", "path_or_none", "tables_in", "template"]
 
 TEMPLATES = os.path.join(names.DATA, "profiles")

@@ -8,11 +8,13 @@ asked or waiting, for what; which events come late; which timers are held; which
         print(card.toolkit)
         print(card.toolkit.applets[0].state)
 
-`followed` does so with the lines of a trace."""
+`followed` does so with the lines of a trace. What an applet does is what the definition of its kind says (`kinds`), and nothing of it
+stands here. Where a trace shows something else, or a definition can't be worked out, what is told says so."""
 import dataclasses
 
-from . import decode, layout, names, process, tlv, trace
+from . import decode, evaluation, kinds, layout, names, process, tlv, trace
 from .decode import DELETE, ENVELOPE, FETCH, INSTALL, PROFILE, RESPONSE, STATUS
+from .evaluation import Made
 
 REFRESH, MORE_TIME, POLL_INTERVAL, SET_UP_EVENT_LIST = 0x01, 0x02, 0x03, 0x05
 PLAY_TONE, DISPLAY_TEXT, GET_INKEY, GET_INPUT, SELECT_ITEM, SET_UP_MENU = 0x20, 0x21, 0x22, 0x23, 0x24, 0x25
@@ -29,23 +31,23 @@ EVENTS_IN_PROFILE = {
 }
 OF_THE_CARD = (SET_UP_MENU, SET_UP_EVENT_LIST, POLL_INTERVAL)
 PROFILE_DOWNLOAD, STATUS_COMMAND, MENU_SELECTION, TIMER_EXPIRATION, CALL_CONTROL = 0x40, 0x41, 0x43, 0x44, 0x45
-LOCATION_STATUS, USER_ACTIVITY, IDLE_SCREEN = 0x03, 0x04, 0x05
+USER_ACTIVITY, IDLE_SCREEN = 0x04, 0x05
 REPORTED_ONCE = (USER_ACTIVITY, IDLE_SCREEN)
-TO_CARD, TO_DISPLAY, TO_EARPIECE = 0x82, 0x02, 0x03
+TO_TERMINAL, TO_DISPLAY, TO_EARPIECE = 0x82, 0x02, 0x03
 BY_USER, WITH_LETTERS, START = 0x80, 0x01, 0x00
-ADDRESS, RESULT, TEXT, ITEM, LOCATION, EVENT_LIST, TIMER = 0x06, 0x03, 0x0D, 0x10, 0x13, 0x19, 0x24
+ADDRESS, RESULT, TEXT, ITEM, EVENT_LIST, TIMER = 0x06, 0x03, 0x0D, 0x10, 0x19, 0x24
 MENU, CALL, EVENT, EXPIRATION = 0xD3, 0xD4, 0xD6, 0xD7
-KINDS = 7
 TIMERS = range(1, 9)
 MOST_ACTS = 32
 LONGEST_KEEP = 32
 LONGEST_COMMAND = 255
 HIGHEST_NUMBER = 254
-GOOD = 0x10
-SECONDS, FIVE_MINUTES = 0x01, bytes((0x00, 0x50, 0x00))
+SECONDS = 0x01
 POLLED_EACH = 30
 MEMORY_PROBLEM = "6581"
-OTHER_APPLETS = "a command was fetched that these applets don't send"
+# the owner of a command, where the trace shows it and no applet is known that sends it
+NOBODY_KNOWN = -1
+OTHER_APPLETS = "the card has another command for the terminal than these applets send by the definitions of their kinds"
 NOT_SETTLED = "a command was cut or failed, and what applets keep is as before or as after it"
 
 
@@ -54,7 +56,7 @@ class Command:
     """A proactive command, but for its number."""
     kind: int
     qualifier: int = 0
-    destination: int = TO_CARD
+    destination: int = TO_TERMINAL
     objects: bytes = b""
 
     def spelled(self, number):
@@ -67,48 +69,70 @@ class Command:
 
 
 def text_object(text):
-    return tlv.written(TEXT, b"\x04" + text)
-
-
-def show(text):
-    return Command(DISPLAY_TEXT, BY_USER, TO_DISPLAY, text_object(text))
-
-
-def ask(text, most, letters):
-    return Command(GET_INPUT, WITH_LETTERS if letters else 0, TO_CARD, text_object(text) + bytes((0x91, 2, 0, most)))
-
-
-def idle_text(text):
-    return Command(SET_UP_IDLE_TEXT, 0, TO_CARD, text_object(text))
+    return tlv.written(TEXT, b"\x04" + bytes(text))
 
 
 def choice(kind, title, items):
     """A command with items, each a number and a text."""
     listed = b"".join(tlv.written(0x0F, bytes((number,)) + text) for number, text in items)
-    return Command(kind, 0, TO_CARD, tlv.written(0x05, title) + (listed or tlv.written(0x0F, b"")))
+    return Command(kind, 0, TO_TERMINAL, tlv.written(0x05, title) + (listed or tlv.written(0x0F, b"")))
 
 
-# what an applet does next
-
-@dataclasses.dataclass(frozen=True)
-class Act:
-    """`name` is send, keep, register, deregister, take, free or answer; None is done."""
-    name: str | None = None
-    value: object = None
+def timer_command(action, timer, value):
+    """A time is written in digits, the lower half of a byte first (ETSI TS 102 223, 8.38)."""
+    digits = bytes(value[part] % 10 << 4 | value[part] // 10 for part in ("hours", "minutes", "seconds"))
+    return Command(TIMER_MANAGEMENT, action, TO_TERMINAL, bytes((0xA4, 1, timer)) + (tlv.written(0x25, digits) if action == START else b""))
 
 
-DONE = Act()
+# the commands that an applet may send, as the definitions call them, with the parts that these have
+SPELLED = {
+    "Refresh": lambda mode: Command(REFRESH, mode), "MoreTime": lambda: Command(MORE_TIME),
+    "PollInterval": lambda seconds: Command(POLL_INTERVAL, objects=bytes((0x84, 2, SECONDS, seconds))),
+    "SetUpEventList": lambda events: Command(SET_UP_EVENT_LIST, objects=tlv.written(EVENT_LIST, bytes(events))),
+    "PlayTone": lambda tone: Command(PLAY_TONE, 0, TO_EARPIECE, bytes((0x8E, 1, tone))),
+    "DisplayText": lambda text: Command(DISPLAY_TEXT, BY_USER, TO_DISPLAY, text_object(text)),
+    "GetInkey": lambda text: Command(GET_INKEY, WITH_LETTERS, TO_TERMINAL, text_object(text)),
+    "GetInput": lambda text, digits, least, most: Command(
+        GET_INPUT, 0 if digits else WITH_LETTERS, TO_TERMINAL, text_object(text) + bytes((0x91, 2, least, most))),
+    "SelectItem": lambda title, items: choice(SELECT_ITEM, bytes(title), [(item["id"], bytes(item["text"])) for item in items]),
+    "SetUpMenu": lambda title, items: choice(SET_UP_MENU, bytes(title), [(item["id"], bytes(item["text"])) for item in items]),
+    "LocalInformation": lambda what: Command(PROVIDE_LOCAL_INFORMATION, what), "TimerManagement": timer_command,
+    "IdleText": lambda text: Command(SET_UP_IDLE_TEXT, objects=text_object(text)),
+}
 
 
-@dataclasses.dataclass(frozen=True)
-class Stimulus:
-    """What an applet is told: `name` is event (with its code and body), response (with its objects), timer, went or refused."""
-    name: str
-    code: int = 0
-    body: bytes = b""
+def read_command(data):
+    """The number and the command of the bytes that were fetched; None where they are none."""
+    try:
+        tag, content = tlv.template(data)
+        details, devices = tlv.first(content, 0x01), tlv.first(content, 0x02)
+    except tlv.BadTlv:
+        return None
+    if tag != decode.PROACTIVE or not details or len(details) != 3 or not devices or len(devices) != 2:
+        return None
+    return details[0], Command(details[1], details[2], devices[1], bytes(content[9:]))
 
 
-WENT, REFUSED = Stimulus("went"), Stimulus("refused")
+# what an applet is told
+
+def event(code, body):
+    return Made("Event", (code, tuple(body)))
+
+
+def timer(number):
+    return Made("Timer", (number,))
+
+
+def response(objects):
+    """What the card tells an applet of the response to its command."""
+    found = list(tlv.objects(objects))
+    result = next((value for tag, _, value in found if tag == RESULT and value), b"\0")
+    item = next((value[0] for tag, _, value in found if tag == ITEM and len(value) == 1), 0)
+    text = next((value for tag, _, value in found if tag == TEXT), b"")
+    return Made("Response", (result[0], item, tuple(text[1:])))
+
+
+DONE, WENT, REFUSED = (Made(name, ()) for name in ("Done", "Went", "Refused"))
 
 
 def value_in(content, tag):
@@ -122,14 +146,13 @@ def value_in(content, tag):
 class Applet:
     """A registered applet, and where it is in what it does."""
 
-    def __init__(self, row, sequence):
-        self.row, self.sequence = row, sequence
+    def __init__(self, row, sequence, known):
+        self.row, self.sequence, self.known = row, sequence, known
         self.events, self.kept = set(row.events), bytes(row.kept)
         self.wake()
 
     def wake(self):
-        self.phase = self.held = self.code = 0
-        self.wanted = None
+        self.mind = self.known.fresh(self.shelf, self.kept)
 
     @property
     def shelf(self):
@@ -137,120 +160,26 @@ class Applet:
 
     def step(self, stimulus):
         """What the applet does next."""
-        if stimulus == WENT and self.wanted is not None:
-            self.kept = self.wanted
-        self.wanted = None
-        phase, act = BEHAVIOURS[self.shelf % KINDS](self, stimulus) or (0, DONE)
-        self.phase = 0 if act == DONE else phase
-        if act.name == "keep":
-            self.wanted = act.value
-        return act
-
-    # each kind: the next phase, and what is done; None is done
-
-    def greeter(self, told):
-        if self.phase == 0 and told.name == "event" and told.code == PROFILE_DOWNLOAD:
-            return 1, Act("send", show(b"Hi"))
-        return None
-
-    def menu(self, told):
-        if self.phase == 0 and told.name == "event" and told.code == MENU_SELECTION:
-            return 1, Act("send", choice(SELECT_ITEM, b"Pick", [(1, b"Text"), (2, b"Tone")]))
-        item = value_in(told.body, ITEM) if self.phase == 1 and is_good(told) else None
-        return {b"\x01": (2, Act("send", show(b"Text"))), b"\x02": (2, Act("send", tone(0x10)))}.get(item)
-
-    def clock(self, told):
-        if self.phase == 0 and told.name == "event" and told.code == PROFILE_DOWNLOAD:
-            return 1, Act("take")
-        if self.phase == 1 and told.name == "timer":
-            value = bytes((0xA4, 1, told.code, 0xA5, 3)) + FIVE_MINUTES
-            return 2, Act("send", Command(TIMER_MANAGEMENT, START, TO_CARD, value))
-        if self.phase == 0 and told.name == "event" and told.code == TIMER_EXPIRATION and len(told.body) == 1:
-            self.held = told.body[0]
-            return 3, Act("send", show(b"Tick"))
-        if self.phase == 3 and told.name in ("response", "refused"):
-            return 4, Act("free", self.held)
-        return None
-
-    def watcher(self, told):
-        if self.phase == 1 and told == WENT:
-            return 2, Act("send", show(b"Moved"))
-        if self.phase != 0 or told.name != "event":
-            return None
-        if told.code == LOCATION_STATUS:
-            place = value_in(told.body, LOCATION)
-            known = place is not None and len(place) <= LONGEST_KEEP
-            return (1, Act("keep", place)) if known else (2, Act("send", show(b"Lost")))
-        return {USER_ACTIVITY: (2, Act("send", show(b"Active"))), IDLE_SCREEN: (2, Act("send", idle_text(b"Idle")))}.get(told.code)
-
-    def barrier(self, told):
-        if self.phase == 0 and told.name == "event" and told.code == CALL_CONTROL:
-            barred = bool(self.kept) and digits(told.body).startswith(self.kept)
-            return 4, Act("answer", not barred)
-        if self.phase == 0 and told.name == "event" and told.code == MENU_SELECTION:
-            return 1, Act("send", ask(b"Bar?", 10, letters=False))
-        return self.keep_text(told)
-
-    def notebook(self, told):
-        if self.phase == 0 and told.name == "event" and told.code == PROFILE_DOWNLOAD and self.kept:
-            return 2, Act("send", show(self.kept))
-        if self.phase == 0 and told.name == "event" and told.code in (PROFILE_DOWNLOAD, MENU_SELECTION):
-            return 1, Act("send", ask(b"Note?", 20, letters=True))
-        return self.keep_text(told)
-
-    def keep_text(self, told):
-        """What the user typed is kept."""
-        if self.phase != 1 or not is_good(told):
-            return None
-        text = value_in(told.body, TEXT) or b""
-        return 2, Act("keep", text[1:][:LONGEST_KEEP])
-
-    def table(self, told):
-        if self.phase == 0 and told.name != "event":
-            return None
-        first, self.code = (0, told.code) if self.phase == 0 else (self.held + 1, self.code)
-        for number in range(first, len(self.kept) // 3):
-            event, action, value = self.kept[3 * number:3 * number + 3]
-            if event == self.code:
-                self.held = number
-                return 1, ACTIONS.get(action, lambda _: DONE)(value)
-        return None
-
-
-def is_good(told):
-    result = value_in(told.body, RESULT) if told.name == "response" else None
-    return bool(result) and result[0] < GOOD
-
-
-def tone(number):
-    return Command(PLAY_TONE, 0, TO_EARPIECE, bytes((0x8E, 1, number)))
-
-
-def digits(address):
-    """The digits of an address, as text."""
-    halves = [half for byte in address[1:] for half in (byte & 15, byte >> 4)]
-    end = halves.index(15) if 15 in halves else len(halves)
-    return bytes(0x30 + half for half in halves[:end])
-
-
-BEHAVIOURS = (Applet.greeter, Applet.menu, Applet.clock, Applet.watcher, Applet.barrier, Applet.notebook, Applet.table)
-ACTIONS = {
-    0x01: lambda value: Act("send", show(bytes((value,)))), 0x02: lambda value: Act("send", tone(value)),
-    0x03: lambda _: Act("send", Command(MORE_TIME)), 0x04: lambda value: Act("send", Command(PROVIDE_LOCAL_INFORMATION, value)),
-    0x05: lambda value: Act("send", Command(REFRESH, value)),
-    0x06: lambda value: Act("send", Command(GET_INKEY, WITH_LETTERS, TO_CARD, text_object(bytes((value,))))),
-    0x07: lambda value: Act("register", value), 0x08: lambda value: Act("deregister", value),
-    0x09: lambda value: Act("send", idle_text(bytes((value,)))), 0x0A: lambda _: Act("take"),
-}
+        does, self.mind = self.known.turn(self.mind, stimulus)
+        return does
 
 
 @dataclasses.dataclass
 class Outstanding:
-    """The command that the terminal has to answer; `owner` is the shelf of its applet, None for one of the card itself."""
+    """The command that the terminal has to answer; `owner` is the shelf of its applet, None for one of the card itself. `command` is None
+    where it isn't known before it is fetched."""
     owner: int | None
-    command: Command
+    command: Command | None
     number: int
     fetched: bool = False
+
+    @property
+    def name(self):
+        return self.command.name if self.command else "a command that isn't known yet"
+
+    def is_told_by(self, status):
+        """Whether a status tells of this command, by its length."""
+        return self.command is not None and status == f"91{len(self.command.spelled(self.number)) & 0xFF:02X}"
 
 
 @dataclasses.dataclass(frozen=True)
@@ -269,8 +198,8 @@ class AppletNow:
 class ToolkitNow:
     """What the toolkit of a card is doing, worked out from what the card was sent; it prints as lines. `applets` are the registered applets by
     their shelves. `outstanding` is the name of the command that the terminal has to answer, None where there is none; `owner` the shelf of
-    its applet, None where it is the card's own; `is_fetched` whether it waits for its response. `late` are the events that applets which
-    wait are told later, each a shelf and a name; `timers` the shelves that hold them, by their numbers; `events` the shelves that an
+    its applet, None where it is the card's own, -1 where it isn't known whose it is; `is_fetched` whether it waits for its response. `late`
+    are the events that applets which wait are told later, each a shelf and a name; `timers` the shelves that hold them, by their numbers; `events` the shelves that an
     event wakes, in the order in which it does, by its name. `doubt` says why this may not be so, after a loss of power say."""
     has_profile: bool
     outstanding: str | None
@@ -288,20 +217,22 @@ class ToolkitNow:
 
 
 class Toolkit:
-    """The toolkit of a card with these rows, by their shelves, as it is switched on; `take` is given what it is sent."""
+    """The toolkit of a card with these rows, by their shelves, as it is switched on; `take` is given what it is sent. `known` are the kinds of
+    applets, without it those of the program."""
 
-    def __init__(self, rows):
+    def __init__(self, rows, known=None):
+        self.known = known or kinds.of_program()
         self.sequence = 0
         self.applets = {}
         # why what is worked out may not be so
-        self.doubt = None
+        self.doubt = self.known.fault
         for row in sorted(rows.values(), key=lambda row: getattr(row, "sequence", 0)):
-            self._register(row)
+            self._put_on_shelf(row)
         self.reset()
 
-    def _register(self, row):
+    def _put_on_shelf(self, row):
         self.sequence += 1
-        self.applets[row.shelf] = Applet(row, self.sequence)
+        self.applets[row.shelf] = Applet(row, self.sequence, self.known)
 
     def reset(self):
         """The card is reset: what is registered and kept stays."""
@@ -313,7 +244,11 @@ class Toolkit:
     def lose(self):
         """The power was lost in a command, or it met a memory problem."""
         self.reset()
-        self.doubt = NOT_SETTLED
+        self._doubts(NOT_SETTLED)
+
+    def _doubts(self, why):
+        """The first thing that can't be known is what is told."""
+        self.doubt = self.doubt or why
 
     # what is sent to the card
 
@@ -325,24 +260,46 @@ class Toolkit:
             self._change(apdu)
         elif apdu.ins == FETCH:
             self._fetched(data)
+            return
         elif apdu.ins in TAKEN:
             TAKEN[apdu.ins](self, apdu.data)
             self._drive()
+        self._told(status)
+
+    def _told(self, status):
+        """Whether a command waits to be fetched, and how long it is, stands in the status: what it tells is so."""
+        waits = self.out if self.out and not self.out.fetched else None
+        if status.startswith("91") and not (waits and (waits.command is None or waits.is_told_by(status))):
+            self._doubts(OTHER_APPLETS)
+            self.out = Outstanding(NOBODY_KNOWN, None, 0)
+        elif status == "9000" and waits:
+            self._doubts(OTHER_APPLETS)
+            self.out = None
 
     def _change(self, apdu):
         if apdu.ins == INSTALL:
             given = layout.installation(apdu.data)
-            self._register(layout.Registered(apdu.p2, apdu.p1, given.events, given.text, given.kept))
+            self._put_on_shelf(layout.Registered(apdu.p2, apdu.p1, given.events, given.text, given.kept))
         elif apdu.ins == DELETE:
             self.applets.pop(apdu.p2, None)
             self.timers = {timer: shelf for timer, shelf in self.timers.items() if shelf != apdu.p2}
         self._drive()
 
     def _fetched(self, data):
-        if self.out is None or data != self.out.command.spelled(self.out.number):
-            self.doubt = OTHER_APPLETS
+        if self.out is None or self.out.command is None or data != self.out.command.spelled(self.out.number):
+            self._doubts(OTHER_APPLETS)
+            found = read_command(data)
+            if found:
+                self.number, command = found
+                self.out = Outstanding(self._owner_of(command), command, self.number)
         if self.out:
             self.out.fetched = True
+
+    def _owner_of(self, command):
+        """Whose a command is that wasn't worked out."""
+        if command.kind in OF_THE_CARD:
+            return None
+        return next(iter(self.applets)) if len(self.applets) == 1 else NOBODY_KNOWN
 
     def _told_profile(self, profile):
         self.profile = profile
@@ -351,10 +308,10 @@ class Toolkit:
     def _polled(self, _):
         self._trigger(self.order(STATUS_COMMAND), STATUS_COMMAND, b"")
 
-    def _responded(self, response):
+    def _responded(self, objects):
         owner, self.out = self.out.owner if self.out else None, None
         if owner in self.applets:
-            self._run(self.applets[owner], Stimulus("response", body=response), resumed=True)
+            self._run(self.applets[owner], response(objects), resumed=True)
 
     def _enveloped(self, envelope):
         try:
@@ -390,43 +347,58 @@ class Toolkit:
     def _trigger(self, applets, code, body, late=False):
         for applet in applets:
             if self.is_idle(applet.shelf):
-                self._run(applet, Stimulus("event", code, body))
+                self._run(applet, event(code, body))
             elif late:
                 self.late.append((applet.shelf, code, body))
 
     def _run(self, applet, told, resumed=False):
-        calls = told.name == "event" and told.code == CALL_CONTROL
-        for _ in range(MOST_ACTS):
-            act = applet.step(told)
-            if act == DONE:
-                return
-            if act.name == "send" and self._admits(applet, act.value, calls):
-                self._send(applet, act.value, resumed)
-                return
-            told = REFUSED if act.name == "send" else self._done(applet, act)
+        calls = told.name == "Event" and told.parts[0] == CALL_CONTROL
+        try:
+            for _ in range(MOST_ACTS):
+                act = applet.step(told)
+                if act == DONE:
+                    return
+                command = SPELLED[act.parts[0].name](*act.parts[0].parts) if act.name == "Send" else None
+                if command and self._admits(applet, command, calls):
+                    self._send(applet, command, resumed)
+                    return
+                told = REFUSED if command else ACTS[act.name](self, applet, *act.parts)
+        except evaluation.Unknown as fault:
+            self._doubts(f"what the applet on shelf {applet.shelf} does isn't known: {fault}")
         applet.wake()
 
-    def _done(self, applet, act):
-        """Carries out an act that sends nothing, and answers what the applet is told."""
-        if act.name == "keep":
-            return WENT if len(act.value) <= LONGEST_KEEP else REFUSED
-        if act.name in ("register", "deregister"):
-            return self._change_events(applet, act)
-        if act.name == "take":
-            free = next((timer for timer in TIMERS if timer not in self.timers), None)
-            if free is None:
-                return REFUSED
-            self.timers[free] = applet.shelf
-            return Stimulus("timer", free)
-        if act.name == "free":
-            return WENT if self.timers.get(act.value) == applet.shelf and self.timers.pop(act.value) is not None else REFUSED
+    # the acts that send nothing: each is carried out, and answers what the applet is told
+
+    def _keep(self, applet, content):
+        if len(content) > LONGEST_KEEP:
+            return REFUSED
+        applet.kept = bytes(content)
         return WENT
 
-    def _change_events(self, applet, act):
+    def _register(self, applet, code):
         others = [other for other in self.order(CALL_CONTROL) if other is not applet]
-        if act.value not in layout.EVENTS or act.name == "register" and act.value == CALL_CONTROL and others:
+        if code not in layout.EVENTS or code == CALL_CONTROL and others:
             return REFUSED
-        (applet.events.add if act.name == "register" else applet.events.discard)(act.value)
+        applet.events.add(code)
+        return WENT
+
+    def _deregister(self, applet, code):
+        if code not in layout.EVENTS:
+            return REFUSED
+        applet.events.discard(code)
+        return WENT
+
+    def _take_timer(self, applet):
+        free = next((number for number in TIMERS if number not in self.timers), None)
+        if free is None:
+            return REFUSED
+        self.timers[free] = applet.shelf
+        return timer(free)
+
+    def _free_timer(self, applet, number):
+        if self.timers.get(number) != applet.shelf:
+            return REFUSED
+        del self.timers[number]
         return WENT
 
     def _allows(self, place):
@@ -458,7 +430,7 @@ class Toolkit:
             if at is None:
                 break
             shelf, code, body = self.late.pop(at)
-            self._run(self.applets[shelf], Stimulus("event", code, body))
+            self._run(self.applets[shelf], event(code, body))
         if self.out is None:
             command = self._of_the_card()
             if command:
@@ -488,28 +460,27 @@ class Toolkit:
         """What the toolkit is doing, as values."""
         out = self.out
         return ToolkitNow(
-            has_profile=self.profile is not None, outstanding=out and out.command.name, owner=out and out.owner,
+            has_profile=self.profile is not None, outstanding=out and out.name, owner=out and out.owner,
             is_fetched=bool(out and out.fetched), applets={applet.shelf: self._applet_now(applet) for applet in self.by_shelf()},
             late=[(shelf, names.of_toolkit("events", code)) for shelf, code, _ in self.late], timers=dict(sorted(self.timers.items())),
             events={names.of_toolkit("events", code): [applet.shelf for applet in self.order(code)] for code in layout.EVENTS if self.order(code)},
             doubt=self.doubt, lines=tuple(self.lines()))
 
     def _applet_now(self, applet):
-        asked = self.out.command.name if self.out and self.out.owner == applet.shelf else None
+        asked = self.out.name if self.out and self.out.owner == applet.shelf else None
         place, waits = next(((number, command.name) for number, (shelf, command) in enumerate(self.waiting, 1) if shelf == applet.shelf), (0, None))
         state = "asked" if asked else "waiting" if waits else "idle"
         return AppletNow(applet.shelf, self.kind_of(applet), applet.row.priority, state, asked or waits, 0 if asked else place)
 
     # in words
 
-    @staticmethod
-    def kind_of(applet):
-        return names.table("toolkit")["kinds"][str(applet.shelf % KINDS)]
+    def kind_of(self, applet):
+        return self.known.does_on(applet.shelf)
 
     def state_of(self, shelf):
         """What an applet is doing."""
         if self.out and self.out.owner == shelf:
-            return f"asked: waits for the response to {self.out.command.name}"
+            return f"asked: waits for the response to {self.out.name}"
         place = next((number for number, (waits, _) in enumerate(self.waiting, 1) if waits == shelf), None)
         return f"waiting: has {self.waiting[place - 1][1].name} to send, as number {place} of {len(self.waiting)}" if place else "idle"
 
@@ -534,11 +505,15 @@ class Toolkit:
     def _out_words(self):
         if self.out is None:
             return "none"
-        whose = "the card itself" if self.out.owner is None else f"the applet on shelf {self.out.owner}"
+        whose = {None: "the card itself", NOBODY_KNOWN: "an applet that isn't known"}.get(self.out.owner, f"the applet on shelf {self.out.owner}")
         state = "fetched, waits for its response" if self.out.fetched else "waits to be fetched"
-        return f"{self.out.command.name}, number {self.out.number}, of {whose}: {state}"
+        return f"{self.out.name}{f', number {self.out.number}' if self.out.command else ''}, of {whose}: {state}"
 
 
+ACTS = {
+    "Keep": Toolkit._keep, "Register": Toolkit._register, "Deregister": Toolkit._deregister, "TakeTimer": Toolkit._take_timer,
+    "FreeTimer": Toolkit._free_timer, "Answer": lambda of, applet, allows: WENT,
+}
 TAKEN = {PROFILE: Toolkit._told_profile, STATUS: Toolkit._polled, RESPONSE: Toolkit._responded, ENVELOPE: Toolkit._enveloped}
 
 

@@ -1,7 +1,7 @@
 """A card as a tree of its files with what they hold, its PINs and its applets."""
 import textwrap
 
-from . import contents, decode, names
+from . import contents, decode, kinds, names
 from .follow import is_usim_card
 
 STRUCTURES = {"t": "transparent", "l": "linear fixed", "c": "cyclic"}
@@ -93,9 +93,9 @@ def lines(card, with_contents=True, whole=False):
         yield (f"{names.key(pin.key)}: {decode.pin_value(pin.value)}, {state}, {pin.tries} tries left, unblocked by "
                f"{decode.pin_value(pin.unblock)}, {pin.unblock_tries} tries left")
     for row in sorted(card.rows.values(), key=lambda row: row.shelf):
-        kind = names.table("toolkit")["kinds"][str(row.shelf % 7)]
-        yield f"applet on shelf {row.shelf}: {kind}, priority {row.priority}"
-        for line in decode.applet_lines(row.events, row.text, row.kept, table=row.shelf % 7 == 6):
+        known = kinds.of_program()
+        yield f"applet on shelf {row.shelf}: {known.does_on(row.shelf)}, priority {row.priority}"
+        for line in decode.applet_lines(row.events, row.text, row.kept, table=known.is_table(row.shelf)):
             yield f"    {'  ' * line.depth}{line.label}: {line.text}"
 
 

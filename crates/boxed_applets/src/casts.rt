@@ -1,14 +1,34 @@
 //! The applets that the program gives a card, each in its box.
-ghost use Rattle.std.specs.Prelude.{◌≡◌, ◌+◌, ◌++◌, [], ◌∷◌, length, map, Some, OnOk};
+ghost use Rattle.std.specs.Prelude.{◌≡◌, ◌≤◌, ◌+◌, ◌++◌, [], ◌∷◌, length, map, Some, OnOk};
 ghost use Rattle.std.specs.List.{range_with_len};
+ghost use Rattle.card_state.specs.declared.sizes.TheConstants.{LAST_KIND};
 ghost use Rattle.applet_trait.specs.Minds.{minds_of};
-ghost use Rattle.boxed_applets.specs.Casts.{applet_on};
+ghost use Rattle.boxed_applets.specs.Casts.{applet_on, kind_for};
 
 use applet_trait::Applet;
+use card_state::sizes::{LAST_KIND, ROW_COUNT};
 use std::alloc::AllocError;
 
-/// The applet of a shelf, from 0 on, in a box that `$alloc` gives: of the seven kinds in turn, kind 1 on shelf 0 and again on
-/// shelf 7. It keeps nothing yet. With `|applet| ..` what comes of it is done with the box, and else it is the box.
+/// How many kinds take the shelves in turn.
+pub const IN_TURN: usize = 7;
+
+/// The kind of the applet that the program has on a shelf, from 0 on: the first seven kinds in turn, kind 1 on shelf 0 and again on
+/// shelf 7; each further kind has one shelf in their place, from the last one down.
+#[tactic(auto, unfolding(crate::specs::Casts::kind_for))]
+pub fn kind_for(shelf: usize) -> u8
+    ensures value { result ≡ kind_for shelf }
+    ensures from_1 { 1 ≤ result }
+    ensures up_to_last { result ≤ LAST_KIND }
+{
+    if shelf < ROW_COUNT && ROW_COUNT + IN_TURN <= shelf + usize::from(LAST_KIND) {
+        (ROW_COUNT + IN_TURN - shelf) as u8
+    } else {
+        (shelf % IN_TURN) as u8 + 1
+    }
+}
+
+/// The applet of a shelf, of the kind that `kind_for` says, in a box that `$alloc` gives. It keeps nothing yet. With `|applet| ..` what
+/// comes of it is done with the box, and else it is the box.
 ///
 /// It is a macro, since a function may not make such a box and hand it out: who calls it makes the box, imports `Applet`, and answers
 /// a Result, since there may be no memory for the box.
@@ -18,13 +38,13 @@ macro_rules! boxed_applet {
         $crate::boxed_applet!($alloc, $shelf, |applet| applet)
     };
     ($alloc:expr, $shelf:expr, |$applet:ident| $does:expr) => {
-        match $shelf % 7 {
-            0 => $crate::in_box!($alloc, $crate::Greeter::new(), |$applet| $does),
-            1 => $crate::in_box!($alloc, $crate::Menu::new(), |$applet| $does),
-            2 => $crate::in_box!($alloc, $crate::Clock::new(), |$applet| $does),
-            3 => $crate::in_box!($alloc, $crate::Watcher::new(), |$applet| $does),
-            4 => $crate::in_box!($alloc, $crate::Barrier::new(), |$applet| $does),
-            5 => $crate::in_box!($alloc, $crate::Notebook::new(), |$applet| $does),
+        match $crate::kind_for($shelf) {
+            1 => $crate::in_box!($alloc, $crate::Greeter::new(), |$applet| $does),
+            2 => $crate::in_box!($alloc, $crate::Menu::new(), |$applet| $does),
+            3 => $crate::in_box!($alloc, $crate::Clock::new(), |$applet| $does),
+            4 => $crate::in_box!($alloc, $crate::Watcher::new(), |$applet| $does),
+            5 => $crate::in_box!($alloc, $crate::Barrier::new(), |$applet| $does),
+            6 => $crate::in_box!($alloc, $crate::Notebook::new(), |$applet| $does),
             _ => $crate::in_box!($alloc, $crate::Table::new(), |$applet| $does),
         }
     };

@@ -1,4 +1,4 @@
-//! The applets that the card comes with, one of each of the seven kinds, and which of them the program puts on which shelf.
+//! The applets that the card comes with, one of each kind, and which of them the program puts on which shelf.
 #![tactic(auto)]
 
 mod acts;
@@ -15,7 +15,7 @@ mod tables;
 mod watchers;
 
 pub use barriers::Barrier;
-pub use casts::put_on_shelf;
+pub use casts::{kind_for, put_on_shelf};
 pub use clocks::Clock;
 pub use greeters::Greeter;
 pub use menus::Menu;

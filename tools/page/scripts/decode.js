@@ -2,6 +2,7 @@
 // a text.
 import { amount, bigEndian, hexByte, hexed, printable } from "./bytes.js";
 import { dialledDigits, plmn } from "./contents.js";
+import { isTable } from "./kinds.js";
 import { installation } from "./layout.js";
 import { filesOf, instructionName, keyName, profileBits, qualifierName, toolkitName } from "./names.js";
 import { shortObjects } from "./rules.js";
@@ -198,7 +199,7 @@ export function appletLines(shelf, { events, text, kept }) {
     if (kept.length) {
         lines.push(line(0, "kept data", hexed(kept)));
     }
-    for (let at = 0; shelf % 7 === 6 && at + 2 < kept.length; at += 3) {
+    for (let at = 0; isTable(shelf) && at + 2 < kept.length; at += 3) {
         lines.push(line(1, eventWords(kept[at]), action(kept[at + 1], kept[at + 2])));
     }
     return lines;

@@ -4,7 +4,8 @@ import { meaningOf } from "./contents.js";
 import { appletLines, pinValue } from "./decode.js";
 import { byId, element, objectList } from "./dom.js";
 import { isUsim } from "./follow.js";
-import { appletKind, keyName, standardFile } from "./names.js";
+import { appletKind } from "./kinds.js";
+import { keyName, standardFile } from "./names.js";
 
 const STRUCTURES = { t: "transparent", l: "linear fixed", c: "cyclic" };
 const LONGEST = 240;

@@ -38,11 +38,6 @@ export function qualifierName(command, value) {
     return tables.toolkit.qualifiers[hexByte(command)]?.[hexByte(value)];
 }
 
-// What the applet on a shelf does.
-export function appletKind(shelf) {
-    return tables.toolkit.kinds[String(shelf % 7)];
-}
-
 export function profileBits() {
     return tables.toolkit.profile;
 }

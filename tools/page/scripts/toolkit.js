@@ -1,9 +1,12 @@
 // What the toolkit of a card is doing, worked out from its registered applets and from the commands of a trace: which applet is idle,
-// asked or waiting, for what; which events come late; which timers are held; which applets an event wakes, and in which order.
+// asked or waiting, for what; which events come late; which timers are held; which applets an event wakes, and in which order. What an
+// applet does is what the definition of its kind says, and nothing of it stands here.
 import { hexByte, hexed } from "./bytes.js";
 import { ENVELOPE, FETCH, INSTALL, PROFILE, RESPONSE, STATUS, eventWords } from "./decode.js";
+import { Unknown, made } from "./evaluation.js";
+import { appletKind, fresh, turn } from "./kinds.js";
 import { CALL_CONTROL, EVENTS, installation } from "./layout.js";
-import { appletKind, toolkitName } from "./names.js";
+import { toolkitName } from "./names.js";
 import { BadTlv, objectsOf, templateOf } from "./tlv.js";
 import { RESET } from "./trace.js";
 
@@ -25,19 +28,18 @@ const PROFILE_DOWNLOAD = 0x40;
 const STATUS_COMMAND = 0x41;
 const MENU_SELECTION = 0x43;
 const TIMER_EXPIRATION = 0x44;
-const LOCATION_STATUS = 0x03;
 const USER_ACTIVITY = 0x04;
 const IDLE_SCREEN = 0x05;
 const REPORTED_ONCE = [USER_ACTIVITY, IDLE_SCREEN];
-const TO_CARD = 0x82;
+const TO_TERMINAL = 0x82;
 const TO_DISPLAY = 0x02;
 const TO_EARPIECE = 0x03;
 const BY_USER = 0x80;
 const WITH_LETTERS = 0x01;
+const START = 0x00;
 const RESULT = 0x03;
 const TEXT = 0x0d;
 const ITEM = 0x10;
-const LOCATION = 0x13;
 // the object that an envelope is about, by its template
 const ABOUT = { 0xd3: 0x10, 0xd4: 0x06, 0xd6: 0x19, 0xd7: 0x24 };
 const MENU = 0xd3;
@@ -48,15 +50,18 @@ const MOST_ACTS = 32;
 const LONGEST_KEEP = 32;
 const LONGEST_COMMAND = 255;
 const HIGHEST_NUMBER = 254;
-const GOOD = 0x10;
-const FIVE_MINUTES = [0x00, 0x50, 0x00];
-const THIRTY_SECONDS = [0x01, 30];
+const SECONDS = 0x01;
+const POLLED_EACH = 30;
 const MEMORY_PROBLEM = "6581";
-const WENT = { name: "went" };
-const REFUSED = { name: "refused" };
+const DONE = "Done";
+const WENT = made("Went");
+const REFUSED = made("Refused");
 const REFRESH_MODES = [0x03, 0x04];
 const NO_ITEM = [0x8f, 0];
-const OTHER_APPLETS = "a command was fetched that these applets don't send";
+const MENU_TITLE = letters("Menu");
+// the owner of a command, where the trace shows it and no applet is known that sends it
+const NOBODY_KNOWN = -1;
+const OTHER_APPLETS = "the card has another command for the terminal than these applets send by the definitions of their kinds";
 const NOT_SETTLED = "a command was cut or failed, and what applets keep is as before or as after it";
 
 function letters(text) {
@@ -69,7 +74,7 @@ function object(tag, value) {
 }
 
 // A proactive command, but for its number.
-function command(kind, { qualifier = 0, destination = TO_CARD, objects = [] } = {}) {
+function command(kind, { qualifier = 0, destination = TO_TERMINAL, objects = [] } = {}) {
     return { kind, qualifier, destination, objects };
 }
 
@@ -82,24 +87,44 @@ function textObject(text) {
     return object(TEXT, [4, ...text]);
 }
 
-const show = (text) => command(KIND.displayText, { qualifier: BY_USER, destination: TO_DISPLAY, objects: textObject(text) });
-const playTone = (tone) => command(KIND.playTone, { destination: TO_EARPIECE, objects: [0x8e, 1, tone] });
-const idleText = (text) => command(KIND.setUpIdleText, { objects: textObject(text) });
-
-function ask(text, most, qualifier) {
-    return command(KIND.getInput, { qualifier, objects: [...textObject(letters(text)), 0x91, 2, 0, most] });
-}
-
 // A command with items, each a number and a text.
 function choice(kind, title, items) {
     const listed = items.flatMap(([number, text]) => object(0x0f, [number, ...text]));
-    return command(kind, { objects: [...object(0x05, letters(title)), ...(listed.length ? listed : NO_ITEM)] });
+    return command(kind, { objects: [...object(0x05, title), ...(listed.length ? listed : NO_ITEM)] });
 }
 
-// The value of the first object with a tag; null where there is none, or the bytes are no objects.
-function valueIn(content, tag) {
+// A time is written in digits, the lower half of a byte first (ETSI TS 102 223, 8.38).
+function timerCommand(action, timer, value) {
+    const digits = [value.hours, value.minutes, value.seconds].map((part) => ((part % 10) << 4) | Math.floor(part / 10));
+    return command(KIND.timerManagement, { qualifier: action, objects: [0xa4, 1, timer, ...(action === START ? object(0x25, digits) : [])] });
+}
+
+function numbered(items) {
+    return items.map(({ id, text }) => [id, text]);
+}
+
+// The commands that an applet may send, as the definitions call them, with the parts that these have.
+const SPELLED = {
+    Refresh: (mode) => command(KIND.refresh, { qualifier: mode }),
+    MoreTime: () => command(KIND.moreTime),
+    PollInterval: (seconds) => command(KIND.pollInterval, { objects: object(0x04, [SECONDS, seconds]) }),
+    SetUpEventList: (events) => command(KIND.setUpEventList, { objects: object(0x19, events) }),
+    PlayTone: (tone) => command(KIND.playTone, { destination: TO_EARPIECE, objects: [0x8e, 1, tone] }),
+    DisplayText: (text) => command(KIND.displayText, { qualifier: BY_USER, destination: TO_DISPLAY, objects: textObject(text) }),
+    GetInkey: (text) => command(KIND.getInkey, { qualifier: WITH_LETTERS, objects: textObject(text) }),
+    GetInput: (text, isOfDigits, least, most) => command(
+        KIND.getInput, { qualifier: isOfDigits ? 0 : WITH_LETTERS, objects: [...textObject(text), 0x91, 2, least, most] }),
+    SelectItem: (title, items) => choice(KIND.selectItem, title, numbered(items)),
+    SetUpMenu: (title, items) => choice(KIND.setUpMenu, title, numbered(items)),
+    LocalInformation: (what) => command(KIND.localInformation, { qualifier: what }),
+    TimerManagement: timerCommand,
+    IdleText: (text) => command(KIND.setUpIdleText, { objects: textObject(text) }),
+};
+
+// What happens where the bytes are no objects.
+function orNull(read) {
     try {
-        return objectsOf(Uint8Array.from(content)).find((each) => each.tag === tag)?.value ?? null;
+        return read();
     } catch (fault) {
         if (fault instanceof BadTlv) {
             return null;
@@ -108,16 +133,34 @@ function valueIn(content, tag) {
     }
 }
 
-function isGood(told) {
-    const result = told.name === "response" ? valueIn(told.body, RESULT) : null;
-    return result !== null && result.length > 0 && result[0] < GOOD;
+// The value of the first object with a tag; null where there is none, or the bytes are no objects.
+function valueIn(content, tag) {
+    return orNull(() => objectsOf(Uint8Array.from(content)).find((each) => each.tag === tag)?.value ?? null);
 }
 
-// The digits of an address, as letters.
-function digits(address) {
-    const halves = [...address.slice(1)].flatMap((byte) => [byte & 15, byte >> 4]);
-    const end = halves.indexOf(15);
-    return (end < 0 ? halves : halves.slice(0, end)).map((half) => 0x30 + half);
+// The number and the command of the bytes that were fetched; null where they are none.
+function readCommand(data) {
+    const content = orNull(() => templateOf(data))?.value ?? [];
+    const details = valueIn(content, 0x01);
+    const devices = valueIn(content, 0x02);
+    if (details?.length !== 3 || devices?.length !== 2) {
+        return null;
+    }
+    const [number, kind, qualifier] = details;
+    return { number, command: command(kind, { qualifier, destination: devices[1], objects: [...content.slice(9)] }) };
+}
+
+function event(code, body) {
+    return made("Event", code, [...body]);
+}
+
+// What the card tells an applet of the response to its command.
+function response(body) {
+    const found = objectsOf(Uint8Array.from(body));
+    const result = found.find(({ tag, value }) => tag === RESULT && value.length);
+    const item = found.find(({ tag, value }) => tag === ITEM && value.length === 1);
+    const text = found.find(({ tag }) => tag === TEXT);
+    return made("Response", result?.value[0] ?? 0, item?.value[0] ?? 0, [...(text?.value ?? [])].slice(1));
 }
 
 // A registered applet, and where it is in what it does.
@@ -135,123 +178,16 @@ class Applet {
     }
 
     wake() {
-        this.phase = 0;
-        this.held = 0;
-        this.code = 0;
-        this.wanted = null;
+        this.mind = fresh(this.shelf, this.kept);
     }
 
-    // What the applet does next: an act by its name, or null where it is done.
+    // What the applet does next.
     step(told) {
-        if (told === WENT && this.wanted) {
-            this.kept = this.wanted;
-        }
-        const [phase, act] = BEHAVIOURS[this.shelf % BEHAVIOURS.length](this, told) ?? [0, null];
-        this.phase = act ? phase : 0;
-        this.wanted = act?.name === "keep" ? act.value : null;
-        return act;
+        const { does, next } = turn(this.mind, told);
+        this.mind = next;
+        return does;
     }
 }
-
-const send = (value) => ({ name: "send", value });
-
-function isEvent(applet, told, code) {
-    return applet.phase === 0 && told.name === "event" && told.code === code;
-}
-
-// Keeps what the user typed.
-function keepText(applet, told) {
-    if (applet.phase !== 1 || !isGood(told)) {
-        return null;
-    }
-    return [2, { name: "keep", value: [...(valueIn(told.body, TEXT) ?? [])].slice(1, 1 + LONGEST_KEEP) }];
-}
-
-function greeter(applet, told) {
-    return isEvent(applet, told, PROFILE_DOWNLOAD) ? [1, send(show(letters("Hi")))] : null;
-}
-
-function menu(applet, told) {
-    if (isEvent(applet, told, MENU_SELECTION)) {
-        return [1, send(choice(KIND.selectItem, "Pick", [[1, letters("Text")], [2, letters("Tone")]]))];
-    }
-    const item = applet.phase === 1 && isGood(told) ? valueIn(told.body, ITEM) : null;
-    return item?.length === 1 ? { 1: [2, send(show(letters("Text")))], 2: [2, send(playTone(0x10))] }[item[0]] : null;
-}
-
-function clock(applet, told) {
-    if (isEvent(applet, told, PROFILE_DOWNLOAD)) {
-        return [1, { name: "take" }];
-    }
-    if (applet.phase === 1 && told.name === "timer") {
-        return [2, send(command(KIND.timerManagement, { objects: [0xa4, 1, told.code, 0xa5, 3, ...FIVE_MINUTES] }))];
-    }
-    if (isEvent(applet, told, TIMER_EXPIRATION) && told.body.length === 1) {
-        [applet.held] = told.body;
-        return [3, send(show(letters("Tick")))];
-    }
-    return applet.phase === 3 && ["response", "refused"].includes(told.name) ? [4, { name: "free", value: applet.held }] : null;
-}
-
-function watcher(applet, told) {
-    if (applet.phase === 1 && told === WENT) {
-        return [2, send(show(letters("Moved")))];
-    }
-    if (isEvent(applet, told, LOCATION_STATUS)) {
-        const place = valueIn(told.body, LOCATION);
-        return place !== null && place.length <= LONGEST_KEEP ? [1, { name: "keep", value: [...place] }] : [2, send(show(letters("Lost")))];
-    }
-    if (isEvent(applet, told, USER_ACTIVITY)) {
-        return [2, send(show(letters("Active")))];
-    }
-    return isEvent(applet, told, IDLE_SCREEN) ? [2, send(idleText(letters("Idle")))] : null;
-}
-
-function barrier(applet, told) {
-    if (isEvent(applet, told, CALL_CONTROL)) {
-        return [4, { name: "answer" }];
-    }
-    return isEvent(applet, told, MENU_SELECTION) ? [1, send(ask("Bar?", 10, 0))] : keepText(applet, told);
-}
-
-function notebook(applet, told) {
-    if (isEvent(applet, told, PROFILE_DOWNLOAD) && applet.kept.length) {
-        return [2, send(show(applet.kept))];
-    }
-    const asks = isEvent(applet, told, PROFILE_DOWNLOAD) || isEvent(applet, told, MENU_SELECTION);
-    return asks ? [1, send(ask("Note?", 20, WITH_LETTERS))] : keepText(applet, told);
-}
-
-const ACTIONS = {
-    0x01: (value) => send(show([value])),
-    0x02: (value) => send(playTone(value)),
-    0x03: () => send(command(KIND.moreTime)),
-    0x04: (value) => send(command(KIND.localInformation, { qualifier: value })),
-    0x05: (value) => send(command(KIND.refresh, { qualifier: value })),
-    0x06: (value) => send(command(KIND.getInkey, { qualifier: WITH_LETTERS, objects: textObject([value]) })),
-    0x07: (value) => ({ name: "register", value }),
-    0x08: (value) => ({ name: "deregister", value }),
-    0x09: (value) => send(idleText([value])),
-    0x0a: () => ({ name: "take" }),
-};
-
-function table(applet, told) {
-    if (applet.phase === 0 && told.name !== "event") {
-        return null;
-    }
-    const first = applet.phase === 0 ? 0 : applet.held + 1;
-    applet.code = applet.phase === 0 ? told.code : applet.code;
-    for (let number = first; 3 * number + 2 < applet.kept.length; number += 1) {
-        const [event, action, value] = applet.kept.slice(3 * number, 3 * number + 3);
-        if (event === applet.code) {
-            applet.held = number;
-            return [1, ACTIONS[action]?.(value) ?? null];
-        }
-    }
-    return null;
-}
-
-const BEHAVIOURS = [greeter, menu, clock, watcher, barrier, notebook, table];
 
 // The toolkit of a card with these rows, as it is switched on; `take` is given what it is sent.
 export class Toolkit {
@@ -286,7 +222,7 @@ export class Toolkit {
     // The power was lost in a command, or it met a memory problem.
     lose() {
         this.reset();
-        this.doubt = NOT_SETTLED;
+        this.doubts(NOT_SETTLED);
     }
 
     // Takes note of a command that was answered so.
@@ -296,13 +232,31 @@ export class Toolkit {
         }
         if (apdu.isOnApplets) {
             this.change(apdu);
+            this.drive();
         } else if (apdu.ins === FETCH) {
             this.fetched(data);
             return;
-        } else if (!this.carryOut(apdu)) {
-            return;
+        } else if (this.carryOut(apdu)) {
+            this.drive();
         }
-        this.drive();
+        this.told(status);
+    }
+
+    // Whether a command waits to be fetched, and how long it is, stands in the status: what it tells is so.
+    told(status) {
+        const waits = this.out && !this.out.isFetched ? this.out : null;
+        if (status.startsWith("91") && !(waits && (!waits.command || isToldBy(waits, status)))) {
+            this.doubts(OTHER_APPLETS);
+            this.out = { owner: NOBODY_KNOWN, command: null, number: 0, isFetched: false };
+        } else if (status === "9000" && waits) {
+            this.doubts(OTHER_APPLETS);
+            this.out = null;
+        }
+    }
+
+    // The first thing that can't be known is what is told.
+    doubts(why) {
+        this.doubt ??= why;
     }
 
     // Whether a command is one of the toolkit, which is carried out.
@@ -325,12 +279,25 @@ export class Toolkit {
     }
 
     fetched(data) {
-        if (!this.out || hexed(data) !== hexed(spelled(this.out.command, this.out.number))) {
-            this.doubt = OTHER_APPLETS;
+        if (!this.out?.command || hexed(data) !== hexed(spelled(this.out.command, this.out.number))) {
+            this.doubts(OTHER_APPLETS);
+            const found = readCommand(data);
+            if (found) {
+                this.number = found.number;
+                this.out = { ...found, owner: this.ownerOf(found.command) };
+            }
         }
         if (this.out) {
             this.out.isFetched = true;
         }
+    }
+
+    // Whose a command is that wasn't worked out.
+    ownerOf({ kind }) {
+        if (OF_THE_CARD.includes(kind)) {
+            return null;
+        }
+        return this.applets.size === 1 ? [...this.applets.keys()][0] : NOBODY_KNOWN;
     }
 
     toldProfile(profile) {
@@ -342,19 +309,12 @@ export class Toolkit {
         const owner = this.applets.get(this.out?.owner);
         this.out = null;
         if (owner) {
-            this.run(owner, { name: "response", body }, true);
+            this.run(owner, response(body), true);
         }
     }
 
     enveloped(envelope) {
-        let template = null;
-        try {
-            template = templateOf(envelope);
-        } catch (fault) {
-            if (!(fault instanceof BadTlv)) {
-                throw fault;
-            }
-        }
+        const template = orNull(() => templateOf(envelope));
         const value = template && ABOUT[template.tag] ? valueIn(template.value, ABOUT[template.tag]) : null;
         if (value?.length) {
             this.happened(template, value);
@@ -392,7 +352,7 @@ export class Toolkit {
     trigger(applets, code, body, isKept = false) {
         for (const applet of applets) {
             if (this.isIdle(applet.shelf)) {
-                this.run(applet, { name: "event", code, body });
+                this.run(applet, event(code, body));
             } else if (isKept) {
                 this.late.push({ shelf: applet.shelf, code, body });
             }
@@ -400,47 +360,71 @@ export class Toolkit {
     }
 
     run(applet, begun, isResumed = false) {
-        const isCallControl = begun.code === CALL_CONTROL;
-        let told = begun;
-        for (let count = 0; count < MOST_ACTS; count += 1) {
-            const act = applet.step(told);
-            if (!act) {
+        try {
+            if (this.hasEnded(applet, begun, isResumed)) {
                 return;
             }
-            if (act.name === "send" && !isCallControl && this.admits(applet, act.value)) {
-                this.send(applet, act.value, isResumed);
-                return;
+        } catch (fault) {
+            if (!(fault instanceof Unknown)) {
+                throw fault;
             }
-            told = act.name === "send" ? REFUSED : this.done(applet, act);
+            this.doubts(`what the applet on shelf ${applet.shelf} does isn't known: ${fault.message}`);
         }
         applet.wake();
     }
 
-    // Carries out an act that sends nothing, and answers what the applet is told.
-    done(applet, { name, value }) {
-        if (name === "register" || name === "deregister") {
-            return this.changeEvents(applet, name, value);
-        }
-        if (name === "take") {
-            const free = TIMERS.find((timer) => !this.timers.has(timer));
-            if (free === undefined) {
-                return REFUSED;
+    // Whether an applet is done, or has a command to send, before it did too many acts.
+    hasEnded(applet, begun, isResumed) {
+        const isCallControl = begun.name === "Event" && begun.parts[0] === CALL_CONTROL;
+        let told = begun;
+        for (let count = 0; count < MOST_ACTS; count += 1) {
+            const { name, parts } = applet.step(told);
+            if (name === DONE) {
+                return true;
             }
-            this.timers.set(free, applet.shelf);
-            return { name: "timer", code: free };
+            const sent = name === "Send" ? SPELLED[parts[0].name](...parts[0].parts) : null;
+            if (sent && !isCallControl && this.admits(applet, sent)) {
+                this.send(applet, sent, isResumed);
+                return true;
+            }
+            told = sent ? REFUSED : this.done(applet, name, parts[0]);
         }
-        if (name === "free") {
-            return this.timers.get(value) === applet.shelf && this.timers.delete(value) ? WENT : REFUSED;
-        }
-        return name === "keep" && value.length > LONGEST_KEEP ? REFUSED : WENT;
+        return false;
     }
 
-    changeEvents(applet, name, code) {
-        const isTaken = code === CALL_CONTROL && this.order(code).some((other) => other !== applet);
-        if (!EVENTS.includes(code) || (name === "register" && isTaken)) {
+    // Carries out an act that sends nothing, and answers what the applet is told.
+    done(applet, name, value) {
+        const acts = {
+            Keep: () => this.keep(applet, value), Register: () => this.changeEvents(applet, "add", value), Answer: () => WENT,
+            Deregister: () => this.changeEvents(applet, "delete", value), TakeTimer: () => this.takeTimer(applet),
+            FreeTimer: () => (this.timers.get(value) === applet.shelf && this.timers.delete(value) ? WENT : REFUSED),
+        };
+        return acts[name]();
+    }
+
+    keep(applet, content) {
+        if (content.length > LONGEST_KEEP) {
             return REFUSED;
         }
-        applet.events[name === "register" ? "add" : "delete"](code);
+        applet.kept = [...content];
+        return WENT;
+    }
+
+    takeTimer(applet) {
+        const free = TIMERS.find((timer) => !this.timers.has(timer));
+        if (free === undefined) {
+            return REFUSED;
+        }
+        this.timers.set(free, applet.shelf);
+        return made("Timer", free);
+    }
+
+    changeEvents(applet, how, code) {
+        const isTaken = code === CALL_CONTROL && this.order(code).some((other) => other !== applet);
+        if (!EVENTS.includes(code) || (how === "add" && isTaken)) {
+            return REFUSED;
+        }
+        applet.events[how](code);
         return WENT;
     }
 
@@ -476,7 +460,7 @@ export class Toolkit {
                 break;
             }
             const [{ shelf, code, body }] = this.late.splice(at, 1);
-            this.run(this.applets.get(shelf), { name: "event", code, body });
+            this.run(this.applets.get(shelf), event(code, body));
         }
         if (this.out) {
             return;
@@ -495,16 +479,16 @@ export class Toolkit {
         const events = [...EVENTS_IN_PROFILE].filter(([code, place]) => this.order(code).length && this.allows(place)).map(([code]) => code);
         if (events.join() !== this.announcedEvents.join() && this.allows(IN_PROFILE[KIND.setUpEventList])) {
             this.announcedEvents = events;
-            return command(KIND.setUpEventList, { objects: object(0x19, events) });
+            return SPELLED.SetUpEventList(events);
         }
         const entries = this.byShelf().filter(({ row }) => row.text.length).map(({ shelf, row }) => [shelf + 1, [...row.text]]);
         if (JSON.stringify(entries) !== this.announcedMenu && this.allows(IN_PROFILE[KIND.setUpMenu])) {
             this.announcedMenu = JSON.stringify(entries);
-            return choice(KIND.setUpMenu, "Menu", entries);
+            return choice(KIND.setUpMenu, MENU_TITLE, entries);
         }
         if (this.order(STATUS_COMMAND).length && !this.hasPoll && this.allows(IN_PROFILE[KIND.pollInterval])) {
             this.hasPoll = true;
-            return command(KIND.pollInterval, { objects: object(0x04, THIRTY_SECONDS) });
+            return SPELLED.PollInterval(POLLED_EACH);
         }
         return null;
     }
@@ -546,14 +530,25 @@ export class Toolkit {
             return "none";
         }
         const { owner, number, isFetched } = this.out;
-        const whose = owner === null ? "the card itself" : `the applet on shelf ${owner}`;
         const state = isFetched ? "fetched, waits for its response" : "waits to be fetched";
-        return `${commandName(this.out.command)}, number ${number}, of ${whose}: ${state}`;
+        return `${commandName(this.out.command)}${this.out.command ? `, number ${number}` : ""}, of ${ownerWords(owner)}: ${state}`;
     }
 }
 
-function commandName({ kind }) {
-    return toolkitName("commands", kind, `type ${hexByte(kind)}`);
+function ownerWords(owner) {
+    if (owner === null) {
+        return "the card itself";
+    }
+    return owner === NOBODY_KNOWN ? "an applet that isn't known" : `the applet on shelf ${owner}`;
+}
+
+function commandName(sent) {
+    return sent ? toolkitName("commands", sent.kind, `type ${hexByte(sent.kind)}`) : "a command that isn't known yet";
+}
+
+// Whether a status tells of a command that waits, by its length.
+function isToldBy({ command: sent, number }, status) {
+    return status === `91${hexByte(spelled(sent, number).length & 0xff)}`;
 }
 
 // The toolkit after some steps of a trace that begin with a card of these rows.

@@ -1,0 +1,234 @@
+"""tools/applet: a new kind, or another text, in a copy of the sources."""
+import contextlib
+import io
+import os
+import re
+import shutil
+import subprocess
+import sys
+import tempfile
+import unittest
+from unittest import mock
+
+import common
+from uicc import applet_rows, kinds, new_kind, process
+
+applet = common.load("applet")
+CRATES = os.path.join(process.TOP, "crates")
+# what is read and changed
+PARTS = {
+    "applet_trait": ("src", "specs", "proofs"), "boxed_applets": ("src", "specs"), "card_state": ("src", "specs", "proofs"), "layout_section": ("proofs",),
+    "toolkit_commands": ("src", "specs"), "uicc_program": ("proofs",), "uicc_run": ("specs",), "uicc_types": ("src", "specs"), "unit_trials": ("src", "data"),
+    "run_cases": ("data",), "card_model": ("proofs",),
+}
+
+
+def files_of(folder):
+    """The files of a folder, with what they hold."""
+    found = {}
+    for place, _, names in os.walk(folder):
+        for name in names:
+            with open(os.path.join(place, name), encoding="utf-8") as text:
+                found[os.path.relpath(os.path.join(place, name), folder)] = text.read()
+    return found
+
+
+class Copy(unittest.TestCase):
+    def setUp(self):
+        self.folder = self.enterContext(tempfile.TemporaryDirectory(prefix="uicc-applet-"))
+        self.crates = os.path.join(self.folder, "crates")
+        for crate, parts in PARTS.items():
+            for part in parts:
+                shutil.copytree(os.path.join(CRATES, crate, part), os.path.join(self.crates, crate, part))
+        shutil.copy(os.path.join(CRATES, "unit_trials", "stdout"), os.path.join(self.crates, "unit_trials"))
+        shutil.copy(os.path.join(process.TOP, "crates.txt"), self.folder)
+        self.before = files_of(self.crates)
+
+    def text_of(self, *place):
+        with open(os.path.join(self.crates, *place), encoding="utf-8") as text:
+            return text.read()
+
+    def changed(self):
+        now = files_of(self.crates)
+        return {path for path in now if now[path] != self.before.get(path)}
+
+    def change(self, old, new, *place):
+        text = self.text_of(*place)
+        self.assertIn(old, text)
+        with open(os.path.join(self.crates, *place), "w", encoding="utf-8") as out:
+            out.write(text.replace(old, new))
+
+
+class New(Copy):
+    def test_two_kinds(self):
+        """Each new kind is the last one, has a shelf of its own, and does nothing yet; all places that name the kinds have it."""
+        for number, (name, kind, file, shelf) in enumerate((("parrot", "Parrot", "parrots", 31), ("night_owl", "NightOwl", "night_owls", 30)), 8):
+            with self.subTest(name=name):
+                made = new_kind.Kind(self.crates, name, "says again what is typed")
+                new, changed = new_kind.write(made)
+                self.assertEqual((made.number, made.shelf), (number, shelf))
+                self.assertEqual(new, [f"crates/boxed_applets/src/{file}.rt", f"crates/boxed_applets/specs/{kind}s.antt"])
+                self.assertEqual(len(changed), 15)
+                data = kinds.of_sources(self.crates)
+                self.assertEqual((data["kinds"][-1]["name"], data["shelves"][shelf], data["shelves"].count(number)), (name, number, 1))
+                self.assertEqual(data["shelves"][:30], kinds.of_file()["shelves"][:30])
+                differing, count = applet_rows.differing(kinds.Kinds(data), self.text_of("unit_trials", "data", "applets.table"))
+                self.assertEqual(differing, [])
+                whole = int(re.search(r"\d+", self.text_of("unit_trials", "stdout"))[0])
+                self.assertEqual(whole - int(re.search(r"\d+", self.before["unit_trials/stdout"])[0]), 5 * (number - 7))
+                self.assertIn(f"applet {name} - => kind {number}\n", self.text_of("unit_trials", "data", "applets.table"))
+                self.assertGreater(count, 290)
+        self.assertEqual({path for path in self.changed() if path in self.before}, {place.removeprefix("crates/") for place in changed})
+        self.judge_places()
+
+    def judge_places(self):
+        casts, serve = self.text_of("boxed_applets", "src", "casts.rt"), self.text_of("uicc_program", "proofs", "serve", "Answers.antt")
+        arms = re.findall(r"^            (\w+) => \$crate::in_box!\(\$alloc, \$crate::(\w+)::new", casts, re.MULTILINE)
+        self.assertEqual([arm for arm, _ in arms], [*"12345678", "_"])
+        self.assertEqual([kind for _, kind in arms][-3:], ["Table", "Parrot", "NightOwl"])
+        self.assertEqual(len(re.findall(r"^  \| in", serve, re.MULTILINE)), 9)
+        named = re.search(r"serve\.Goals\.\{(.*)\}", serve)[1].split(", ")
+        self.assertEqual(named, re.findall(r"^  \| (in\S+) w ↦", serve, re.MULTILINE))
+        self.assertIn("in_default+in_Continue-boxed_applet-boxed_applet-9+in_ok-put_on_shelf-9 w ↦ rw w.cast-is (w.in_ok-put_on_shelf-9.ensures.made, "
+                      "w.in_ok-put_on_shelf-9.ensures.next)\n", serve)
+        self.assertIn("LAST_KIND: u8 = 9;", self.text_of("card_state", "src", "sizes.rt"))
+        self.assertIn("      ≡ 9 ∷ 0x0F", self.text_of("uicc_run", "specs", "StandardNumbers.antt"))
+        self.assertIn("(if kind == 9 then night_owl mind stimulus\n    else done mind))))))))\n", self.text_of("applet_trait", "specs", "Turns.antt"))
+        lawful = self.text_of("applet_trait", "proofs", "IsLawfulLemmas.antt")
+        self.assertIn("(either _ (night_owl_lawful mind stimulus none) (lawful_done mind none)))))))))\n", lawful)
+        for text in (lawful, self.text_of("applet_trait", "proofs", "IsProperActLemmas.antt"), self.text_of("applet_trait", "specs", "Turns.antt")):
+            clauses = re.findall(r"^by_kind.*?\n\n", text, re.MULTILINE | re.DOTALL)
+            self.assertTrue(clauses and all(each.count("(") == each.count(")") for each in clauses), clauses)
+        modules = re.findall(r"^mod (\w+);", self.text_of("boxed_applets", "src", "lib.rt"), re.MULTILINE)
+        self.assertEqual(modules, sorted(modules))
+        self.assertIn("night_owls", modules)
+
+    # a name and what it does, and why there can be no such kind
+    REFUSED = [
+        ("Parrot", "x", "small letters"), ("2x", "x", "small letters"), ("a__b", "x", "small letters"), ("", "x", "small letters"), ("menu", "x", "`menu` is a name"),
+        ("done", "x", "`done` is a name"), ("fn", "x", "`fn` is a name"), ("map", "x", "`map` is a name"), ("state", "x", "is a name"), ("cast", "x", "`casts` is a name"),
+        ("act", "x", "`act` is a name"), ("parrot", "Says", "a few words"), ("parrot", "says\nagain", "a few words"), ("parrot", "says. More", "a few words"),
+        ("parrot", "s" * 70, "a few words"), ("parrot", "*/ x", "a few words"),
+    ]
+
+    def test_refused(self):
+        for name, does, said in self.REFUSED:
+            with self.subTest(name=name, does=does), self.assertRaisesRegex(new_kind.Refused, said):
+                new_kind.Kind(self.crates, name, does)
+        self.assertEqual(self.changed(), set())
+
+    def test_no_shelf(self):
+        made = new_kind.Kind(self.crates, "parrot", "says")
+        made.shelf = 0
+        with self.assertRaisesRegex(new_kind.Refused, "no shelf is left"):
+            made.refuse("parrot", "says")
+
+    # what stands otherwise in the sources, and what is said of it
+    OTHERWISE = [
+        (("boxed_applets", "src", "casts.rt"), "_ => $crate::in_box!", "_  => $crate::in_box!", "casts.rt has nothing like"),
+        (("uicc_program", "proofs", "serve", "Answers.antt"), "  | in_default", "  |  in_default", "Answers.antt has nothing like"),
+        (("unit_trials", "src", "applets.rt"), '"table" => Kind::Table,', '"tables" => Kind::Table,', "applets.rt has .* 0 times"),
+        (("applet_trait", "proofs", "IsLawfulLemmas.antt"), "by_kind_lawful : ", "by_kind_lawfully : ", "IsLawfulLemmas.antt has .* 0 times"),
+    ]
+
+    def test_all_or_nothing(self):
+        """Where one place is in another form nothing is written."""
+        for place, old, new, said in self.OTHERWISE:
+            self.change(old, new, *place)
+            with self.subTest(place=place), self.assertRaisesRegex(new_kind.Refused, said):
+                new_kind.write(new_kind.Kind(self.crates, "parrot", "says"))
+            self.assertEqual(self.changed(), {os.path.join(*place)})
+            self.change(new, old, *place)
+
+    def test_formatted(self):
+        """Long lists of names are laid out as rt fmt does."""
+        wanted = "use boxed_applets::{\n    " + ", ".join(f"Kind{number}" for number in range(10, 22)) + ",\n    Kind22, Kind23, Menu, boxed_applet,\n};"
+        found = new_kind.imported(", ".join([*(f"Kind{number}" for number in range(10, 24)), "boxed_applet"]), "Menu")
+        self.assertEqual(found, wanted)
+
+
+class Texts(Copy):
+    def test_new(self):
+        places, old = new_kind.put_text(self.crates, "SAY", "Say?")
+        self.assertEqual((len(places), old), (3, None))
+        self.assertTrue(self.text_of("applet_trait", "src", "texts.rt").endswith('\n\npub const SAY: &[u8] = b"Say?";\n'))
+        self.assertIn("ASK_FOR_NOTE, SAY}\n", self.text_of("applet_trait", "specs", "Tables.antt"))
+        numbers = self.text_of("uicc_run", "specs", "StandardNumbers.antt")
+        self.assertIn(" ∷ text.SAY.now ∷ []\n", numbers)
+        self.assertIn(" ∷ (0x53 ∷ 0x61 ∷ 0x79 ∷ 0x3F ∷ []) ∷ []\n", numbers)
+
+    def test_another(self):
+        """Another text stands in each place, and who shows the old one is told."""
+        places, old = new_kind.put_text(self.crates, "TICK", "Tock")
+        self.assertEqual(old, "Tick")
+        self.assertEqual(len(places), 4)
+        for place in places:
+            self.assertNotIn('"Tick"', self.text_of(*place.split("/")[1:]))
+        self.assertNotIn("0x54 ∷ 0x69 ∷ 0x63 ∷ 0x6B", self.text_of("uicc_run", "specs", "StandardNumbers.antt"))
+        data = kinds.of_sources(self.crates)
+        known = kinds.Kinds(data)
+        does, _ = known.turn(known.fresh(2, b""), new_kind_event(0x44, (1,)))
+        self.assertEqual(applet_rows.act_shown(does), 'send display text "Tock"')
+        self.assertEqual(dict(new_kind.places_with(self.crates, "Tick"))["crates/unit_trials/data/applets.table"], 6)
+        self.assertIn("crates/card_model/proofs/worked/Toolkit.antt", dict(new_kind.places_with(self.crates, "Hi")))
+
+    # a name, a text, and why there can be no such one
+    REFUSED = [("say", "Say?", "large letters"), ("SAY", "", "1 to 255 letters"), ("SAY", 'a"b', "1 to 255 letters"), ("SAY", "é", "1 to 255 letters"),
+               ("SAY", "x" * 256, "1 to 255 letters"), ("MINUTES", "x", "the name of a number")]
+
+    def test_refused(self):
+        for name, text, said in self.REFUSED:
+            with self.subTest(name=name, text=text), self.assertRaisesRegex(new_kind.Refused, said):
+                new_kind.put_text(self.crates, name, text)
+        self.assertEqual(self.changed(), set())
+
+
+def new_kind_event(code, body):
+    return kinds.evaluation.Made("Event", (code, body))
+
+
+class Words(Copy):
+    def told(self, *words):
+        out, said = io.StringIO(), io.StringIO()
+        place = os.path.join(self.folder, "kinds.json")
+        if not os.path.exists(place):
+            shutil.copy(kinds.PLACE, place)
+        with mock.patch.object(applet, "CRATES", self.crates), mock.patch.object(kinds, "PLACE", place), mock.patch.object(process, "TOP", self.folder), \
+                mock.patch.object(sys, "argv", ["applet", *words]), contextlib.redirect_stdout(out), contextlib.redirect_stderr(said):
+            status = applet.main()
+        return status, out.getvalue().splitlines(), said.getvalue()
+
+    def test_words(self):
+        status, shown, _ = self.told("new", "parrot", "--does", "says again what is typed")
+        self.assertEqual((status, shown[0]), (0, "kind 8, parrot, on shelf 31, where a watcher stood"))
+        self.assertIn("new: crates/boxed_applets/src/parrots.rt", shown)
+        self.assertIn("kinds.json: written", shown)
+        self.assertTrue(all(os.path.exists(os.path.join(self.folder, line.split(": ")[1])) for line in shown if line.startswith(("new: ", "changed: "))))
+        self.assertEqual(self.told("write")[1], ["kinds.json: as it is"])
+        status, shown, _ = self.told("rows")
+        self.assertEqual((status, shown), (0, ["297 rows, 0 differ"]))
+        self.change("parrot mind _ = done mind", "parrot mind _ = turn mind TakeTimer 1", "applet_trait", "specs", "Tables.antt")
+        status, shown, _ = self.told("rows")
+        self.assertEqual((status, shown[-1]), (1, "297 rows, 5 differ"))
+        self.assertEqual(shown[1], "    by the definitions take timer")
+        status, _, said = self.told("new", "parrot")
+        self.assertEqual((status, said), (2, "applet: `parrot` is a name of the sources already\n"))
+        status, shown, _ = self.told("text", "GREETING", "Moin")
+        self.assertEqual((status, shown[0]), (0, "the text GREETING is `Moin`, and was `Hi`"))
+
+    def test_list(self):
+        path = os.path.join(common.TOOLS, "applet")
+        done = subprocess.run([sys.executable, "-B", path, "list"], capture_output=True, text=True, check=True)
+        lines = done.stdout.splitlines()
+        self.assertEqual(len(lines), len(kinds.of_file()["kinds"]))
+        self.assertRegex(lines[0], r"^1  greeter +greets +shelves 0, 7, 14, 21, 28$")
+
+    def test_without_sources(self):
+        shutil.rmtree(self.crates)
+        status, _, said = self.told("new", "parrot")
+        self.assertEqual(status, 2)
+        self.assertIn("the sources are not here", said)
+
+
+if __name__ == "__main__":
+    unittest.main()

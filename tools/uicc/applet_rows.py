@@ -1,0 +1,174 @@
+"""What the definitions of the kinds say to the rows of applets (crates/unit_trials/data/applets.table), with nothing built: the same rows
+that the code is tried with. docs/CASES.md has their words."""
+import dataclasses
+import itertools
+import os
+
+from . import process
+from .evaluation import Made, Unknown
+
+TABLE = os.path.join("crates", "unit_trials", "data", "applets.table")
+LONG_RUN = 8
+LONGEST_TEXT = 20
+
+
+class NotARow(Exception):
+    """A line is in no form of a row."""
+
+
+@dataclasses.dataclass(frozen=True)
+class Row:
+    line: int
+    words: tuple
+    wanted: str
+    differs: bool
+
+
+# the words of a row
+
+def bytes_of(word):
+    found = b""
+    for part in word.split("+"):
+        if part.startswith('"') and part.endswith('"') and len(part) > 1:
+            found += part[1:-1].encode()
+        elif "*" in part:
+            byte, _, count = part.partition("*")
+            found += bytes.fromhex(byte) * int(count)
+        elif part != "-":
+            found += bytes.fromhex(part)
+    return found
+
+
+def stimulus(words):
+    match words:
+        case ["event", code, body]:
+            return Made("Event", (int(code, 16), tuple(bytes_of(body))))
+        case ["response", result, item, text]:
+            return Made("Response", (int(result, 16), int(item), tuple(bytes_of(text))))
+        case ["timer", number]:
+            return Made("Timer", (int(number),))
+        case ["went" | "refused" as name]:
+            return Made(name.capitalize(), ())
+    raise NotARow(" ".join(words))
+
+
+# an act in the words of a row
+
+def bytes_shown(content):
+    parts = []
+    for byte, run in itertools.groupby(content):
+        count = len(list(run))
+        if count >= LONG_RUN:
+            parts.append([f"{byte:02X}*{count}"])
+        elif parts and len(parts[-1]) != 1:
+            parts[-1].append(f"{byte:02X}" * count)
+        else:
+            parts.append(["", f"{byte:02X}" * count])
+    return "+".join(map("".join, parts)) or "-"
+
+
+def text_shown(content):
+    is_plain = all(0x20 < byte < 0x7F and byte != 0x22 for byte in content)
+    return '"' + bytes(content).decode() + '"' if is_plain and len(content) <= LONGEST_TEXT else bytes_shown(content)
+
+
+def items_shown(items):
+    return ", ".join(f"{item['id']} {text_shown(item['text'])}" for item in items) or "none"
+
+
+SENT = {
+    "Refresh": "refresh {}".format, "MoreTime": lambda: "more time", "PollInterval": "poll interval {} seconds".format,
+    "SetUpEventList": lambda events: f"set up event list {bytes_shown(events)}", "PlayTone": "play tone {:02X}".format,
+    "DisplayText": lambda text: f"display text {text_shown(text)}", "GetInkey": lambda text: f"get inkey {text_shown(text)}",
+    "GetInput": lambda text, digits, least, most: f"get input {text_shown(text)} {least} to {most} {'digits' if digits else 'characters'}",
+    "SelectItem": lambda title, items: f"select item {text_shown(title)} of {items_shown(items)}",
+    "SetUpMenu": lambda title, items: f"set up menu {text_shown(title)} of {items_shown(items)}",
+    "LocalInformation": "local information {:02X}".format,
+    "TimerManagement": lambda action, timer, value: f"timer {timer} action {action} {value['hours']:02}:{value['minutes']:02}:{value['seconds']:02}",
+    "IdleText": lambda text: f"idle text {text_shown(text)}",
+}
+ACTS = {
+    "Done": lambda: "done", "Send": lambda command: "send " + SENT[command.name](*command.parts), "Keep": lambda kept: f"keep {bytes_shown(kept)}",
+    "Register": "register {:02X}".format, "Deregister": "deregister {:02X}".format, "TakeTimer": lambda: "take timer",
+    "FreeTimer": "free timer {}".format, "Answer": lambda allows: "allow" if allows else "bar",
+}
+
+
+def act_shown(act):
+    return ACTS[act.name](*act.parts)
+
+
+# rows
+
+def rows_of(text):
+    for number, line in enumerate(text.splitlines(), 1):
+        if not line or line.startswith("#"):
+            continue
+        given, arrow, wanted = line.partition(" => ")
+        words = tuple(given.split())
+        if not arrow or not words:
+            raise NotARow(f"line {number}: {line}")
+        yield Row(number, words[words[0] == "differs":], wanted, words[0] == "differs")
+
+
+class Trial:
+    """Rows carried out by the definitions, one after the other: the applet that woke last takes the next stimulus."""
+
+    def __init__(self, known):
+        self.known, self.mind = known, None
+
+    def carry_out(self, words):
+        """What a row comes to."""
+        word, *rest = words
+        match word, rest:
+            case "applet", [kind, kept]:
+                return self._woken(self._shelf_of(kind), kept)
+            case "wake", [kept] if self.mind:
+                return self._woken(self.known.shelves_of(self.known.names[self.mind["kind"] - 1])[0], kept)
+            case "on", told if self.mind:
+                return self._turned(told)
+            case "boxed", [kind, kept, *told]:
+                return self._alone(self._shelf_of(kind), kept, told)
+            case "shelf", [number, kept, *told]:
+                return self._alone(int(number), kept, told)
+            case "shelf", [number]:
+                return f"kind {self.known.data['shelves'][int(number)]}"
+        raise NotARow(" ".join(words))
+
+    def _shelf_of(self, kind):
+        if kind not in self.known.names:
+            raise NotARow(f"there is no kind {kind}")
+        return self.known.shelves_of(kind)[0]
+
+    def _woken(self, shelf, kept):
+        self.mind = self.known.fresh(shelf, bytes_of(kept))
+        return f"kind {self.mind['kind']}"
+
+    def _turned(self, told):
+        does, self.mind = self.known.turn(self.mind, stimulus(list(told)))
+        return act_shown(does)
+
+    def _alone(self, shelf, kept, told):
+        does, _ = self.known.turn(self.known.fresh(shelf, bytes_of(kept)), stimulus(list(told)))
+        return f"kind {self.known.on(shelf)}, {act_shown(does)}"
+
+
+def differing(known, text):
+    """The rows that differ, each with what it comes to, and how many rows there are."""
+    trial, count, found = Trial(known), 0, []
+    for row in rows_of(text):
+        count += 1
+        try:
+            shown = trial.carry_out(row.words)
+        except (NotARow, ValueError) as fault:
+            shown = f"no row: {fault}"
+        except Unknown as fault:
+            shown = f"not known: {fault}"
+        if (shown == row.wanted) == row.differs:
+            found.append((row, shown))
+    return found, count
+
+
+def text_here():
+    with open(os.path.join(process.TOP, TABLE), encoding="utf-8") as text:
+        return text.read()
