@@ -127,7 +127,7 @@ class New(Copy):
     OTHERWISE = [
         (("boxed_applets", "src", "casts.rt"), "_ => $crate::in_box!", "_  => $crate::in_box!", "casts.rt has nothing like"),
         (("uicc_program", "proofs", "serve", "Answers.antt"), "  | in_default", "  |  in_default", "Answers.antt has nothing like"),
-        (("unit_trials", "src", "applets.rt"), '"table" => Kind::Table,', '"tables" => Kind::Table,', "applets.rt has .* 0 times"),
+        (("unit_trials", "src", "applets.rt"), '"table" => Some(Kind::Table),', '"tables" => Kind::Table,', "applets.rt has .* 0 times"),
         (("applet_trait", "proofs", "IsLawfulLemmas.antt"), "by_kind_lawful : ", "by_kind_lawfully : ", "IsLawfulLemmas.antt has .* 0 times"),
     ]
 
@@ -206,7 +206,7 @@ class Words(Copy):
         self.assertTrue(all(os.path.exists(os.path.join(self.folder, line.split(": ")[1])) for line in shown if line.startswith(("new: ", "changed: "))))
         self.assertEqual(self.told("write")[1], ["kinds.json: as it is"])
         status, shown, _ = self.told("rows")
-        self.assertEqual((status, shown), (0, ["297 rows, 0 differ"]))
+        self.assertEqual((status, shown), (0, ["328 rows, 0 differ"]))
         self.change("parrot mind _ = done mind", "parrot mind _ = turn mind TakeTimer 1", "applet_trait", "specs", "Tables.antt")
         status, shown, _ = self.told("rows")
         self.assertEqual((status, shown[-1]), (1, "297 rows, 5 differ"))

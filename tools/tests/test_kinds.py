@@ -193,7 +193,7 @@ class Rows(unittest.TestCase):
         ("applet nobody - => kind 1\n", [1]), ("on event 40 - => done\n", [1]), ("applet greeter - => kind 1\non nothing => done\n", [2]),
         ('boxed notebook "AB"+07*9 event 40 - => kind 6, send display text 414207*9\n', [1]),
         ('boxed notebook "AB"+07*9 event 40 - => kind 6, send display text 4142+07*9\n', []),
-        ("shelves => kinds 1\n", [1]),
+        ("shelf 1 => kind 1\n", [1]),
     ]
 
     def test_differing(self):

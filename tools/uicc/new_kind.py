@@ -116,8 +116,8 @@ boxed {name} "AB" event 40 - => kind {number}, done
 
 # a line for each kind in the trials of units
 LINES = (
-    "    {name}: {type},\n", "            {name}: {type}::new(),\n", '        "{name}" => Kind::{type},\n',
-    "            Some(Kind::{type}) => show_asked(alloc, &mut self.{name}, asked, shown),\n", "        Kind::{type} => in_box!(alloc, {type}::new()),\n",
+    "    {name}: {type},\n", "            {name}: {type}::new(),\n", '        "{name}" => Some(Kind::{type}),\n',
+    "            Some(Kind::{type}) => show_asked(&mut self.{name}, asked, row),\n", "        Some(Kind::{type}) => in_box!(alloc, {type}::new()),\n",
 )
 
 
@@ -291,7 +291,7 @@ class Kind:
             source.replace(last, last + line.format(**self.words))
         source.replace(f"    {type_of(self.last)},\n}}", f"    {type_of(self.last)},\n    {kind},\n}}")
         table.before("# One applet of each kind in a box", ROWS.format(**self.words))
-        table.sub(rf"^(shelves => kinds (?:\d+ ){{{self.shelf}}})\d+", rf"\g<1>{self.number}")
+        table.sub(rf"^(shelf {self.shelf} => kind )\d+", rf"\g<1>{self.number}")
         table.text = re.sub(rf"^(shelf {self.shelf} .* => kind )\d+, .*$", rf"\g<1>{self.number}, done", table.text, flags=re.MULTILINE)
         rows = ROWS.count("=>")
         stdout.sub(r"^(\d+) rows, 0 differ", lambda found: f"{int(found[1]) + rows} rows, 0 differ")
