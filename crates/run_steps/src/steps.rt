@@ -103,7 +103,9 @@ pub fn take_step<S: Store, B: Applet, W: Sink>(
 }
 
 /// Sends a command to the card, as it is or over a link, and answers what came of it; an answer stands in `answer`. The command's
-/// line is written first, and where the sink fails in it, the card is sent nothing. The trace is the same over either carrier.
+/// line is written first, and where the sink fails in it, the card is sent nothing. The trace is the same over either carrier. Each
+/// command passes through it, so it is inlined.
+#[inline(always)]
 pub fn exchange<S: Store, B: Applet, W: Sink>(
     end: &mut CardEnd<S, B>,
     carrier: &mut Carrier,

@@ -1,7 +1,9 @@
 -- Bytes written in hexadecimal digits, one after the other.
-use Rattle.std.proofs.Common.{◌≡◌, ℕ, zero, suc, ◌*◌, ◌/◌, ◌%◌, List, [], ◌∷◌, ◌++◌, length, take, map, slice_index, refl, sym, ap, ◌∙◌, arith}
+use Rattle.std.proofs.Common.{◌≡◌, ℕ, zero, suc, ◌+◌, ◌*◌, ◌/◌, ◌%◌, ◌<◌, List, [], ◌∷◌, ◌++◌, length, take, map, slice_index, slice_set, refl, sym, ap, ◌∙◌, arith}
 use Rattle.std.specs.Char.{to_ascii_uppercase}
-use Rattle.std.proofs.lemmas.List.{append-nil, append_assoc, take-map, take_at}
+use Rattle.std.proofs.lemmas.List.{append-nil, append_assoc, map-append, take-map, take_at}
+use Rattle.std.proofs.lemmas.Slice.{take-put_mid}
+use borrow.Rule.Slice.PartMut.{put_mid}
 use Rattle.hex.proofs.HexLemmas.{length-encode_with}
 use Rattle.hex.specs.Hex.{encode_lower, encode_upper, encode_with, lower_digits, upper_digits}
 
@@ -53,3 +55,45 @@ front_raised bytes out rest written =
     let size : length out ≡ 2 * length bytes = ap (λ (xs : List ℕ). length xs) written ∙ length-encode_with lower_digits bytes in
     take-map to_ascii_uppercase (2 * length bytes) (out ++ rest)
     ∙ ap (map to_ascii_uppercase) (take_at out rest (2 * length bytes) size ∙ written) ∙ raised bytes
+
+-- the front of a list up to a place that was set
+take_set : (xs : List ℕ) (place byte : ℕ) → place < length xs → take (suc place) (slice_set xs place byte) ≡ take place xs ++ byte ∷ []
+take_set [] place byte inside = absurd (omega (arith, inside))
+take_set (x ∷ xs) zero byte inside = refl
+take_set (x ∷ xs) (suc place) byte inside = ap (λ (rest : List ℕ). x ∷ rest) (take_set xs place byte (omega (arith, inside)))
+
+-- a mark and a space stand at the front of a list
+marked : (text : List ℕ) (mark : ℕ) → 2 < length text → take 2 (slice_set (slice_set text 0 mark) 1 32) ≡ mark ∷ 32 ∷ []
+marked [] mark room = absurd (omega (arith, room))
+marked (one ∷ []) mark room = absurd (omega (arith, room))
+marked (one ∷ two ∷ text) mark room = refl
+
+-- a line is filled in from its front on: the mark and the space, two parts, and the end
+pub line_filled : (text first second : List ℕ) (mark middle end room more : ℕ) → 2 < length text → middle ≡ 2 + length first → end ≡ middle + length second
+    → let marked_text = slice_set (slice_set text 0 mark) 1 32 in
+    let longer = put_mid 2 room marked_text first in
+    let filled = put_mid middle more longer second in
+    2 < length marked_text → middle < length longer → end < length filled
+    → take (end + 1) (slice_set filled end 10) ≡ mark ∷ 32 ∷ (first ++ second) ++ 10 ∷ []
+line_filled text first second mark middle end room more some first_fits second_fits enough within inside =
+    let marked_text = slice_set (slice_set text 0 mark) 1 32 in
+    let longer = put_mid 2 room marked_text first in
+    let filled = put_mid middle more longer second in
+    let behind : end + 1 ≡ suc end = omega arith in
+    ap (λ (count : ℕ). take count (slice_set filled end 10)) behind ∙ take_set filled end 10 inside
+    ∙ ap (λ (front : List ℕ). front ++ 10 ∷ [])
+    (take-put_mid middle more longer second end second_fits (omega (arith, within))
+    ∙ ap (λ (front : List ℕ). front ++ second)
+    (take-put_mid 2 room marked_text first middle first_fits (omega (arith, enough)) ∙ ap (λ (front : List ℕ). front ++ first) (marked text mark some)))
+
+-- the same once all letters are raised, of a mark that stays as it is
+pub line_raised : (text body status : List ℕ) (mark end : ℕ) → to_ascii_uppercase mark ≡ mark
+    → take (end + 1) text ≡ mark ∷ 32 ∷ (encode_lower body ++ encode_lower status) ++ 10 ∷ []
+    → take (end + 1) (map to_ascii_uppercase text) ≡ mark ∷ 32 ∷ encode_upper (body ++ status) ++ 10 ∷ []
+line_raised text body status mark end stays filled =
+    take-map to_ascii_uppercase (end + 1) text ∙ ap (map to_ascii_uppercase) filled
+    ∙ ap (λ (first : ℕ). first ∷ 32 ∷ map to_ascii_uppercase ((encode_lower body ++ encode_lower status) ++ 10 ∷ [])) stays
+    ∙ ap (λ (rest : List ℕ). mark ∷ 32 ∷ rest)
+    (map-append to_ascii_uppercase (encode_lower body ++ encode_lower status) (10 ∷ [])
+    ∙ ap (λ (digits : List ℕ). map to_ascii_uppercase digits ++ 10 ∷ []) (sym (encode_with-append lower_digits body status))
+    ∙ ap (λ (digits : List ℕ). digits ++ 10 ∷ []) (raised (body ++ status)))

@@ -11,7 +11,7 @@ use Rattle.script_form.specs.declared.keywords.Structure.TheVariants as structur
 use Rattle.script_form.specs.declared.keywords.UserAct.{UserAct}
 use Rattle.script_form.specs.declared.keywords.UserAct.TheVariants as user
 use Rattle.script_form.specs.declared.lines.ScriptLine.{ScriptLine}
-use Rattle.script_form.specs.declared.lines.ScriptLine.TheVariants.{Passed, Start, Reset, Df, Transparent, Linear, Cyclic, Fill, Rec, Pin, Row, Apdu, Tpdu, Cut, Fail, ReadFail, UserOk, UserEnd, UserBack, UserNone, UserType, UserPick, UserPress, UserIdle, UserDial, NetPlace, NetPoll, Time, Cmd, Echo, Lose}
+use Rattle.script_form.specs.declared.lines.ScriptLine.TheVariants.{Passed, Start, Reset, Df, Transparent, Linear, Cyclic, Fill, Rec, Pin, Row, Apdu, Tpdu, Cut, Fail, ReadFail, UserOk, UserEnd, UserBack, UserNone, UserPick, UserPress, UserIdle, UserDial, NetPlace, NetPoll, Time, Cmd, Echo, Lose}
 use Rattle.script_form.specs.Forms.{Ends, IsLine, IsStatement, IsTyping, cut_form, cut_whole, file_form, form_of, is_passed, network_form, record_form, user_form}
 use Rattle.script_form.proofs.PathLemmas.{length-path}
 use Rattle.script_form.specs.Values.{IsPath, IsRule, IsShort, IsSwitch, path_bytes}

@@ -1,7 +1,8 @@
 //! Trace lines, written.
-ghost use Rattle.std.specs.Prelude.{◌≡◌, ◌+◌, ◌*◌, ◌/◌, ◌%◌, ◌≤◌, ◌++◌, ◌∷◌, [], decimal, length, IsErr, OnErr, OnOk};
+ghost use Rattle.std.specs.Prelude.{◌≡◌, ◌+◌, ◌*◌, ◌≤◌, ◌++◌, ◌∷◌, [], decimal, length, take, IsErr, OnErr, OnOk};
+ghost use Rattle.std.specs.Char.{to_ascii_uppercase};
 ghost use Rattle.std.specs.Io.KnownBytes.{append_known};
-ghost use Rattle.hex.specs.Hex.{encode_upper};
+ghost use Rattle.hex.specs.Hex.{encode_lower, encode_upper};
 ghost use Rattle.uicc_types.specs.Counts.{CountsFailure};
 ghost use Rattle.uicc_types.specs.Told.{Becomes};
 ghost use Rattle.byte_streams.specs.Streams.{TakesFront};
@@ -84,30 +85,22 @@ pub fn write_command<W: Sink>(sink: &mut W, apdu: &[u8]) -> Result<(), Failed>
     ensures cause { CountsFailure (W.faults sink.old) (W.faults sink.new) (IsErr result) }
 {
     if apdu.len() <= SHORT_BYTES {
-        short_command(sink, apdu)
+        put_command::<SHORT, W>(sink, apdu)
     } else {
-        long_command(sink, apdu)
+        put_command::<LONGEST, W>(sink, apdu)
     }
 }
 
-fn short_command<W: Sink>(sink: &mut W, apdu: &[u8]) -> Result<(), Failed>
-    requires { length apdu.now ≤ SHORT_BYTES }
+#[tactic(auto, unfolding(crate::specs::Traces::trace_text))]
+fn put_command<const N: usize, W: Sink>(sink: &mut W, apdu: &[u8]) -> Result<(), Failed>
+    requires fits { 2 * length apdu.now + 3 ≤ N }
+    requires size { N ≤ LONGEST }
     ensures put { IsPut (trace_text (line.Command apdu.now)) (W.taken sink.old) (W.taken sink.new) result }
     ensures cause { CountsFailure (W.faults sink.old) (W.faults sink.new) (IsErr result) }
 {
-    let mut text = ArrayVec::<u8, SHORT>::new();
-    put_command(&mut text, apdu);
-    sink.put(text.as_slice())
-}
-
-fn long_command<W: Sink>(sink: &mut W, apdu: &[u8]) -> Result<(), Failed>
-    requires { length apdu.now ≤ LONGEST_COMMAND }
-    ensures put { IsPut (trace_text (line.Command apdu.now)) (W.taken sink.old) (W.taken sink.new) result }
-    ensures cause { CountsFailure (W.faults sink.old) (W.faults sink.new) (IsErr result) }
-{
-    let mut text = ArrayVec::<u8, LONGEST>::new();
-    put_command(&mut text, apdu);
-    sink.put(text.as_slice())
+    let mut text = ArrayVec::from([0; N]);
+    let size = fill_line(text.as_mut_slice(), b'>', apdu, &[]);
+    sink.put(&text.as_slice()[..size])
 }
 
 /// Writes the line of an answer as `write_trace` does.
@@ -118,30 +111,61 @@ pub fn write_answer<W: Sink>(sink: &mut W, answer: &Answer) -> Result<(), Failed
         (Becomes (TakesFront (trace_text (line.Answer answer.now))) (W.taken sink.old) (W.taken sink.new)) }
     ensures cause { CountsFailure (W.faults sink.old) (W.faults sink.new) (IsErr result) }
 {
-    if answer.body.as_slice().len() + 2 <= SHORT_BYTES {
-        short_answer(sink, answer)
+    let body = answer.body.as_slice();
+    if body.len() + 2 <= SHORT_BYTES {
+        put_answer::<SHORT, W>(sink, body, answer.status)
     } else {
-        long_answer(sink, answer)
+        put_answer::<LONGEST, W>(sink, body, answer.status)
     }
 }
 
-fn short_answer<W: Sink>(sink: &mut W, answer: &Answer) -> Result<(), Failed>
-    requires { length answer.now.body + 2 ≤ SHORT_BYTES }
-    ensures put { IsPut (trace_text (line.Answer answer.now)) (W.taken sink.old) (W.taken sink.new) result }
+#[tactic(auto, unfolding(crate::specs::Traces::trace_text))]
+fn put_answer<const N: usize, W: Sink>(
+    sink: &mut W,
+    body: &[u8],
+    status: StatusWord,
+) -> Result<(), Failed>
+    requires fits { 2 * length body.now + 7 ≤ N }
+    requires size { N ≤ LONGEST }
+    ensures put { IsPut (trace_text (line.Answer (record { body = body.now; status = status })))
+        (W.taken sink.old) (W.taken sink.new) result }
     ensures cause { CountsFailure (W.faults sink.old) (W.faults sink.new) (IsErr result) }
 {
-    let mut text = ArrayVec::<u8, SHORT>::new();
-    put_answer(&mut text, answer.body.as_slice(), answer.status);
-    sink.put(text.as_slice())
+    let mut text = ArrayVec::from([0; N]);
+    let size = fill_line(text.as_mut_slice(), b'<', body, &status.0.to_be_bytes());
+    sink.put(&text.as_slice()[..size])
 }
 
-fn long_answer<W: Sink>(sink: &mut W, answer: &Answer) -> Result<(), Failed>
-    ensures put { IsPut (trace_text (line.Answer answer.now)) (W.taken sink.old) (W.taken sink.new) result }
-    ensures cause { CountsFailure (W.faults sink.old) (W.faults sink.new) (IsErr result) }
+/// Fills in the line of a command or an answer at the front of `text`, and answers how many bytes it has: a mark, a space, the digits of
+/// the bytes, and the end. It is inlined where the length of `text` is known: all of `text` is raised then, in a few steps, and what
+/// is no letter stays as it is.
+#[inline(always)]
+fn fill_line(text: &mut [u8], mark: u8, body: &[u8], status: &[u8]) -> usize
+    requires fits { 2 * length body.now + 2 * length status.now + 3 ≤ length text.old }
+    requires mark { to_ascii_uppercase mark ≡ mark }
+    ensures line { take result text.new ≡ mark ∷ 32 ∷ encode_upper (body.now ++ status.now) ++ 10 ∷ [] }
+    ensures within { result ≤ length text.new }
 {
-    let mut text = ArrayVec::<u8, LONGEST>::new();
-    put_answer(&mut text, answer.body.as_slice(), answer.status);
-    sink.put(text.as_slice())
+    let middle = 2 + 2 * body.len();
+    let end = middle + 2 * status.len();
+    text[0] = mark;
+    text[1] = b' ';
+    put_digits(body, &mut text[2..middle]);
+    put_digits(status, &mut text[middle..end]);
+    text[end] = b'\n';
+    text.make_ascii_uppercase();
+    end + 1
+}
+
+/// Writes two digits for each byte over `digits`, the letters in lower case.
+fn put_digits(bytes: &[u8], digits: &mut [u8])
+    requires { length digits.old ≡ 2 * length bytes.now }
+    ensures { digits.new ≡ encode_lower bytes.now }
+{
+    match encode_to_slice(bytes, digits) {
+        Ok(()) => {}
+        Err(_) => unreachable!(),
+    }
 }
 
 /// Writes the line of a note as `write_trace` does.
@@ -162,8 +186,9 @@ const LONGEST: usize = 2 + 2 * LONGEST_COMMAND + 1;
 /// Most lines show few bytes. A buffer is filled with zeros before it is used, so such a line is put together in a short one.
 const SHORT_BYTES: usize = 30;
 
-/// The bytes of a line of `SHORT_BYTES` bytes: a mark of two bytes, their digits, and the end.
-const SHORT: usize = 2 + 2 * SHORT_BYTES + 1;
+/// The bytes of a line of `SHORT_BYTES` bytes: a mark of two bytes, their digits, and the end. There is one more, since letters are
+/// raised 16 at once.
+const SHORT: usize = 2 + 2 * SHORT_BYTES + 1 + 1;
 
 /// The most bytes whose digits are written at once. Most lines show few, and letters are raised at once where their number is known.
 const FEW: usize = 16;
@@ -175,8 +200,13 @@ fn put_line(text: &mut ArrayVec<u8, LONGEST>, line: &TraceLine)
     ensures { text.new.items ≡ trace_text line.now }
 {
     match line {
-        TraceLine::Command(apdu) => put_command(text, apdu.as_slice()),
-        TraceLine::Answer(answer) => put_answer(text, answer.body.as_slice(), answer.status),
+        TraceLine::Command(apdu) => put_bytes(text, b"> ", apdu.as_slice()),
+        TraceLine::Answer(answer) => {
+            put_text(text, b"< ");
+            put_hex(text, answer.body.as_slice());
+            put_hex(text, &answer.status.0.to_be_bytes());
+            put_text(text, b"\n");
+        }
         TraceLine::Cut => put_text(text, b"! cut\n"),
         TraceLine::Off => put_text(text, b"! off\n"),
         TraceLine::Reset => put_text(text, b"! reset\n"),
@@ -217,31 +247,6 @@ fn put_line(text: &mut ArrayVec<u8, LONGEST>, line: &TraceLine)
             put_text(text, b"\n");
         }
     }
-}
-
-/// Puts the text of a command's line into an empty buffer.
-#[tactic(auto, using(crate::proofs::EncodeWithLemmas::joined_digits), unfolding(crate::specs::Traces::trace_text))]
-fn put_command<const N: usize>(text: &mut ArrayVec<u8, N>, apdu: &[u8])
-    requires empty { text.old.items ≡ [] }
-    requires fits { 2 * length apdu.now + 3 ≤ N }
-    ensures { text.new.items ≡ trace_text (line.Command apdu.now) }
-{
-    put_text(text, b"> ");
-    put_hex(text, apdu);
-    put_text(text, b"\n");
-}
-
-/// Puts the text of an answer's line into an empty buffer.
-#[tactic(auto, using(crate::proofs::EncodeWithLemmas::joined_digits), unfolding(crate::specs::Traces::trace_text))]
-fn put_answer<const N: usize>(text: &mut ArrayVec<u8, N>, body: &[u8], status: StatusWord)
-    requires empty { text.old.items ≡ [] }
-    requires fits { 2 * length body.now + 7 ≤ N }
-    ensures { text.new.items ≡ trace_text (line.Answer (record { body = body.now; status = status })) }
-{
-    put_text(text, b"< ");
-    put_hex(text, body);
-    put_hex(text, &status.0.to_be_bytes());
-    put_text(text, b"\n");
 }
 
 /// Puts words and the digits of bytes behind them into an empty buffer, with the end of the line.
@@ -311,10 +316,7 @@ fn put_few<const N: usize>(text: &mut ArrayVec<u8, N>, bytes: &[u8])
 {
     let mut digits = [0; 2 * FEW];
     let size = 2 * bytes.len();
-    match encode_to_slice(bytes, &mut digits[..size]) {
-        Ok(()) => {}
-        Err(_) => unreachable!(),
-    }
+    put_digits(bytes, &mut digits[..size]);
     digits.make_ascii_uppercase();
     put_text(text, &digits[..size]);
 }

@@ -1,5 +1,5 @@
 //! The values of a script line, each read from one word.
-ghost use Rattle.std.specs.Prelude.{◌≡◌, ◌≤◌, ◌<◌, ◌^◌, ◌↔◌, [], length, IsSome, IfSome};
+ghost use Rattle.std.specs.Prelude.{◌≡◌, ◌≤◌, ◌<◌, ◌/◌, ◌^◌, ◌↔◌, [], length, max, IsSome, IfNone, IfSome};
 ghost use Rattle.std.specs.Char.{is_ascii_digit};
 ghost use Rattle.std.specs.List.{list_all};
 ghost use Rattle.std.specs.Str.Parse.{AllDigits, digits_value};
@@ -99,16 +99,43 @@ pub fn bytes_of<const N: usize>(word: &[u8]) -> Option<ByteList<N>>
     Some(bytes)
 }
 
-/// Reads one to `N` bytes into a list that is empty before.
+/// Reads one to `N` bytes into a list that is empty before, and stays so where they can't be read. Most lines pass through it, so it
+/// is inlined.
+#[inline(always)]
 pub fn read_bytes<const N: usize>(word: &[u8], bytes: &mut ByteList<N>) -> Option<()>
     requires { bytes.old ≡ [] }
-    ensures { ReadsInto (IsHex N word.now) result bytes.new }
+    ensures read { ReadsInto (IsHex N word.now) result bytes.new }
+    ensures none { IfNone result (bytes.new ≡ []) }
 {
     let count = word.len() / 2;
     if count == 0 || count > N {
         return None;
     }
-    let mut places = [0; N];
+    if count <= FEW {
+        read_places::<FEW, N>(word, count, bytes)
+    } else {
+        read_places::<N, N>(word, count, bytes)
+    }
+}
+
+/// Most words have few bytes. A buffer is filled with zeros before it is used, so such a word is read in a short one.
+const FEW: usize = 16;
+
+/// Reads `count` bytes by a buffer of `M` into a list that is empty before, and stays so where they can't be read.
+fn read_places<const M: usize, const N: usize>(
+    word: &[u8],
+    count: usize,
+    bytes: &mut ByteList<N>,
+) -> Option<()>
+    requires filled { 1 ≤ count }
+    requires fits { (count ≤ M) × (count ≤ N) }
+    requires size { M ≤ max FEW N }
+    requires count { count ≡ length word.now / 2 }
+    requires empty { bytes.old ≡ [] }
+    ensures read { ReadsInto (IsHex N word.now) result bytes.new }
+    ensures none { IfNone result (bytes.new ≡ []) }
+{
+    let mut places = [0; M];
     let read = &mut places[..count];
     match decode_to_slice(word, read) {
         Ok(()) => {}

@@ -7,4 +7,4 @@ returns-clause-items g c =
     let bytes = c.args.bytes.now in
     c.put_text.ensures.items
     ∙ ap (λ (part : List ℕ). c.args.text.now.items ++ part)
-    (ap (take (2 * length bytes)) c.make_ascii_uppercase.ensures.after ∙ front_raised bytes c.encode_to_slice.new.output _ c.in-Ok.ensures.written)
+    (ap (take (2 * length bytes)) c.make_ascii_uppercase.ensures.after ∙ front_raised bytes c.put_digits.new.digits _ c.put_digits.ensures)
