@@ -1,12 +1,13 @@
 -- How many program calls the steps of a commit take: one for a page, and one for each page that is touched.
-use Rattle.std.proofs.Common.{◌≡◌, ℕ, ◌+◌, ◌-◌, ◌*◌, ◌%◌, ◌≤◌, ◌<◌, Bool, true, false, if◌then◌else◌, List, length, min, take, refl, sym, ◌∙◌, ap, subst, arith}
+use Rattle.std.proofs.Common.{◌≡◌, ℕ, ◌+◌, ◌-◌, ◌*◌, ◌%◌, ◌≤◌, ◌<◌, Bool, true, false, if◌then◌else◌, List, length, min, take, Result, Ok, Err, IsErr, refl, sym, ◌∙◌, ap, subst, arith}
 use Rattle.std.specs.List.{count_by, range_with_len}
 use Rattle.std.proofs.lemmas.List.{take_all}
 use Rattle.std.proofs.lemmas.List.FromFn.{length-range_with_len}
 use Rattle.std.proofs.lemmas.List.Sums.{sum_by-take-le}
+use Rattle.store_form.specs.declared.store.StoreFault.{StoreFault}
 use Rattle.store_form.specs.Pieces.{Piece}
 use Rattle.uicc_types.specs.Counts.{raised_by}
-use Rattle.update_journal.specs.Calls.{calls_at, CallsAtMost}
+use Rattle.update_journal.specs.Calls.{calls_at, CallsAtMost, MakesCalls}
 use Rattle.update_journal.proofs.CallsLemmas.{CallsLeft, all_left, after_some, none_left, fault_in, then_all, then_at_most, next_part, one_call}
 use Rattle.page_store.specs.Below.{InPage}
 use Rattle.page_store.specs.Commits.{is_touched, done_count}
@@ -14,6 +15,11 @@ use Rattle.page_store.specs.Pages.{place_of}
 use Rattle.page_store.proofs.DoneCountLemmas.{ones}
 use Rattle.page_store.proofs.MovesLemmas.{count_on, count_stays, none_counted}
 use Rattle.page_store.proofs.PlaceOfLemmas.{place_in}
+
+-- a call that answered a fault
+pub faulted : {T : Type 0} (times before now : ℕ) (result : Result T StoreFault) → IsErr result → CallsAtMost times before now → MakesCalls times before now result
+faulted times before now (Ok value) is some = absurd (cc)
+faulted times before now (Err fault) is some = record { all = tt; no_more = some }
 
 -- ---- a page
 
@@ -44,10 +50,13 @@ part_next at done part count more is =
 
 pub done_up_to : (pieces : List Piece) (page : ℕ) → done_count pieces page ≤ done_count pieces 1024
 unfolding done_count
-done_up_to pieces page =
-    let range = range_with_len 13 1011 in
-    let all : take (1024 - 13) range ≡ range = take_all (1024 - 13) range (omega (arith, length-range_with_len 13 1011)) in
-    omega (arith, sum_by-take-le (λ page. ones (is_touched pieces page)) range (page - 13), ap (λ (l : List ℕ). count_by (is_touched pieces) l) all)
+done_up_to pieces page = front (page - 13)
+  where
+    all : count_by (is_touched pieces) (take 1011 (range_with_len 13 1011)) ≡ count_by (is_touched pieces) (range_with_len 13 1011)
+    all = ap (λ (l : List ℕ). count_by (is_touched pieces) l) (take_all 1011 (range_with_len 13 1011) (omega (arith, length-range_with_len 13 1011)))
+
+    front : (k : ℕ) → count_by (is_touched pieces) (take k (range_with_len 13 1011)) ≤ count_by (is_touched pieces) (take 1011 (range_with_len 13 1011))
+    front k = omega (arith, sum_by-take-le (λ page. ones (is_touched pieces page)) (range_with_len 13 1011) k, all)
 
 pub done_next : (pieces : List Piece) (page : ℕ) → 13 ≤ page → page < 1024 → done_count pieces (page + 1) ≡ done_count pieces page + (if is_touched pieces page then 1 else 0)
 done_next pieces page low high = by_test (is_touched pieces page) refl

@@ -67,7 +67,11 @@ fn inner_writes(table: &Table, writes: &Writes) -> Writes
 }
 
 /// Moves the pages that the pieces touch, and then changes their entries in the map, and the first page, at once.
-pub fn commit<S: CountedStore>(store: &mut S, table: &mut Table, writes: &Writes) -> Result<(), StoreFault>
+pub fn commit<S: CountedStore>(
+    store: &mut S,
+    table: &mut Table,
+    writes: &Writes,
+) -> Result<(), StoreFault>
     requires below { IsBelow S.CountedStore store.old }
     requires kept { IsKept table.old (S.stable store.old) }
     requires pieces { AreToWrite writes.now }

@@ -110,7 +110,11 @@ fn take_table<S: CountedStore>(store: &mut S, known: &mut Known) -> Result<Table
 }
 
 /// Writes all pieces, in order, or none.
-pub fn commit<S: CountedStore>(store: &mut S, known: &mut Known, writes: &Writes) -> Result<(), StoreFault>
+pub fn commit<S: CountedStore>(
+    store: &mut S,
+    known: &mut Known,
+    writes: &Writes,
+) -> Result<(), StoreFault>
     requires below { IsBelow S.CountedStore store.old }
     requires known { Knows known.old (S.stable store.old) }
     requires pieces { AreToWrite writes.now }

@@ -73,6 +73,8 @@ impl<E: Eeprom> PageStore<E> {
 }
 
 impl<E: Eeprom> Store for PageStore<E> {
+    ghost use Rattle.page_store.specs.declared.places.TheConstants.{CONTENT_SIZE};
+
     ghost byte_count = { λ _. CONTENT_SIZE };
 
     ghost store_mark = { λ _. 1 };
