@@ -27,7 +27,7 @@ pub fn show_entry(writes: &mut Writes, row: &mut Row<'_>) {
         "pin" => write_pin(writes, row),
         "row" => write_row(writes, row),
         "kept" => write_kept(writes, row),
-        "version" => Some(version_write(row.word() == "wide", writes)),
+        "version" => Some(version_write(row.either("wide", "narrow"), writes)),
         "sequence" => Some(sequence_write(row.double_byte(), writes)),
         _ => None,
     };
@@ -87,7 +87,7 @@ fn write_pin(writes: &mut Writes, row: &mut Row<'_>) -> Option<Result<(), Full>>
 fn pin_slot(row: &mut Row<'_>) -> PinSlot {
     PinSlot {
         key: row.byte(),
-        enabled: row.word() == "on",
+        enabled: row.either("on", "off"),
         tries: row.small_number(),
         unblock_tries: row.small_number(),
         value: pin(row),

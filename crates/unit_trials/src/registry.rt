@@ -33,7 +33,7 @@ fn applet_row(sequence: u16, events: u16, text: ShortText) -> AppletRow {
 /// number, rows with the text "A" on its first shelves and one for call control on a shelf.
 pub fn make_registry(table: &mut Loaded, row: &mut Row<'_>) {
     *table = Loaded::new();
-    table.wide = row.word() == "wide";
+    table.wide = row.either("wide", "narrow");
     for _ in 0..3 {
         match row.next() {
             Some("next") => table.next = row.number(),
@@ -105,7 +105,7 @@ pub fn show_install(table: &mut Loaded, row: &mut Row<'_>) {
 /// `delete SHELF idle` or `busy`: whether the row may go, and the table has it no more.
 pub fn show_delete(table: &mut Loaded, row: &mut Row<'_>) {
     let shelf = row.small_number();
-    match delete(table, Shelf(shelf), row.word() == "idle") {
+    match delete(table, Shelf(shelf), row.either("idle", "busy")) {
         Ok(()) => {
             put_row(table, shelf, AppletRow::unused());
             row.show("gone");

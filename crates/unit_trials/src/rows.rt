@@ -83,6 +83,15 @@ impl<'a> Row<'a> {
         }
     }
 
+    /// Whether the next word is the first of these two; it is one of them.
+    pub fn either(&mut self, first: &str, second: &str) -> bool {
+        let word = self.word();
+        if word != first && word != second {
+            self.reject();
+        }
+        word == first
+    }
+
     /// All further words.
     pub fn words(&mut self) -> SplitWhitespace<'a> {
         mem::replace(&mut self.words, "".split_whitespace())

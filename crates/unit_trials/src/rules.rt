@@ -17,6 +17,9 @@ const OPERATIONS: [(&str, Op); 8] = [
 /// `rule KEY BYTES`: the operations that the record allows whoever presented this key: `nobody`, `pin1`, `pin2` or `adm1`.
 pub fn show_rule(row: &mut Row<'_>) {
     let key = row.word();
+    if !["nobody", "pin1", "pin2", "adm1"].contains(&key) {
+        row.reject();
+    }
     let seen = Verified {
         pin1: key == "pin1",
         pin2: key == "pin2",

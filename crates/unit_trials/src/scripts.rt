@@ -12,6 +12,9 @@ use section_lines::read_section;
 /// no shelf or on each from 0 to 32 but shelf 3, and none where it is `opened`.
 pub fn show_script(row: &mut Row<'_>) {
     let card = row.word();
+    if !["bare", "boxed", "opened"].contains(&card) {
+        row.reject();
+    }
     let numbers = row.numbers();
     let text = row.text();
     let mut source = SliceSource::new(text.as_bytes(), numbers.as_slice());

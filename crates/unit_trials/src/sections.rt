@@ -23,7 +23,7 @@ pub fn show_line(section: &mut Section, row: &mut Row<'_>) {
             let (path, number, content) = (path(row), row.small_number(), row.bytes());
             section.set_record(path.as_slice(), number, content.as_slice())
         }
-        "pin" => section.pin(row.byte(), pin(row), row.word() == "on", pin(row)),
+        "pin" => section.pin(row.byte(), pin(row), row.either("on", "off"), pin(row)),
         "row" => add_row(section, row),
         _ => return row.reject(),
     };

@@ -36,7 +36,7 @@ pub fn show_source(row: &mut Row<'_>) {
 
 /// `input whole CALLS TEXT`, `input broken CALLS`: what is handed on of a text that comes from a reader.
 pub fn show_input(row: &mut Row<'_>) {
-    let is_whole = row.word() == "whole";
+    let is_whole = row.either("whole", "broken");
     let calls = row.small_number();
     if is_whole {
         let mut source = InputSource::new(row.word().as_bytes());

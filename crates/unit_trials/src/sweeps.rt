@@ -42,7 +42,7 @@ const MOST_CALLS: u32 = 1_200;
 /// Each of them loses power and fails, and leaves its range in three ways: afterwards all bytes are those before it, or those after
 /// it, and after it once it was carried out.
 pub fn show_sweep(row: &mut Row<'_>) {
-    let is_in_pages = row.word() == "pages";
+    let is_in_pages = row.either("pages", "journal");
     let commit = commit_of(row);
     for call in 1..MOST_CALLS {
         match commit.ending_at(row.alloc(), is_in_pages, call) {

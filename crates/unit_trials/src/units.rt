@@ -186,7 +186,7 @@ fn on_layout(bench: &mut Bench<'_>, unit: &str, row: &mut Row<'_>) {
         "sweep" => show_sweep(row),
         "bench" => bench.stand.make_bench(row),
         "switched" => bench.stand.make_switched(bench.shows_other, row),
-        "show" => bench.shows_other.set(row.word() == "other"),
+        "show" => bench.shows_other.set(row.either("other", "own")),
         "journal" | "pages" | "down" => bench.stand.move_to(unit, row),
         _ => bench
             .stand
