@@ -17,4 +17,5 @@ mod ShowingLemmas
 mod ShowsAsManyLemmas
 mod StoresLemmas
 mod TerminalsLemmas
+mod ViewLemmas
 mod WithLineLemmas

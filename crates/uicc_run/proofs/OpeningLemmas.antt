@@ -410,11 +410,11 @@ not_begun given left taken mark told meter boxes boxes_then text is = record {
 -- ---- closing
 
 -- the device of a card that was given back stands for what the card did
-pub given_back : (given : Given) (left taken : Option (List ℕ)) (end : PlayEnd) (parts : CardParts) (mark : ℕ) (told : Option (List ℕ)) (meter : Meter) (boxes : List (Option AppletState)) → mark ≡ parts.store_mark → told ≡ parts.told → meter ≡ parts.meter → boxes ≡ parts.boxes
-    → ComesTo given left end (record { held = held_by parts; taken = taken; meter = parts.meter; boxes = parts.boxes }) → ComesTo given left end (record { held = standing mark told; taken = taken; meter = meter; boxes = boxes })
-given_back given left taken end parts mark told meter boxes same_mark same_told same_meter same_boxes comes =
+pub given_back : (P : Leaves → Type 0) (taken : Option (List ℕ)) (parts : CardParts) (mark : ℕ) (told : Option (List ℕ)) (meter : Meter) (boxes : List (Option AppletState)) → mark ≡ parts.store_mark → told ≡ parts.told → meter ≡ parts.meter → boxes ≡ parts.boxes
+    → P (record { held = held_by parts; taken = taken; meter = parts.meter; boxes = parts.boxes }) → P (record { held = standing mark told; taken = taken; meter = meter; boxes = boxes })
+given_back P taken parts mark told meter boxes same_mark same_told same_meter same_boxes comes =
     let Held : Option Persistent → Meter → List (Option AppletState) → Leaves = λ h m b. record { held = h; taken = taken; meter = m; boxes = b } in
-    subst (ComesTo given left end)
+    subst P
     (ap (λ b. Held (held_by parts) parts.meter b) (sym same_boxes) ∙ ap (λ m. Held (held_by parts) m boxes) (sym same_meter) ∙ ap (λ t. Held (standing parts.store_mark t) meter boxes) (sym same_told) ∙ ap (λ k. Held (standing k told) meter boxes) (sym same_mark)) comes
 
 -- ---- the beginning

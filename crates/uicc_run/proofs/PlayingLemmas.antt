@@ -1,9 +1,12 @@
--- From one line after `start` to the next, and why the run ends there.
-use Rattle.std.proofs.Common.{◌≡◌, ℕ, true, false, List, [], ◌∷◌, ◌++◌, Option, Some, None, refl, sym, ap, ◌∙◌, append_assoc, subst}
+-- From one line after `start` to the next, and why the run ends there, by what is known of the card.
+use Rattle.std.proofs.Common.{◌≡◌, ℕ, Bool, true, false, List, [], ◌∷◌, ◌++◌, Option, Some, None, refl, sym, ap, ◌∙◌, append_assoc, subst}
 use Rattle.std.proofs.lemmas.List.Elements.{All-push}
 use Rattle.uicc_types.specs.declared.answers.Answer.{Answer}
+use Rattle.uicc_types.specs.declared.plans.Plan.{Plan}
+use Rattle.uicc_types.specs.declared.plans.TheConstants.Plan.{NONE}
 use Rattle.uicc_types.specs.declared.runs.Step.{Step}
 use Rattle.uicc_types.specs.declared.runs.Step.TheVariants as step
+use Rattle.uicc_types.specs.declared.runs.TraceItem.{TraceItem}
 use Rattle.t0_link.specs.Linking.{link_answer}
 use Rattle.byte_streams.specs.Lines.{LineList}
 use Rattle.script_form.specs.Forms.{IsLine}
@@ -21,234 +24,376 @@ use Rattle.card_model.specs.Counts.{IsCounted}
 use Rattle.card_model.specs.Laws.{CountsJoin, PlansAreSetInOrder}
 use Rattle.card_model.specs.Runs.{plan_given, armed_after, waiting_after}
 use Rattle.card_model.specs.States.{Machine}
-use Rattle.run_steps.proofs.GoesOnLemmas.{calm_before, calm_behind, run_ends, run_of}
-use Rattle.run_steps.specs.Runs.{GoesOn, ends_calm, text_of}
-use Rattle.run_steps.specs.Stepping.{BreaksOff, BreaksStep, EndsStep, Moment, TakesStep}
-use Rattle.run_steps.specs.Tpdus.{BreaksOffTpdu, BreaksTpdu, TakesTpdu, steps_of}
+use Rattle.run_steps.proofs.GoesOnLemmas.{calm_before, calm_behind, text_of-append}
+use Rattle.run_steps.specs.Runs.{ends_calm, text_of}
+use Rattle.run_steps.specs.Showing.{CutsOffStep, CutsOffTpdu, MayBreakOff, MayBreakOffTpdu, MayShow, MayShowAll, ShowsLast, ShowsStep, ShowsTpdu}
+use Rattle.run_steps.specs.Stepping.{BreaksStep, EndsStep, IsCutOff, Moment, TakesStep}
+use Rattle.run_steps.specs.Tpdus.{BreaksTpdu, TakesTpdu, steps_of}
 use Rattle.run_steps.specs.Shown.{shown_for}
-use Rattle.uicc_run.specs.Accounts.{Account, AreTold, Deed, IsTold, Takes, Transfers, joined, kept_behind}
-use Rattle.uicc_run.specs.Playing.{BreaksSo, CardComesTo, EndsSo, FailsSo, Given, IsPlayed, IsPlaying, Leaves, Reaches, StopsPlaying, left_at}
-use Rattle.uicc_run.specs.Runs.{HasKindsOf, first_machine}
-use Rattle.uicc_run.specs.Showing.{AreShown}
+use Rattle.uicc_run.specs.Accounts.{Account, AreTold, BreaksOffDeed, Deed, IsTold, Takes, Transfers, joined, kept_behind}
+use Rattle.uicc_run.specs.Playing.{AreReadInPlace, BreaksSo, CardComesTo, CardLeaves, CarriedOut, EndsSo, FailsSo, Given, IsFirst, IsPlaying, Leaves, Reaches, Rests, StopsPlaying, left_at}
+use Rattle.uicc_run.specs.Runs.{HasKindsOf}
 use Rattle.uicc_run.specs.Steps.{deeds, deeds_of, may_follow, may_stand}
-use Rattle.uicc_run.proofs.ShowsAsManyLemmas.{shows_in_step, shows_in_tpdu, shows_as_many}
-use Rattle.uicc_run.proofs.AccountLemmas.{goes_on, told_one, told_then}
+use Rattle.uicc_run.specs.Views.{CardView, Holds, IsSeen, ItsPower, Known, LastShows, TheCard}
+use Rattle.uicc_run.proofs.AccountLemmas.{goes_by, goes_on, told_one, told_then}
 use Rattle.uicc_run.proofs.DeedsLemmas.{deeds_none, deeds_one}
-use Rattle.uicc_run.proofs.ShowingLemmas.{behind, plans_then, stands_there, told_broken, told_shows, waiting_then}
+use Rattle.uicc_run.proofs.ShowsAsManyLemmas.{shows_as_many, shows_broken}
+use Rattle.uicc_run.proofs.ViewLemmas.{Goes, run_failed, run_shown}
+
+-- where the lines go to the card
+pub stands_there : (given : Given) (line : ScriptLine) (may : Bool) → given.is_served ≡ false → may_follow line ≡ may → may_stand given.is_served line ≡ may
+stands_there given line may unserved follows = subst (λ served. may_stand served line ≡ may) (sym unserved) follows
 
 -- one more line behind `start`
-played_more : (given : Given) (found : LineList) (section played : List ScriptLine) (start : Persistent) (bytes : List ℕ) (line : ScriptLine) → IsPlayed given found section played start → IsOnly (IsLine bytes) line → may_stand given.is_served line ≡ true
-    → IsPlayed given (found ++ Some bytes ∷ []) section (played ++ line ∷ []) start
-played_more given found section played start bytes line so_far only may = record {
+read_more : (given : Given) (found : LineList) (section played : List ScriptLine) (card : Option Persistent) (bytes : List ℕ) (line : ScriptLine) → AreReadInPlace given found section played card → IsOnly (IsLine bytes) line → may_stand given.is_served line ≡ true
+    → AreReadInPlace given (found ++ Some bytes ∷ []) section (played ++ line ∷ []) card
+read_more given found section played card bytes line so_far only may = record {
   read = subst (AreRead (found ++ Some bytes ∷ [])) (append_assoc section (Start ∷ played) (line ∷ [])) (AreRead-more found (section ++ Start ∷ played) bytes line so_far.read only);
-  opened = so_far.opened;
-  good = so_far.good;
+  described = so_far.described;
   in_place = All-push (λ l. may_stand given.is_served l ≡ true) played line so_far.in_place may;
 }
 
--- a line that does nothing
-pub plays_on : (given : Given) (script next : ScriptReader) (left left_then : Option (List ℕ)) (kept : Option Answer) (now : Moment) (line : ScriptLine)
-    → ((found : LineList) → Follows given.text found script left → Finds given.text found next left_then line) → may_follow line ≡ true → deeds_of line ≡ []
-    → IsPlaying given script left kept now → IsPlaying given next left_then kept now
-plays_on given script next left left_then kept now line search_so may none playing =
-    let finds = search_so playing.found playing.follows in
-    record {
-      found = playing.found ++ Some finds.bytes ∷ [];
-      section = playing.section;
-      played = playing.played ++ line ∷ [];
-      start = playing.start;
-      machine = playing.machine;
-      account = playing.account;
-      unserved = playing.unserved;
-      lines = played_more given playing.found playing.section playing.played playing.start finds.bytes line playing.lines finds.read (stands_there given line true playing.unserved may);
-      are_told = subst (λ d. AreTold d None (first_machine playing.start given.boxes) playing.account kept playing.machine) (sym (deeds_none playing.played line none)) playing.are_told;
-      follows = finds.follows;
-      told = playing.told;
-      written = playing.written;
-      counted = playing.counted;
-      waits = playing.waits;
-      rests = playing.rests;
-    }
+-- the text behind what was taken
+behind : (before : List ℕ) (shown more : List TraceItem) → (before ++ text_of shown) ++ text_of more ≡ before ++ text_of (shown ++ more)
+behind before shown more = append_assoc before (text_of shown) (text_of more) ∙ ap (λ rest. before ++ rest) (sym (text_of-append shown more))
+
+-- the plans of steps behind those of others, and the one that waits behind them
+plans_then : PlansAreSetInOrder → (steps more : List Step) (waiting : Plan) → waiting ≡ waiting_after NONE steps → plan_given steps ++ armed_after waiting more ≡ plan_given (steps ++ more)
+plans_then order steps more waiting waits = ap (λ w. plan_given steps ++ armed_after w more) waits ∙ sym (order NONE steps more).0
+
+waiting_then : PlansAreSetInOrder → (steps more : List Step) (waiting : Plan) → waiting ≡ waiting_after NONE steps → waiting_after waiting more ≡ waiting_after NONE (steps ++ more)
+waiting_then order steps more waiting waits = ap (λ w. waiting_after w more) waits ∙ sym (order NONE steps more).1
+
+-- lines that were carried out, from what they came to
+abbrev pub carried_out : (given : Given) (first : CardView) (found : LineList) (section played : List ScriptLine) (described : Option Persistent) (account : Account) (kept : Option Answer) (card : CardView)
+    → AreReadInPlace given found section played described → IsFirst given section first → AreTold (deeds played) None first account kept card → CarriedOut given first
+carried_out given first found section played described account kept card lines opened told = record {
+  found = found;
+  section = section;
+  played = played;
+  described = described;
+  account = account;
+  kept = kept;
+  card = card;
+  lines = lines;
+  opened = opened;
+  are_told = told;
+  run = run_shown account.steps first card account.own (goes_on (deeds played) None kept first card account told);
+  shows = shows_as_many (deeds played) kept first card account told;
+}
 
 -- ---- what a line comes to
 
+-- no box is to be woken behind it, where none was before it
+abbrev RestsOn : CardView → List TraceItem → Moment → Moment → Type 0
+RestsOn card own from to = Known (λ (machine : Machine). (own ≡ [] → from.is_due ≡ false) → ends_calm own ≡ true → to.is_due ≡ false) (λ on. Unit {0}) card
+
+rests_on : (old new : CardView) (steps : List Step) (own more : List TraceItem) (from to : Moment) → Goes old steps more new → Rests old own from → RestsOn new more from to → Rests new (own ++ more) to
+rests_on (TheCard old) (TheCard new) steps own more from to goes before now = λ calm. now (λ none. before (calm_before own more none calm)) (calm_behind own more calm)
+rests_on (ItsPower on) (ItsPower after) steps own more from to goes before now = tt
+rests_on (TheCard old) (ItsPower after) steps own more from to none before now = tt
+rests_on (ItsPower on) (TheCard new) steps own more from to none before now = absurd none
+
 -- it was carried out
-pub record Does (deed : Deed) (kept : Option Answer) (old : Machine) (before : List ℕ) (from to : Moment) (after : Option Answer) : Type 0 where
-  pub machine : Machine
+pub record Does (deed : Deed) (kept : Option Answer) (old : CardView) (before : List ℕ) (from to : Moment) (after : Option Answer) : Type 0 where
+  pub card : CardView
   pub account : Account
-  pub told : to.machine ≡ Some machine
-  pub is_told : IsTold deed kept old account after machine
+  pub seen : IsSeen card to
+  pub is_told : IsTold deed kept old account after card
   pub written : to.taken ≡ Some (before ++ text_of account.shown)
   pub counted : IsCounted from.meter to.meter (armed_after from.waiting account.steps) account.own
   pub waits : to.waiting ≡ waiting_after from.waiting account.steps
-  pub rests : (account.own ≡ [] → from.is_due ≡ false) → ends_calm account.own ≡ true → to.is_due ≡ false
+  pub rests : RestsOn card account.own from to
 
--- a step was taken
-pub step_does : (step : Step) (kept after : Option Answer) (old : Machine) (before : List ℕ) (from to : Moment) → after ≡ kept_behind step kept → TakesStep old before step from to → Does (Takes step) kept old before from to after
-step_does step kept after old before from to keeps taken = record {
-  machine = taken.machine;
-  account = record { steps = step ∷ []; own = taken.shown; shown = taken.shown };
-  told = taken.told;
-  is_told = record { steps_are = refl; gives = taken.gives; shown_is = refl; keeps = keeps };
-  written = taken.written;
-  counted = taken.counted;
-  waits = taken.waits;
-  rests = taken.rests;
-}
+-- the sink failed in it
+pub record Breaks (deed : Deed) (kept : Option Answer) (old : CardView) (before : List ℕ) (from to : Moment) (after : Option Answer) : Type 0 where
+  pub card : CardView
+  pub own : List TraceItem
+  pub pending : List TraceItem
+  pub front : List ℕ
+  pub set : List Plan
+  pub broken : BreaksOffDeed deed kept old own pending from.waiting set after card
+  pub cut_off : IsCutOff pending front
+  pub stands : Holds card to.held
+  pub written : to.taken ≡ Some (before ++ front)
+  pub counted : IsCounted from.meter to.meter set own
 
--- a TPDU was taken
-pub tpdu_does : (tpdu : List ℕ) (kept after : Option Answer) (old : Machine) (before : List ℕ) (from to : Moment) → TakesTpdu old before tpdu (link_answer kept tpdu) after from to → Does (Transfers tpdu) kept old before from to after
-tpdu_does tpdu kept after old before from to taken = record {
-  machine = taken.machine;
-  account = record { steps = steps_of (link_answer kept tpdu); own = taken.own; shown = shown_for tpdu taken.reply };
-  told = taken.told;
-  is_told = record { reply = taken.reply; steps_are = refl; gives = taken.gives; shown_is = refl };
-  written = taken.written;
-  counted = taken.counted;
-  waits = taken.waits;
-  rests = taken.rests;
-}
+-- the memory failed in it
+pub record Fails (last : Step) (old : CardView) (before : List ℕ) (from to : Moment) : Type 0 where
+  pub card : CardView
+  pub shown : List TraceItem
+  pub ends : LastShows old last shown card
+  pub stands : Holds card to.held
+  pub written : to.taken ≡ Some (before ++ text_of shown)
+  pub counted : IsCounted from.meter to.meter (armed_after from.waiting (last ∷ [])) shown
+
+-- so it is by what the steps say of the card itself, and of its power
+module _ (step : Step) (kept after : Option Answer) (from to : Moment) where
+  pub step_does : after ≡ kept_behind step kept → ((machine : Machine) (before : List ℕ) → from.machine ≡ Some machine → from.taken ≡ Some before → TakesStep machine before step from to)
+      → ((before : List ℕ) → from.taken ≡ Some before → (shown : List TraceItem) × ShowsStep shown before step from to)
+      → (old : CardView) (before : List ℕ) → IsSeen old from → from.taken ≡ Some before → Does (Takes step) kept old before from to after
+  step_does keeps takes shows (TheCard machine) before seen told =
+      let taken = takes machine before seen told in
+      record {
+        card = TheCard taken.machine;
+        account = record { steps = step ∷ []; own = taken.shown; shown = taken.shown };
+        seen = taken.told;
+        is_told = record { steps_are = refl; gives = taken.gives; shown_is = refl; keeps = keeps };
+        written = taken.written;
+        counted = taken.counted;
+        waits = taken.waits;
+        rests = taken.rests;
+      }
+  step_does keeps takes shows (ItsPower on) before seen told =
+      let taken = shows before told in
+      record {
+        card = ItsPower to.is_on;
+        account = record { steps = step ∷ []; own = taken.0; shown = taken.0 };
+        seen = refl;
+        is_told = record { steps_are = refl; gives = subst (λ (b : Bool). MayShow b step taken.0 to.is_on) seen taken.1.may; shown_is = refl; keeps = keeps };
+        written = taken.1.written;
+        counted = taken.1.counted;
+        waits = taken.1.waits;
+        rests = tt;
+      }
+
+  pub step_breaks : ((machine : Machine) (before : List ℕ) → from.machine ≡ Some machine → from.taken ≡ Some before → BreaksStep machine before step from to)
+      → ((before : List ℕ) → from.taken ≡ Some before → CutsOffStep before step from to)
+      → (old : CardView) (before : List ℕ) → IsSeen old from → from.taken ≡ Some before → Breaks (Takes step) kept old before from to after
+  step_breaks breaks cuts (TheCard machine) before seen told =
+      let broken = breaks machine before seen told in
+      record {
+        card = TheCard broken.machine;
+        own = broken.pending;
+        pending = broken.pending;
+        front = broken.front;
+        set = broken.set;
+        broken = (refl, broken.broken);
+        cut_off = broken.cut_off;
+        stands = broken.stands;
+        written = broken.written;
+        counted = broken.counted;
+      }
+  step_breaks breaks cuts (ItsPower on) before seen told =
+      let broken = cuts before told in
+      record {
+        card = ItsPower to.is_on;
+        own = broken.pending;
+        pending = broken.pending;
+        front = broken.front;
+        set = broken.set;
+        broken = (refl, subst (λ (b : Bool). MayBreakOff b step broken.pending (armed_after from.waiting (step ∷ [])) broken.set) seen broken.may);
+        cut_off = broken.cut_off;
+        stands = tt;
+        written = broken.written;
+        counted = broken.counted;
+      }
+
+  pub step_fails : ((machine : Machine) (before : List ℕ) → from.machine ≡ Some machine → from.taken ≡ Some before → EndsStep machine before step from to)
+      → ((before : List ℕ) → from.taken ≡ Some before → ShowsLast before step from to)
+      → (old : CardView) (before : List ℕ) → IsSeen old from → from.taken ≡ Some before → Fails step old before from to
+  step_fails ends shows (TheCard machine) before seen told =
+      let ended = ends machine before seen told in
+      record { card = TheCard ended.machine; shown = ended.shown; ends = ended.ends; stands = ended.stands; written = ended.written; counted = ended.counted }
+  step_fails ends shows (ItsPower on) before seen told =
+      let ended = shows before told in
+      record { card = ItsPower to.is_on; shown = ended.shown; ends = ended.may; stands = tt; written = ended.written; counted = ended.counted }
+
+module _ (tpdu : List ℕ) (kept after : Option Answer) (from to : Moment) where
+  pub tpdu_does : ((machine : Machine) (before : List ℕ) → from.machine ≡ Some machine → from.taken ≡ Some before → TakesTpdu machine before tpdu (link_answer kept tpdu) after from to)
+      → ((before : List ℕ) → from.taken ≡ Some before → ShowsTpdu before tpdu (link_answer kept tpdu) after from to)
+      → (old : CardView) (before : List ℕ) → IsSeen old from → from.taken ≡ Some before → Does (Transfers tpdu) kept old before from to after
+  tpdu_does takes shows (TheCard machine) before seen told =
+      let taken = takes machine before seen told in
+      record {
+        card = TheCard taken.machine;
+        account = record { steps = steps_of (link_answer kept tpdu); own = taken.own; shown = shown_for tpdu taken.reply };
+        seen = taken.told;
+        is_told = record { reply = taken.reply; steps_are = refl; gives = taken.gives; shown_is = refl };
+        written = taken.written;
+        counted = taken.counted;
+        waits = taken.waits;
+        rests = taken.rests;
+      }
+  tpdu_does takes shows (ItsPower on) before seen told =
+      let taken = shows before told in
+      record {
+        card = ItsPower to.is_on;
+        account = record { steps = steps_of (link_answer kept tpdu); own = taken.own; shown = shown_for tpdu taken.reply };
+        seen = refl;
+        is_told = record {
+          reply = taken.reply;
+          steps_are = refl;
+          gives = (subst (λ (b : Bool). MayShowAll b (steps_of (link_answer kept tpdu)) taken.own to.is_on) seen taken.may, taken.shows);
+          shown_is = refl;
+        };
+        written = taken.written;
+        counted = taken.counted;
+        waits = taken.waits;
+        rests = tt;
+      }
+
+  pub tpdu_breaks : ((machine : Machine) (before : List ℕ) → from.machine ≡ Some machine → from.taken ≡ Some before → BreaksTpdu machine before tpdu (link_answer kept tpdu) kept after from to)
+      → ((before : List ℕ) → from.taken ≡ Some before → CutsOffTpdu before tpdu (link_answer kept tpdu) kept after from to)
+      → (old : CardView) (before : List ℕ) → IsSeen old from → from.taken ≡ Some before → Breaks (Transfers tpdu) kept old before from to after
+  tpdu_breaks breaks cuts (TheCard machine) before seen told =
+      let broken = breaks machine before seen told in
+      record {
+        card = TheCard broken.machine;
+        own = broken.own;
+        pending = broken.pending;
+        front = broken.front;
+        set = broken.set;
+        broken = broken.broken;
+        cut_off = broken.cut_off;
+        stands = broken.stands;
+        written = broken.written;
+        counted = broken.counted;
+      }
+  tpdu_breaks breaks cuts (ItsPower on) before seen told =
+      let broken = cuts before told in
+      record {
+        card = ItsPower to.is_on;
+        own = broken.own;
+        pending = broken.pending;
+        front = broken.front;
+        set = broken.set;
+        broken = subst (λ (b : Bool). MayBreakOffTpdu b tpdu (link_answer kept tpdu) broken.own broken.pending (armed_after from.waiting (steps_of (link_answer kept tpdu))) broken.set kept after) seen broken.may;
+        cut_off = broken.cut_off;
+        stands = tt;
+        written = broken.written;
+        counted = broken.counted;
+      }
 
 -- ---- behind the lines before
 
--- a line that was carried out
-pub plays_further : (given : Given) (script next : ScriptReader) (left left_then : Option (List ℕ)) (kept after : Option Answer) (from to : Moment) (line : ScriptLine) (deed : Deed) → CountsJoin → PlansAreSetInOrder
-    → ((found : LineList) → Follows given.text found script left → Finds given.text found next left_then line) → may_follow line ≡ true → deeds_of line ≡ deed ∷ []
-    → ((old : Machine) (before : List ℕ) → from.machine ≡ Some old → from.taken ≡ Some before → Does deed kept old before from to after)
-    → IsPlaying given script left kept from → IsPlaying given next left_then after to
-plays_further given script next left left_then kept after from to line deed join order search_so may one does playing =
-    let finds = search_so playing.found playing.follows in
-    let done = does playing.machine (given.before ++ text_of playing.account.shown) playing.told playing.written in
-    let first = first_machine playing.start given.boxes in
-    record {
-      found = playing.found ++ Some finds.bytes ∷ [];
-      section = playing.section;
-      played = playing.played ++ line ∷ [];
-      start = playing.start;
-      machine = done.machine;
-      account = joined playing.account done.account;
-      unserved = playing.unserved;
-      lines = played_more given playing.found playing.section playing.played playing.start finds.bytes line playing.lines finds.read (stands_there given line true playing.unserved may);
-      are_told = subst (λ d. AreTold d None first (joined playing.account done.account) after done.machine) (sym (deeds_one playing.played line deed one))
-          (told_then (deeds playing.played) (deed ∷ []) None kept after first playing.machine done.machine playing.account done.account playing.are_told (told_one deed kept after playing.machine done.machine done.account done.is_told));
-      follows = finds.follows;
-      told = done.told;
-      written = done.written ∙ ap Some (behind given.before playing.account.shown done.account.shown);
-      counted = subst (λ l. IsCounted given.meter to.meter l (playing.account.own ++ done.account.own)) (plans_then order playing.account.steps done.account.steps from.waiting playing.waits)
-          (join given.meter from.meter to.meter (plan_given playing.account.steps) (armed_after from.waiting done.account.steps) playing.account.own done.account.own playing.counted done.counted);
-      waits = done.waits ∙ waiting_then order playing.account.steps done.account.steps from.waiting playing.waits;
-      rests = λ calm. done.rests (λ none. playing.rests (calm_before playing.account.own done.account.own none calm)) (calm_behind playing.account.own done.account.own calm);
-    }
+-- only a reset can be the last step
+no_last_command : (old new : CardView) (apdu : List ℕ) (items : List TraceItem) → LastShows old (step.Apdu apdu) items new → ⊥
+no_last_command (TheCard old) (TheCard new) apdu items none = none
+no_last_command (ItsPower on) (ItsPower after) apdu items none = none
+no_last_command (TheCard old) (ItsPower after) apdu items none = none
+no_last_command (ItsPower on) (TheCard new) apdu items none = none
 
--- the run of the card so far
-pub run_so_far : (given : Given) (script : ScriptReader) (left : Option (List ℕ)) (kept : Option Answer) (now : Moment) → (playing : IsPlaying given script left kept now)
-    → GoesOn (first_machine playing.start given.boxes) playing.account.steps playing.account.own playing.machine
-run_so_far given script left kept now playing = goes_on (deeds playing.played) None kept (first_machine playing.start given.boxes) playing.machine playing.account playing.are_told
+no_last_plan : (old new : CardView) (plan : Plan) (items : List TraceItem) → LastShows old (step.Plan plan) items new → ⊥
+no_last_plan (TheCard old) (TheCard new) plan items none = none
+no_last_plan (ItsPower on) (ItsPower after) plan items none = none
+no_last_plan (TheCard old) (ItsPower after) plan items none = none
+no_last_plan (ItsPower on) (TheCard new) plan items none = none
 
--- what was shown so far
-pub shown_so_far : (given : Given) (script : ScriptReader) (left : Option (List ℕ)) (kept : Option Answer) (now : Moment) → (playing : IsPlaying given script left kept now) → AreShown (deeds playing.played) None playing.account kept
-shown_so_far given script left kept now playing = told_shows (deeds playing.played) None kept (first_machine playing.start given.boxes) playing.machine playing.account playing.are_told
+module _ (given : Given) (first : CardView) (script next : ScriptReader) (left left_then : Option (List ℕ)) (line : ScriptLine)
+    (search_so : (found : LineList) → Follows given.text found script left → Finds given.text found next left_then line) where
+  -- a line that does nothing
+  pub plays_on : (kept : Option Answer) (now : Moment) → may_follow line ≡ true → deeds_of line ≡ [] → IsPlaying given first script left kept now → IsPlaying given first next left_then kept now
+  plays_on kept now may none playing =
+      let done = playing.done in
+      let finds = search_so done.found playing.follows in
+      record {
+        done = record {
+          found = done.found ++ Some finds.bytes ∷ [];
+          section = done.section;
+          played = done.played ++ line ∷ [];
+          described = done.described;
+          account = done.account;
+          kept = done.kept;
+          card = done.card;
+          lines = read_more given done.found done.section done.played done.described finds.bytes line done.lines finds.read (stands_there given line true playing.unserved may);
+          opened = done.opened;
+          are_told = subst (λ (d : List Deed). AreTold d None first done.account done.kept done.card) (sym (deeds_none done.played line none)) done.are_told;
+          run = done.run;
+          shows = done.shows;
+        };
+        unserved = playing.unserved;
+        follows = finds.follows;
+        keeps = playing.keeps;
+        seen = playing.seen;
+        written = playing.written;
+        counted = playing.counted;
+        waits = playing.waits;
+        rests = playing.rests;
+      }
 
--- the next line is for this
-abbrev pub reaches : (given : Given) (script next : ScriptReader) (left left_then : Option (List ℕ)) (kept : Option Answer) (from : Moment) (line : ScriptLine) (deed : Deed)
-    → ((found : LineList) → Follows given.text found script left → Finds given.text found next left_then line) → deeds_of line ≡ deed ∷ [] → IsPlaying given script left kept from → Reaches given deed
-reaches given script next left left_then kept from line deed search_so one playing =
-    let finds = search_so playing.found playing.follows in
-    record {
-      found = playing.found;
-      section = playing.section;
-      played = playing.played;
-      start = playing.start;
-      old = playing.machine;
-      account = playing.account;
-      kept = kept;
-      lines_are = playing.lines;
-      are_told = playing.are_told;
-      of_card = run_of playing.account.steps (first_machine playing.start given.boxes) playing.machine playing.account.own (run_so_far given script left kept from playing);
-      shows = shows_as_many (deeds playing.played) kept playing.account (shown_so_far given script left kept from playing);
-      bytes = finds.bytes;
-      more = finds.more;
-      line = line;
-      parted = finds.parted;
-      read = finds.read;
-      one_deed = one;
-    }
+  -- a line that was carried out
+  pub plays_further : (kept after : Option Answer) (from to : Moment) (deed : Deed) → CountsJoin → PlansAreSetInOrder → may_follow line ≡ true → deeds_of line ≡ deed ∷ []
+      → ((old : CardView) (before : List ℕ) → IsSeen old from → from.taken ≡ Some before → Does deed kept old before from to after)
+      → IsPlaying given first script left kept from → IsPlaying given first next left_then after to
+  plays_further kept after from to deed join order may one does playing =
+      let done = playing.done in
+      let finds = search_so done.found playing.follows in
+      let more = does done.card (given.before ++ text_of done.account.shown) playing.seen playing.written in
+      let is_told : IsTold deed done.kept done.card more.account after more.card = subst (λ (k : Option Answer). IsTold deed k done.card more.account after more.card) (sym playing.keeps) more.is_told in
+      record {
+        done = carried_out given first (done.found ++ Some finds.bytes ∷ []) done.section (done.played ++ line ∷ []) done.described (joined done.account more.account) after more.card
+            (read_more given done.found done.section done.played done.described finds.bytes line done.lines finds.read (stands_there given line true playing.unserved may)) done.opened
+            (subst (λ (d : List Deed). AreTold d None first (joined done.account more.account) after more.card) (sym (deeds_one done.played line deed one))
+            (told_then (deeds done.played) (deed ∷ []) None done.kept after first done.card more.card done.account more.account done.are_told (told_one deed done.kept after done.card more.card more.account is_told)));
+        unserved = playing.unserved;
+        follows = finds.follows;
+        keeps = refl;
+        seen = more.seen;
+        written = more.written ∙ ap Some (behind given.before done.account.shown more.account.shown);
+        counted = subst (λ l. IsCounted given.meter to.meter l (done.account.own ++ more.account.own)) (plans_then order done.account.steps more.account.steps from.waiting playing.waits)
+            (join given.meter from.meter to.meter (plan_given done.account.steps) (armed_after from.waiting more.account.steps) done.account.own more.account.own playing.counted more.counted);
+        waits = more.waits ∙ waiting_then order done.account.steps more.account.steps from.waiting playing.waits;
+        rests = rests_on done.card more.card more.account.steps done.account.own more.account.own from to (goes_by deed done.kept after done.card more.card more.account is_told) playing.rests more.rests;
+      }
 
--- a step was the last, which only a reset can be
-pub ends_in_step : (given : Given) (script next : ScriptReader) (left left_then : Option (List ℕ)) (kept : Option Answer) (from to : Moment) (line : ScriptLine) (last : Step) → CountsJoin → PlansAreSetInOrder
-    → ((found : LineList) → Follows given.text found script left → Finds given.text found next left_then line) → deeds_of line ≡ Takes last ∷ []
-    → ((old : Machine) (before : List ℕ) → from.machine ≡ Some old → from.taken ≡ Some before → EndsStep old before last from to)
-    → IsPlaying given script left kept from → FailsSo given (left_at to)
-ends_in_step given script next left left_then kept from to line (step.Apdu apdu) join order search_so one ends playing =
-    let ended = ends playing.machine (given.before ++ text_of playing.account.shown) playing.told playing.written in absurd ended.ends
-ends_in_step given script next left left_then kept from to line (step.Plan plan) join order search_so one ends playing =
-    let ended = ends playing.machine (given.before ++ text_of playing.account.shown) playing.told playing.written in absurd ended.ends
-ends_in_step given script next left left_then kept from to line step.Reset join order search_so one ends playing =
-    let ended = ends playing.machine (given.before ++ text_of playing.account.shown) playing.told playing.written in
-    record {
-      at = reaches given script next left left_then kept from line (Takes step.Reset) search_so one playing;
-      machine = ended.machine;
-      last = ended.shown;
-      ends = ended.ends;
-      before_it = from.meter;
-      counted_before = playing.counted;
-      counted_in_it = subst (λ w. IsCounted from.meter to.meter (armed_after w (step.Reset ∷ [])) ended.shown) playing.waits ended.counted;
-      of_card = run_ends playing.account.steps step.Reset (first_machine playing.start given.boxes) playing.machine ended.machine playing.account.own ended.shown (run_so_far given script left kept from playing) ended.ends;
-      stands = ended.stands;
-      written = ended.written ∙ ap Some (behind given.before playing.account.shown ended.shown);
-      counted = subst (λ l. IsCounted given.meter to.meter l (playing.account.own ++ ended.shown)) (plans_then order playing.account.steps (step.Reset ∷ []) from.waiting playing.waits)
-          (join given.meter from.meter to.meter (plan_given playing.account.steps) (armed_after from.waiting (step.Reset ∷ [])) playing.account.own ended.shown playing.counted ended.counted);
-    }
+  -- the next line is for this
+  abbrev reaches : (kept : Option Answer) (from : Moment) (deed : Deed) → deeds_of line ≡ deed ∷ [] → IsPlaying given first script left kept from → Reaches given first deed
+  reaches kept from deed one playing =
+      let finds = search_so playing.done.found playing.follows in
+      record { done = playing.done; bytes = finds.bytes; more = finds.more; line = line; parted = finds.parted; read = finds.read; one_deed = one }
 
--- the sink failed in a step
-pub breaks_in_step : (given : Given) (script next : ScriptReader) (left left_then : Option (List ℕ)) (kept after : Option Answer) (from to : Moment) (line : ScriptLine) (step : Step) → CountsJoin
-    → ((found : LineList) → Follows given.text found script left → Finds given.text found next left_then line) → deeds_of line ≡ Takes step ∷ []
-    → ((old : Machine) (before : List ℕ) → from.machine ≡ Some old → from.taken ≡ Some before → BreaksStep old before step from to)
-    → IsPlaying given script left kept from → BreaksSo given (left_at to)
-breaks_in_step given script next left left_then kept after from to line step join search_so one breaks playing =
-    let broken = breaks playing.machine (given.before ++ text_of playing.account.shown) playing.told playing.written in
-    record {
-      deed = Takes step;
-      at = reaches given script next left left_then kept from line (Takes step) search_so one playing;
-      machine = broken.machine;
-      own = broken.pending;
-      pending = broken.pending;
-      front = broken.front;
-      set = broken.set;
-      after = after;
-      broken = (refl, subst (λ w. BreaksOff playing.machine step broken.pending (armed_after w (step ∷ [])) broken.set broken.machine) playing.waits broken.broken);
-      shows = shows_in_step (deeds playing.played) kept after playing.account (shown_so_far given script left kept from playing) broken.pending;
-      cut_off = broken.cut_off;
-      stands = broken.stands;
-      written = broken.written;
-      counted = join given.meter from.meter to.meter (plan_given playing.account.steps) broken.set playing.account.own broken.pending playing.counted broken.counted;
-    }
+  -- the sink failed in it
+  pub breaks_in : (kept after : Option Answer) (from to : Moment) (deed : Deed) → CountsJoin → deeds_of line ≡ deed ∷ []
+      → ((old : CardView) (before : List ℕ) → IsSeen old from → from.taken ≡ Some before → Breaks deed kept old before from to after)
+      → IsPlaying given first script left kept from → BreaksSo given first (left_at to)
+  breaks_in kept after from to deed join one breaks playing =
+      let done = playing.done in
+      let broken = breaks done.card (given.before ++ text_of done.account.shown) playing.seen playing.written in
+      let off : BreaksOffDeed deed done.kept done.card broken.own broken.pending (waiting_after NONE done.account.steps) broken.set after broken.card =
+      subst (λ (k : Option Answer). BreaksOffDeed deed k done.card broken.own broken.pending (waiting_after NONE done.account.steps) broken.set after broken.card) (sym playing.keeps)
+      (subst (λ (w : Plan). BreaksOffDeed deed kept done.card broken.own broken.pending w broken.set after broken.card) playing.waits broken.broken) in
+      record {
+        deed = deed;
+        at = reaches kept from deed one playing;
+        card = broken.card;
+        own = broken.own;
+        pending = broken.pending;
+        front = broken.front;
+        set = broken.set;
+        after = after;
+        broken = off;
+        shows = shows_broken (deeds done.played) done.kept after first done.card done.account done.are_told deed broken.own broken.pending _ broken.set broken.card off;
+        cut_off = broken.cut_off;
+        stands = broken.stands;
+        written = broken.written;
+        counted = join given.meter from.meter to.meter (plan_given done.account.steps) broken.set done.account.own broken.own playing.counted broken.counted;
+      }
 
--- the sink failed in a TPDU
-pub breaks_in_tpdu : (given : Given) (script next : ScriptReader) (left left_then : Option (List ℕ)) (kept after : Option Answer) (from to : Moment) (line : ScriptLine) (tpdu : List ℕ) → CountsJoin
-    → ((found : LineList) → Follows given.text found script left → Finds given.text found next left_then line) → deeds_of line ≡ Transfers tpdu ∷ []
-    → ((old : Machine) (before : List ℕ) → from.machine ≡ Some old → from.taken ≡ Some before → BreaksTpdu old before tpdu (link_answer kept tpdu) kept after from to)
-    → IsPlaying given script left kept from → BreaksSo given (left_at to)
-breaks_in_tpdu given script next left left_then kept after from to line tpdu join search_so one breaks playing =
-    let broken = breaks playing.machine (given.before ++ text_of playing.account.shown) playing.told playing.written in
-    let course = link_answer kept tpdu in
-    record {
-      deed = Transfers tpdu;
-      at = reaches given script next left left_then kept from line (Transfers tpdu) search_so one playing;
-      machine = broken.machine;
-      own = broken.own;
-      pending = broken.pending;
-      front = broken.front;
-      set = broken.set;
-      after = after;
-      broken = subst (λ w. BreaksOffTpdu playing.machine tpdu course broken.own broken.pending (armed_after w (steps_of course)) broken.set kept after broken.machine) playing.waits broken.broken;
-      shows = shows_in_tpdu (deeds playing.played) kept after playing.account (shown_so_far given script left kept from playing) tpdu broken.own broken.pending
-          (told_broken playing.machine broken.machine tpdu course broken.own broken.pending _ broken.set kept after broken.broken);
-      cut_off = broken.cut_off;
-      stands = broken.stands;
-      written = broken.written;
-      counted = join given.meter from.meter to.meter (plan_given playing.account.steps) broken.set playing.account.own broken.own playing.counted broken.counted;
-    }
+  -- a step was the last, which only a reset can be
+  pub fails_in : (kept : Option Answer) (from to : Moment) (last : Step) → CountsJoin → PlansAreSetInOrder → deeds_of line ≡ Takes last ∷ []
+      → ((old : CardView) (before : List ℕ) → IsSeen old from → from.taken ≡ Some before → Fails last old before from to) → IsPlaying given first script left kept from → FailsSo given first (left_at to)
+  fails_in kept from to (step.Apdu apdu) join order one fails playing =
+      let failed = fails playing.done.card (given.before ++ text_of playing.done.account.shown) playing.seen playing.written in absurd (no_last_command playing.done.card failed.card apdu failed.shown failed.ends)
+  fails_in kept from to (step.Plan plan) join order one fails playing =
+      let failed = fails playing.done.card (given.before ++ text_of playing.done.account.shown) playing.seen playing.written in absurd (no_last_plan playing.done.card failed.card plan failed.shown failed.ends)
+  fails_in kept from to step.Reset join order one fails playing =
+      let done = playing.done in
+      let failed = fails done.card (given.before ++ text_of done.account.shown) playing.seen playing.written in
+      record {
+        at = reaches kept from (Takes step.Reset) one playing;
+        card = failed.card;
+        last = failed.shown;
+        ends = failed.ends;
+        before_it = from.meter;
+        counted_before = playing.counted;
+        counted_in_it = subst (λ (w : Plan). IsCounted from.meter to.meter (armed_after w (step.Reset ∷ [])) failed.shown) playing.waits failed.counted;
+        of_card = run_failed done.account.steps step.Reset first done.card failed.card done.account.own failed.shown (goes_on (deeds done.played) None done.kept first done.card done.account done.are_told) failed.ends;
+        stands = failed.stands;
+        written = failed.written ∙ ap Some (behind given.before done.account.shown failed.shown);
+        counted = subst (λ l. IsCounted given.meter to.meter l (done.account.own ++ failed.shown)) (plans_then order done.account.steps (step.Reset ∷ []) from.waiting playing.waits)
+            (join given.meter from.meter to.meter (plan_given done.account.steps) (armed_after from.waiting (step.Reset ∷ [])) done.account.own failed.shown playing.counted failed.counted);
+      }
 
 -- ---- why it ends
 
@@ -257,33 +402,27 @@ pub record HaveBoxes (now : Moment) (machine : Machine) : Type 0 where
   pub kinds : HasKindsOf machine.card.boxes now.boxes
   pub minds : now.is_due ≡ false → now.boxes ≡ machine.card.boxes
 
+leaves_so : (card : CardView) (own : List TraceItem) (now : Moment) → ((machine : Machine) → now.machine ≡ Some machine → now.held ≡ Some machine.card.persistent) → ((machine : Machine) → now.machine ≡ Some machine → HaveBoxes now machine)
+    → IsSeen card now → Rests card own now → Known (λ (machine : Machine). CardLeaves machine own (left_at now)) (λ on. Unit {0}) card
+leaves_so (TheCard machine) own now stands boxes seen rests = record { stands = stands machine seen; kinds = (boxes machine seen).kinds; minds = λ calm. (boxes machine seen).minds (rests calm) }
+leaves_so (ItsPower on) own now stands boxes seen rests = tt
+
 -- the run ends behind the lines that were read
-pub ends_playing : (given : Given) (script : ScriptReader) (left left_then : Option (List ℕ)) (kept : Option Answer) (end : PlayEnd) (now : Moment) → ((machine : Machine) → now.machine ≡ Some machine → now.held ≡ Some machine.card.persistent) → ((machine : Machine) → now.machine ≡ Some machine → HaveBoxes now machine)
-    → ((found : LineList) → Follows given.text found script left → StopsPlaying given found left_then end) → IsPlaying given script left kept now → EndsSo given left_then end (left_at now)
-ends_playing given script left left_then kept end now stands boxes cause playing = record {
-  found = playing.found;
-  section = playing.section;
-  played = playing.played;
-  start = playing.start;
-  machine = playing.machine;
-  account = playing.account;
-  kept = kept;
-  lines = playing.lines;
-  are_told = playing.are_told;
-  of_card = run_of playing.account.steps (first_machine playing.start given.boxes) playing.machine playing.account.own (run_so_far given script left kept now playing);
-  shows = shows_as_many (deeds playing.played) kept playing.account (shown_so_far given script left kept now playing);
-  cause = cause playing.found playing.follows;
-  stands = stands playing.machine playing.told;
+pub ends_playing : (given : Given) (first : CardView) (script : ScriptReader) (left left_then : Option (List ℕ)) (kept : Option Answer) (end : PlayEnd) (now : Moment)
+    → ((machine : Machine) → now.machine ≡ Some machine → now.held ≡ Some machine.card.persistent) → ((machine : Machine) → now.machine ≡ Some machine → HaveBoxes now machine)
+    → ((found : LineList) → Follows given.text found script left → StopsPlaying given found left_then end) → IsPlaying given first script left kept now → EndsSo given first left_then end (left_at now)
+ends_playing given first script left left_then kept end now stands boxes cause playing = record {
+  done = playing.done;
+  cause = cause playing.done.found playing.follows;
   written = playing.written;
   counted = playing.counted;
-  kinds = (boxes playing.machine playing.told).kinds;
-  minds = λ calm. (boxes playing.machine playing.told).minds (playing.rests calm);
+  leaves = leaves_so playing.done.card playing.done.account.own now stands boxes playing.seen playing.rests;
 }
 
 -- whatever the end is
-pub comes_to_end : (given : Given) (left : Option (List ℕ)) (end : PlayEnd) (now : Leaves) → EndsSo given left end now → CardComesTo given left end now
-comes_to_end given left Finished now ends = ends
-comes_to_end given left (BadLine number) now ends = ends
-comes_to_end given left ReadFailed now ends = ends
-comes_to_end given left SinkFailed now ends = absurd ends.cause
-comes_to_end given left ResetFailed now ends = absurd ends.cause
+pub comes_to_end : (given : Given) (first : CardView) (left : Option (List ℕ)) (end : PlayEnd) (now : Leaves) → EndsSo given first left end now → CardComesTo given first left end now
+comes_to_end given first left Finished now ends = ends
+comes_to_end given first left (BadLine number) now ends = ends
+comes_to_end given first left ReadFailed now ends = ends
+comes_to_end given first left SinkFailed now ends = absurd ends.cause
+comes_to_end given first left ResetFailed now ends = absurd ends.cause

@@ -27,8 +27,10 @@ use Rattle.section_lines.specs.Script.{with_lines}
 use Rattle.bip_runs.proofs.IsLineLemmas.{Only, only_first, only_last, only_says, says_itself}
 use Rattle.uicc_run.specs.Endings.{IsUnshown, status_for}
 use Rattle.uicc_run.specs.Headline.{Closes, Comes, IsNoCard, IsNotOpened, LacksBox, last_text}
-use Rattle.uicc_run.specs.Playing.{EndsSo, Given, IsOpened, IsPlayed, Leaves, StopsPlaying}
-use Rattle.uicc_run.specs.Reading.{AreReadInPlace, EndsBehind, HasStarted, ReadsTo}
+use Rattle.uicc_run.specs.Playing.{AreReadInPlace, EndsSo, Given, IsOpened, Leaves}
+use Rattle.uicc_run.specs.Reading.{EndsBehind, HasStarted, ReadsTo}
+use Rattle.uicc_run.specs.Views.{TheCard}
+use Rattle.uicc_run.proofs.ServingLemmas.{opened_card}
 use Rattle.uicc_run.specs.Serving.{ComesTo, EndsServing}
 use Rattle.uicc_run.specs.Runs.{first_machine}
 use Rattle.uicc_run.specs.Steps.{may_stand}
@@ -44,11 +46,6 @@ abbrev rules_of : Given → Rules
 rules_of given = record { cast = given.boxes; may = may_stand given.is_served }
 
 -- ---- the card that is opened
-
-opened_card : (cast : List (Option AppletState)) (first : Option Persistent) (memory : Result Persistent ℕ) (section : List ScriptLine) (start : Persistent) → IsOpened cast first memory section start
-    → (card : Option Persistent) × (with_lines cast first section ≡ Ok card)
-opened_card cast (Some bare) memory section start opened = (Some start, opened)
-opened_card cast None memory section start opened = (None, opened.0)
 
 -- where none is described it is the memory's
 memory_holds : (cast : List (Option AppletState)) (first : Option Persistent) (memory : Result Persistent ℕ) (section : List ScriptLine) (start : Persistent) → with_lines cast first section ≡ Ok None → IsOpened cast first memory section start → memory ≡ Ok start
@@ -473,28 +470,35 @@ record EndsInLines (given : Given) (left : Option (List ℕ)) (end : PlayEnd) (l
   front : List ℕ
   written : leaves.taken ≡ Some front
 
-played_so : (given : Given) (left : Option (List ℕ)) (end : PlayEnd) (leaves : Leaves) (found : LineList) (section played : List ScriptLine) (start : Persistent) (front : List ℕ) → IsPlayed given found section played start → StopsPlaying given found left end
-    → leaves.taken ≡ Some front → EndsInLines given left end leaves
-played_so given left end leaves found section played start front are cause written =
-    let card = opened_card given.boxes given.first given.memory section start are.opened in
+ends_played : (given : Given) (left : Option (List ℕ)) (end : PlayEnd) (leaves : Leaves) (first : Machine) → EndsSo given (TheCard first) left end leaves → EndsInLines given left end leaves
+ends_played given left end leaves first ends =
+    let done = ends.done in
+    let card = done.opened in
     record {
-      ends = record { found = found; section = section; played = played; card = card.0; lines_are = record { read = are.read; described = card.1; in_place = are.in_place }; cause = cause };
-      opens = was_to_open given section start card.0 card.1 are.opened are.good;
-      front = front;
-      written = written;
+      ends = record { found = done.found; section = done.section; played = done.played; card = done.described; lines_are = done.lines; cause = ends.cause };
+      opens = was_to_open given done.section card.start done.described done.lines.described card.opened (subst (λ (m : Machine). IsGood m.card) card.machine_is card.good);
+      front = _;
+      written = ends.written;
     }
 
-ends_in_lines : (given : Given) (left : Option (List ℕ)) (end : PlayEnd) (leaves : Leaves) → EndsSo given left end leaves ⊎ EndsServing given left end leaves → EndsInLines given left end leaves
-ends_in_lines given left end leaves (inl ends) = played_so given left end leaves ends.found ends.section ends.played ends.start _ ends.lines ends.cause ends.written
-ends_in_lines given left end leaves (inr ends) = played_so given left end leaves ends.found ends.section ends.played ends.start _ ends.lines_are ends.cause ends.written
+ends_served : (given : Given) (left : Option (List ℕ)) (end : PlayEnd) (leaves : Leaves) → EndsServing given left end leaves → EndsInLines given left end leaves
+ends_served given left end leaves ends =
+    let are = ends.lines_are in
+    let card = opened_card given.boxes given.first given.memory ends.section ends.start are.opened in
+    record {
+      ends = record { found = ends.found; section = ends.section; played = ends.played; card = card.0; lines_are = record { read = are.read; described = card.1; in_place = are.in_place }; cause = ends.cause };
+      opens = was_to_open given ends.section ends.start card.0 card.1 are.opened are.good;
+      front = _;
+      written = ends.written;
+    }
 
-behind_end : (given : Given) (left : Option (List ℕ)) (leaves : Leaves) → ComesTo given left play.Finished leaves → EndsSo given left play.Finished leaves ⊎ EndsServing given left play.Finished leaves
-behind_end given left leaves (inl card) = inl card.1
-behind_end given left leaves (inr served) = inr served.1
+behind_end : (given : Given) (left : Option (List ℕ)) (leaves : Leaves) → ComesTo given left play.Finished leaves → EndsInLines given left play.Finished leaves
+behind_end given left leaves (inl card) = ends_played given left play.Finished leaves card.1 card.2
+behind_end given left leaves (inr served) = ends_served given left play.Finished leaves served.1
 
-behind_bad : (given : Given) (left : Option (List ℕ)) (number : ℕ) (leaves : Leaves) → ComesTo given left (play.BadLine number) leaves → EndsSo given left (play.BadLine number) leaves ⊎ EndsServing given left (play.BadLine number) leaves
-behind_bad given left number leaves (inl card) = inl card.1
-behind_bad given left number leaves (inr served) = inr served.1
+behind_bad : (given : Given) (left : Option (List ℕ)) (number : ℕ) (leaves : Leaves) → ComesTo given left (play.BadLine number) leaves → EndsInLines given left (play.BadLine number) leaves
+behind_bad given left number leaves (inl card) = ends_played given left (play.BadLine number) leaves card.1 card.2
+behind_bad given left number leaves (inr served) = ends_served given left (play.BadLine number) leaves served.1
 
 finished_so : (given : Given) (status : ℕ) (left : Option (List ℕ)) (leaves : Leaves) → EndsInLines given left play.Finished leaves → status ≡ 0 → (finishes : Finishes given status) × OpensAt given (Behind finishes.card)
 finished_so given status left leaves came is = (finished given status left came.ends is, came.opens)
@@ -514,8 +518,8 @@ verdict_of given left taken FormatFailed leaves status is told comes boxed used 
 verdict_of given left taken EepromFailed leaves status is told comes boxed used sound four six = absurd (six refl)
 verdict_of given left taken (NotACard at) leaves status is told comes boxed used sound four six = inr (inr (inr (no_card_so given status at left taken leaves is comes told)))
 verdict_of given left taken (NoApplet shelf) leaves status is told comes boxed used sound four six = inr (inr (inr (no_box_so given status shelf left taken leaves (boxed is) is comes told)))
-verdict_of given left taken (Played play.Finished) leaves status is told comes boxed used sound four six = inr (inl (finished_so given status left leaves (ends_in_lines given left play.Finished leaves (behind_end given left leaves comes)) is))
-verdict_of given left taken (Played (play.BadLine number)) leaves status is told comes boxed used sound four six = inr (inr (inl (stopped_so given status number left taken leaves (ends_in_lines given left (play.BadLine number) leaves (behind_bad given left number leaves comes)) is told)))
+verdict_of given left taken (Played play.Finished) leaves status is told comes boxed used sound four six = inr (inl (finished_so given status left leaves (behind_end given left leaves comes) is))
+verdict_of given left taken (Played (play.BadLine number)) leaves status is told comes boxed used sound four six = inr (inr (inl (stopped_so given status number left taken leaves (behind_bad given left number leaves comes) is told)))
 verdict_of given left taken (Played play.ReadFailed) leaves status is told comes boxed used sound four six = absurd (sound refl)
 verdict_of given left taken (Played play.SinkFailed) leaves status is told comes boxed used sound four six = absurd (four refl)
 verdict_of given left taken (Played play.ResetFailed) leaves status is told comes boxed used sound four six = absurd (six refl)

@@ -24,27 +24,34 @@ use Rattle.uicc_run.specs.Playing.{Given, IsPlayed, IsPlaying, left_at}
 use Rattle.uicc_run.specs.Runs.{first_machine}
 use Rattle.uicc_run.specs.Serving.{EndsServing, ServedComesTo, StopsServing, beginning}
 use Rattle.uicc_run.specs.Steps.{may_stand}
+use Rattle.uicc_run.specs.Views.{TheCard}
+use Rattle.uicc_run.proofs.PlayingLemmas.{carried_out}
 
 -- ---- to the card
 
-pub plays_first : (given : Given) (script : ScriptReader) (left : Option (List ℕ)) (now : Moment) → given.is_served ≡ false → IsStarted given script left now → IsPlaying given script left None now
-plays_first given script left now unserved started = record {
-  found = started.found;
-  section = started.section;
-  played = [];
-  start = started.start;
-  machine = first_machine started.start given.boxes;
-  account = nothing;
-  unserved = unserved;
-  lines = started.lines;
-  are_told = record { account_is = refl; keeps = refl; stays = refl };
-  follows = started.follows;
-  told = started.begins.told;
-  written = started.begins.written ∙ ap Some (sym (append-nil given.before));
-  counted = started.begins.counted;
-  waits = started.begins.waits;
-  rests = λ calm. started.begins.rests;
-}
+-- what the lines before `start` describe, where a card was opened
+pub opened_card : (cast : List (Option AppletState)) (first : Option Persistent) (memory : Result Persistent ℕ) (section : List ScriptLine) (start : Persistent) → IsOpened cast first memory section start
+    → (card : Option Persistent) × (with_lines cast first section ≡ Ok card)
+opened_card cast (Some bare) memory section start opened = (Some start, opened)
+opened_card cast None memory section start opened = (None, opened.0)
+
+pub plays_first : (given : Given) (script : ScriptReader) (left : Option (List ℕ)) (now : Moment) → given.is_served ≡ false → (started : IsStarted given script left now)
+    → IsPlaying given (TheCard (first_machine started.start given.boxes)) script left None now
+plays_first given script left now unserved started =
+    let first = TheCard (first_machine started.start given.boxes) in
+    let card = opened_card given.boxes given.first given.memory started.section started.start started.lines.opened in
+    record {
+      done = carried_out given first started.found started.section [] card.0 nothing None first (record { read = started.lines.read; described = card.1; in_place = started.lines.in_place })
+          (record { start = started.start; opened = started.lines.opened; machine_is = refl; good = started.lines.good }) (record { account_is = refl; keeps = refl; stays = refl });
+      unserved = unserved;
+      follows = started.follows;
+      keeps = refl;
+      seen = started.begins.told;
+      written = started.begins.written ∙ ap Some (sym (append-nil given.before));
+      counted = started.begins.counted;
+      waits = started.begins.waits;
+      rests = λ calm. started.begins.rests;
+    }
 
 -- ---- to a handset
 

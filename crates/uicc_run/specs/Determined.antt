@@ -2,21 +2,26 @@
 use Rattle.std.specs.Prelude.{◌≡◌, ℕ, List, Option}
 use Rattle.script_reader.specs.declared.behind.PlayEnd.{PlayEnd}
 use Rattle.card_laws.specs.Faults.{ShowsNoCut, ShowsNoFailure}
+use Rattle.card_model.specs.States.{Machine}
 use Rattle.long_runs.specs.declared.counts.Counts.{Counts}
 use Rattle.phone_runs.specs.Logs.{shown}
 use Rattle.uicc_run.specs.Loading.{Loads}
 use Rattle.uicc_run.specs.Playing.{EndsSo, Given, Leaves}
 use Rattle.uicc_run.specs.Serving.{EndsServing}
+use Rattle.uicc_run.specs.Views.{CardView, TheCard}
 
 -- in the run of the card no memory failed and no power was lost
-abbrev pub IsCalm : {given : Given} {left : Option (List ℕ)} {end : PlayEnd} {now : Leaves} → EndsSo given left end now → Type 0
-IsCalm run = ShowsNoFailure run.account.own × ShowsNoCut run.account.own
+abbrev pub IsCalm : {given : Given} {first : CardView} {left : Option (List ℕ)} {end : PlayEnd} {now : Leaves} → EndsSo given first left end now → Type 0
+IsCalm run = ShowsNoFailure run.done.account.own × ShowsNoCut run.done.account.own
 
 -- Two such runs without a handset that were given the same, and of which the section and the lines behind it are the same, have one trace,
 -- and their memories stand for the same behind them.
 abbrev pub TracesAreOne : Type 0
-TracesAreOne = (given : Given) (left left' : Option (List ℕ)) (end end' : PlayEnd) (now now' : Leaves) (run : EndsSo given left end now) (other : EndsSo given left' end' now')
-    → run.section ≡ other.section → run.played ≡ other.played → IsCalm run → IsCalm other → (now.taken ≡ now'.taken) × (now.held ≡ now'.held)
+TracesAreOne =
+    (given : Given) (first first' : Machine) (left left' : Option (List ℕ)) (end end' : PlayEnd) (now now' : Leaves)
+    → (run : EndsSo given (TheCard first) left end now) (other : EndsSo given (TheCard first') left' end' now')
+    → run.done.section ≡ other.done.section → run.done.played ≡ other.done.played → IsCalm run → IsCalm other
+    → (now.taken ≡ now'.taken) × (now.held ≡ now'.held)
 
 -- ---- where a handset serves the card
 

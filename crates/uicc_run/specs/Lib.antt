@@ -20,4 +20,5 @@ pub mod Steps
 pub mod Stores
 pub mod Terminals
 pub mod Unplanned
+pub mod Views
 pub mod Worlds

@@ -47,14 +47,15 @@ pub record RunsFrom (given : Given) (words : List (List ℕ)) (before : World) :
   pub others_are : IsGiven given before.taken (memory_in given.pages before.contents) before.meter before.boxes
   pub is_asked : (asked : Request) → IsRequest words asked → IsAskedFor given asked
 
--- The same of what decides which lines are read: nothing is said of the memory and its counts,
+-- The same over any memory: nothing is said of what it holds,
 pub record ReadsFrom (given : Given) (words : List (List ℕ)) (before : World) : Type 0 where
   pub text_is : before.left ≡ Some given.text
   pub before_is : before.taken ≡ Some given.before
+  pub meter_is : before.meter ≡ given.meter
   pub boxes_are : before.boxes ≡ given.boxes
   pub is_asked : (asked : Request) → IsRequest words asked → IsAskedFor given asked
 
--- nor of the sink.
+-- nor of its counts and the sink.
 pub record IsToRead (given : Given) (words : List (List ℕ)) (before : World) : Type 0 where
   pub text_is : before.left ≡ Some given.text
   pub boxes_are : before.boxes ≡ given.boxes

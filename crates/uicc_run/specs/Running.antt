@@ -41,7 +41,7 @@ pub record EndsUntold (given : Given) (status : ℕ) (before after : World) (Mem
   pub put : Option (List ℕ)
   pub closes : Closes ending put after.taken status
   pub reads : ReadsTo given after.left ending
-  pub shows : ShowsTo given before.meter after.left ending put after.meter
+  pub shows : ShowsTo given after.left ending (record (left_in given.pages after) { taken = put })
   pub unshown : IsUnopened ending → put ≡ Some given.before
   pub unplanned : IsUnopened ending → IsUnplanned before.meter after.meter
   pub boxes_kept : IsUnopened ending → BoxesAreSame

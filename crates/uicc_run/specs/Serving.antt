@@ -23,6 +23,7 @@ use Rattle.phone_runs.specs.Runs.{Beginning, RunEnds, IsPhoneRun}
 use Rattle.phone_runs.specs.Traces.{entries_text}
 use Rattle.uicc_run.specs.Playing.{CardComesTo, Given, IsPlayed, Leaves, StopsPlaying, left_at}
 use Rattle.uicc_run.specs.Runs.{first_machine}
+use Rattle.uicc_run.specs.Views.{TheCard}
 
 -- what the handset's run begins with, where the card that was opened holds this
 abbrev pub beginning : Given → Persistent → Beginning
@@ -74,6 +75,10 @@ ServedComesTo given left ReadFailed now = EndsServing given left ReadFailed now
 ServedComesTo given left SinkFailed now = StopsServing given step_end.SinkFailed now
 ServedComesTo given left ResetFailed now = StopsServing given step_end.ResetFailed now
 
+-- where they go to the card, from the card itself that was opened
+abbrev pub PlayedComesTo : Given → Option (List ℕ) → PlayEnd → Leaves → Type 0
+PlayedComesTo given left end now = (first : Machine) × CardComesTo given (TheCard first) left end now
+
 -- what the lines after `start` come to, where they go to the card or to a handset
 abbrev pub ComesTo : Given → Option (List ℕ) → PlayEnd → Leaves → Type 0
-ComesTo given left end now = ((given.is_served ≡ false) × CardComesTo given left end now) ⊎ ((given.is_served ≡ true) × ServedComesTo given left end now)
+ComesTo given left end now = ((given.is_served ≡ false) × PlayedComesTo given left end now) ⊎ ((given.is_served ≡ true) × ServedComesTo given left end now)

@@ -1,6 +1,6 @@
 //! A whole run: the words of the command line, the script, the card's memory and the trace.
 ghost use Rattle.std.specs.Prelude.{◌≡◌, ◌≢◌, ◌⊎◌, ◌≤◌, ℕ, List, [], Some, None, true, map, string_bytes, is_some, option_map, IsErrOf, OnOk, OnErr, Option};
-ghost use Rattle.uicc_types.specs.Counts.{Meter, Rose};
+ghost use Rattle.uicc_types.specs.Counts.{Rose};
 ghost use Rattle.uicc_types.specs.Told.{Becomes};
 ghost use Rattle.byte_streams.specs.Reading.{IsWithin};
 ghost use Rattle.script_form.specs.declared.lines.ScriptLine.{ScriptLine as AnyLine};
@@ -22,16 +22,17 @@ ghost use Rattle.uicc_run.specs.Endings.{HasFailed, IsUnopened, status_for};
 ghost use Rattle.uicc_run.specs.Headline.{Closes, Comes};
 ghost use Rattle.uicc_run.specs.Listeners.{is_handset};
 ghost use Rattle.uicc_run.specs.Opening.{IsGiven, IsMade, IsStarted, IsToPlay, IsToRead, RunsFrom, ending_for, makes};
-ghost use Rattle.uicc_run.specs.Playing.{Given, left_at};
+ghost use Rattle.uicc_run.specs.Playing.{CardComesTo, Given, IsPlaying, left_at};
 ghost use Rattle.uicc_run.specs.Reading.{ReadsTo};
 ghost use Rattle.uicc_run.specs.Running.{CarriesOut, HasCauses, IsEndedUntold, IsTraced, LeavesTheRest, LoadsLines, RefusesCards, RefusesWords, ServesChannels, StopsAtBad, StopsForRoom};
 ghost use Rattle.uicc_run.specs.Worlds.{left_in, left_of, world, stored};
 ghost use Rattle.uicc_run.specs.Serving.{ComesTo};
-ghost use Rattle.uicc_run.specs.Showing.{IsShowing, LinesShow, ShowsTo};
+ghost use Rattle.uicc_run.specs.Showing.{ShowsTo};
 ghost use Rattle.uicc_run.specs.Steps.{may_stand};
 ghost use Rattle.uicc_run.specs.Stores.{memory_in, size_of};
 ghost use Rattle.uicc_run.specs.Terminals.{AskForBip, ServesBip};
 ghost use Rattle.uicc_run.specs.Unplanned.{IsQuiet};
+ghost use Rattle.uicc_run.specs.Views.{CardView};
 
 use crate::endings::{Ending, last_line, status_of};
 use crate::listeners::{Listener, carrier_by, listener_for};
@@ -270,11 +271,11 @@ fn make_and_play<S: Store, R: Source, W: Sink, B: Applet>(
     ensures reads { (given : Given) (described : Option Persistent) → given.is_served ≡ is_handset listener
         → AtStart given.boxes given.first given.text reader.old (R.left script.old) described
         → ReadsTo given (R.left script.new) result.0 }
-    ensures shows { (given : Given) (described : Option Persistent) (first : Meter)
-        → given.is_served ≡ is_handset listener
+    ensures shows { (given : Given) (described : Option Persistent) → given.is_served ≡ is_handset listener
         → AtStart given.boxes given.first given.text reader.old (R.left script.old) described
-        → W.taken trace.old ≡ Some given.before → IsCounted first (S.meter store) [] []
-        → ShowsTo given first (R.left script.new) result.0 (W.taken trace.new) (S.meter result.1) }
+        → W.taken trace.old ≡ Some given.before → IsCounted given.meter (S.meter store) [] []
+        → ShowsTo given (R.left script.new) result.0 (left_of (S.store_mark result.1)
+        (stored R.Source W.Sink S.Store B.Applet script.new trace.new result.1 result.2.items)) }
     ensures within { (text : List ℕ) → IsWithin text (reading reader.old) (R.left script.old)
         → IsWithin text (reading reader.new) (R.left script.new) }
     ensures memory { KeepsCardThere (S.store_mark store) card.now result.0
@@ -332,11 +333,11 @@ fn open_and_play<S: Store, R: Source, W: Sink, B: Applet>(
     ensures reads { (given : Given) (described : Option Persistent) → given.is_served ≡ is_handset listener
         → AtStart given.boxes given.first given.text reader.old (R.left script.old) described
         → ReadsTo given (R.left script.new) result.0 }
-    ensures shows { (given : Given) (described : Option Persistent) (first : Meter)
-        → given.is_served ≡ is_handset listener
+    ensures shows { (given : Given) (described : Option Persistent) → given.is_served ≡ is_handset listener
         → AtStart given.boxes given.first given.text reader.old (R.left script.old) described
-        → W.taken trace.old ≡ Some given.before → IsCounted first (S.meter store) [] []
-        → ShowsTo given first (R.left script.new) result.0 (W.taken trace.new) (S.meter result.1) }
+        → W.taken trace.old ≡ Some given.before → IsCounted given.meter (S.meter store) [] []
+        → ShowsTo given (R.left script.new) result.0 (left_of (S.store_mark result.1)
+        (stored R.Source W.Sink S.Store B.Applet script.new trace.new result.1 result.2.items)) }
     ensures within { (text : List ℕ) → IsWithin text (reading reader.old) (R.left script.old)
         → IsWithin text (reading reader.new) (R.left script.new) }
     ensures memory { KeepsOpened (S.store_mark store) result.0
@@ -375,9 +376,9 @@ fn carry_on<S: Store, B: Applet, R: Source, W: Sink>(
     ensures comes { (given : Given) → given.is_served ≡ is_handset listener
         → IsStarted given reader.old (R.left script.old) (moment_at card.old (W.taken trace.old))
         → ComesTo given (R.left script.new) result (left_at (moment_at card.new (W.taken trace.new))) }
-    ensures shows { (given : Given) (first : Meter) → given.is_served ≡ is_handset listener
-        → IsShowing given first reader.old (R.left script.old) None (moment_at card.old (W.taken trace.old))
-        → LinesShow given first (R.left script.new) result (W.taken trace.new) card.new.parts.meter }
+    ensures shows { (given : Given) (first : CardView) → given.is_served ≡ is_handset listener
+        → IsPlaying given first reader.old (R.left script.old) None (moment_at card.old (W.taken trace.old))
+        → CardComesTo given first (R.left script.new) result (left_at (moment_at card.new (W.taken trace.new))) }
     ensures served { (text : List ℕ) (opening : List AnyLine) (outset : Outset) → is_handset listener ≡ true
         → StartsShowing text opening outset reader.old (R.left script.old) (moment_at card.old (W.taken trace.old))
         → PhoneShowsTo text opening outset (R.left script.new) result (moment_at card.new (W.taken trace.new)) }

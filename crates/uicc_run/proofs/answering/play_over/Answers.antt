@@ -1,5 +1,5 @@
 -- The device and the boxes are let go: what run says of them is kept of some values, and the rest of its clauses are told without them.
-use Rattle.std.proofs.Common.{map, string_bytes}
+use Rattle.std.proofs.Common.{map, string_bytes, ◌∙◌}
 use Rattle.uicc_run.specs.Opening.{ReadsFrom}
 use Rattle.uicc_run.specs.Worlds.{world}
 use Rattle.uicc_run.proofs.AnsweringLemmas.{gone, load_gone}
@@ -8,7 +8,7 @@ use Rattle.uicc_run.proofs.answering.play_over.Goals as goal
 pub returns-clause-script : goal.returns-clause-script
 returns-clause-script g c = λ given told.
     let from : ReadsFrom given (map string_bytes c.args.words.now) (world g.R.Source g.W.Sink g.E.Eeprom g.B.Applet c.args.script.now c.args.output.now c.args.eeprom c.args.cast.items) =
-    record { text_is = told.text_is; before_is = told.before_is; boxes_are = told.boxes_are; is_asked = told.is_asked } in
+    record { text_is = told.text_is; before_is = told.before_is; meter_is = c.requires.new ∙ told.meter_is; boxes_are = told.boxes_are; is_asked = told.is_asked } in
     let ended = c.run-status.ensures.untold given from in
     record {
       untold = record { ending = ended.ending; put = ended.put; closes = ended.closes; reads = ended.reads; unshown = ended.unshown };

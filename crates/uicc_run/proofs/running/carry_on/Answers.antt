@@ -5,6 +5,7 @@ use Rattle.run_steps.specs.Ends.{moment_at}
 use Rattle.phone_runs.proofs.LineLemmas.{ends_amid, starts_serving, stops_at_start, unread_amid}
 use Rattle.phone_runs.proofs.ShowingLemmas.{starts_so, stops_amid, stops_first}
 use Rattle.uicc_run.specs.Listeners.{is_handset}
+use Rattle.uicc_run.specs.Runs.{first_machine}
 use Rattle.uicc_run.specs.Serving.{beginning}
 use Rattle.uicc_run.specs.Steps.{may_stand}
 use Rattle.uicc_run.proofs.ServingLemmas.{opening, plays_first, serves_first, serves_to}
@@ -71,10 +72,10 @@ returns-in-Err-clause-reads g c = λ text opening reading.
 pub returns-in-Card-clause-comes : goal.returns-in-Card-clause-comes
 returns-in-Card-clause-comes g c = λ given is started.
     let unserved = is ∙ ap is_handset c.in-Card.is in
-    inl (unserved, c.play_lines-in-Card.ensures.played given (ap is_handset c.in-Card.is) (plays_first given _ _ _ unserved started))
+    inl (unserved, first_machine started.start given.boxes, c.play_lines-in-Card.ensures.played given _ (ap is_handset c.in-Card.is) (plays_first given _ _ _ unserved started))
 
 pub returns-in-Card-clause-shows : goal.returns-in-Card-clause-shows
-returns-in-Card-clause-shows g c = λ given first is showing. c.play_lines-in-Card.ensures.shows given first (ap is_handset c.in-Card.is) showing
+returns-in-Card-clause-shows g c = λ given first is showing. c.play_lines-in-Card.ensures.played given first (ap is_handset c.in-Card.is) showing
 
 pub returns-in-Card-clause-served : goal.returns-in-Card-clause-served
 returns-in-Card-clause-served g c = λ text opening outset served starts. absurd (false≢true (sym (ap is_handset c.in-Card.is) ∙ served))
