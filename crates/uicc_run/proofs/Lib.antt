@@ -11,6 +11,7 @@ mod ModeLemmas
 mod OpeningLemmas
 mod PlayingLemmas
 mod ReadingLemmas
+mod RunningLemmas
 mod ScriptsLemmas
 mod ServingLemmas
 mod ShowingLemmas

@@ -24,7 +24,7 @@ ghost use Rattle.uicc_run.specs.Listeners.{is_handset};
 ghost use Rattle.uicc_run.specs.Opening.{IsGiven, IsMade, IsStarted, IsToPlay, IsToRead, RunsFrom, ending_for, makes};
 ghost use Rattle.uicc_run.specs.Playing.{CardComesTo, Given, IsPlaying, left_at};
 ghost use Rattle.uicc_run.specs.Reading.{ReadsTo};
-ghost use Rattle.uicc_run.specs.Running.{CarriesOut, HasCauses, IsEndedUntold, IsTraced, LeavesTheRest, LoadsLines, RefusesCards, RefusesWords, ServesChannels, StopsAtBad, StopsForRoom};
+ghost use Rattle.uicc_run.specs.Running.{RunsAsAsked};
 ghost use Rattle.uicc_run.specs.Worlds.{left_in, left_of, world, stored};
 ghost use Rattle.uicc_run.specs.Serving.{ComesTo};
 ghost use Rattle.uicc_run.specs.Showing.{ShowsTo};
@@ -70,49 +70,10 @@ pub fn run<R: Source, W: Sink, E: Eeprom, B: Applet>(
     cast: Vec<Option<B>>,
 ) -> (u8, E, Vec<Option<B>>)
     requires fits { FitsRun (map string_bytes words.now) (E.byte_count eeprom) cast.items }
-    // Over a memory that tells its bytes.
-    ensures trace { IsTraced (map string_bytes words.now) result.0
-        (world R.Source W.Sink E.Eeprom B.Applet script.old trace.old eeprom cast.items)
-        (world R.Source W.Sink E.Eeprom B.Applet script.new trace.new result.1 result.2.items)
-        (result.1 ≡ eeprom) (result.2.items ≡ cast.items) }
-    // Over any memory, also one that tells nothing, as an image.
-    ensures untold { IsEndedUntold (map string_bytes words.now) result.0
-        (world R.Source W.Sink E.Eeprom B.Applet script.old trace.old eeprom cast.items)
-        (world R.Source W.Sink E.Eeprom B.Applet script.new trace.new result.1 result.2.items)
-        (result.1 ≡ eeprom) (result.2.items ≡ cast.items) }
-    // Which scripts are carried out, and where the others stop.
-    ensures good { CarriesOut (map string_bytes words.now) result.0
-        (world R.Source W.Sink E.Eeprom B.Applet script.old trace.old eeprom cast.items)
-        (world R.Source W.Sink E.Eeprom B.Applet script.new trace.new result.1 result.2.items) }
-    ensures bad { StopsAtBad (map string_bytes words.now) result.0
-        (world R.Source W.Sink E.Eeprom B.Applet script.old trace.old eeprom cast.items)
-        (world R.Source W.Sink E.Eeprom B.Applet script.new trace.new result.1 result.2.items) }
-    ensures no_room { StopsForRoom (map string_bytes words.now) result.0
-        (world R.Source W.Sink E.Eeprom B.Applet script.old trace.old eeprom cast.items)
-        (world R.Source W.Sink E.Eeprom B.Applet script.new trace.new result.1 result.2.items) }
-    ensures no_card { RefusesCards (map string_bytes words.now) result.0
-        (world R.Source W.Sink E.Eeprom B.Applet script.old trace.old eeprom cast.items)
-        (world R.Source W.Sink E.Eeprom B.Applet script.new trace.new result.1 result.2.items) }
-    // The runs of other words.
-    ensures load { LoadsLines (map string_bytes words.now) result.0
+    ensures { RunsAsAsked (map string_bytes words.now) result.0
         (world R.Source W.Sink E.Eeprom B.Applet script.old trace.old eeprom cast.items)
         (world R.Source W.Sink E.Eeprom B.Applet script.new trace.new result.1 result.2.items)
         (script.new ≡ script.old) (result.1 ≡ eeprom) (result.2.items ≡ cast.items) }
-    ensures bip { ServesChannels (map string_bytes words.now) result.0
-        (world R.Source W.Sink E.Eeprom B.Applet script.old trace.old eeprom cast.items)
-        (world R.Source W.Sink E.Eeprom B.Applet script.new trace.new result.1 result.2.items)
-        (result.1 ≡ eeprom) (result.2.items ≡ cast.items) }
-    ensures usage { RefusesWords (map string_bytes words.now) result.0
-        (world R.Source W.Sink E.Eeprom B.Applet script.old trace.old eeprom cast.items)
-        (world R.Source W.Sink E.Eeprom B.Applet script.new trace.new result.1 result.2.items)
-        (script.new ≡ script.old) }
-    // Why each status comes, and what stays.
-    ensures causes { HasCauses result.0
-        (world R.Source W.Sink E.Eeprom B.Applet script.old trace.old eeprom cast.items)
-        (world R.Source W.Sink E.Eeprom B.Applet script.new trace.new result.1 result.2.items) }
-    ensures stays { LeavesTheRest (map string_bytes words.now) result.0
-        (world R.Source W.Sink E.Eeprom B.Applet script.old trace.old eeprom cast.items)
-        (world R.Source W.Sink E.Eeprom B.Applet script.new trace.new result.1 result.2.items) (result.1 ≡ eeprom) }
 {
     let (ending, eeprom, cast) = carry_out(alloc, words, script, trace, eeprom, cast);
     (close(&ending, trace), eeprom, cast)
