@@ -20,3 +20,4 @@ mod StoresLemmas
 mod TerminalsLemmas
 mod ViewLemmas
 mod WithLineLemmas
+mod worked
