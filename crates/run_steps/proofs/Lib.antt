@@ -8,7 +8,6 @@ mod LeLemmas
 mod LinkedLemmas
 mod LooksAtLeLemmas
 mod SendsLemmas
-mod ShowingLemmas
 pub mod StandingLemmas
 mod SteppedLemmas
 pub mod SteppingLemmas
