@@ -17,12 +17,13 @@ use Rattle.script_reader.specs.declared.behind.PlayEnd.TheVariants.{Finished, Ba
 use Rattle.script_reader.specs.declared.reader.ScriptReader.{ScriptReader}
 use Rattle.card_core.specs.Parts.{CardParts}
 use Rattle.terminal_side.specs.Kept.{Kept}
-use Rattle.run_steps.proofs.StandingLemmas.{machine_minds, machine_stands}
+use Rattle.run_steps.proofs.SteppingLemmas.{stands_seen}
 use Rattle.run_steps.specs.Stepping.{Moment, moment}
 use Rattle.run_steps.specs.declared.steps.StepEnd.{StepEnd}
 use Rattle.run_steps.specs.declared.steps.StepEnd.TheVariants as step_end
 use Rattle.phone_runs.specs.Effects.{may_be_heard, phone_lines, phone_lines_of}
-use Rattle.phone_runs.specs.Logs.{PhoneLine, lines_back}
+use Rattle.phone_runs.specs.Logs.{PhoneLine, lines_back, shown}
+use Rattle.phone_runs.proofs.RunsAreLegalLemmas.{legal}
 use Rattle.phone_runs.specs.Runs.{Beginning, Rests, RunEnds}
 use Rattle.phone_runs.specs.Lines.{AreServed, PhoneComesTo, EndsAmid, PhoneEnds, IsServing, StandsAtStart, StopsAmid, told_back}
 
@@ -149,16 +150,16 @@ ends_serving text opening given script left left_then end phone parts taken wait
   found = serving.found;
   played = serving.played;
   log = serving.log;
-  machine = serving.at.machine;
+  card = serving.at.card;
   are_served = serving.are_served;
   told = serving.told;
   run = serving.at.run;
   rests = serving.rests;
+  legal = legal given.first serving.at.card serving.log serving.at.run serving.rests;
   cause = cause serving.found serving.follows;
-  stands = machine_stands parts serving.at.machine serving.at.told;
+  stands = stands_seen parts taken waiting serving.at.card (shown serving.log) serving.at.seen serving.at.rests;
   written = serving.at.written;
   counted = serving.at.counted;
-  minds = λ calm. machine_minds parts serving.at.machine serving.at.told (serving.at.rests calm);
 }
 
 -- whatever the end is

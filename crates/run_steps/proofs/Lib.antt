@@ -12,4 +12,5 @@ pub mod StandingLemmas
 mod SteppedLemmas
 pub mod SteppingLemmas
 pub mod TakesFrontLemmas
+pub mod ViewLemmas
 mod worked

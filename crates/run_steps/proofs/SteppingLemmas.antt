@@ -24,11 +24,11 @@ use Rattle.run_steps.specs.declared.steps.ResetOutcome.{ResetOutcome}
 use Rattle.run_steps.specs.declared.steps.ResetOutcome.TheVariants as restart
 use Rattle.run_steps.specs.Ends.{Comes, End, disarmed, moment_at, planned, unplanned, with_plan_set, without_plan}
 use Rattle.run_steps.specs.Runs.{ends_calm, is_calm, item_text, machine_of, text_of}
-use Rattle.run_steps.specs.Stepping.{BreaksOff, BreaksStep, EndsStep, GivesShowing, Holds, IsCutOff, IsSeenBy, Resets, RestsOn, Sends, TakesStep, shown_of}
+use Rattle.run_steps.specs.Stepping.{BreaksOff, BreaksStep, EndsStep, GivesShowing, Holds, IsCutOff, IsSeenBy, Resets, Rests, RestsOn, Sends, Stands, TakesStep, moment, shown_of}
 use Rattle.run_steps.specs.Views.{CardView, IsReply, ItsPower, Known, LastShows, StepShows, TheCard}
 use Rattle.run_steps.specs.declared.steps.StepEnd.{StepEnd}
 use Rattle.run_steps.specs.declared.steps.StepEnd.TheVariants.{SinkFailed, ResetFailed}
-use Rattle.run_steps.proofs.StandingLemmas.{machine_stands}
+use Rattle.run_steps.proofs.StandingLemmas.{machine_minds, machine_stands}
 
 -- ---- what was taken
 
@@ -160,6 +160,11 @@ seen_back is_given sent after (ItsPower on) back seen = ap (λ (e : End). e.part
 pub holds_seen : (parts : CardParts) (card : CardView) → IsSeenBy card (machine_of parts) parts.is_on → Holds card (held_by parts)
 holds_seen parts (TheCard machine) seen = machine_stands parts machine seen
 holds_seen parts (ItsPower on) seen = tt
+
+-- what it leaves, at the end of what was shown
+pub stands_seen : (parts : CardParts) (taken : Option (List ℕ)) (waiting : Plan) (card : CardView) (shown : List TraceItem) → IsSeenBy card (machine_of parts) parts.is_on → Rests card shown parts.is_due → Stands card shown (moment parts taken waiting)
+stands_seen parts taken waiting (TheCard machine) shown seen rests = record { stands = machine_stands parts machine seen; minds = λ calm. machine_minds parts machine seen (rests calm) }
+stands_seen parts taken waiting (ItsPower on) shown seen rests = tt
 
 -- a command was sent, or a reset was done, and these items are shown of it, of which this is the last
 pub record Showed (old : CardView) (step : Step) (items : List TraceItem) (shown : TraceItem) (sent : CardParts) : Type 0 where
@@ -340,9 +345,23 @@ restart_failed_broken before old from set sent after taken now plans told with_i
       counted = counted_with_plan plans from set sent after item.EepromFailed with_it counts;
     }
 
+-- ---- only a reset can be the last step
+
+pub no_last_command : (old new : CardView) (apdu : List ℕ) (items : List TraceItem) → LastShows old (step.Apdu apdu) items new → ⊥
+no_last_command (TheCard old) (TheCard new) apdu items none = none
+no_last_command (ItsPower on) (ItsPower after) apdu items none = none
+no_last_command (TheCard old) (ItsPower after) apdu items none = none
+no_last_command (ItsPower on) (TheCard new) apdu items none = none
+
+pub no_last_plan : (old new : CardView) (plan : Plan) (items : List TraceItem) → LastShows old (step.Plan plan) items new → ⊥
+no_last_plan (TheCard old) (TheCard new) plan items none = none
+no_last_plan (ItsPower on) (ItsPower after) plan items none = none
+no_last_plan (TheCard old) (ItsPower after) plan items none = none
+no_last_plan (ItsPower on) (TheCard new) plan items none = none
+
 -- ---- a plan
 
-still_shows : (old : CardView) (plan : Plan) → StepShows old (step.Plan plan) [] old
+pub still_shows : (old : CardView) (plan : Plan) → StepShows old (step.Plan plan) [] old
 still_shows (TheCard machine) plan = record { seen = refl; stays = refl }
 still_shows (ItsPower on) plan = (refl, refl)
 

@@ -69,6 +69,19 @@ Holds card held = Known (λ machine. held ≡ Some machine.card.persistent) (λ 
 abbrev pub RestsOn : CardView → List TraceItem → Bool → Bool → Type 0
 RestsOn card shown was_due is_due = Known (λ machine. (shown ≡ [] → was_due ≡ false) → ends_calm shown ≡ true → is_due ≡ false) (λ on. Unit {0}) card
 
+-- the same of all that was shown since it was opened
+abbrev pub Rests : CardView → List TraceItem → Bool → Type 0
+Rests card shown is_due = Known (λ machine. ends_calm shown ≡ true → is_due ≡ false) (λ on. Unit {0}) card
+
+-- What the card itself leaves at the end of what was shown: its memory stands for what it holds, and where it met no fault last, just the
+-- boxes that it has are there, with the minds that they have.
+pub record CardStands (machine : Machine) (shown : List TraceItem) (now : Moment) : Type 0 where
+  pub stands : now.held ≡ Some machine.card.persistent
+  pub minds : ends_calm shown ≡ true → now.boxes ≡ machine.card.boxes
+
+abbrev pub Stands : CardView → List TraceItem → Moment → Type 0
+Stands card shown now = Known (λ machine. CardStands machine shown now) (λ on. Unit {0}) card
+
 -- ---- a step
 
 -- What a step has shown, and how the card is seen then, where the sink fails in the last line of it. Where that is the line of

@@ -89,6 +89,10 @@ LastShows old step items new = KnownAlike (λ card next. StepEnds card step item
 abbrev pub StepsShow : CardView → List Step → List TraceItem → CardView → Type 0
 StepsShow old steps items new = KnownAlike (λ card next. GoesOn card steps items next) (λ on after. MayShowAll on steps items after) old new
 
--- and as a run of the card
+-- of the card itself, that it is a run, be it that its last step ended it
+abbrev pub IsRunOf : CardView → List Step → List TraceItem → CardView → Type 0
+IsRunOf old steps items new = KnownAlike (λ card next. IsRun card steps items next) (λ on after. Unit {0}) old new
+
+-- the same of steps of which none was the last, with what their power allows
 abbrev pub RunShows : CardView → List Step → List TraceItem → CardView → Type 0
 RunShows old steps items new = KnownAlike (λ card next. IsRun card steps items next) (λ on after. MayShowAll on steps items after) old new
