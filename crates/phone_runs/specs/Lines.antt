@@ -16,10 +16,11 @@ use Rattle.handset_model.specs.Rules.{asked}
 use Rattle.handset_model.specs.declared.known.Duty.TheVariants.{Rest}
 use Rattle.terminal_side.specs.Kept.{Kept}
 use Rattle.run_steps.specs.Stepping.{Moment, Stands}
-use Rattle.run_steps.specs.Views.{CardView}
+use Rattle.run_steps.specs.Views.{CardView, RunShows}
 use Rattle.run_steps.specs.declared.steps.StepEnd.{StepEnd}
 use Rattle.run_steps.specs.declared.steps.StepEnd.TheVariants as step_end
 use Rattle.phone_runs.specs.Effects.{may_be_heard, phone_lines}
+use Rattle.phone_runs.specs.Laws.{EndIsOfTheCard, ShowsBegun}
 use Rattle.phone_runs.specs.Logs.{Event, PhoneLine, heard, history, lines_back, log_lines, shown, steps, trace}
 use Rattle.phone_runs.specs.Playing.{Begins}
 use Rattle.phone_runs.specs.Runs.{Beginning, IsAt, IsPhoneRun, RunEnds}
@@ -78,13 +79,15 @@ pub record PhoneEnds (text : List ℕ) (opening : List ScriptLine) (given : Begi
   pub run : IsPhoneRun given.first log card
   pub rests : asked (history log) ≡ Rest
   pub legal : IsLegal (heard (log_lines log)) (trace log)
+  pub of_card : RunShows given.first (steps log) (shown log) card
   pub cause : StopsReading may_be_heard text found left end
   pub stands : Stands card (shown log) now
   pub written : now.taken ≡ Some (given.before ++ entries_text (trace log))
   pub counted : IsCounted given.meter now.meter (plan_given (steps log)) (shown log)
 
 -- The run ended while this was carried out which the lines told the handset, of which the last is the one that ended it; or in
--- the handset's start, before any line.
+-- the handset's start, before any line. What the sink has taken is the beginning of a trace that the rules of the handset ask for, and that
+-- trace without its notes is that of a run of the card itself, whose memory stands for what it holds at its end.
 pub record StopsAmid (text : List ℕ) (opening : List ScriptLine) (given : Beginning) (end : StepEnd) (now : Moment) : Type 0 where
   pub found : LineList
   pub more : LineList
@@ -92,6 +95,8 @@ pub record StopsAmid (text : List ℕ) (opening : List ScriptLine) (given : Begi
   pub parted : lines text ≡ found ++ more
   pub are_served : AreServed opening found played
   pub ended : RunEnds given (told_back played) now end
+  pub begun : ShowsBegun given (told_back played) now
+  pub of_card : EndIsOfTheCard given (told_back played) now end ended
 
 abbrev pub PhoneComesTo : List ℕ → List ScriptLine → Beginning → Option (List ℕ) → PlayEnd → Moment → Type 0
 PhoneComesTo text opening given left Finished now = PhoneEnds text opening given left Finished now

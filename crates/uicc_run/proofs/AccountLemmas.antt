@@ -2,11 +2,13 @@
 use Rattle.std.proofs.Common.{◌≡◌, List, [], ◌∷◌, ◌++◌, Option, refl, sym, ap, ◌∙◌, append_assoc, subst, append-nil}
 use Rattle.uicc_types.specs.declared.answers.Answer.{Answer}
 use Rattle.uicc_types.specs.declared.runs.Step.{Step}
+use Rattle.uicc_types.specs.declared.runs.Step.TheVariants as step
 use Rattle.uicc_types.specs.declared.runs.TraceItem.{TraceItem}
-use Rattle.t0_link.specs.Linking.{link_answer}
+use Rattle.t0_link.specs.Linking.{Answers, Course, Passes, link_answer}
+use Rattle.run_steps.proofs.ViewLemmas.{steps_nowhere, steps_one, steps_then}
+use Rattle.run_steps.specs.Tpdus.{CourseGives, steps_of}
+use Rattle.run_steps.specs.Views.{CardView, StepsShow}
 use Rattle.uicc_run.specs.Accounts.{Account, AreTold, Deed, IsTold, Takes, Transfers, joined, nothing}
-use Rattle.uicc_run.specs.Views.{CardView}
-use Rattle.uicc_run.proofs.ViewLemmas.{Goes, goes_by_link, goes_nowhere, goes_one, goes_then}
 
 -- ---- accounts behind accounts
 
@@ -58,17 +60,21 @@ told_one deed kept after old new account told = record {
 
 -- ---- the run of the card
 
-pub goes_by : (deed : Deed) (kept after : Option Answer) (old new : CardView) (account : Account) → IsTold deed kept old account after new → Goes old account.steps account.own new
-goes_by (Takes step) kept after old new account told = subst (λ (s : List Step). Goes old s account.own new) (sym told.steps_are) (goes_one old new step account.own told.gives)
+goes_by_link : (course : Course) (old new : CardView) (own : List TraceItem) (reply : TraceItem) (after : Option Answer) → CourseGives course old own reply after new → StepsShow old (steps_of course) own new
+goes_by_link (Answers linked) old new own reply after gives = subst (λ (i : List TraceItem). StepsShow old [] i new) (sym gives.silent) (steps_nowhere old new gives.stays)
+goes_by_link (Passes apdu make) old new own reply after gives = steps_one old new (step.Apdu apdu) own gives.gives
+
+pub goes_by : (deed : Deed) (kept after : Option Answer) (old new : CardView) (account : Account) → IsTold deed kept old account after new → StepsShow old account.steps account.own new
+goes_by (Takes step) kept after old new account told = subst (λ (s : List Step). StepsShow old s account.own new) (sym told.steps_are) (steps_one old new step account.own told.gives)
 goes_by (Transfers tpdu) kept after old new account told =
-    subst (λ (s : List Step). Goes old s account.own new) (sym told.steps_are) (goes_by_link (link_answer kept tpdu) old new account.own told.reply after told.gives)
+    subst (λ (s : List Step). StepsShow old s account.own new) (sym told.steps_are) (goes_by_link (link_answer kept tpdu) old new account.own told.reply after told.gives)
 
-goes_as : (account other : Account) (old new : CardView) → account ≡ other → Goes old other.steps other.own new → Goes old account.steps account.own new
-goes_as account other old new same goes = subst (λ (a : Account). Goes old a.steps a.own new) (sym same) goes
+goes_as : (account other : Account) (old new : CardView) → account ≡ other → StepsShow old other.steps other.own new → StepsShow old account.steps account.own new
+goes_as account other old new same goes = subst (λ (a : Account). StepsShow old a.steps a.own new) (sym same) goes
 
-pub goes_on : (deeds : List Deed) (kept after : Option Answer) (old new : CardView) (account : Account) → AreTold deeds kept old account after new → Goes old account.steps account.own new
-goes_on [] kept after old new account told = goes_as account nothing old new told.account_is (goes_nowhere old new told.stays)
+pub goes_on : (deeds : List Deed) (kept after : Option Answer) (old new : CardView) (account : Account) → AreTold deeds kept old account after new → StepsShow old account.steps account.own new
+goes_on [] kept after old new account told = goes_as account nothing old new told.account_is (steps_nowhere old new told.stays)
 goes_on (deed ∷ more) kept after old new account told =
     goes_as account (joined told.first told.others) old new told.account_is
-    (goes_then told.first.steps told.others.steps old told.middle new told.first.own told.others.own
+    (steps_then told.first.steps told.others.steps old told.middle new told.first.own told.others.own
     (goes_by deed kept told.between old told.middle told.first told.told) (goes_on more told.between after told.middle new told.others told.rest))

@@ -1,5 +1,6 @@
 -- What is told of the same lines twice, from the same card, is one where nothing fails.
-use Rattle.std.proofs.Common.{◌≡◌, ℕ, Bool, false, map, List, [], ◌∷◌, ◌++◌, Option, Some, None, Result, Ok, Err, refl, sym, ap, ◌∙◌, subst, inl, append-nil}
+use Rattle.std.proofs.Common.{◌≡◌, ℕ, Bool, false, map, reverse, List, [], ◌∷◌, ◌++◌, Option, Some, None, Result, Ok, Err, refl, sym, ap, ◌∙◌, subst, inl, append-nil}
+use Rattle.std.proofs.lemmas.List.{reverse-reverse}
 use Rattle.list_laws.proofs.ContainsLemmas.{front_of, back_of}
 use Rattle.uicc_types.specs.declared.answers.Answer.{Answer}
 use Rattle.uicc_types.specs.declared.runs.Step.{Step}
@@ -17,13 +18,17 @@ use Rattle.card_laws.specs.FaultLaws.{RunsAreOne}
 use Rattle.card_laws.specs.Faults.{ShowsNoCut, ShowsNoFailure}
 use Rattle.handset_model.specs.Legal.{TraceEntry}
 use Rattle.run_steps.specs.Runs.{text_of}
+use Rattle.run_steps.specs.Stepping.{CardStands, Moment, Stands}
 use Rattle.run_steps.specs.Tpdus.{CourseGives}
+use Rattle.run_steps.specs.Views.{CardView, ItsPower, Known, RunShows, TheCard}
 use Rattle.run_steps.specs.Shown.{kept_over, shown_for, shown_over}
 use Rattle.long_runs.specs.LoadLines.{made_lines}
 use Rattle.long_runs.specs.Counts.{counts_of}
 use Rattle.phone_runs.specs.LoadRuns.{all_heard, entry_line}
 use Rattle.phone_runs.specs.Effects.{phone_lines}
 use Rattle.phone_runs.specs.Laws.{PhoneRunsAreOne}
+use Rattle.phone_runs.specs.Lines.{told_back}
+use Rattle.phone_runs.specs.Logs.{Event, lines_back, log_lines, shown}
 use Rattle.phone_runs.specs.Runs.{IsPhoneRun}
 use Rattle.phone_runs.specs.Traces.{entries_text}
 use Rattle.uicc_run.specs.Accounts.{Account, AreTold, Deed, IsTold, Takes, Transfers, joined}
@@ -32,7 +37,6 @@ use Rattle.uicc_run.specs.Loading.{IsFixedCard}
 use Rattle.uicc_run.specs.Playing.{CardLeaves, IsOpened, Leaves}
 use Rattle.uicc_run.specs.Runs.{first_machine}
 use Rattle.uicc_run.specs.Steps.{deeds}
-use Rattle.uicc_run.specs.Views.{CardView, ItsPower, Known, RunShows, TheCard}
 use Rattle.uicc_run.proofs.AccountLemmas.{goes_by}
 
 abbrev NotFailed : TraceItem → Type 0
@@ -66,11 +70,14 @@ module _ (law : RunsAreOne) where
   abbrev AreOne : Account → Account → Option Answer → Option Answer → Machine → Machine → Type 0
   AreOne account other after after' new left = (account.own ≡ other.own) × (account.shown ≡ other.shown) × (after ≡ after') × (new ≡ left)
 
+  one_card : {new left : Machine} → TheCard new ≡ TheCard left → new ≡ left
+  one_card same = cc
+
   one_course : (course : Course) (tpdu : List ℕ) (old new left : Machine) (own other : List TraceItem) (reply reply' : TraceItem) (after after' : Option Answer)
-      → CourseGives course old own reply after new → CourseGives course old other reply' after' left → Calm own → Calm other
+      → CourseGives course (TheCard old) own reply after (TheCard new) → CourseGives course (TheCard old) other reply' after' (TheCard left) → Calm own → Calm other
       → (own ≡ other) × (shown_for tpdu reply ≡ shown_for tpdu reply') × (after ≡ after') × (new ≡ left)
   one_course (Answers linked) tpdu old new left own other reply reply' after after' a b calm calm' =
-      (a.silent ∙ sym b.silent, ap (shown_for tpdu) (a.seen ∙ sym b.seen), a.keeps ∙ sym b.keeps, a.stays ∙ sym b.stays)
+      (a.silent ∙ sym b.silent, ap (shown_for tpdu) (a.seen ∙ sym b.seen), a.keeps ∙ sym b.keeps, one_card (a.stays ∙ sym b.stays))
   one_course (Passes apdu make) tpdu old new left own other reply reply' after after' a b calm calm' =
       let same = one_step old new left (step.Apdu apdu) own other a.gives b.gives calm calm' in
       let shown : a.shown ≡ b.shown = ap second_of (sym a.came ∙ same.0 ∙ b.came) in
@@ -158,16 +165,23 @@ traces_are_one law given first first' left left' end end' now now' run other sam
 
 -- ---- where a handset serves the card
 
+-- what the card itself leaves behind them is what it holds
+one_left : (first : Machine) (log : List Event) (card other : CardView) (items others : List TraceItem) (now now' : Moment) → IsPhoneRun (TheCard first) log card → card ≡ other → Stands card items now → Stands other others now' → now.held ≡ now'.held
+one_left first log (TheCard machine) other items others now now' run same stands stands' =
+    let theirs : CardStands machine others now' = subst (λ (c : CardView). Stands c others now') (sym same) stands' in stands.stands ∙ sym theirs.stands
+one_left first log (ItsPower on) other items others now now' run same stands stands' = absurd run.run
+
 pub served_are_one : PhoneRunsAreOne → ServedTracesAreOne
-served_are_one law given left left' end end' now now' run other same_section same_lines calm calm' =
-    let opened : IsOpened given.boxes given.first given.memory run.section other.start = subst (λ (section : List ScriptLine). IsOpened given.boxes given.first given.memory section other.start) (sym same_section) other.lines_are.opened in
-    let start : run.start ≡ other.start = one_start given.boxes given.first given.memory run.section run.start other.start run.lines_are.opened opened in
-    let theirs : IsPhoneRun (first_machine run.start given.boxes) other.log other.machine = subst (λ (held : Persistent). IsPhoneRun (first_machine held given.boxes) other.log other.machine) (sym start) other.run in
-    let same = law (first_machine run.start given.boxes) run.machine other.machine (phone_lines run.played) run.log other.log
-    (record { run = run.run; lines_are = run.told; rests = run.rests; failures = calm.0; cuts = calm.1 })
-    (record { run = theirs; lines_are = other.told ∙ ap phone_lines (sym same_lines); rests = other.rests; failures = calm'.0; cuts = calm'.1 }) in (
+served_are_one law given section first first' left left' end end' at at' opened opened' run other same_lines calm calm' =
+    let start : opened.start ≡ opened'.start = one_start given.boxes given.first given.memory section opened.start opened'.start opened.opened opened'.opened in
+    let one_first : first ≡ first' = opened.machine_is ∙ ap (λ (held : Persistent). first_machine held given.boxes) start ∙ sym opened'.machine_is in
+    let theirs : IsPhoneRun (TheCard first) other.log other.card = subst (λ (m : Machine). IsPhoneRun (TheCard m) other.log other.card) (sym one_first) other.run in
+    let back : {log : List Event} {played : List ScriptLine} → lines_back log ≡ told_back played → log_lines log ≡ phone_lines played = λ told. ap reverse told ∙ reverse-reverse _ in
+    let same = law first run.card other.card (phone_lines run.played) run.log other.log
+    (record { run = run.run; lines_are = back run.told; rests = run.rests; failures = calm.0; cuts = calm.1 })
+    (record { run = theirs; lines_are = back other.told ∙ ap phone_lines (sym same_lines); rests = other.rests; failures = calm'.0; cuts = calm'.1 }) in (
       run.written ∙ ap (λ (entries : List TraceEntry). Some (given.before ++ entries_text entries)) same.shows ∙ sym other.written,
-      run.stands ∙ ap (λ (m : Machine). Some m.card.persistent) same.card ∙ sym other.stands,
+      one_left first run.log run.card other.card (shown run.log) (shown other.log) at at' run.run same.card run.stands other.stands,
     )
 
 -- the card of a long run is one
@@ -177,10 +191,10 @@ one_fixed boxes card other a b = ap (λ (made : Result (Option Persistent) _). t
 pub loads_are_one : PhoneRunsAreOne → LoadsAreOne
 loads_are_one law given start count lines lines' counts counts' leaves leaves' run other calm calm' =
     let card : run.card ≡ other.card = one_fixed given.boxes run.card other.card run.is_fixed other.is_fixed in
-    let theirs : IsPhoneRun (first_machine run.card given.boxes) other.counted.log other.counted.machine = subst (λ (held : Persistent). IsPhoneRun (first_machine held given.boxes) other.counted.log other.counted.machine) (sym card) other.counted.run in
-    let same = law (first_machine run.card given.boxes) run.counted.machine other.counted.machine (all_heard (made_lines start count)) run.counted.log other.counted.log
+    let theirs : IsPhoneRun (TheCard (first_machine run.card given.boxes)) other.counted.log other.counted.card = subst (λ (held : Persistent). IsPhoneRun (TheCard (first_machine held given.boxes)) other.counted.log other.counted.card) (sym card) other.counted.run in
+    let same = law (first_machine run.card given.boxes) run.counted.card other.counted.card (all_heard (made_lines start count)) run.counted.log other.counted.log
     (record { run = run.counted.run; lines_are = run.counted.lines_are; rests = run.counted.rests; failures = calm.0; cuts = calm.1 })
     (record { run = theirs; lines_are = other.counted.lines_are; rests = other.counted.rests; failures = calm'.0; cuts = calm'.1 }) in (
       run.counted.counts_are ∙ ap (λ (entries : List TraceEntry). counts_of (map entry_line entries)) same.shows ∙ sym other.counted.counts_are,
-      run.left.held ∙ run.counted.stands ∙ ap (λ (m : Machine). Some m.card.persistent) same.card ∙ sym other.counted.stands ∙ sym other.left.held,
+      run.left.held ∙ one_left (first_machine run.card given.boxes) run.counted.log run.counted.card other.counted.card (shown run.counted.log) (shown other.counted.log) run.at other.at run.counted.run same.card run.counted.stands other.counted.stands ∙ sym other.left.held,
     )

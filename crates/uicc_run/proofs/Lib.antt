@@ -18,6 +18,5 @@ mod ShowingLemmas
 mod ShowsAsManyLemmas
 mod StoresLemmas
 mod TerminalsLemmas
-mod ViewLemmas
 mod WithLineLemmas
 mod worked

@@ -21,7 +21,7 @@ use Rattle.layout_mount.proofs.MountedLemmas.{read_told}
 use Rattle.applet_trait.specs.Minds.{AppletState}
 use Rattle.card_model.specs.Counts.{IsCounted}
 use Rattle.card_model.specs.Laws.{CountsJoin}
-use Rattle.card_model.specs.States.{IsGood, woken}
+use Rattle.card_model.specs.States.{IsGood, Machine, woken}
 use Rattle.card_core.specs.Cards.{card_of, held_by}
 use Rattle.card_core.specs.Openings.{opened, with_all_shelves}
 use Rattle.card_core.specs.Parts.{CardParts}
@@ -32,11 +32,12 @@ use Rattle.card_core.specs.declared.opening_faults.OpenFault.TheVariants as faul
 use Rattle.section_lines.specs.SectionReading.{AtStart, InSection}
 use Rattle.section_lines.specs.Script.{described, then_on, with_lines}
 use Rattle.run_steps.specs.Stepping.{moment}
+use Rattle.run_steps.specs.Views.{TheCard}
+use Rattle.uicc_run.specs.Runs.{first_machine}
 use Rattle.run_steps.proofs.StandingLemmas.{is_machine}
 use Rattle.uicc_run.specs.Endings.{KeepsBytes}
 use Rattle.uicc_run.specs.Headline.{Comes, FailsToFormat, HasNoMemory, HoldsStart, IsMigratedAtMost, IsNotOpened}
 use Rattle.uicc_run.specs.Opening.{IsGiven, IsMade, IsStarted, ending_for, makes}
-use Rattle.uicc_run.specs.Serving.{ComesTo}
 use Rattle.uicc_run.specs.Playing.{Given, IsOpened, Leaves}
 use Rattle.uicc_run.specs.Scripts.{ReachesStart}
 use Rattle.uicc_run.specs.Steps.{may_stand}
@@ -244,30 +245,34 @@ some_of (Some x) is = (x, refl)
 -- the card was opened
 pub starts : (given : Given) (script : ScriptReader) (left taken : Option (List ℕ)) (mark : ℕ) (told : Option (List ℕ)) (meter : Meter) (boxes : List (Option AppletState)) (parts : CardParts) → CountsJoin
     → IsMade given script left taken (option_map (stands_for mark) told) meter boxes → is_some (standing mark told) ≡ true → card_of parts ≡ opened (standing mark told) boxes → parts.is_on ≡ true → parts.is_due ≡ false → IfSome (card_of parts) IsGood → Caused meter parts.meter ⊥ ⊥
-    → IsStarted given script left (moment parts taken NONE)
+    → (first : Machine) × IsStarted given (TheCard first) script left (moment parts taken NONE)
 starts given script left taken mark told meter boxes parts join made holds is on rests good caused =
     let start = some_of (standing mark told) holds in
     let card : card_of parts ≡ Some (woken (migrated start.0) (with_all_shelves given.boxes)) =
     is ∙ ap (λ h. opened h boxes) start.1 ∙ ap (λ b. Some (woken (migrated start.0) (with_all_shelves b))) made.boxes_are in
-    record {
-      found = made.at.given;
-      section = made.at.section;
-      start = start.0;
-      lines = record {
-        read = made.at.read;
-        opened = made.opens start.0 (found_standing mark told start.0 start.1);
-        good = if_some_at (card_of parts) IsGood (woken (migrated start.0) (with_all_shelves given.boxes)) good card;
-        in_place = All-nil (λ line. may_stand given.is_served line ≡ true);
-      };
-      follows = made.at.follows;
-      begins = record {
-        told = is_machine parts (woken (migrated start.0) (with_all_shelves given.boxes)) true card on;
-        written = made.taken_is;
-        counted = join given.meter meter parts.meter [] [] [] [] made.counted (caused_counted meter parts.meter caused (λ so. so) (λ so. so));
-        waits = refl;
-        rests = rests;
-      };
-    }
+    (
+      first_machine start.0 given.boxes,
+      record {
+        found = made.at.given;
+        section = made.at.section;
+        card = made.card;
+        lines = record { read = made.at.read; described = made.at.described; in_place = All-nil (λ line. may_stand given.is_served line ≡ true) };
+        opened = record {
+          start = start.0;
+          opened = made.opens start.0 (found_standing mark told start.0 start.1);
+          machine_is = refl;
+          good = if_some_at (card_of parts) IsGood (woken (migrated start.0) (with_all_shelves given.boxes)) good card;
+        };
+        follows = made.at.follows;
+        begins = record {
+          seen = is_machine parts (woken (migrated start.0) (with_all_shelves given.boxes)) true card on;
+          written = made.taken_is;
+          counted = join given.meter meter parts.meter [] [] [] [] made.counted (caused_counted meter parts.meter caused (λ so. so) (λ so. so));
+          waits = refl;
+          rests = λ calm. rests;
+        };
+      },
+    )
 
 -- it was not
 abbrev pub not_opened : (given : Given) (script : ScriptReader) (left taken : Option (List ℕ)) (card held_then : Option Persistent) (meter_then : Meter) (boxes_then : List (Option AppletState)) → AtStart given.boxes given.first given.text script left card → taken ≡ Some given.before

@@ -1,5 +1,5 @@
 -- From one line after `start` to the next, and why the run ends there, by what is known of the card.
-use Rattle.std.proofs.Common.{◌≡◌, ℕ, Bool, true, false, List, [], ◌∷◌, ◌++◌, Option, Some, None, refl, sym, ap, ◌∙◌, append_assoc, subst}
+use Rattle.std.proofs.Common.{◌≡◌, ℕ, true, false, List, [], ◌∷◌, ◌++◌, Option, Some, None, refl, sym, ap, ◌∙◌, append_assoc, subst}
 use Rattle.std.proofs.lemmas.List.Elements.{All-push}
 use Rattle.uicc_types.specs.declared.answers.Answer.{Answer}
 use Rattle.uicc_types.specs.declared.plans.Plan.{Plan}
@@ -24,21 +24,21 @@ use Rattle.card_model.specs.Counts.{IsCounted}
 use Rattle.card_model.specs.Laws.{CountsJoin, PlansAreSetInOrder}
 use Rattle.card_model.specs.Runs.{plan_given, armed_after, waiting_after}
 use Rattle.card_model.specs.States.{Machine}
-use Rattle.run_steps.proofs.GoesOnLemmas.{calm_before, calm_behind, text_of-append}
-use Rattle.run_steps.specs.Runs.{ends_calm, text_of}
-use Rattle.run_steps.specs.Showing.{CutsOffStep, CutsOffTpdu, MayBreakOff, MayBreakOffTpdu, MayShow, MayShowAll, ShowsLast, ShowsStep, ShowsTpdu}
-use Rattle.run_steps.specs.Stepping.{BreaksStep, EndsStep, IsCutOff, Moment, TakesStep}
+use Rattle.run_steps.proofs.GoesOnLemmas.{text_of-append}
+use Rattle.run_steps.proofs.SteppingLemmas.{no_last_command, no_last_plan}
+use Rattle.run_steps.proofs.ViewLemmas.{rests_then, run_failed, run_shown}
+use Rattle.run_steps.specs.Runs.{text_of}
+use Rattle.run_steps.specs.Stepping.{BreaksStep, EndsStep, Holds, IsCutOff, IsSeen, Moment, Rests, RestsOn, TakesStep}
+use Rattle.run_steps.specs.Views.{CardView, ItsPower, Known, TheCard}
 use Rattle.run_steps.specs.Tpdus.{BreaksTpdu, TakesTpdu, steps_of}
 use Rattle.run_steps.specs.Shown.{shown_for}
 use Rattle.uicc_run.specs.Accounts.{Account, AreTold, BreaksOffDeed, Deed, IsTold, Takes, Transfers, joined, kept_behind}
-use Rattle.uicc_run.specs.Playing.{AreReadInPlace, BreaksSo, CardComesTo, CardLeaves, CarriedOut, EndsSo, FailsSo, Given, IsFirst, IsPlaying, Leaves, Reaches, Rests, StopsPlaying, left_at}
+use Rattle.uicc_run.specs.Playing.{AreReadInPlace, BreaksSo, CardComesTo, CardLeaves, CarriedOut, EndsSo, FailsSo, Given, IsFirst, IsPlaying, Leaves, Reaches, StopsPlaying, left_at}
 use Rattle.uicc_run.specs.Runs.{HasKindsOf}
 use Rattle.uicc_run.specs.Steps.{deeds, deeds_of, may_follow, may_stand}
-use Rattle.uicc_run.specs.Views.{CardView, Holds, IsSeen, ItsPower, Known, LastShows, TheCard}
 use Rattle.uicc_run.proofs.AccountLemmas.{goes_by, goes_on, told_one, told_then}
 use Rattle.uicc_run.proofs.DeedsLemmas.{deeds_none, deeds_one}
 use Rattle.uicc_run.proofs.ShowsAsManyLemmas.{shows_as_many, shows_broken}
-use Rattle.uicc_run.proofs.ViewLemmas.{Goes, run_failed, run_shown}
 
 -- where the lines go to the card
 pub stands_there : (given : Given) (line : ScriptLine) (may : Bool) → given.is_served ≡ false → may_follow line ≡ may → may_stand given.is_served line ≡ may
@@ -84,16 +84,6 @@ carried_out given first found section played described account kept card lines o
 
 -- ---- what a line comes to
 
--- no box is to be woken behind it, where none was before it
-abbrev RestsOn : CardView → List TraceItem → Moment → Moment → Type 0
-RestsOn card own from to = Known (λ (machine : Machine). (own ≡ [] → from.is_due ≡ false) → ends_calm own ≡ true → to.is_due ≡ false) (λ on. Unit {0}) card
-
-rests_on : (old new : CardView) (steps : List Step) (own more : List TraceItem) (from to : Moment) → Goes old steps more new → Rests old own from → RestsOn new more from to → Rests new (own ++ more) to
-rests_on (TheCard old) (TheCard new) steps own more from to goes before now = λ calm. now (λ none. before (calm_before own more none calm)) (calm_behind own more calm)
-rests_on (ItsPower on) (ItsPower after) steps own more from to goes before now = tt
-rests_on (TheCard old) (ItsPower after) steps own more from to none before now = tt
-rests_on (ItsPower on) (TheCard new) steps own more from to none before now = absurd none
-
 -- it was carried out
 pub record Does (deed : Deed) (kept : Option Answer) (old : CardView) (before : List ℕ) (from to : Moment) (after : Option Answer) : Type 0 where
   pub card : CardView
@@ -103,7 +93,7 @@ pub record Does (deed : Deed) (kept : Option Answer) (old : CardView) (before : 
   pub written : to.taken ≡ Some (before ++ text_of account.shown)
   pub counted : IsCounted from.meter to.meter (armed_after from.waiting account.steps) account.own
   pub waits : to.waiting ≡ waiting_after from.waiting account.steps
-  pub rests : RestsOn card account.own from to
+  pub rests : RestsOn card account.own from.is_due to.is_due
 
 -- the sink failed in it
 pub record Breaks (deed : Deed) (kept : Option Answer) (old : CardView) (before : List ℕ) (from to : Moment) (after : Option Answer) : Type 0 where
@@ -118,167 +108,63 @@ pub record Breaks (deed : Deed) (kept : Option Answer) (old : CardView) (before 
   pub written : to.taken ≡ Some (before ++ front)
   pub counted : IsCounted from.meter to.meter set own
 
--- the memory failed in it
-pub record Fails (last : Step) (old : CardView) (before : List ℕ) (from to : Moment) : Type 0 where
-  pub card : CardView
-  pub shown : List TraceItem
-  pub ends : LastShows old last shown card
-  pub stands : Holds card to.held
-  pub written : to.taken ≡ Some (before ++ text_of shown)
-  pub counted : IsCounted from.meter to.meter (armed_after from.waiting (last ∷ [])) shown
+-- a step
+module _ (step : Step) (kept after : Option Answer) (old : CardView) (before : List ℕ) (from to : Moment) where
+  pub step_does : after ≡ kept_behind step kept → TakesStep old before step from to → Does (Takes step) kept old before from to after
+  step_does keeps taken = record {
+    card = taken.card;
+    account = record { steps = step ∷ []; own = taken.shown; shown = taken.shown };
+    seen = taken.seen;
+    is_told = record { steps_are = refl; gives = taken.gives; shown_is = refl; keeps = keeps };
+    written = taken.written;
+    counted = taken.counted;
+    waits = taken.waits;
+    rests = taken.rests;
+  }
 
--- so it is by what the steps say of the card itself, and of its power
-module _ (step : Step) (kept after : Option Answer) (from to : Moment) where
-  pub step_does : after ≡ kept_behind step kept → ((machine : Machine) (before : List ℕ) → from.machine ≡ Some machine → from.taken ≡ Some before → TakesStep machine before step from to)
-      → ((before : List ℕ) → from.taken ≡ Some before → (shown : List TraceItem) × ShowsStep shown before step from to)
-      → (old : CardView) (before : List ℕ) → IsSeen old from → from.taken ≡ Some before → Does (Takes step) kept old before from to after
-  step_does keeps takes shows (TheCard machine) before seen told =
-      let taken = takes machine before seen told in
-      record {
-        card = TheCard taken.machine;
-        account = record { steps = step ∷ []; own = taken.shown; shown = taken.shown };
-        seen = taken.told;
-        is_told = record { steps_are = refl; gives = taken.gives; shown_is = refl; keeps = keeps };
-        written = taken.written;
-        counted = taken.counted;
-        waits = taken.waits;
-        rests = taken.rests;
-      }
-  step_does keeps takes shows (ItsPower on) before seen told =
-      let taken = shows before told in
-      record {
-        card = ItsPower to.is_on;
-        account = record { steps = step ∷ []; own = taken.0; shown = taken.0 };
-        seen = refl;
-        is_told = record { steps_are = refl; gives = subst (λ (b : Bool). MayShow b step taken.0 to.is_on) seen taken.1.may; shown_is = refl; keeps = keeps };
-        written = taken.1.written;
-        counted = taken.1.counted;
-        waits = taken.1.waits;
-        rests = tt;
-      }
+  pub step_breaks : BreaksStep old before step from to → Breaks (Takes step) kept old before from to after
+  step_breaks broken = record {
+    card = broken.card;
+    own = broken.pending;
+    pending = broken.pending;
+    front = broken.front;
+    set = broken.set;
+    broken = (refl, broken.broken);
+    cut_off = broken.cut_off;
+    stands = broken.stands;
+    written = broken.written;
+    counted = broken.counted;
+  }
 
-  pub step_breaks : ((machine : Machine) (before : List ℕ) → from.machine ≡ Some machine → from.taken ≡ Some before → BreaksStep machine before step from to)
-      → ((before : List ℕ) → from.taken ≡ Some before → CutsOffStep before step from to)
-      → (old : CardView) (before : List ℕ) → IsSeen old from → from.taken ≡ Some before → Breaks (Takes step) kept old before from to after
-  step_breaks breaks cuts (TheCard machine) before seen told =
-      let broken = breaks machine before seen told in
-      record {
-        card = TheCard broken.machine;
-        own = broken.pending;
-        pending = broken.pending;
-        front = broken.front;
-        set = broken.set;
-        broken = (refl, broken.broken);
-        cut_off = broken.cut_off;
-        stands = broken.stands;
-        written = broken.written;
-        counted = broken.counted;
-      }
-  step_breaks breaks cuts (ItsPower on) before seen told =
-      let broken = cuts before told in
-      record {
-        card = ItsPower to.is_on;
-        own = broken.pending;
-        pending = broken.pending;
-        front = broken.front;
-        set = broken.set;
-        broken = (refl, subst (λ (b : Bool). MayBreakOff b step broken.pending (armed_after from.waiting (step ∷ [])) broken.set) seen broken.may);
-        cut_off = broken.cut_off;
-        stands = tt;
-        written = broken.written;
-        counted = broken.counted;
-      }
+-- a TPDU
+module _ (tpdu : List ℕ) (kept after : Option Answer) (old : CardView) (before : List ℕ) (from to : Moment) where
+  pub tpdu_does : TakesTpdu old before tpdu (link_answer kept tpdu) after from to → Does (Transfers tpdu) kept old before from to after
+  tpdu_does taken = record {
+    card = taken.card;
+    account = record { steps = steps_of (link_answer kept tpdu); own = taken.own; shown = shown_for tpdu taken.reply };
+    seen = taken.seen;
+    is_told = record { reply = taken.reply; steps_are = refl; gives = taken.gives; shown_is = refl };
+    written = taken.written;
+    counted = taken.counted;
+    waits = taken.waits;
+    rests = taken.rests;
+  }
 
-  pub step_fails : ((machine : Machine) (before : List ℕ) → from.machine ≡ Some machine → from.taken ≡ Some before → EndsStep machine before step from to)
-      → ((before : List ℕ) → from.taken ≡ Some before → ShowsLast before step from to)
-      → (old : CardView) (before : List ℕ) → IsSeen old from → from.taken ≡ Some before → Fails step old before from to
-  step_fails ends shows (TheCard machine) before seen told =
-      let ended = ends machine before seen told in
-      record { card = TheCard ended.machine; shown = ended.shown; ends = ended.ends; stands = ended.stands; written = ended.written; counted = ended.counted }
-  step_fails ends shows (ItsPower on) before seen told =
-      let ended = shows before told in
-      record { card = ItsPower to.is_on; shown = ended.shown; ends = ended.may; stands = tt; written = ended.written; counted = ended.counted }
-
-module _ (tpdu : List ℕ) (kept after : Option Answer) (from to : Moment) where
-  pub tpdu_does : ((machine : Machine) (before : List ℕ) → from.machine ≡ Some machine → from.taken ≡ Some before → TakesTpdu machine before tpdu (link_answer kept tpdu) after from to)
-      → ((before : List ℕ) → from.taken ≡ Some before → ShowsTpdu before tpdu (link_answer kept tpdu) after from to)
-      → (old : CardView) (before : List ℕ) → IsSeen old from → from.taken ≡ Some before → Does (Transfers tpdu) kept old before from to after
-  tpdu_does takes shows (TheCard machine) before seen told =
-      let taken = takes machine before seen told in
-      record {
-        card = TheCard taken.machine;
-        account = record { steps = steps_of (link_answer kept tpdu); own = taken.own; shown = shown_for tpdu taken.reply };
-        seen = taken.told;
-        is_told = record { reply = taken.reply; steps_are = refl; gives = taken.gives; shown_is = refl };
-        written = taken.written;
-        counted = taken.counted;
-        waits = taken.waits;
-        rests = taken.rests;
-      }
-  tpdu_does takes shows (ItsPower on) before seen told =
-      let taken = shows before told in
-      record {
-        card = ItsPower to.is_on;
-        account = record { steps = steps_of (link_answer kept tpdu); own = taken.own; shown = shown_for tpdu taken.reply };
-        seen = refl;
-        is_told = record {
-          reply = taken.reply;
-          steps_are = refl;
-          gives = (subst (λ (b : Bool). MayShowAll b (steps_of (link_answer kept tpdu)) taken.own to.is_on) seen taken.may, taken.shows);
-          shown_is = refl;
-        };
-        written = taken.written;
-        counted = taken.counted;
-        waits = taken.waits;
-        rests = tt;
-      }
-
-  pub tpdu_breaks : ((machine : Machine) (before : List ℕ) → from.machine ≡ Some machine → from.taken ≡ Some before → BreaksTpdu machine before tpdu (link_answer kept tpdu) kept after from to)
-      → ((before : List ℕ) → from.taken ≡ Some before → CutsOffTpdu before tpdu (link_answer kept tpdu) kept after from to)
-      → (old : CardView) (before : List ℕ) → IsSeen old from → from.taken ≡ Some before → Breaks (Transfers tpdu) kept old before from to after
-  tpdu_breaks breaks cuts (TheCard machine) before seen told =
-      let broken = breaks machine before seen told in
-      record {
-        card = TheCard broken.machine;
-        own = broken.own;
-        pending = broken.pending;
-        front = broken.front;
-        set = broken.set;
-        broken = broken.broken;
-        cut_off = broken.cut_off;
-        stands = broken.stands;
-        written = broken.written;
-        counted = broken.counted;
-      }
-  tpdu_breaks breaks cuts (ItsPower on) before seen told =
-      let broken = cuts before told in
-      record {
-        card = ItsPower to.is_on;
-        own = broken.own;
-        pending = broken.pending;
-        front = broken.front;
-        set = broken.set;
-        broken = subst (λ (b : Bool). MayBreakOffTpdu b tpdu (link_answer kept tpdu) broken.own broken.pending (armed_after from.waiting (steps_of (link_answer kept tpdu))) broken.set kept after) seen broken.may;
-        cut_off = broken.cut_off;
-        stands = tt;
-        written = broken.written;
-        counted = broken.counted;
-      }
+  pub tpdu_breaks : BreaksTpdu old before tpdu (link_answer kept tpdu) kept after from to → Breaks (Transfers tpdu) kept old before from to after
+  tpdu_breaks broken = record {
+    card = broken.card;
+    own = broken.own;
+    pending = broken.pending;
+    front = broken.front;
+    set = broken.set;
+    broken = broken.broken;
+    cut_off = broken.cut_off;
+    stands = broken.stands;
+    written = broken.written;
+    counted = broken.counted;
+  }
 
 -- ---- behind the lines before
-
--- only a reset can be the last step
-no_last_command : (old new : CardView) (apdu : List ℕ) (items : List TraceItem) → LastShows old (step.Apdu apdu) items new → ⊥
-no_last_command (TheCard old) (TheCard new) apdu items none = none
-no_last_command (ItsPower on) (ItsPower after) apdu items none = none
-no_last_command (TheCard old) (ItsPower after) apdu items none = none
-no_last_command (ItsPower on) (TheCard new) apdu items none = none
-
-no_last_plan : (old new : CardView) (plan : Plan) (items : List TraceItem) → LastShows old (step.Plan plan) items new → ⊥
-no_last_plan (TheCard old) (TheCard new) plan items none = none
-no_last_plan (ItsPower on) (ItsPower after) plan items none = none
-no_last_plan (TheCard old) (ItsPower after) plan items none = none
-no_last_plan (ItsPower on) (TheCard new) plan items none = none
 
 module _ (given : Given) (first : CardView) (script next : ScriptReader) (left left_then : Option (List ℕ)) (line : ScriptLine)
     (search_so : (found : LineList) → Follows given.text found script left → Finds given.text found next left_then line) where
@@ -334,7 +220,7 @@ module _ (given : Given) (first : CardView) (script next : ScriptReader) (left l
         counted = subst (λ l. IsCounted given.meter to.meter l (done.account.own ++ more.account.own)) (plans_then order done.account.steps more.account.steps from.waiting playing.waits)
             (join given.meter from.meter to.meter (plan_given done.account.steps) (armed_after from.waiting more.account.steps) done.account.own more.account.own playing.counted more.counted);
         waits = more.waits ∙ waiting_then order done.account.steps more.account.steps from.waiting playing.waits;
-        rests = rests_on done.card more.card more.account.steps done.account.own more.account.own from to (goes_by deed done.kept after done.card more.card more.account is_told) playing.rests more.rests;
+        rests = rests_then done.card more.card more.account.steps done.account.own more.account.own from.is_due to.is_due (goes_by deed done.kept after done.card more.card more.account is_told) playing.rests more.rests;
       }
 
   -- the next line is for this
@@ -372,7 +258,7 @@ module _ (given : Given) (first : CardView) (script next : ScriptReader) (left l
 
   -- a step was the last, which only a reset can be
   pub fails_in : (kept : Option Answer) (from to : Moment) (last : Step) → CountsJoin → PlansAreSetInOrder → deeds_of line ≡ Takes last ∷ []
-      → ((old : CardView) (before : List ℕ) → IsSeen old from → from.taken ≡ Some before → Fails last old before from to) → IsPlaying given first script left kept from → FailsSo given first (left_at to)
+      → ((old : CardView) (before : List ℕ) → IsSeen old from → from.taken ≡ Some before → EndsStep old before last from to) → IsPlaying given first script left kept from → FailsSo given first (left_at to)
   fails_in kept from to (step.Apdu apdu) join order one fails playing =
       let failed = fails playing.done.card (given.before ++ text_of playing.done.account.shown) playing.seen playing.written in absurd (no_last_command playing.done.card failed.card apdu failed.shown failed.ends)
   fails_in kept from to (step.Plan plan) join order one fails playing =
@@ -403,7 +289,7 @@ pub record HaveBoxes (now : Moment) (machine : Machine) : Type 0 where
   pub minds : now.is_due ≡ false → now.boxes ≡ machine.card.boxes
 
 leaves_so : (card : CardView) (own : List TraceItem) (now : Moment) → ((machine : Machine) → now.machine ≡ Some machine → now.held ≡ Some machine.card.persistent) → ((machine : Machine) → now.machine ≡ Some machine → HaveBoxes now machine)
-    → IsSeen card now → Rests card own now → Known (λ (machine : Machine). CardLeaves machine own (left_at now)) (λ on. Unit {0}) card
+    → IsSeen card now → Rests card own now.is_due → Known (λ (machine : Machine). CardLeaves machine own (left_at now)) (λ on. Unit {0}) card
 leaves_so (TheCard machine) own now stands boxes seen rests = record { stands = stands machine seen; kinds = (boxes machine seen).kinds; minds = λ calm. (boxes machine seen).minds (rests calm) }
 leaves_so (ItsPower on) own now stands boxes seen rests = tt
 

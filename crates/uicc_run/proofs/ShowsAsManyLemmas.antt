@@ -13,12 +13,10 @@ use Rattle.t0_link.specs.declared.tpdus.Transfer.{Transfer}
 use Rattle.t0_link.specs.declared.tpdus.Transfer.TheVariants.{GetResponse, Incoming, Outgoing}
 use Rattle.card_model.specs.Counts.{is_cut, is_failure}
 use Rattle.run_steps.proofs.ItemOfLemmas.{IsShownOnce, cut, cut_over, failed, fetched_fits, given_shown, kept_shown, left}
-use Rattle.run_steps.specs.Showing.{CourseShows}
-use Rattle.run_steps.specs.Stepping.{IsBare}
+use Rattle.run_steps.specs.Tpdus.{BreaksOffTpdu, CourseGives, steps_of}
+use Rattle.run_steps.specs.Views.{CardView, IsBare}
 use Rattle.run_steps.specs.Shown.{item_of, kept_over, shown_for, shown_over}
 use Rattle.uicc_run.specs.Accounts.{Account, AreTold, BreaksOffDeed, Deed, IsTold, ShowsAsMany, Takes, Transfers, joined, kept_behind}
-use Rattle.uicc_run.specs.Views.{CardView, ItsPower, TheCard, TpduBreaksOff}
-use Rattle.uicc_run.proofs.ViewLemmas.{course_shows, link_shows}
 
 -- where the link keeps no failure, the trace shows as many as the card did, and the link keeps none behind them
 record Alike (kept after : Option Answer) (shown own : List TraceItem) : Type 0 where
@@ -58,24 +56,24 @@ as_told kept after other shown own seen mine keeps shown_is own_is alike =
     subst (λ (k : Option Answer). Alike kept k shown own) (sym keeps)
     (subst (λ (i : List TraceItem). Alike kept other i own) (sym shown_is) (subst (λ (i : List TraceItem). Alike kept other seen i) (sym own_is) alike))
 
-module _ (tpdu : List ℕ) (kept after : Option Answer) (own : List TraceItem) (reply : TraceItem) where
-  by_itself : (linked : Linked) → failed (item_of linked.answer) + left linked.kept ≤ left kept → CourseShows (Answers linked) own reply after → Alike kept after (shown_for tpdu reply) own
+module _ (tpdu : List ℕ) (kept after : Option Answer) (old new : CardView) (own : List TraceItem) (reply : TraceItem) where
+  by_itself : (linked : Linked) → failed (item_of linked.answer) + left linked.kept ≤ left kept → CourseGives (Answers linked) old own reply after new → Alike kept after (shown_for tpdu reply) own
   by_itself linked fits shows =
-      as_told kept after linked.kept (shown_for tpdu reply) own (shown_for tpdu (item_of linked.answer)) [] shows.2 (ap (shown_for tpdu) shows.1) shows.0 (alone_alike linked tpdu kept fits)
+      as_told kept after linked.kept (shown_for tpdu reply) own (shown_for tpdu (item_of linked.answer)) [] shows.keeps (ap (shown_for tpdu) shows.seen) shows.silent (alone_alike linked tpdu kept fits)
 
-  passed_on : (apdu : List ℕ) (make : Answer → Linked) → ((shown : TraceItem) → IsBare shown → IsShownOnce make shown) → CourseShows (Passes apdu make) own reply after
+  passed_on : (apdu : List ℕ) (make : Answer → Linked) → ((shown : TraceItem) → IsBare shown → IsShownOnce make shown) → CourseGives (Passes apdu make) old own reply after new
       → Alike kept after (shown_for tpdu reply) own
   passed_on apdu make fits gives =
       as_told kept after (kept_over make gives.shown) (shown_for tpdu reply) own (shown_for tpdu (shown_over make gives.shown)) (shown_for apdu gives.shown) gives.keeps (ap (shown_for tpdu) gives.seen) gives.came
       (passed_alike make tpdu apdu kept gives.shown (fits gives.shown gives.bare))
 
-  by_way : (way : Option Transfer) → CourseShows (course_of kept tpdu way) own reply after → Alike kept after (shown_for tpdu reply) own
+  by_way : (way : Option Transfer) → CourseGives (course_of kept tpdu way) old own reply after new → Alike kept after (shown_for tpdu reply) own
   by_way None gives = by_itself (misformed kept) (omega arith) gives
   by_way (Some GetResponse) gives = by_itself (fetched (p3_of tpdu) kept) (fetched_fits (p3_of tpdu) kept) gives
   by_way (Some Outgoing) gives = passed_on tpdu given (λ shown bare. given_shown shown) gives
   by_way (Some Incoming) gives = passed_on (apdu_of tpdu) kept_back kept_shown gives
 
-  tpdu_alike : CourseShows (link_answer kept tpdu) own reply after → Alike kept after (shown_for tpdu reply) own
+  tpdu_alike : CourseGives (link_answer kept tpdu) old own reply after new → Alike kept after (shown_for tpdu reply) own
   unfolding link_answer
   tpdu_alike gives = by_way (transfer_in tpdu) gives
 
@@ -88,7 +86,7 @@ deed_alike : (deed : Deed) (kept after : Option Answer) (old new : CardView) (ac
 deed_alike (Takes step) kept after old new account told = as_told kept after (kept_behind step kept) account.shown account.own account.own account.own told.keeps told.shown_is refl (step_alike step kept account.own)
 deed_alike (Transfers tpdu) kept after old new account told =
     as_told kept after after account.shown account.own (shown_for tpdu told.reply) account.own refl told.shown_is refl
-    (tpdu_alike tpdu kept after account.own told.reply (link_shows (link_answer kept tpdu) old new account.own told.reply after told.gives))
+    (tpdu_alike tpdu kept after old new account.own told.reply told.gives)
 
 -- ---- one line after the other
 
@@ -129,20 +127,6 @@ of_alike after own shown alike = record { failures = alike.failures refl; cuts =
 pub shows_as_many : (deeds : List Deed) (after : Option Answer) (old new : CardView) (account : Account) → AreTold deeds None old account after new → ShowsAsMany account.own account.shown
 shows_as_many deeds after old new account told = of_alike after account.own account.shown (told_alike deeds None after old new account told)
 
--- what was to be written of a TPDU: its own line alone, or that and the reply
-abbrev pub IsBroken : List ℕ → Course → List TraceItem → List TraceItem → Option Answer → Option Answer → Type 0
-IsBroken tpdu course own pending before kept =
-    ((own ≡ []) × (pending ≡ item.Command tpdu ∷ []) × (kept ≡ before)) ⊎ ((reply : TraceItem) × CourseShows course own reply kept × (pending ≡ shown_for tpdu reply))
-
-tpdu_broken : (old new : CardView) (tpdu : List ℕ) (course : Course) (own pending : List TraceItem) (due set : List Plan) (kept after : Option Answer)
-    → TpduBreaksOff old tpdu course own pending due set kept after new → IsBroken tpdu course own pending kept after
-tpdu_broken (TheCard old) (TheCard new) tpdu course own pending due set kept after (inl unsent) = inl (unsent.0, unsent.1, unsent.3)
-tpdu_broken (TheCard old) (TheCard new) tpdu course own pending due set kept after (inr sent) = inr (sent.0, course_shows course old new own sent.0 after sent.1, sent.2)
-tpdu_broken (ItsPower on) (ItsPower behind) tpdu course own pending due set kept after (inl unsent) = inl (unsent.0, unsent.1, unsent.3)
-tpdu_broken (ItsPower on) (ItsPower behind) tpdu course own pending due set kept after (inr sent) = inr (sent.reply, sent.shows, sent.pending_is)
-tpdu_broken (TheCard old) (ItsPower behind) tpdu course own pending due set kept after none = absurd none
-tpdu_broken (ItsPower on) (TheCard new) tpdu course own pending due set kept after none = absurd none
-
 -- and so it is where the sink failed in a line behind them
 module _ (deeds : List Deed) (kept after : Option Answer) (first old : CardView) (account : Account) (told : AreTold deeds None first account kept old) where
   alike_before : Alike None kept account.shown account.own
@@ -163,12 +147,12 @@ module _ (deeds : List Deed) (kept after : Option Answer) (first old : CardView)
         cuts = let shown = cuts-append account.shown own in let mine = cuts-append account.own own in omega arith;
       }
 
-  shows_in_tpdu : (tpdu : List ℕ) (own pending : List TraceItem) → IsBroken tpdu (link_answer kept tpdu) own pending kept after → ShowsAsMany (account.own ++ own) (account.shown ++ pending)
-  shows_in_tpdu tpdu own pending (inl unsent) =
-      with_more own pending (as_told kept after kept pending own (item.Command tpdu ∷ []) [] unsent.2 unsent.1 unsent.0 (record { failures = λ none. refl; none_left = λ none. none; cuts = refl }))
-  shows_in_tpdu tpdu own pending (inr sent) =
-      with_more own pending (as_told kept after after pending own (shown_for tpdu sent.0) own refl sent.2 refl (tpdu_alike tpdu kept after own sent.0 sent.1))
+  shows_in_tpdu : (tpdu : List ℕ) (own pending : List TraceItem) (due set : List Plan) (new : CardView) → BreaksOffTpdu old tpdu (link_answer kept tpdu) own pending due set kept after new → ShowsAsMany (account.own ++ own) (account.shown ++ pending)
+  shows_in_tpdu tpdu own pending due set new (inl unsent) =
+      with_more own pending (as_told kept after kept pending own (item.Command tpdu ∷ []) [] unsent.3 unsent.1 unsent.0 (record { failures = λ none. refl; none_left = λ none. none; cuts = refl }))
+  shows_in_tpdu tpdu own pending due set new (inr sent) =
+      with_more own pending (as_told kept after after pending own (shown_for tpdu sent.0) own refl sent.2 refl (tpdu_alike tpdu kept after old new own sent.0 sent.1))
 
   pub shows_broken : (deed : Deed) (own pending : List TraceItem) (waiting : Plan) (set : List Plan) (new : CardView) → BreaksOffDeed deed kept old own pending waiting set after new → ShowsAsMany (account.own ++ own) (account.shown ++ pending)
   shows_broken (Takes step) own pending waiting set new broken = subst (λ (i : List TraceItem). ShowsAsMany (account.own ++ own) (account.shown ++ i)) (sym broken.0) (shows_in_step own)
-  shows_broken (Transfers tpdu) own pending waiting set new broken = shows_in_tpdu tpdu own pending (tpdu_broken old new tpdu (link_answer kept tpdu) own pending _ set kept after broken)
+  shows_broken (Transfers tpdu) own pending waiting set new broken = shows_in_tpdu tpdu own pending _ set new broken

@@ -9,9 +9,10 @@ use Rattle.uicc_types.specs.declared.runs.TraceItem.{TraceItem}
 use Rattle.t0_link.specs.Linking.{link_answer}
 use Rattle.card_model.specs.Counts.{is_cut, is_failure}
 use Rattle.card_model.specs.Runs.{armed_after}
-use Rattle.run_steps.specs.Tpdus.{steps_of}
+use Rattle.run_steps.specs.Stepping.{BreaksOff}
+use Rattle.run_steps.specs.Tpdus.{BreaksOffTpdu, CourseGives, steps_of}
+use Rattle.run_steps.specs.Views.{CardView, StepShows}
 use Rattle.run_steps.specs.Shown.{shown_for}
-use Rattle.uicc_run.specs.Views.{CardView, LinkShows, StepBreaksOff, StepShows, TpduBreaksOff}
 
 -- what a line after `start` is for: a step of the card, or a TPDU for the link
 pub data Deed : Type 0 where
@@ -51,7 +52,7 @@ pub record StepIsTold (step : Step) (kept : Option Answer) (old : CardView) (acc
 pub record TpduIsTold (tpdu : List ℕ) (kept : Option Answer) (old : CardView) (account : Account) (after : Option Answer) (new : CardView) : Type 0 where
   pub reply : TraceItem
   pub steps_are : account.steps ≡ steps_of (link_answer kept tpdu)
-  pub gives : LinkShows (link_answer kept tpdu) old account.own reply after new
+  pub gives : CourseGives (link_answer kept tpdu) old account.own reply after new
   pub shown_is : account.shown ≡ shown_for tpdu reply
 
 -- what the link kept and the card before it, what came of it, and the two behind it
@@ -94,6 +95,6 @@ pub record ShowsAsMany (own shown : List TraceItem) : Type 0 where
 -- what the card showed of its own, what was to be written, the plan that waited, those that were set, and what link and card are then.
 abbrev pub BreaksOffDeed : Deed → Option Answer → CardView → List TraceItem → List TraceItem → Plan → List Plan → Option Answer → CardView → Type 0
 BreaksOffDeed (Takes step) kept old own pending waiting set after new =
-    (pending ≡ own) × StepBreaksOff old step own (armed_after waiting (step ∷ [])) set new
+    (pending ≡ own) × BreaksOff old step own (armed_after waiting (step ∷ [])) set new
 BreaksOffDeed (Transfers tpdu) kept old own pending waiting set after new =
-    TpduBreaksOff old tpdu (link_answer kept tpdu) own pending (armed_after waiting (steps_of (link_answer kept tpdu))) set kept after new
+    BreaksOffTpdu old tpdu (link_answer kept tpdu) own pending (armed_after waiting (steps_of (link_answer kept tpdu))) set kept after new

@@ -20,5 +20,4 @@ pub mod Steps
 pub mod Stores
 pub mod Terminals
 pub mod Unplanned
-pub mod Views
 pub mod Worlds

@@ -21,15 +21,15 @@ use Rattle.script_reader.specs.declared.reader.ScriptReader.{ScriptReader}
 use Rattle.card_state.specs.Persistent.{Persistent}
 use Rattle.applet_trait.specs.Minds.{AppletState}
 use Rattle.card_model.specs.Counts.{IsCounted}
-use Rattle.card_model.specs.Runs.{IsRun, plan_given, armed_after, waiting_after}
+use Rattle.card_model.specs.Runs.{plan_given, armed_after, waiting_after}
 use Rattle.card_model.specs.States.{IsGood, Machine}
 use Rattle.section_lines.specs.Script.{with_lines}
 use Rattle.run_steps.specs.Runs.{ends_calm, text_of}
-use Rattle.run_steps.specs.Stepping.{IsCutOff, Moment}
+use Rattle.run_steps.specs.Stepping.{Holds, IsCutOff, IsSeen, Moment, Rests}
+use Rattle.run_steps.specs.Views.{CardView, IsRunOf, Known, LastShows, RunShows}
 use Rattle.uicc_run.specs.Accounts.{Account, AreTold, BreaksOffDeed, Deed, ShowsAsMany, Takes}
 use Rattle.uicc_run.specs.Runs.{HasKindsOf, first_machine}
 use Rattle.uicc_run.specs.Steps.{deeds, deeds_of, may_stand}
-use Rattle.uicc_run.specs.Views.{CardView, Holds, IsSeen, Known, KnownAlike, LastShows, RunShows}
 
 -- What a run is given: the text of the script, what the sink has taken already, whether its store is the one whose pages move,
 -- the counts of the memory's device, what the memory stands for or the place of the first check that fails in it, the minds in
@@ -60,14 +60,6 @@ left_at now = record { held = now.held; taken = now.taken; meter = now.meter; bo
 abbrev pub IsOpened : List (Option AppletState) → Option Persistent → Result Persistent ℕ → List ScriptLine → Persistent → Type 0
 IsOpened boxes (Some bare) memory section start = with_lines boxes (Some bare) section ≡ Ok (Some start)
 IsOpened boxes None memory section start = (with_lines boxes None section ≡ Ok None) × (memory ≡ Ok start)
-
--- The lines up to `start` and behind it that were read, and the card that was opened: a good one, in which each applet that is
--- registered has its box.
-pub record IsPlayed (given : Given) (found : LineList) (section played : List ScriptLine) (start : Persistent) : Type 0 where
-  pub read : AreRead found (section ++ Start ∷ played)
-  pub opened : IsOpened given.boxes given.first given.memory section start
-  pub good : IsGood (first_machine start given.boxes).card
-  pub in_place : AllPass (may_stand given.is_served) played
 
 -- The lines up to `start` and behind it were read, each in its place and with one reading alone; those before it describe this card, or
 -- none.
@@ -106,10 +98,6 @@ pub record CarriedOut (given : Given) (first : CardView) : Type 0 where
 
 -- ---- between two lines
 
--- a card itself that met no fault last has no box to wake; of its power nothing more is known
-abbrev pub Rests : CardView → List TraceItem → Moment → Type 0
-Rests card own now = Known (λ machine. ends_calm own ≡ true → now.is_due ≡ false) (λ on. Unit {0}) card
-
 -- lines after `start` have been carried out, all that they show was taken, and the link keeps this
 pub record IsPlaying (given : Given) (first : CardView) (script : ScriptReader) (left : Option (List ℕ)) (kept : Option Answer) (now : Moment) : Type 0 where
   pub done : CarriedOut given first
@@ -120,7 +108,7 @@ pub record IsPlaying (given : Given) (first : CardView) (script : ScriptReader) 
   pub written : now.taken ≡ Some (given.before ++ text_of done.account.shown)
   pub counted : IsCounted given.meter now.meter (plan_given done.account.steps) done.account.own
   pub waits : now.waiting ≡ waiting_after NONE done.account.steps
-  pub rests : Rests done.card done.account.own now
+  pub rests : Rests done.card done.account.own now.is_due
 
 -- ---- why it ends
 
@@ -182,9 +170,7 @@ pub record FailsSo (given : Given) (first : CardView) (now : Leaves) : Type 0 wh
   pub before_it : Meter
   pub counted_before : IsCounted given.meter before_it (plan_given at.done.account.steps) at.done.account.own
   pub counted_in_it : IsCounted before_it now.meter (armed_after (waiting_after NONE at.done.account.steps) (step.Reset ∷ [])) last
-  pub of_card : KnownAlike
-      (λ machine next. IsRun machine (at.done.account.steps ++ step.Reset ∷ []) (at.done.account.own ++ last) next)
-      (λ on behind. Unit {0}) first card
+  pub of_card : IsRunOf first (at.done.account.steps ++ step.Reset ∷ []) (at.done.account.own ++ last) card
   pub stands : Holds card now.held
   pub written : now.taken ≡ Some (given.before ++ text_of (at.done.account.shown ++ last))
   pub counted : IsCounted given.meter now.meter (plan_given (at.done.account.steps ++ step.Reset ∷ [])) (at.done.account.own ++ last)

@@ -8,15 +8,14 @@ ghost use Rattle.script_reader.specs.Reading.{reading, room_of};
 ghost use Rattle.run_steps.specs.Ends.{moment_at};
 ghost use Rattle.run_steps.specs.Moves.{step_of};
 ghost use Rattle.run_steps.specs.Tallies.{tally};
+ghost use Rattle.run_steps.specs.Views.{CardView};
 ghost use Rattle.phone_runs.specs.LineTallies.{TalliesLines};
 ghost use Rattle.phone_runs.specs.Lines.{IsBetweenLines, IsServing, PhoneComesTo};
 ghost use Rattle.phone_runs.specs.Runs.{Beginning};
-ghost use Rattle.phone_runs.specs.Showing.{Outset, PhoneShowsTo, ServesShowing};
 ghost use Rattle.uicc_run.specs.Accounts.{kept_behind};
 ghost use Rattle.uicc_run.specs.Listeners.{is_handset};
 ghost use Rattle.uicc_run.specs.Playing.{CardComesTo, Given, GivesPlayed, IsPlaying, left_at};
 ghost use Rattle.uicc_run.specs.Steps.{may_follow, may_stand};
-ghost use Rattle.uicc_run.specs.Views.{CardView};
 
 use crate::effects::{Effect, effect_of};
 use crate::listeners::Listener;
@@ -53,10 +52,6 @@ pub(crate) fn play_lines<S: Store, B: Applet, R: Source, W: Sink>(
         → IsServing text opening given script.old (R.left source.old) phone.old
         (moment_at card.old (W.taken trace.old))
         → PhoneComesTo text opening given (R.left source.new) result (moment_at card.new (W.taken trace.new)) }
-    ensures serves { (text : List ℕ) (opening : List AnyLine) (given : Outset) → is_handset listener ≡ true
-        → ServesShowing text opening given script.old (R.left source.old) phone.old
-        (moment_at card.old (W.taken trace.old))
-        → PhoneShowsTo text opening given (R.left source.new) result (moment_at card.new (W.taken trace.new)) }
     // Over any memory: which lines were read and why no more of them.
     ensures reads { (text : List ℕ) (opening : List AnyLine)
         → IsReading (may_stand (is_handset listener)) opening text script.old (R.left source.old)

@@ -15,14 +15,14 @@ ghost use Rattle.card_model.specs.Counts.{IsCounted};
 ghost use Rattle.section_lines.specs.SectionReading.{AtStart};
 ghost use Rattle.run_steps.specs.Ends.{moment_at};
 ghost use Rattle.run_steps.specs.Tallies.{tally};
+ghost use Rattle.run_steps.specs.Views.{CardView};
 ghost use Rattle.phone_runs.specs.LineTallies.{TalliesLines};
-ghost use Rattle.phone_runs.specs.Showing.{Outset, PhoneShowsTo, StartsShowing};
 ghost use Rattle.uicc_run.specs.Causes.{EndsFor, FitsRun, FitsStore, KeepsMemory, KeepsOpened, KeepsCardThere, KeepsStoreForm, LoadsUntold, ReadsUntold, RefusesAtFirst};
 ghost use Rattle.uicc_run.specs.Endings.{HasFailed, IsUnopened, status_for};
 ghost use Rattle.uicc_run.specs.Headline.{Closes, Comes};
 ghost use Rattle.uicc_run.specs.Listeners.{is_handset};
 ghost use Rattle.uicc_run.specs.Opening.{IsGiven, IsMade, IsStarted, IsToPlay, IsToRead, RunsFrom, ending_for, makes};
-ghost use Rattle.uicc_run.specs.Playing.{CardComesTo, Given, IsPlaying, left_at};
+ghost use Rattle.uicc_run.specs.Playing.{Given, left_at};
 ghost use Rattle.uicc_run.specs.Reading.{ReadsTo};
 ghost use Rattle.uicc_run.specs.Running.{RunsAsAsked};
 ghost use Rattle.uicc_run.specs.Worlds.{left_in, left_of, world, stored};
@@ -32,7 +32,6 @@ ghost use Rattle.uicc_run.specs.Steps.{may_stand};
 ghost use Rattle.uicc_run.specs.Stores.{memory_in, size_of};
 ghost use Rattle.uicc_run.specs.Terminals.{AskForBip, ServesBip};
 ghost use Rattle.uicc_run.specs.Unplanned.{IsQuiet};
-ghost use Rattle.uicc_run.specs.Views.{CardView};
 
 use crate::endings::{Ending, last_line, status_of};
 use crate::listeners::{Listener, carrier_by, listener_for};
@@ -47,7 +46,7 @@ use command_line::{Mode, asked_for};
 use eeprom_model::Eeprom;
 use layout_section::{Section, format};
 use page_store::PageStore;
-use phone_runs::{Places, end_of, phone_runs_are_lawful, start_phone};
+use phone_runs::{Places, end_of, start_phone};
 use run_steps::{CardEnd, Carrier};
 use script_form::write_trace;
 use script_reader::{PlayEnd, ScriptReader};
@@ -334,15 +333,10 @@ fn carry_on<S: Store, B: Applet, R: Source, W: Sink>(
     card: &mut CardEnd<S, B>,
     trace: &mut W,
 ) -> PlayEnd
-    ensures comes { (given : Given) → given.is_served ≡ is_handset listener
-        → IsStarted given reader.old (R.left script.old) (moment_at card.old (W.taken trace.old))
-        → ComesTo given (R.left script.new) result (left_at (moment_at card.new (W.taken trace.new))) }
-    ensures shows { (given : Given) (first : CardView) → given.is_served ≡ is_handset listener
-        → IsPlaying given first reader.old (R.left script.old) None (moment_at card.old (W.taken trace.old))
-        → CardComesTo given first (R.left script.new) result (left_at (moment_at card.new (W.taken trace.new))) }
-    ensures served { (text : List ℕ) (opening : List AnyLine) (outset : Outset) → is_handset listener ≡ true
-        → StartsShowing text opening outset reader.old (R.left script.old) (moment_at card.old (W.taken trace.old))
-        → PhoneShowsTo text opening outset (R.left script.new) result (moment_at card.new (W.taken trace.new)) }
+    // By what is known of the card: the card itself where its memory tells its bytes, and its power over any memory.
+    ensures comes { (given : Given) (first : CardView) → given.is_served ≡ is_handset listener
+        → IsStarted given first reader.old (R.left script.old) (moment_at card.old (W.taken trace.old))
+        → ComesTo given first (R.left script.new) result (left_at (moment_at card.new (W.taken trace.new))) }
     ensures reads { (text : List ℕ) (opening : List AnyLine)
         → IsReading (may_stand (is_handset listener)) opening text reader.old (R.left script.old)
         → LinesReadTo (may_stand (is_handset listener)) opening text (R.left script.new) result }
@@ -351,8 +345,6 @@ fn carry_on<S: Store, B: Applet, R: Source, W: Sink>(
     ensures tallies { TalliesLines (tally W.Sink card.old trace.old) (tally W.Sink card.new trace.new)
         (R.faults script.old) (R.faults script.new) (λ end. result ≡ end) }
 {
-    // This call is a law, and does nothing.
-    phone_runs_are_lawful();
     let mut phone = Phone::new();
     let mut places = Places::new();
     match listener {

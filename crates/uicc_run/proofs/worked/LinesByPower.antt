@@ -6,8 +6,8 @@ use Rattle.uicc_types.specs.declared.runs.Step.TheVariants as step
 use Rattle.uicc_types.specs.declared.runs.TraceItem.{TraceItem}
 use Rattle.uicc_types.specs.declared.runs.TraceItem.TheVariants as item
 use Rattle.card_model.specs.States.{Machine}
+use Rattle.run_steps.specs.Views.{ItsPower, LastShows, StepShows, TheCard}
 use Rattle.uicc_run.specs.Accounts.{Account, AreTold, Takes}
-use Rattle.uicc_run.specs.Views.{ItsPower, LastShows, StepShows, TheCard}
 
 abbrev select : List ℕ
 select = 0x00 ∷ 0xA4 ∷ 0x00 ∷ 0x04 ∷ 0x02 ∷ 0x2F ∷ 0xE2 ∷ []

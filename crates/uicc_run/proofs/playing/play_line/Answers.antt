@@ -6,7 +6,7 @@ use Rattle.run_steps.proofs.StandingLemmas.{machine_minds, machine_stands}
 use Rattle.uicc_run.proofs.HasKindsOfLemmas.{machine_kinds}
 use Rattle.uicc_run.specs.Steps.{may_follow, may_stand}
 use Rattle.uicc_run.specs.Accounts.{Takes, Transfers}
-use Rattle.uicc_run.proofs.PlayingLemmas.{breaks_in, comes_to_end, ends_playing, fails_in, plays_further, plays_on, stands_there, step_breaks, step_does, step_fails, tpdu_breaks, tpdu_does}
+use Rattle.uicc_run.proofs.PlayingLemmas.{breaks_in, comes_to_end, ends_playing, fails_in, plays_further, plays_on, stands_there, step_breaks, step_does, tpdu_breaks, tpdu_does}
 use Rattle.uicc_run.proofs.playing.play_line.Goals as goal
 
 pub returns-in-Err-clause-played : goal.returns-in-Err-clause-played
@@ -25,32 +25,30 @@ pub returns-in-Ok-take_step-clause-played : goal.returns-in-Ok-take_step-clause-
 returns-in-Ok-take_step-clause-played g c = λ given first playing.
     plays_further given first _ _ _ _ c.read_behind.new.line (λ found follows. c.in-Ok.ensures.gives (may_stand given.is_served) given.text found follows) c.args.link.now c.drop_kept.new.link _ _ (Takes (step_of c.in-Takes.step)) c.runs_are_counted.ensures.join c.plans_are_set_in_order.ensures
     c.in-Takes.ensures.0 c.in-Takes.ensures.1
-    (step_does (step_of c.in-Takes.step) c.args.link.now c.drop_kept.new.link _ _ c.drop_kept.ensures c.in-Ok-take_step.ensures.gives c.in-Ok-take_step.ensures.shows) playing
+    (λ old before seen told. step_does (step_of c.in-Takes.step) c.args.link.now c.drop_kept.new.link old before _ _ c.drop_kept.ensures (c.in-Ok-take_step.ensures.gives old before seen told)) playing
 
 pub returns-in-Err-SinkFailed-clause-played : goal.returns-in-Err-SinkFailed-clause-played
 returns-in-Err-SinkFailed-clause-played g c = λ given first playing.
     let gives = rw c.in-Err-SinkFailed.field-0-is at c.in-Err-SinkFailed.ensures.gives in
-    let shows = rw c.in-Err-SinkFailed.field-0-is at c.in-Err-SinkFailed.ensures.shows in
     breaks_in given first _ _ _ (g.R.Source.left c.read_behind.new.source) c.read_behind.new.line (λ found follows. c.in-Ok.ensures.gives (may_stand given.is_served) given.text found follows) c.args.link.now c.drop_kept.new.link _ _ (Takes (step_of c.in-Takes.step)) c.runs_are_counted.ensures.join
-    c.in-Takes.ensures.1 (step_breaks (step_of c.in-Takes.step) c.args.link.now c.drop_kept.new.link _ _ gives shows) playing
+    c.in-Takes.ensures.1 (λ old before seen told. step_breaks (step_of c.in-Takes.step) c.args.link.now c.drop_kept.new.link old before _ _ (gives old before seen told)) playing
 
 pub returns-in-Err-ResetFailed-clause-played : goal.returns-in-Err-ResetFailed-clause-played
 returns-in-Err-ResetFailed-clause-played g c = λ given first playing.
     let gives = rw c.in-Err-ResetFailed.field-0-is at c.in-Err-ResetFailed.ensures.gives in
-    let shows = rw c.in-Err-ResetFailed.field-0-is at c.in-Err-ResetFailed.ensures.shows in
     fails_in given first _ _ _ (g.R.Source.left c.read_behind.new.source) c.read_behind.new.line (λ found follows. c.in-Ok.ensures.gives (may_stand given.is_served) given.text found follows) c.args.link.now _ _ (step_of c.in-Takes.step) c.runs_are_counted.ensures.join c.plans_are_set_in_order.ensures
-    c.in-Takes.ensures.1 (step_fails (step_of c.in-Takes.step) c.args.link.now c.drop_kept.new.link _ _ gives shows) playing
+    c.in-Takes.ensures.1 gives playing
 
 pub returns-in-Ok-take_tpdu-clause-played : goal.returns-in-Ok-take_tpdu-clause-played
 returns-in-Ok-take_tpdu-clause-played g c = λ given first playing.
     plays_further given first _ _ _ _ c.read_behind.new.line (λ found follows. c.in-Ok.ensures.gives (may_stand given.is_served) given.text found follows) c.args.link.now c.take_tpdu.new.link _ _ (Transfers c.in-Transfers.tpdu.now) c.runs_are_counted.ensures.join c.plans_are_set_in_order.ensures
     c.in-Transfers.ensures.0 c.in-Transfers.ensures.1
-    (tpdu_does c.in-Transfers.tpdu.now c.args.link.now c.take_tpdu.new.link _ _ c.in-Ok-take_tpdu.ensures.gives c.in-Ok-take_tpdu.ensures.shows) playing
+    (λ old before seen told. tpdu_does c.in-Transfers.tpdu.now c.args.link.now c.take_tpdu.new.link old before _ _ (c.in-Ok-take_tpdu.ensures.gives old before seen told)) playing
 
 pub returns-in-Err-take_tpdu-clause-played : goal.returns-in-Err-take_tpdu-clause-played
 returns-in-Err-take_tpdu-clause-played g c = λ given first playing.
     breaks_in given first _ _ _ (g.R.Source.left c.read_behind.new.source) c.read_behind.new.line (λ found follows. c.in-Ok.ensures.gives (may_stand given.is_served) given.text found follows) c.args.link.now c.take_tpdu.new.link _ _ (Transfers c.in-Transfers.tpdu.now) c.runs_are_counted.ensures.join
-    c.in-Transfers.ensures.1 (tpdu_breaks c.in-Transfers.tpdu.now c.args.link.now c.take_tpdu.new.link _ _ c.in-Err-take_tpdu.ensures.gives c.in-Err-take_tpdu.ensures.shows) playing
+    c.in-Transfers.ensures.1 (λ old before seen told. tpdu_breaks c.in-Transfers.tpdu.now c.args.link.now c.take_tpdu.new.link old before _ _ (c.in-Err-take_tpdu.ensures.gives old before seen told)) playing
 
 -- ---- over any memory
 

@@ -26,7 +26,6 @@ loop-script-preserved-in_default g c =
     record {
       playing = λ given first unserved playing. c.in_default.ensures.played given first (c.loop-script.invariant.playing given first unserved playing);
       serving = λ text opening given served serving. absurd (false≢true (sym for_card ∙ served));
-      serves = λ text opening given served serving. absurd (false≢true (sym for_card ∙ served));
       between = λ served. absurd (false≢true (sym for_card ∙ served));
       reads = λ text opening reading.
           subst (λ s. IsReading (may_stand s) opening text c.play_line.new.script (g.R.Source.left c.play_line.new.source)) (sym for_card)
@@ -43,9 +42,6 @@ loop-script-preserved-in_default g c =
 pub returns-in-Err-serve_line-clause-served : goal.returns-in-Err-serve_line-clause-served
 returns-in-Err-serve_line-clause-served g c = λ text opening given served serving. c.in-Err-serve_line.ensures.served text opening given (c.loop-script.invariant.serving text opening given served serving)
 
-pub returns-in-Err-serve_line-clause-serves : goal.returns-in-Err-serve_line-clause-serves
-returns-in-Err-serve_line-clause-serves g c = λ text opening given served serving. c.in-Err-serve_line.ensures.shows text opening given (c.loop-script.invariant.serves text opening given served serving)
-
 pub returns-in-Err-serve_line-clause-reads : goal.returns-in-Err-serve_line-clause-reads
 returns-in-Err-serve_line-clause-reads g c = λ text opening reading.
     subst (λ s. LinesReadTo (may_stand s) opening text (g.R.Source.left c.serve_line.new.source) c.in-Err-serve_line.end) (sym (ap is_handset c.in-Handset.is))
@@ -57,7 +53,6 @@ loop-script-preserved g c =
     record {
       playing = λ given first unserved playing. absurd (false≢true (sym unserved ∙ for_handset));
       serving = λ text opening given served serving. c.in_default-serve_line.ensures.served text opening given (c.loop-script.invariant.serving text opening given served serving);
-      serves = λ text opening given served serving. c.in_default-serve_line.ensures.shows text opening given (c.loop-script.invariant.serves text opening given served serving);
       between = λ served. c.in_default-serve_line.ensures.further.between;
       reads = λ text opening reading.
           subst (λ s. IsReading (may_stand s) opening text c.serve_line.new.script (g.R.Source.left c.serve_line.new.source)) (sym for_handset)
