@@ -17,7 +17,7 @@ use Rattle.script_reader.specs.declared.behind.PlayEnd.TheVariants as play
 use Rattle.script_reader.specs.declared.faults.ScriptFault.TheVariants as script
 use Rattle.card_state.specs.Persistent.{Persistent, Registration}
 use Rattle.applet_trait.specs.Minds.{AppletState}
-use Rattle.card_model.specs.States.{HasBox, IsGood}
+use Rattle.card_model.specs.States.{HasBox, IsGood, Machine}
 use Rattle.card_core.specs.Openings.{with_all_shelves}
 use Rattle.card_core.specs.Boxes.{IsFirstWithoutBox}
 use Rattle.section_lines.specs.SectionReading.{EndsInSection}
