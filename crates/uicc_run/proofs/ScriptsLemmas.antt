@@ -493,11 +493,11 @@ ends_served given left end leaves ends =
     }
 
 behind_end : (given : Given) (left : Option (List ℕ)) (leaves : Leaves) → ComesTo given left play.Finished leaves → EndsInLines given left play.Finished leaves
-behind_end given left leaves (inl card) = ends_played given left play.Finished leaves card.1 card.2
+behind_end given left leaves (inl (is, (first, comes))) = ends_played given left play.Finished leaves first comes
 behind_end given left leaves (inr served) = ends_served given left play.Finished leaves served.1
 
 behind_bad : (given : Given) (left : Option (List ℕ)) (number : ℕ) (leaves : Leaves) → ComesTo given left (play.BadLine number) leaves → EndsInLines given left (play.BadLine number) leaves
-behind_bad given left number leaves (inl card) = ends_played given left (play.BadLine number) leaves card.1 card.2
+behind_bad given left number leaves (inl (is, (first, comes))) = ends_played given left (play.BadLine number) leaves first comes
 behind_bad given left number leaves (inr served) = ends_served given left (play.BadLine number) leaves served.1
 
 finished_so : (given : Given) (status : ℕ) (left : Option (List ℕ)) (leaves : Leaves) → EndsInLines given left play.Finished leaves → status ≡ 0 → (finishes : Finishes given status) × OpensAt given (Behind finishes.card)

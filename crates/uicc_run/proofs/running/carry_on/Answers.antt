@@ -72,7 +72,7 @@ returns-in-Err-clause-reads g c = λ text opening reading.
 pub returns-in-Card-clause-comes : goal.returns-in-Card-clause-comes
 returns-in-Card-clause-comes g c = λ given is started.
     let unserved = is ∙ ap is_handset c.in-Card.is in
-    inl (unserved, first_machine started.start given.boxes, c.play_lines-in-Card.ensures.played given _ (ap is_handset c.in-Card.is) (plays_first given _ _ _ unserved started))
+    inl (unserved, (first_machine started.start given.boxes, c.play_lines-in-Card.ensures.played given _ (ap is_handset c.in-Card.is) (plays_first given _ _ _ unserved started)))
 
 pub returns-in-Card-clause-shows : goal.returns-in-Card-clause-shows
 returns-in-Card-clause-shows g c = λ given first is showing. c.play_lines-in-Card.ensures.played given first (ap is_handset c.in-Card.is) showing
