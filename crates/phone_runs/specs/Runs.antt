@@ -18,7 +18,7 @@ use Rattle.handset_model.specs.declared.known.Duty.{Duty}
 use Rattle.handset_model.specs.declared.known.Duty.TheVariants.{Rest, Transmit, Await, Show, ResetCard}
 use Rattle.terminal_side.specs.Kept.{Kept, kept}
 use Rattle.run_steps.specs.Runs.{text_of}
-use Rattle.run_steps.specs.Stepping.{BreaksOff, Holds, IsCutOff, IsSeen, Moment, Rests}
+use Rattle.run_steps.specs.Stepping.{BreaksOff, Holds, IsCutOff, IsSeen, Moment, Rests as CardRests}
 use Rattle.run_steps.specs.Views.{CardView, LastShows, StepsShow}
 use Rattle.run_steps.specs.declared.steps.StepEnd.{StepEnd}
 use Rattle.run_steps.specs.declared.steps.StepEnd.TheVariants.{SinkFailed, ResetFailed}
@@ -47,7 +47,7 @@ pub record IsAt (given : Beginning) (log : List Event) (phone : Kept) (now : Mom
   pub written : now.taken ≡ Some (given.before ++ entries_text (trace log))
   pub counted : IsCounted given.meter now.meter (plan_given (steps log)) (shown log)
   pub waits : now.waiting ≡ waiting_after NONE (steps log)
-  pub rests : Rests card (shown log) now.is_due
+  pub rests : CardRests card (shown log) now.is_due
 
 -- ---- how it ends before the handset rests
 
