@@ -165,6 +165,10 @@ traces_are_one law given first first' left left' end end' now now' run other sam
 
 -- ---- where a handset serves the card
 
+-- the lines that a log has are those that were told
+log_told : (log : List Event) (played : List ScriptLine) → lines_back log ≡ told_back played → log_lines log ≡ phone_lines played
+log_told log played told = ap reverse told ∙ reverse-reverse (phone_lines played)
+
 -- what the card itself leaves behind them is what it holds
 one_left : (first : Machine) (log : List Event) (card other : CardView) (items others : List TraceItem) (now now' : Moment) → IsPhoneRun (TheCard first) log card → card ≡ other → Stands card items now → Stands other others now' → now.held ≡ now'.held
 one_left first log (TheCard machine) other items others now now' run same stands stands' =
@@ -176,10 +180,9 @@ served_are_one law given section first first' left left' end end' at at' opened 
     let start : opened.start ≡ opened'.start = one_start given.boxes given.first given.memory section opened.start opened'.start opened.opened opened'.opened in
     let one_first : first ≡ first' = opened.machine_is ∙ ap (λ (held : Persistent). first_machine held given.boxes) start ∙ sym opened'.machine_is in
     let theirs : IsPhoneRun (TheCard first) other.log other.card = subst (λ (m : Machine). IsPhoneRun (TheCard m) other.log other.card) (sym one_first) other.run in
-    let back : {log : List Event} {played : List ScriptLine} → lines_back log ≡ told_back played → log_lines log ≡ phone_lines played = λ told. ap reverse told ∙ reverse-reverse _ in
     let same = law first run.card other.card (phone_lines run.played) run.log other.log
-    (record { run = run.run; lines_are = back run.told; rests = run.rests; failures = calm.0; cuts = calm.1 })
-    (record { run = theirs; lines_are = back other.told ∙ ap phone_lines (sym same_lines); rests = other.rests; failures = calm'.0; cuts = calm'.1 }) in (
+    (record { run = run.run; lines_are = log_told run.log run.played run.told; rests = run.rests; failures = calm.0; cuts = calm.1 })
+    (record { run = theirs; lines_are = log_told other.log other.played other.told ∙ ap phone_lines (sym same_lines); rests = other.rests; failures = calm'.0; cuts = calm'.1 }) in (
       run.written ∙ ap (λ (entries : List TraceEntry). Some (given.before ++ entries_text entries)) same.shows ∙ sym other.written,
       one_left first run.log run.card other.card (shown run.log) (shown other.log) at at' run.run same.card run.stands other.stands,
     )

@@ -249,8 +249,7 @@ pub starts : (given : Given) (script : ScriptReader) (left taken : Option (List 
 starts given script left taken mark told meter boxes parts join made holds is on rests good caused =
     let start = some_of (standing mark told) holds in
     let card : card_of parts ≡ Some (woken (migrated start.0) (with_all_shelves given.boxes)) =
-    is ∙ ap (λ h. opened h boxes) start.1 ∙ ap (λ b. Some (woken (migrated start.0) (with_all_shelves b))) made.boxes_are in
-    (
+    is ∙ ap (λ h. opened h boxes) start.1 ∙ ap (λ b. Some (woken (migrated start.0) (with_all_shelves b))) made.boxes_are in (
       first_machine start.0 given.boxes,
       record {
         found = made.at.given;

@@ -1,11 +1,10 @@
 -- Each status comes of one ending: the others are ruled out by its number or by sound devices, so that the script tells which it is.
-use Rattle.std.proofs.Common.{◌≡◌, ◌⊎◌, ℕ, List, Option, Some, true, is_some, ap, arith, ◌∙◌}
-use Rattle.card_state.specs.Persistent.{Persistent}
+use Rattle.std.proofs.Common.{◌≡◌, ◌⊎◌, ℕ, List, Option, Some, is_some, ap, arith, ◌∙◌}
 use Rattle.command_line.specs.Model.{AskForRun}
 use Rattle.uicc_run.specs.Endings.{status_for}
 use Rattle.uicc_run.specs.Headline.{Closes, Comes}
-use Rattle.uicc_run.specs.Loading.{ComesToLoad, IsFixedCard, LoadsFrom}
-use Rattle.uicc_run.specs.Opening.{IsToRead, ReadsFrom, RunsFrom}
+use Rattle.uicc_run.specs.Loading.{ComesToLoad, LoadsFrom}
+use Rattle.uicc_run.specs.Opening.{IsToRead, RunsFrom}
 use Rattle.uicc_run.specs.Playing.{Given, Leaves}
 use Rattle.uicc_run.specs.Reading.{ReadsTo}
 use Rattle.uicc_run.specs.Running.{CarriesOut, HasCauses, HasStatuses, RefusesCards, RefusesWords, ServesToEnd, StopsAtBad, StopsForRoom}

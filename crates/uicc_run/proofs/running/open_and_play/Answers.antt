@@ -1,5 +1,5 @@
 -- The card opened is the one at the end of the link, and the store handed back is that card's: the lines are told from one to the other.
-use Rattle.std.proofs.Common.{[], true, ap, refl, subst, ◌∙◌}
+use Rattle.std.proofs.Common.{[], true, ap, refl, ◌∙◌}
 use Rattle.uicc_types.specs.declared.plans.TheConstants.Plan.{NONE}
 use Rattle.card_core.specs.Parts.{CardParts}
 use Rattle.card_core.specs.Cards.{parts_of}

@@ -1,5 +1,5 @@
 -- What is known before the last line, and what that line is.
-use Rattle.std.proofs.Common.{◌≡◌, ℕ, List, Some, ap, arith, is_some, map, string_bytes, subst, ◌∙◌}
+use Rattle.std.proofs.Common.{◌≡◌, ℕ, List, Some, ap, arith, map, string_bytes, subst, ◌∙◌}
 use Rattle.std.proofs.lemmas.Grind.{common_steps}
 use Rattle.uicc_run.specs.Headline.{Closes}
 use Rattle.uicc_run.specs.Running.{HasCauses, RefusesWords}
@@ -63,18 +63,18 @@ returns g c =
           closes = c.close.ensures.closed;
         };
         load = λ given start count from.
-          let unwritten = c.carry_out-ending.ensures.load.load_unwritten given start count from in
-          record {
-            ending = ending;
-            cause = record {
-              eeprom_failed = c.carry_out-ending.ensures.ends.memory_cause;
-              untouched = c.carry_out-ending.ensures.ends.untouched;
-              boxes_kept = c.carry_out-ending.ensures.ends.boxes;
-              no_memory = c.carry_out-ending.ensures.load.load_no_memory given start count from;
+            let unwritten = c.carry_out-ending.ensures.load.load_unwritten given start count from in
+            record {
+              ending = ending;
+              cause = record {
+                eeprom_failed = c.carry_out-ending.ensures.ends.memory_cause;
+                untouched = c.carry_out-ending.ensures.ends.untouched;
+                boxes_kept = c.carry_out-ending.ensures.ends.boxes;
+                no_memory = c.carry_out-ending.ensures.load.load_no_memory given start count from;
+              };
+              comes = c.carry_out-ending.ensures.load.load given start count after.taken from;
+              closes = subst (λ t. Closes ending t after.taken status) (ap g.W.Sink.taken unwritten ∙ from.others_are.before_is) c.close.ensures.closed;
             };
-            comes = c.carry_out-ending.ensures.load.load given start count after.taken from;
-            closes = subst (λ t. Closes ending t after.taken status) (ap g.W.Sink.taken unwritten ∙ from.others_are.before_is) c.close.ensures.closed;
-          };
         bip = bip;
       };
       untold = λ given from. record {
