@@ -1,5 +1,5 @@
 -- What a TPDU comes to, by the course that the link takes with it: what is shown, what the card makes of it, and what the link keeps.
-use Rattle.std.specs.Prelude.{◌≡◌, ◌⊎◌, ℕ, Bool, false, true, List, [], ◌∷◌, ◌++◌, Option, Some, Result, Ok, Err, ⊤}
+use Rattle.std.specs.Prelude.{◌≡◌, ◌⊎◌, ℕ, Bool, false, List, [], ◌∷◌, ◌++◌, Option, Some, Result, Ok, Err, ⊤}
 use Rattle.uicc_types.specs.Counts.{names_fault}
 use Rattle.uicc_types.specs.declared.answers.Answer.{Answer}
 use Rattle.uicc_types.specs.declared.plans.Plan.{Plan}
