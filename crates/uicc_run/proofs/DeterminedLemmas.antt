@@ -1,5 +1,5 @@
 -- What is told of the same lines twice, from the same card, is one where nothing fails.
-use Rattle.std.proofs.Common.{◌≡◌, ℕ, Bool, false, map, reverse, List, [], ◌∷◌, ◌++◌, Option, Some, None, Result, Ok, Err, refl, sym, ap, ◌∙◌, subst, inl, append-nil}
+use Rattle.std.proofs.Common.{◌≡◌, ℕ, false, map, reverse, List, [], ◌∷◌, ◌++◌, Option, Some, None, Result, Ok, Err, refl, sym, ap, ◌∙◌, subst, inl, append-nil}
 use Rattle.std.proofs.lemmas.List.{reverse-reverse}
 use Rattle.list_laws.proofs.ContainsLemmas.{front_of, back_of}
 use Rattle.uicc_types.specs.declared.answers.Answer.{Answer}

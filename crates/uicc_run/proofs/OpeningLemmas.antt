@@ -11,7 +11,6 @@ use Rattle.byte_streams.specs.Reading.{at_start, pending}
 use Rattle.script_form.specs.declared.lines.ScriptLine.{ScriptLine}
 use Rattle.script_form.specs.declared.lines.ScriptLine.TheVariants.{Passed, Start, Reset, Df, Transparent, Linear, Cyclic, Fill, Rec, Pin, Row, Apdu, Tpdu, Cut, Fail, ReadFail, UserOk, UserEnd, UserBack, UserNone, UserType, UserPick, UserPress, UserIdle, UserDial, NetPlace, NetPoll, Time, Cmd, Echo, Lose}
 use Rattle.script_reader.proofs.AreReadLemmas.{Say-from_read}
-use Rattle.script_reader.specs.declared.behind.PlayEnd.{PlayEnd}
 use Rattle.script_reader.specs.declared.reader.ScriptReader.{ScriptReader}
 use Rattle.card_state.specs.Migration.{migrated}
 use Rattle.card_state.specs.Persistent.{Persistent}
