@@ -15,7 +15,7 @@ use Rattle.handset_model.specs.Legal.{IsLegal}
 use Rattle.handset_model.specs.Rules.{asked}
 use Rattle.handset_model.specs.declared.known.Duty.TheVariants.{Rest}
 use Rattle.terminal_side.specs.Kept.{Kept}
-use Rattle.run_steps.specs.Stepping.{Moment, Stands}
+use Rattle.run_steps.specs.Stepping.{IsSeen, Moment, Stands}
 use Rattle.run_steps.specs.Views.{CardView, RunShows}
 use Rattle.run_steps.specs.declared.steps.StepEnd.{StepEnd}
 use Rattle.run_steps.specs.declared.steps.StepEnd.TheVariants as step_end
@@ -81,6 +81,7 @@ pub record PhoneEnds (text : List ℕ) (opening : List ScriptLine) (given : Begi
   pub legal : IsLegal (heard (log_lines log)) (trace log)
   pub of_card : RunShows given.first (steps log) (shown log) card
   pub cause : StopsReading may_be_heard text found left end
+  pub seen : IsSeen card now
   pub stands : Stands card (shown log) now
   pub written : now.taken ≡ Some (given.before ++ entries_text (trace log))
   pub counted : IsCounted given.meter now.meter (plan_given (steps log)) (shown log)
