@@ -1,5 +1,5 @@
 -- What the sink has taken where a run ended before the handset rested.
-use Rattle.std.proofs.Common.{◌≡◌, ℕ, Bool, true, false, List, [], ◌∷◌, ◌++◌, Some, refl, sym, ap, ◌∙◌, append_assoc, subst, inl, inr, map, reverse, MatchBool}
+use Rattle.std.proofs.Common.{◌≡◌, ℕ, Bool, true, false, List, [], ◌∷◌, ◌++◌, Some, refl, sym, ap, ◌∙◌, append_assoc, subst, inl, inr, map, reverse, ◌⊎◌, MatchBool}
 use Rattle.std.proofs.lemmas.List.{append-nil, reverse-append}
 use Rattle.uicc_types.specs.Told.{IsFront}
 use Rattle.uicc_types.specs.declared.answers.Answer.{Answer}
@@ -21,6 +21,7 @@ use Rattle.handset_model.specs.declared.known.Duty.TheVariants.{Rest, Transmit, 
 use Rattle.run_steps.proofs.GoesOnLemmas.{text_of-append}
 use Rattle.run_steps.specs.Runs.{item_text, text_of}
 use Rattle.run_steps.specs.Stepping.{BreaksOff, IsCutOff, Moment, exchanged}
+use Rattle.run_steps.specs.Views.{CardView, IsReply, ItsPower, LastShows, StepShows, TheCard}
 use Rattle.run_steps.specs.declared.steps.Reply.{Reply}
 use Rattle.run_steps.specs.declared.steps.Reply.TheVariants as reply
 use Rattle.run_steps.specs.declared.steps.Restarted.TheVariants as ended
@@ -77,30 +78,62 @@ replied_by true old new apdu items (inr (inl fails)) = record { outcome = reply.
 replied_by true old new apdu items (inr (inr lost)) = record { outcome = reply.Cut; answer = any_answer; shows = lost.seen }
 replied_by false old new apdu items none = record { outcome = reply.Off; answer = any_answer; shows = none.seen }
 
-pub command_begun : (log : List Event) (command : Command) (old new : Machine) (items : List TraceItem) (due set : List Plan) → asked (history log) ≡ Transmit command → IsOrderly (history log)
+replied_power : (on after : Bool) (apdu : List ℕ) (reply_so : TraceItem) (items : List TraceItem) → IsReply on reply_so after → items ≡ item.Command apdu ∷ reply_so ∷ [] → IsReplied apdu items
+replied_power on after apdu (item.Answer body status) items replies seen = record { outcome = reply.Answered; answer = record { body = body; status = status }; shows = seen }
+replied_power on after apdu item.Cut items replies seen = record { outcome = reply.Cut; answer = any_answer; shows = seen }
+replied_power on after apdu item.Off items replies seen = record { outcome = reply.Off; answer = any_answer; shows = seen }
+replied_power on after apdu (item.Command bytes) items replies seen = absurd replies
+replied_power on after apdu item.Reset items replies seen = absurd replies
+replied_power on after apdu item.EepromFailed items replies seen = absurd replies
+
+replied_so : (old new : CardView) (apdu : List ℕ) (items : List TraceItem) → StepShows old (step.Apdu apdu) items new → IsReplied apdu items
+replied_so (TheCard old) (TheCard new) apdu items gives = replied_by old.on old new apdu items gives
+replied_so (ItsPower on) (ItsPower after) apdu items may = replied_power on after apdu may.0 items may.1 may.2
+replied_so (TheCard old) (ItsPower after) apdu items none = absurd none
+replied_so (ItsPower on) (TheCard new) apdu items none = absurd none
+
+pub command_begun : (log : List Event) (command : Command) (old new : CardView) (items : List TraceItem) (due set : List Plan) → asked (history log) ≡ Transmit command → IsOrderly (history log)
     → BreaksOff old (step.Apdu (apdu_of command)) items due set new → IsBegun (heard (log_lines log)) (trace log ++ map Seen items)
 command_begun log command old new items due set is orderly (inl alone) =
     begun_by log (Happens (Sent command) ∷ log) _ refl (is, orderly)
     (reverse-append (Seen (item.Command (apdu_of command)) ∷ []) (entries_of (history log)) ∙ ap (λ i. trace log ++ map Seen i) (sym alone.0))
 command_begun log command old new items due set is orderly (inr whole) =
-    let replied = replied_by old.on old new (apdu_of command) items whole.0 in
+    let replied = replied_so old new (apdu_of command) items whole.0 in
     begun_by log (with_reply command replied.outcome replied.answer log) _ (lines_sent command replied.outcome replied.answer log) (orderly_sent command replied.outcome replied.answer log is orderly)
     (trace_sent command replied.outcome replied.answer log ∙ ap (λ i. trace log ++ map Seen i) (sym replied.shows))
 
 pub stopped_at : (log : List Event) (items : List TraceItem) → asked (history log) ≡ ResetCard → IsOrderly (history log) → items ≡ item.EepromFailed ∷ [] → IsBegun (heard (log_lines log)) (trace log ++ map Seen items)
 stopped_at log items is orderly seen = inr (record { history = history log; before = trace log; is_of = is_of log orderly; resets = is; stopped = ap (λ i. trace log ++ map Seen i) seen })
 
-pub reset_begun : (log : List Event) (old new : Machine) (items : List TraceItem) (due set : List Plan) → asked (history log) ≡ ResetCard → IsOrderly (history log) → BreaksOff old step.Reset items due set new
+-- a reset is shown in one line
+reset_items : (old new : CardView) (items : List TraceItem) → StepShows old step.Reset items new → (items ≡ item.Reset ∷ []) ⊎ (items ≡ item.Cut ∷ [])
+reset_items (TheCard old) (TheCard new) items (inl done) = inl done.seen
+reset_items (TheCard old) (TheCard new) items (inr cut) = inr cut.seen
+reset_items (ItsPower on) (ItsPower after) items (inl done) = inl done.0
+reset_items (ItsPower on) (ItsPower after) items (inr cut) = inr cut.0
+reset_items (TheCard old) (ItsPower after) items none = absurd none
+reset_items (ItsPower on) (TheCard new) items none = absurd none
+
+pub last_items : (old new : CardView) (items : List TraceItem) → LastShows old step.Reset items new → items ≡ item.EepromFailed ∷ []
+last_items (TheCard old) (TheCard new) items fails = fails.seen
+last_items (ItsPower on) (ItsPower after) items fails = fails
+last_items (TheCard old) (ItsPower after) items none = absurd none
+last_items (ItsPower on) (TheCard new) items none = absurd none
+
+restart_begun : (log : List Event) (items : List TraceItem) → asked (history log) ≡ ResetCard → IsOrderly (history log) → (items ≡ item.Reset ∷ []) ⊎ (items ≡ item.Cut ∷ []) → IsBegun (heard (log_lines log)) (trace log ++ map Seen items)
+restart_begun log items is orderly (inl done) =
+    begun_by log (with_reset ended.Done log) _ (lines_reset ended.Done log) (orderly_reset ended.Done log is orderly) (trace_reset ended.Done log ∙ ap (λ i. trace log ++ map Seen i) (sym done))
+restart_begun log items is orderly (inr cut) =
+    begun_by log (with_reset ended.Cut log) _ (lines_reset ended.Cut log) (orderly_reset ended.Cut log is orderly) (trace_reset ended.Cut log ∙ ap (λ i. trace log ++ map Seen i) (sym cut))
+
+pub reset_begun : (log : List Event) (old new : CardView) (items : List TraceItem) (due set : List Plan) → asked (history log) ≡ ResetCard → IsOrderly (history log) → BreaksOff old step.Reset items due set new
     → IsBegun (heard (log_lines log)) (trace log ++ map Seen items)
-reset_begun log old new items due set is orderly (inl (inl done), same) =
-    begun_by log (with_reset ended.Done log) _ (lines_reset ended.Done log) (orderly_reset ended.Done log is orderly) (trace_reset ended.Done log ∙ ap (λ i. trace log ++ map Seen i) (sym done.seen))
-reset_begun log old new items due set is orderly (inl (inr cut), same) =
-    begun_by log (with_reset ended.Cut log) _ (lines_reset ended.Cut log) (orderly_reset ended.Cut log is orderly) (trace_reset ended.Cut log ∙ ap (λ i. trace log ++ map Seen i) (sym cut.seen))
-reset_begun log old new items due set is orderly (inr fails, same) = stopped_at log items is orderly fails.seen
+reset_begun log old new items due set is orderly (inl gives, same) = restart_begun log items is orderly (reset_items old new items gives)
+reset_begun log old new items due set is orderly (inr fails, same) = stopped_at log items is orderly (last_items old new items fails)
 
 -- ---- ends
 
-pub shows_step : (given : Beginning) (log : List Event) (old : Machine) (s : _) (now : Moment) → (broken : BreaksInStep given log old s now) → IsBegun (heard (log_lines log)) (trace log ++ map Seen broken.pending) → ShowsTrace given (lines_back log) (trace log ++ map Seen broken.pending) now
+pub shows_step : (given : Beginning) (log : List Event) (old : CardView) (s : _) (now : Moment) → (broken : BreaksInStep given log old s now) → IsBegun (heard (log_lines log)) (trace log ++ map Seen broken.pending) → ShowsTrace given (lines_back log) (trace log ++ map Seen broken.pending) now
 shows_step given log old s now broken begun = record {
   begun = begun;
   front = entries_text (trace log) ++ broken.front;
@@ -108,7 +141,7 @@ shows_step given log old s now broken begun = record {
   written = broken.written ∙ ap Some (append_assoc given.before (entries_text (trace log)) broken.front);
 }
 
-pub shows_note : (given : Beginning) (log : List Event) (old : Machine) (note : Note) (now : Moment) → asked (history log) ≡ Show note → IsOrderly (history log) → BreaksInNote given log old note now → ShowsTrace given (lines_back log) (trace log ++ Shown note ∷ []) now
+pub shows_note : (given : Beginning) (log : List Event) (old : CardView) (note : Note) (now : Moment) → asked (history log) ≡ Show note → IsOrderly (history log) → BreaksInNote given log old note now → ShowsTrace given (lines_back log) (trace log ++ Shown note ∷ []) now
 shows_note given log old note now is orderly broken = record {
   begun = begun_by log (Happens (Noted note) ∷ log) _ refl (is, orderly) (trace_noted note log);
   front = entries_text (trace log) ++ broken.front;
@@ -116,11 +149,11 @@ shows_note given log old note now is orderly broken = record {
   written = broken.written ∙ ap Some (append_assoc given.before (entries_text (trace log)) broken.front);
 }
 
-shows_broken : (given : Beginning) (log : List Event) (old : Machine) (now : Moment) (duty : Duty) → asked (history log) ≡ duty → IsOrderly (history log) → BreaksIn given log old now duty → ShowsBegun given (lines_back log) now
+shows_broken : (given : Beginning) (log : List Event) (old : CardView) (now : Moment) (duty : Duty) → asked (history log) ≡ duty → IsOrderly (history log) → BreaksIn given log old now duty → ShowsBegun given (lines_back log) now
 shows_broken given log old now (Transmit command) is orderly broken =
-    record { entries = _; shows = shows_step given log old (step.Apdu (apdu_of command)) now broken (command_begun log command old broken.machine broken.pending _ broken.set is orderly broken.broken) }
+    record { entries = _; shows = shows_step given log old (step.Apdu (apdu_of command)) now broken (command_begun log command old broken.card broken.pending _ broken.set is orderly broken.broken) }
 shows_broken given log old now ResetCard is orderly broken =
-    record { entries = _; shows = shows_step given log old step.Reset now broken (reset_begun log old broken.machine broken.pending _ broken.set is orderly broken.broken) }
+    record { entries = _; shows = shows_step given log old step.Reset now broken (reset_begun log old broken.card broken.pending _ broken.set is orderly broken.broken) }
 shows_broken given log old now (Show note) is orderly broken = record { entries = _; shows = shows_note given log old note now is orderly broken }
 shows_broken given log old now Rest is orderly broken = absurd broken
 shows_broken given log old now Await is orderly broken = absurd broken
@@ -130,7 +163,7 @@ shows_told given told other now same shows = subst (λ t. ShowsBegun given t now
 
 pub shows_failed : (given : Beginning) (told : List PhoneLine) (now : Moment) → (failed : FailsSo given told now) → ShowsTrace given (lines_back failed.log) (trace failed.log ++ map Seen failed.last) now
 shows_failed given told now failed = record {
-  begun = stopped_at failed.log failed.last failed.resets failed.run.orderly failed.ends.seen;
+  begun = stopped_at failed.log failed.last failed.resets failed.run.orderly (last_items failed.old failed.card failed.last failed.ends);
   front = entries_text (trace failed.log) ++ text_of failed.last;
   is_front = front_as _ _ _ (sym (text_with failed.log failed.last)) ([], sym (append-nil (entries_text (trace failed.log) ++ text_of failed.last)));
   written = failed.written ∙ ap Some (append_assoc given.before (entries_text (trace failed.log)) (text_of failed.last));

@@ -15,5 +15,4 @@ mod PhoneRunsAreOneLemmas
 mod RunsAreLegalLemmas
 mod RunsLemmas
 mod ServeLemmas
-pub mod ShowingLemmas
 mod worked

@@ -17,12 +17,15 @@ use Rattle.script_reader.specs.declared.behind.PlayEnd.TheVariants.{Finished, Ba
 use Rattle.script_reader.specs.declared.reader.ScriptReader.{ScriptReader}
 use Rattle.card_core.specs.Parts.{CardParts}
 use Rattle.terminal_side.specs.Kept.{Kept}
-use Rattle.run_steps.proofs.StandingLemmas.{machine_minds, machine_stands}
+use Rattle.run_steps.proofs.SteppingLemmas.{stands_seen}
 use Rattle.run_steps.specs.Stepping.{Moment, moment}
 use Rattle.run_steps.specs.declared.steps.StepEnd.{StepEnd}
 use Rattle.run_steps.specs.declared.steps.StepEnd.TheVariants as step_end
 use Rattle.phone_runs.specs.Effects.{may_be_heard, phone_lines, phone_lines_of}
-use Rattle.phone_runs.specs.Logs.{PhoneLine, lines_back}
+use Rattle.phone_runs.specs.Logs.{PhoneLine, lines_back, shown}
+use Rattle.phone_runs.proofs.RunsAreLegalLemmas.{legal, of_the_card}
+use Rattle.phone_runs.proofs.EndsAreBegunLemmas.{ended_begun}
+use Rattle.phone_runs.proofs.EndsAreOfTheCardLemmas.{ended_of_card}
 use Rattle.phone_runs.specs.Runs.{Beginning, Rests, RunEnds}
 use Rattle.phone_runs.specs.Lines.{AreServed, PhoneComesTo, EndsAmid, PhoneEnds, IsServing, StandsAtStart, StopsAmid, told_back}
 
@@ -111,6 +114,8 @@ stops_at_start text opening given script left from now end stands ended = record
   parted = stands.follows.reads.lines_are;
   are_served = served_none opening stands.found stands.read;
   ended = ended;
+  begun = ended_begun given [] now end ended;
+  of_card = ended_of_card given [] now end ended;
 }
 
 -- in what a line asks for
@@ -120,13 +125,17 @@ pub stops_in_line : (text : List ℕ) (opening : List ScriptLine) (given : Begin
     → StopsAmid text opening given end to
 stops_in_line text opening given script next left left_then phone from to line one end search_so may is serving ended =
     let finds = search_so serving.found serving.follows in
+    let there : RunEnds given (told_back (serving.played ++ line ∷ [])) to end =
+    subst (λ (back : List PhoneLine). RunEnds given back to end) (ap (λ (back : List PhoneLine). one ∷ back) serving.told ∙ sym (told_one serving.played line one is)) ended in
     record {
       found = serving.found ++ Some finds.bytes ∷ [];
       more = finds.more;
       played = serving.played ++ line ∷ [];
       parted = finds.parted ∙ sym (append_assoc serving.found (Some finds.bytes ∷ []) finds.more);
       are_served = served_more opening serving.found serving.played finds.bytes line serving.are_served finds.read may;
-      ended = subst (λ (back : List PhoneLine). RunEnds given back to end) (ap (λ (back : List PhoneLine). one ∷ back) serving.told ∙ sym (told_one serving.played line one is)) ended;
+      ended = there;
+      begun = ended_begun given (told_back (serving.played ++ line ∷ [])) to end there;
+      of_card = ended_of_card given (told_back (serving.played ++ line ∷ [])) to end there;
     }
 
 -- a step that was the last
@@ -149,16 +158,18 @@ ends_serving text opening given script left left_then end phone parts taken wait
   found = serving.found;
   played = serving.played;
   log = serving.log;
-  machine = serving.at.machine;
+  card = serving.at.card;
   are_served = serving.are_served;
   told = serving.told;
   run = serving.at.run;
   rests = serving.rests;
+  legal = legal given.first serving.at.card serving.log serving.at.run serving.rests;
+  of_card = of_the_card given.first serving.at.card serving.log serving.at.run;
   cause = cause serving.found serving.follows;
-  stands = machine_stands parts serving.at.machine serving.at.told;
+  seen = serving.at.seen;
+  stands = stands_seen parts taken waiting serving.at.card (shown serving.log) serving.at.seen serving.at.rests;
   written = serving.at.written;
   counted = serving.at.counted;
-  minds = λ calm. machine_minds parts serving.at.machine serving.at.told (serving.at.rests calm);
 }
 
 -- whatever the end is

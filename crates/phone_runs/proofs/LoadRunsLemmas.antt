@@ -16,7 +16,7 @@ use Rattle.handset_model.specs.Rules.{asked}
 use Rattle.handset_model.specs.declared.known.Duty.{Duty}
 use Rattle.handset_model.specs.declared.known.Duty.TheVariants.{Rest, Transmit, Await, Show, ResetCard}
 use Rattle.terminal_side.specs.Kept.{Kept}
-use Rattle.run_steps.proofs.StandingLemmas.{machine_minds, machine_stands}
+use Rattle.run_steps.proofs.SteppingLemmas.{stands_seen}
 use Rattle.run_steps.specs.Stepping.{Moment, moment}
 use Rattle.run_steps.specs.declared.steps.StepEnd.TheVariants.{ResetFailed}
 use Rattle.long_runs.specs.CountLaws.{CountsAreThoseOfTheLines}
@@ -149,12 +149,11 @@ counts_run law made given phone parts text waiting counts none are loading =
     let told = sym (append-nil (log_lines loading.log)) ∙ loading.parted in
     record {
       log = loading.log;
-      machine = loading.at.machine;
+      card = loading.at.card;
       run = loading.at.run;
       lines_are = told;
       rests = loading.rests;
       counts_are = are ∙ ap counted_in (text_is given text (trace loading.log) none loading.at.written) ∙ law (map entry_line (trace loading.log));
-      stands = machine_stands parts loading.at.machine loading.at.told;
+      stands = stands_seen parts (Some text) waiting loading.at.card (shown loading.log) loading.at.seen loading.at.rests;
       counted = subst (λ (l : List Plan). IsCounted given.meter parts.meter l (shown loading.log)) (plans_nothing made loading.log told) loading.at.counted;
-      minds = λ calm. machine_minds parts loading.at.machine loading.at.told (loading.at.rests calm);
     }

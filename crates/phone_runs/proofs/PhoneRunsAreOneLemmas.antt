@@ -26,6 +26,7 @@ use Rattle.handset_model.specs.declared.known.Duty.{Duty}
 use Rattle.handset_model.specs.declared.known.Duty.TheVariants.{Rest, Transmit, Await, Show, ResetCard}
 use Rattle.run_steps.proofs.GoesOnLemmas.{run_of, run_one}
 use Rattle.run_steps.specs.Runs.{GoesOn}
+use Rattle.run_steps.specs.Views.{ItsPower, TheCard}
 use Rattle.phone_runs.specs.Laws.{IsPhoneUndisturbed, PhoneRunsAreOne}
 use Rattle.phone_runs.specs.Logs.{Event, Happens, Plans, AreInTurn, PhoneLine, Hears, Arms, cut_steps, history, lines_back, shown, steps, steps_back, trace}
 
@@ -457,7 +458,7 @@ module _ (runs : RunsAreOne) where
 
   -- ---- whole runs
 
-  onward : (first : Machine) (told : List PhoneLine) (log : List Event) (now : Machine) → IsPhoneUndisturbed first told log now → Onward [] first (reverse log) now
+  onward : (first : Machine) (told : List PhoneLine) (log : List Event) (now : Machine) → IsPhoneUndisturbed first told log (TheCard now) → Onward [] first (reverse log) now
   onward first told log now run =
       let items : items_on (reverse log) ≡ shown log = ap items_seen (entries_onto log []) in
       record {
@@ -468,8 +469,10 @@ module _ (runs : RunsAreOne) where
       }
 
   pub traces_are_one : PhoneRunsAreOne
-  traces_are_one first now left told log other a b =
+  traces_are_one first (ItsPower on) left told log other a b = absurd a.run.run
+  traces_are_one first (TheCard now) (ItsPower on) told log other a b = absurd b.run.run
+  traces_are_one first (TheCard now) (TheCard left) told log other a b =
       let told_same : lines_on (reverse log) ≡ lines_on (reverse other) = lines_onto log [] ∙ a.lines_are ∙ sym b.lines_are ∙ sym (lines_onto other []) in
       let one = one_onward [] first now left (reverse log) (reverse other) (onward first told log now a) (onward first told other left b) told_same in
       let logs : log ≡ other = sym (reverse-reverse log) ∙ ap reverse one.0 ∙ reverse-reverse other in
-      record { happened = logs; shows = ap trace logs; card = one.1 }
+      record { happened = logs; shows = ap trace logs; card = ap TheCard one.1 }

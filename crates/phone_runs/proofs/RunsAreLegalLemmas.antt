@@ -3,9 +3,9 @@ use Rattle.std.proofs.Common.{◌≡◌, List, [], ◌∷◌, ◌++◌, refl, sy
 use Rattle.std.proofs.lemmas.List.{append-nil, reverse-append}
 use Rattle.handset_model.specs.History.{Said, Sent, Answered, Noted, Restarted, PowerCut, FoundOff}
 use Rattle.handset_model.specs.Legal.{IsOf, IsOrderly, lines_of}
-use Rattle.run_steps.proofs.GoesOnLemmas.{run_of}
+use Rattle.run_steps.proofs.ViewLemmas.{run_shown}
 use Rattle.phone_runs.specs.Laws.{RunsAreBegun, RunsAreLegal, RunsAreOfTheCard}
-use Rattle.phone_runs.specs.Logs.{Event, Happens, Plans, PhoneLine, Hears, Arms, heard, history, log_lines, lines_back, trace}
+use Rattle.phone_runs.specs.Logs.{Event, Happens, Plans, PhoneLine, Hears, Arms, heard, history, log_lines, lines_back, shown, steps, trace}
 
 -- what is heard of lines and of others behind them
 heard-append : (first more : List PhoneLine) → heard (first ++ more) ≡ heard first ++ heard more
@@ -47,4 +47,4 @@ pub begun : RunsAreBegun
 begun first now log run = inl (record { history = history log; is_of = is_of log run.orderly })
 
 pub of_the_card : RunsAreOfTheCard
-of_the_card first now log run = run_of _ first now _ run.run
+of_the_card first now log run = run_shown (steps log) first now (shown log) run.run

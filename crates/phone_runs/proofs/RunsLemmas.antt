@@ -1,4 +1,4 @@
--- From one event of a run to the next, where all bytes are told.
+-- From one event of a run to the next, by what is known of the card.
 use Rattle.std.proofs.Common.{◌≡◌, ℕ, true, false, List, [], ◌∷◌, ◌++◌, Option, Some, Err, refl, sym, ap, ◌∙◌, append_assoc, subst, inl, inr, reverse}
 use Rattle.std.proofs.lemmas.List.{append-nil, reverse-append}
 use Rattle.std.proofs.lemmas.List.Concat.{flat_map-append}
@@ -14,7 +14,6 @@ use Rattle.script_form.specs.declared.handset.Note.{Note}
 use Rattle.card_model.specs.Counts.{IsCounted}
 use Rattle.card_model.specs.Laws.{CountsJoin, PlansAreSetInOrder}
 use Rattle.card_model.specs.Runs.{plan_given, armed_after, plans_joined, waiting_after}
-use Rattle.card_model.specs.States.{Machine}
 use Rattle.handset_model.specs.History.{Said, Sent, Noted}
 use Rattle.handset_model.specs.Legal.{IsOrderly, TraceEntry, Seen, Shown, entries_of, items_seen}
 use Rattle.handset_model.specs.Rules.{asked}
@@ -24,9 +23,11 @@ use Rattle.handset_model.specs.declared.known.Duty.{Duty}
 use Rattle.handset_model.specs.declared.known.Duty.TheVariants.{Rest, Transmit, Show, ResetCard}
 use Rattle.terminal_side.specs.Kept.{Kept, kept}
 use Rattle.run_steps.specs.Ends.{End, moment_at}
-use Rattle.run_steps.proofs.GoesOnLemmas.{calm_before, calm_behind, run_one, run_then}
-use Rattle.run_steps.specs.Runs.{GoesOn, ends_calm, text_of}
-use Rattle.run_steps.specs.Stepping.{BreaksOff, BreaksStep, EndsStep, GivesStep, Moment, TakesShowing, exchanged, restarted_by, seen as seen_of}
+use Rattle.run_steps.proofs.SteppingLemmas.{no_last_command, still_shows}
+use Rattle.run_steps.proofs.ViewLemmas.{rests_then, steps_nowhere, steps_one, steps_then}
+use Rattle.run_steps.specs.Runs.{text_of}
+use Rattle.run_steps.specs.Stepping.{BreaksOff, BreaksStep, EndsStep, GivesStep, Holds, IsSeen, Moment, Rests, TakesShowing, exchanged, restarted_by, seen as seen_of}
+use Rattle.run_steps.specs.Views.{CardView, StepsShow}
 use Rattle.run_steps.specs.declared.steps.Reply.{Reply}
 use Rattle.run_steps.specs.declared.steps.Reply.TheVariants as reply
 use Rattle.run_steps.specs.declared.steps.Restarted.{Restarted as AReset}
@@ -67,27 +68,27 @@ pub waiting_behind : PlansAreSetInOrder → (steps_so : List Step) (step : Step)
     → waiting_after waiting (step ∷ []) ≡ waiting_after NONE (steps_so ++ step ∷ [])
 waiting_behind order steps_so step waiting waits = ap (λ w. waiting_after w (step ∷ [])) waits ∙ sym (order NONE steps_so (step ∷ [])).1
 
-runs_on : (first old new : Machine) (log later : List Event) (step : Step) (items : List TraceItem) → IsPhoneRun first log old → GoesOnBy log later step items
-    → GoesOn old (step ∷ []) items new → IsPhoneRun first later new
+runs_on : (first old new : CardView) (log later : List Event) (step : Step) (items : List TraceItem) → IsPhoneRun first log old → GoesOnBy log later step items
+    → StepsShow old (step ∷ []) items new → IsPhoneRun first later new
 runs_on first old new log later step items run goes more = record {
   orderly = goes.orderly run.orderly;
   in_turn = goes.in_turn run.in_turn;
-  run = subst (λ s. GoesOn first s (shown later) new) (sym goes.steps_are)
-      (subst (λ i. GoesOn first (steps log ++ step ∷ []) i new) (sym goes.shown_is) (run_then (steps log) (step ∷ []) first old new (shown log) items run.run more));
+  run = subst (λ s. StepsShow first s (shown later) new) (sym goes.steps_are)
+      (subst (λ i. StepsShow first (steps log ++ step ∷ []) i new) (sym goes.shown_is) (steps_then (steps log) (step ∷ []) first old new (shown log) items run.run more));
 }
 
 -- a step was taken
 pub reaches_by : CountsJoin → PlansAreSetInOrder → (given : Beginning) (log later : List Event) (step : Step) (items : List TraceItem) (phone mid : Kept) (from to : Moment) → GoesOnBy log later step items → phone ≡ kept (history later)
-    → ((old : Machine) (before : List ℕ) → from.machine ≡ Some old → from.taken ≡ Some before → TakesShowing items old before step from to) → IsAt given log mid from → IsAt given later phone to
+    → ((old : CardView) (before : List ℕ) → IsSeen old from → from.taken ≡ Some before → TakesShowing items old before step from to) → IsAt given log mid from → IsAt given later phone to
 reaches_by join order given log later step items phone mid from to goes keeps takes at =
-    let showing = takes at.machine (given.before ++ entries_text (trace log)) at.told at.written in
+    let showing = takes at.card (given.before ++ entries_text (trace log)) at.seen at.written in
     let taken = showing.taken in
     record {
-      machine = taken.machine;
-      run = runs_on given.first at.machine taken.machine log later step items at.run goes
-          (subst (λ i. GoesOn at.machine (step ∷ []) i taken.machine) showing.shows (run_one at.machine taken.machine step taken.shown taken.gives));
+      card = taken.card;
+      run = runs_on given.first at.card taken.card log later step items at.run goes
+          (subst (λ i. StepsShow at.card (step ∷ []) i taken.card) showing.shows (steps_one at.card taken.card step taken.shown taken.gives));
       keeps = keeps;
-      told = taken.told;
+      seen = taken.seen;
       written = taken.written ∙ ap Some (append_assoc given.before (entries_text (trace log)) (text_of taken.shown)
           ∙ ap (λ i. given.before ++ (entries_text (trace log) ++ text_of i)) showing.shows ∙ ap (λ rest. given.before ++ rest) (sym goes.text_is));
       counted = subst (λ s. IsCounted given.meter to.meter (plan_given s) (shown later)) (sym goes.steps_are)
@@ -95,26 +96,22 @@ reaches_by join order given log later step items phone mid from to goes keeps ta
           (subst (λ l. IsCounted given.meter to.meter l (shown log ++ taken.shown)) (plans_behind order (steps log) step from.waiting at.waits)
           (join given.meter from.meter to.meter (plan_given (steps log)) (armed_after from.waiting (step ∷ [])) (shown log) taken.shown at.counted taken.counted)));
       waits = taken.waits ∙ waiting_behind order (steps log) step from.waiting at.waits ∙ ap (λ s. waiting_after NONE s) (sym goes.steps_are);
-      rests = λ calm. rests_then at showing calm;
+      rests = subst (λ (i : List TraceItem). Rests taken.card i to.is_due) (ap (λ i. shown log ++ i) showing.shows ∙ sym goes.shown_is)
+          (rests_then at.card taken.card (step ∷ []) (shown log) taken.shown from.is_due to.is_due (steps_one at.card taken.card step taken.shown taken.gives) at.rests taken.rests);
     }
-  where
-    rests_then : IsAt given log mid from → (showing : TakesShowing items at.machine (given.before ++ entries_text (trace log)) step from to) → ends_calm (shown later) ≡ true → to.is_due ≡ false
-    rests_then at showing calm =
-        let so : ends_calm (shown log ++ showing.taken.shown) ≡ true = subst (λ i. ends_calm i ≡ true) (goes.shown_is ∙ ap (λ i. shown log ++ i) (sym showing.shows)) calm in
-        showing.taken.rests (λ none. at.rests (calm_before (shown log) showing.taken.shown none so)) (calm_behind (shown log) showing.taken.shown so)
 
 -- a step was the last
 fails_by : CountsJoin → PlansAreSetInOrder → (given : Beginning) (log : List Event) (phone : Kept) (from to : Moment) → asked (history log) ≡ ResetCard
-    → ((old : Machine) (before : List ℕ) → from.machine ≡ Some old → from.taken ≡ Some before → EndsStep old before step.Reset from to) → IsAt given log phone from → FailsSo given (lines_back log) to
+    → ((old : CardView) (before : List ℕ) → IsSeen old from → from.taken ≡ Some before → EndsStep old before step.Reset from to) → IsAt given log phone from → FailsSo given (lines_back log) to
 fails_by join order given log phone from to resets ends at =
-    let last = ends at.machine (given.before ++ entries_text (trace log)) at.told at.written in
+    let last = ends at.card (given.before ++ entries_text (trace log)) at.seen at.written in
     record {
       log = log;
-      old = at.machine;
+      old = at.card;
       lines_are = refl;
       run = at.run;
       resets = resets;
-      machine = last.machine;
+      card = last.card;
       last = last.shown;
       ends = last.ends;
       stands = last.stands;
@@ -125,22 +122,22 @@ fails_by join order given log phone from to resets ends at =
 
 -- the sink failed in a step
 breaks_by : CountsJoin → (given : Beginning) (log : List Event) (phone : Kept) (step : Step) (from to : Moment)
-    → ((old : Machine) (before : List ℕ) → from.machine ≡ Some old → from.taken ≡ Some before → BreaksStep old before step from to) → (at : IsAt given log phone from) → BreaksInStep given log at.machine step to
+    → ((old : CardView) (before : List ℕ) → IsSeen old from → from.taken ≡ Some before → BreaksStep old before step from to) → (at : IsAt given log phone from) → BreaksInStep given log at.card step to
 breaks_by join given log phone step from to breaks at =
-    let broken = breaks at.machine (given.before ++ entries_text (trace log)) at.told at.written in
+    let broken = breaks at.card (given.before ++ entries_text (trace log)) at.seen at.written in
     record {
-      machine = broken.machine;
+      card = broken.card;
       pending = broken.pending;
       front = broken.front;
       set = broken.set;
-      broken = subst (λ w. BreaksOff at.machine step broken.pending (armed_after w (step ∷ [])) broken.set broken.machine) at.waits broken.broken;
+      broken = subst (λ w. BreaksOff at.card step broken.pending (armed_after w (step ∷ [])) broken.set broken.card) at.waits broken.broken;
       cut_off = broken.cut_off;
       stands = broken.stands;
       written = broken.written;
       counted = join given.meter from.meter to.meter (plan_given (steps log)) broken.set (shown log) broken.pending at.counted broken.counted;
     }
 
-broken_at : (given : Beginning) (log : List Event) (old : Machine) (now : Moment) (duty : Duty) → asked (history log) ≡ duty → IsPhoneRun given.first log old → BreaksIn given log old now duty → BreaksSo given (lines_back log) now
+broken_at : (given : Beginning) (log : List Event) (old : CardView) (now : Moment) (duty : Duty) → asked (history log) ≡ duty → IsPhoneRun given.first log old → BreaksIn given log old now duty → BreaksSo given (lines_back log) now
 broken_at given log old now duty is run broken = record { log = log; old = old; lines_are = refl; run = run; broken = subst (λ d. BreaksIn given log old now d) (sym is) broken }
 
 -- ---- a command
@@ -183,7 +180,7 @@ lines_sent command reply.Cut answer log = refl
 lines_sent command reply.Off answer log = refl
 
 pub reaches_sent : CountsJoin → PlansAreSetInOrder → (given : Beginning) (log : List Event) (command : Command) (outcome : Reply) (answer : Answer) (old new : Kept) (from to : Moment) → asked (history log) ≡ Transmit command
-    → ((old : Machine) (before : List ℕ) → from.machine ≡ Some old → from.taken ≡ Some before → TakesShowing (exchanged (apdu_of command) answer outcome) old before (step.Apdu (apdu_of command)) from to)
+    → ((old : CardView) (before : List ℕ) → IsSeen old from → from.taken ≡ Some before → TakesShowing (exchanged (apdu_of command) answer outcome) old before (step.Apdu (apdu_of command)) from to)
     → new ≡ kept (replied outcome answer ∷ Sent command ∷ history log) → IsAt given log old from → Reaches given (lines_back log) new to
 reaches_sent join order given log command outcome answer old new from to is takes keeps at = record {
   log = with_reply command outcome answer log;
@@ -193,12 +190,12 @@ reaches_sent join order given log command outcome answer old new from to is take
 
 -- the run ended in it
 pub ends_sent : CountsJoin → (given : Beginning) (log : List Event) (command : Command) (end : StepEnd) (phone : Kept) (from to : Moment) → asked (history log) ≡ Transmit command
-    → ((old : Machine) (before : List ℕ) → from.machine ≡ Some old → from.taken ≡ Some before → GivesStep (Err end) old before (step.Apdu (apdu_of command)) from to)
+    → ((old : CardView) (before : List ℕ) → IsSeen old from → from.taken ≡ Some before → GivesStep (Err end) old before (step.Apdu (apdu_of command)) from to)
     → IsAt given log phone from → RunEnds given (lines_back log) to end
 ends_sent join given log command SinkFailed phone from to is gives at =
-    broken_at given log at.machine to (Transmit command) is at.run (breaks_by join given log phone (step.Apdu (apdu_of command)) from to gives at)
+    broken_at given log at.card to (Transmit command) is at.run (breaks_by join given log phone (step.Apdu (apdu_of command)) from to gives at)
 ends_sent join given log command ResetFailed phone from to is gives at =
-    let ended = gives at.machine (given.before ++ entries_text (trace log)) at.told at.written in absurd ended.ends
+    let ended = gives at.card (given.before ++ entries_text (trace log)) at.seen at.written in absurd (no_last_command at.card ended.card (apdu_of command) ended.shown ended.ends)
 
 -- ---- a reset
 
@@ -243,7 +240,7 @@ resets_on outcome log is = record {
 }
 
 pub reaches_reset : CountsJoin → PlansAreSetInOrder → (given : Beginning) (log : List Event) (outcome : AReset) (old new : Kept) (from to : Moment) → asked (history log) ≡ ResetCard
-    → ((old : Machine) (before : List ℕ) → from.machine ≡ Some old → from.taken ≡ Some before → TakesShowing (restarted_by outcome) old before step.Reset from to)
+    → ((old : CardView) (before : List ℕ) → IsSeen old from → from.taken ≡ Some before → TakesShowing (restarted_by outcome) old before step.Reset from to)
     → new ≡ kept (reset_by outcome ∷ history log) → IsAt given log old from → Reaches given (lines_back log) new to
 reaches_reset join order given log outcome old new from to is takes keeps at = record {
   log = with_reset outcome log;
@@ -252,9 +249,9 @@ reaches_reset join order given log outcome old new from to is takes keeps at = r
 }
 
 pub ends_reset : CountsJoin → PlansAreSetInOrder → (given : Beginning) (log : List Event) (end : StepEnd) (phone : Kept) (from to : Moment) → asked (history log) ≡ ResetCard
-    → ((old : Machine) (before : List ℕ) → from.machine ≡ Some old → from.taken ≡ Some before → GivesStep (Err end) old before step.Reset from to)
+    → ((old : CardView) (before : List ℕ) → IsSeen old from → from.taken ≡ Some before → GivesStep (Err end) old before step.Reset from to)
     → IsAt given log phone from → RunEnds given (lines_back log) to end
-ends_reset join order given log SinkFailed phone from to is gives at = broken_at given log at.machine to ResetCard is at.run (breaks_by join given log phone step.Reset from to gives at)
+ends_reset join order given log SinkFailed phone from to is gives at = broken_at given log at.card to ResetCard is at.run (breaks_by join given log phone step.Reset from to gives at)
 ends_reset join order given log ResetFailed phone from to is gives at = fails_by join order given log phone from to is gives at
 
 -- ---- a note
@@ -275,18 +272,18 @@ reaches_noted given log note old new from taken is more keeps at = record {
   log = Happens (Noted note) ∷ log;
   lines_are = refl;
   at = record {
-    machine = at.machine;
+    card = at.card;
     run = record {
       orderly = (is, at.run.orderly);
       in_turn = at.run.in_turn;
-      run = subst (λ i. GoesOn given.first (steps log) i at.machine) (sym (shown_noted note log)) at.run.run;
+      run = subst (λ i. StepsShow given.first (steps log) i at.card) (sym (shown_noted note log)) at.run.run;
     };
     keeps = keeps;
-    told = at.told;
+    seen = at.seen;
     written = more (given.before ++ entries_text (trace log)) at.written ∙ ap Some (append_assoc given.before (entries_text (trace log)) (note_line note) ∙ ap (λ rest. given.before ++ rest) (sym (text_noted note log)));
     counted = subst (λ i. IsCounted given.meter from.meter (plan_given (steps log)) i) (sym (shown_noted note log)) at.counted;
     waits = at.waits;
-    rests = λ calm. at.rests (subst (λ i. ends_calm i ≡ true) (shown_noted note log) calm);
+    rests = subst (λ (i : List TraceItem). Rests at.card i from.is_due) (sym (shown_noted note log)) at.rests;
   };
 }
 
@@ -295,14 +292,14 @@ pub record IsFrontTaken (taken : Option (List ℕ)) (before part : List ℕ) : T
   pub begun : (rest : List ℕ) × (part ≡ front ++ rest)
   pub written : taken ≡ Some (before ++ front)
 
-pub ends_noted : (given : Beginning) (log : List Event) (note : Note) (phone : Kept) (from : Moment) (taken : Option (List ℕ)) → ((machine : Machine) → from.machine ≡ Some machine → from.held ≡ Some machine.card.persistent) → asked (history log) ≡ Show note
+pub ends_noted : (given : Beginning) (log : List Event) (note : Note) (phone : Kept) (from : Moment) (taken : Option (List ℕ)) → ((card : CardView) → IsSeen card from → Holds card from.held) → asked (history log) ≡ Show note
     → ((before : List ℕ) → from.taken ≡ Some before → IsFrontTaken taken before (note_line note)) → IsAt given log phone from → BreaksSo given (lines_back log) (record from { taken = taken })
 ends_noted given log note phone from taken stands is breaks at =
     let front = breaks (given.before ++ entries_text (trace log)) at.written in
-    broken_at given log at.machine (record from { taken = taken }) (Show note) is at.run (record {
+    broken_at given log at.card (record from { taken = taken }) (Show note) is at.run (record {
       front = front.front;
       begun = front.begun;
-      stands = stands at.machine at.told;
+      stands = stands at.card at.seen;
       written = front.written;
       counted = at.counted;
     })
@@ -312,10 +309,10 @@ ends_noted given log note phone from taken stands is breaks at =
 -- the handset hears a line
 pub hears_line : (given : Beginning) (log : List Event) (line : HandsetLine) (old new : Kept) (now : Moment) → asked (history log) ≡ Rest → new ≡ kept (Said line ∷ history log) → IsAt given log old now → IsAt given (Happens (Said line) ∷ log) new now
 hears_line given log line old new now rest keeps at = record {
-  machine = at.machine;
+  card = at.card;
   run = record { orderly = (rest, at.run.orderly); in_turn = at.run.in_turn; run = at.run.run };
   keeps = keeps;
-  told = at.told;
+  seen = at.seen;
   written = at.written;
   counted = at.counted;
   waits = at.waits;
@@ -329,16 +326,16 @@ steps_planned plan log = reverse-append (step.Plan plan ∷ []) (steps_back log)
 plans_so : PlansAreSetInOrder → (given : Beginning) (log : List Event) (plan : Plan) (phone : Kept) (now : Moment) → asked (history log) ≡ Rest → IsAt given log phone now
     → IsAt given (Plans plan ∷ log) phone (record now { waiting = plans_joined now.waiting plan })
 plans_so order given log plan phone now rest at = record {
-  machine = at.machine;
+  card = at.card;
   run = record {
     orderly = at.run.orderly;
     in_turn = (rest, at.run.in_turn);
-    run = subst (λ s. GoesOn given.first s (shown log) at.machine) (sym (steps_planned plan log))
-        (subst (λ i. GoesOn given.first (steps log ++ step.Plan plan ∷ []) i at.machine) (append-nil (shown log))
-        (run_then (steps log) (step.Plan plan ∷ []) given.first at.machine at.machine (shown log) [] at.run.run (run_one at.machine at.machine (step.Plan plan) [] (record { seen = refl; stays = refl }))));
+    run = subst (λ s. StepsShow given.first s (shown log) at.card) (sym (steps_planned plan log))
+        (subst (λ i. StepsShow given.first (steps log ++ step.Plan plan ∷ []) i at.card) (append-nil (shown log))
+        (steps_then (steps log) (step.Plan plan ∷ []) given.first at.card at.card (shown log) [] at.run.run (steps_one at.card at.card (step.Plan plan) [] (still_shows at.card plan))));
   };
   keeps = at.keeps;
-  told = at.told;
+  seen = at.seen;
   written = at.written;
   counted = subst (λ l. IsCounted given.meter now.meter l (shown log)) (sym (append-nil (plan_given (steps log))) ∙ sym (order NONE (steps log) (step.Plan plan ∷ [])).0 ∙ ap (λ s. plan_given s) (sym (steps_planned plan log))) at.counted;
   waits = ap (λ w. plans_joined w plan) at.waits ∙ sym (order NONE (steps log) (step.Plan plan ∷ [])).1 ∙ ap (λ s. waiting_after NONE s) (sym (steps_planned plan log));
@@ -353,10 +350,10 @@ plans_line order given log plan phone from to taken rest joins at =
 -- a handset that keeps the same
 pub keeps_same : (given : Beginning) (log : List Event) (old new : Kept) (now : Moment) → new ≡ kept (history log) → IsAt given log old now → IsAt given log new now
 keeps_same given log old new now keeps at = record {
-  machine = at.machine;
+  card = at.card;
   run = at.run;
   keeps = keeps;
-  told = at.told;
+  seen = at.seen;
   written = at.written;
   counted = at.counted;
   waits = at.waits;
@@ -366,12 +363,12 @@ keeps_same given log old new now keeps at = record {
 -- nothing has happened yet
 pub begins_empty : (given : Beginning) (phone : Kept) (now : Moment) → phone ≡ kept [] → Begins given now → IsAt given [] phone now
 begins_empty given phone now keeps begins = record {
-  machine = given.first;
-  run = record { orderly = tt; in_turn = tt; run = record { seen = refl; stays = refl } };
+  card = given.first;
+  run = record { orderly = tt; in_turn = tt; run = steps_nowhere given.first given.first refl };
   keeps = keeps;
-  told = begins.told;
+  seen = begins.seen;
   written = begins.written ∙ ap Some (sym (append-nil given.before));
   counted = begins.counted;
   waits = begins.waits;
-  rests = λ calm. begins.rests;
+  rests = begins.rests;
 }

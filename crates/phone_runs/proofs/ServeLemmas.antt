@@ -7,7 +7,6 @@ use Rattle.uicc_types.specs.declared.runs.Step.TheVariants as run
 use Rattle.byte_streams.specs.Streams.{TakesFront}
 use Rattle.script_form.specs.declared.handset.Note.{Note}
 use Rattle.card_model.specs.Laws.{CountsJoin, PlansAreSetInOrder}
-use Rattle.card_model.specs.States.{Machine}
 use Rattle.handset_model.specs.History.{Happened, Noted, Sent}
 use Rattle.handset_model.specs.Legal.{next_item}
 use Rattle.handset_model.specs.Rules.{asked}
@@ -20,7 +19,8 @@ use Rattle.terminal_side.specs.Kept.{Kept, kept, with_next}
 use Rattle.terminal_side.specs.Stages.{step_of}
 use Rattle.terminal_side.specs.declared.phone.Next.{Next}
 use Rattle.terminal_side.specs.declared.phone.Next.TheVariants as next
-use Rattle.run_steps.specs.Stepping.{GivesStep, Moment, TakesShowing, exchanged, restarted_by}
+use Rattle.run_steps.specs.Stepping.{GivesStep, Holds, IsSeen, Moment, TakesShowing, exchanged, restarted_by}
+use Rattle.run_steps.specs.Views.{CardView}
 use Rattle.run_steps.specs.declared.steps.Reply.{Reply}
 use Rattle.run_steps.specs.declared.steps.Restarted.{Restarted as AReset}
 use Rattle.run_steps.specs.declared.steps.StepEnd.{StepEnd}
@@ -94,17 +94,17 @@ sent_so old mid found apdu h asking is keeps =
 
 pub sent_further : CountsJoin → PlansAreSetInOrder → (old mid new : Kept) (found : Option PhoneStep) (apdu : List ℕ) (outcome : Reply) (answer : Answer) (given : Beginning) (log : List Event) (from to : Moment)
     → IsAskedOf old mid found → found ≡ Some (step.Send apdu) → ((h : List Happened) → mid ≡ kept h → new ≡ kept (replied outcome answer ∷ h))
-    → ((old : Machine) (before : List ℕ) → from.machine ≡ Some old → from.taken ≡ Some before → TakesShowing (exchanged apdu answer outcome) old before (run.Apdu apdu) from to) → IsAt given log old from → Reaches given (lines_back log) new to
+    → ((old : CardView) (before : List ℕ) → IsSeen old from → from.taken ≡ Some before → TakesShowing (exchanged apdu answer outcome) old before (run.Apdu apdu) from to) → IsAt given log old from → Reaches given (lines_back log) new to
 sent_further join order old mid new found apdu outcome answer given log from to asking is hears takes at =
     let sent = sent_so old mid found apdu (history log) asking is at.keeps in
-    let Takes : List ℕ → Type 0 = λ a. (old : Machine) (before : List ℕ) → from.machine ≡ Some old → from.taken ≡ Some before → TakesShowing (exchanged a answer outcome) old before (run.Apdu a) from to in
+    let Takes : List ℕ → Type 0 = λ a. (old : CardView) (before : List ℕ) → IsSeen old from → from.taken ≡ Some before → TakesShowing (exchanged a answer outcome) old before (run.Apdu a) from to in
     reaches_sent join order given log sent.command outcome answer old new from to sent.asked_is (subst Takes (sym sent.bytes) takes) (hears (Sent sent.command ∷ history log) sent.keeps) at
 
 pub sent_ends : CountsJoin → (old mid : Kept) (found : Option PhoneStep) (apdu : List ℕ) (end : StepEnd) (given : Beginning) (log : List Event) (from to : Moment) → IsAskedOf old mid found → found ≡ Some (step.Send apdu)
-    → ((old : Machine) (before : List ℕ) → from.machine ≡ Some old → from.taken ≡ Some before → GivesStep (Err end) old before (run.Apdu apdu) from to) → IsAt given log old from → RunEnds given (lines_back log) to end
+    → ((old : CardView) (before : List ℕ) → IsSeen old from → from.taken ≡ Some before → GivesStep (Err end) old before (run.Apdu apdu) from to) → IsAt given log old from → RunEnds given (lines_back log) to end
 sent_ends join old mid found apdu end given log from to asking is gives at =
     let sent = sent_so old mid found apdu (history log) asking is at.keeps in
-    let Gives : List ℕ → Type 0 = λ a. (old : Machine) (before : List ℕ) → from.machine ≡ Some old → from.taken ≡ Some before → GivesStep (Err end) old before (run.Apdu a) from to in
+    let Gives : List ℕ → Type 0 = λ a. (old : CardView) (before : List ℕ) → IsSeen old from → from.taken ≡ Some before → GivesStep (Err end) old before (run.Apdu a) from to in
     ends_sent join given log sent.command end old from to sent.asked_is (subst Gives (sym sent.bytes) gives) at
 
 pub sent_more : LinesEnd → (old mid new : Kept) (found : Option PhoneStep) (apdu : List ℕ) (outcome : Reply) (answer : Answer) → IsAskedOf old mid found → found ≡ Some (step.Send apdu)
@@ -123,14 +123,14 @@ pub reset_keeps : (old mid : Kept) (found : Option PhoneStep) (h : List Happened
 reset_keeps old mid found h asking resets keeps = asking.after h keeps ∙ ap kept (next_is h ResetCard resets)
 
 pub reset_further : CountsJoin → PlansAreSetInOrder → (old mid new : Kept) (found : Option PhoneStep) (outcome : AReset) (given : Beginning) (log : List Event) (from to : Moment) → IsAskedOf old mid found → found ≡ Some step.Reset
-    → ((h : List Happened) → mid ≡ kept h → new ≡ kept (reset_by outcome ∷ h)) → ((old : Machine) (before : List ℕ) → from.machine ≡ Some old → from.taken ≡ Some before → TakesShowing (restarted_by outcome) old before run.Reset from to)
+    → ((h : List Happened) → mid ≡ kept h → new ≡ kept (reset_by outcome ∷ h)) → ((old : CardView) (before : List ℕ) → IsSeen old from → from.taken ≡ Some before → TakesShowing (restarted_by outcome) old before run.Reset from to)
     → IsAt given log old from → Reaches given (lines_back log) new to
 reset_further join order old mid new found outcome given log from to asking is hears takes at =
     let resets = reset_so old mid found (history log) asking is at.keeps in
     reaches_reset join order given log outcome old new from to resets takes (hears (history log) (reset_keeps old mid found (history log) asking resets at.keeps)) at
 
 pub reset_ends : CountsJoin → PlansAreSetInOrder → (old mid : Kept) (found : Option PhoneStep) (end : StepEnd) (given : Beginning) (log : List Event) (from to : Moment) → IsAskedOf old mid found → found ≡ Some step.Reset
-    → ((old : Machine) (before : List ℕ) → from.machine ≡ Some old → from.taken ≡ Some before → GivesStep (Err end) old before run.Reset from to) → IsAt given log old from → RunEnds given (lines_back log) to end
+    → ((old : CardView) (before : List ℕ) → IsSeen old from → from.taken ≡ Some before → GivesStep (Err end) old before run.Reset from to) → IsAt given log old from → RunEnds given (lines_back log) to end
 reset_ends join order old mid found end given log from to asking is gives at = ends_reset join order given log end old from to (reset_so old mid found (history log) asking is at.keeps) gives at
 
 pub reset_more : LinesEnd → (old mid new : Kept) (found : Option PhoneStep) (outcome : AReset) → IsAskedOf old mid found → found ≡ Some step.Reset → ((h : List Happened) → mid ≡ kept h → new ≡ kept (reset_by outcome ∷ h)) → IsPhoneServed old → IsServedMore old new
@@ -160,7 +160,7 @@ note_further old mid found note given log from taken asking is more at =
     let shows = note_so old mid found note (history log) asking is at.keeps in
     reaches_noted given log note old mid from taken shows (λ before told. told_more from.taken taken (note_line note) before more told) (note_keeps old mid found note (history log) asking shows at.keeps) at
 
-pub note_ends : (old mid : Kept) (found : Option PhoneStep) (note : Note) (given : Beginning) (log : List Event) (from : Moment) (taken : Option (List ℕ)) → ((machine : Machine) → from.machine ≡ Some machine → from.held ≡ Some machine.card.persistent)
+pub note_ends : (old mid : Kept) (found : Option PhoneStep) (note : Note) (given : Beginning) (log : List Event) (from : Moment) (taken : Option (List ℕ)) → ((card : CardView) → IsSeen card from → Holds card from.held)
     → IsAskedOf old mid found → found ≡ Some (step.Note note) → Becomes (TakesFront (note_line note)) from.taken taken → IsAt given log old from → BreaksSo given (lines_back log) (record from { taken = taken })
 note_ends old mid found note given log from taken stands asking is err at =
     ends_noted given log note old from taken stands (note_so old mid found note (history log) asking is at.keeps) (λ before told. front_taken from.taken taken (note_line note) before err told) at

@@ -10,5 +10,4 @@ pub mod Logs
 pub mod Playing
 pub mod Runs
 pub mod Serving
-pub mod Showing
 pub mod Traces

@@ -11,16 +11,17 @@ use Rattle.script_reader.specs.declared.behind.PlayEnd.TheVariants.{Finished, Ba
 use Rattle.script_reader.specs.declared.reader.ScriptReader.{ScriptReader}
 use Rattle.card_model.specs.Counts.{IsCounted}
 use Rattle.card_model.specs.Runs.{plan_given}
-use Rattle.card_model.specs.States.{Machine}
+use Rattle.handset_model.specs.Legal.{IsLegal}
 use Rattle.handset_model.specs.Rules.{asked}
 use Rattle.handset_model.specs.declared.known.Duty.TheVariants.{Rest}
 use Rattle.terminal_side.specs.Kept.{Kept}
-use Rattle.run_steps.specs.Runs.{ends_calm}
-use Rattle.run_steps.specs.Stepping.{Moment}
+use Rattle.run_steps.specs.Stepping.{IsSeen, Moment, Stands}
+use Rattle.run_steps.specs.Views.{CardView, RunShows}
 use Rattle.run_steps.specs.declared.steps.StepEnd.{StepEnd}
 use Rattle.run_steps.specs.declared.steps.StepEnd.TheVariants as step_end
 use Rattle.phone_runs.specs.Effects.{may_be_heard, phone_lines}
-use Rattle.phone_runs.specs.Logs.{Event, PhoneLine, history, lines_back, shown, steps, trace}
+use Rattle.phone_runs.specs.Laws.{EndIsOfTheCard, ShowsBegun}
+use Rattle.phone_runs.specs.Logs.{Event, PhoneLine, heard, history, lines_back, log_lines, shown, steps, trace}
 use Rattle.phone_runs.specs.Playing.{Begins}
 use Rattle.phone_runs.specs.Runs.{Beginning, IsAt, IsPhoneRun, RunEnds}
 use Rattle.phone_runs.specs.Serving.{IsAtRest}
@@ -66,25 +67,28 @@ pub record IsLineFurther (old new : ScriptReader) (phone : Kept) : Type 0 where
 
 -- ---- how it ends
 
--- The lines ended so: all of them were carried out, the sink has taken what happened, and the boxes have the minds that the card
--- has where nothing failed in the last command or reset.
+-- The lines ended so: all of them were carried out, the trace is one that the rules of the handset ask for by them, and the sink has taken
+-- it. The device has counted what is seen of the card in it.
 pub record PhoneEnds (text : List ℕ) (opening : List ScriptLine) (given : Beginning) (left : Option (List ℕ)) (end : PlayEnd) (now : Moment) : Type 0 where
   pub found : LineList
   pub played : List ScriptLine
   pub log : List Event
-  pub machine : Machine
+  pub card : CardView
   pub are_served : AreServed opening found played
   pub told : lines_back log ≡ told_back played
-  pub run : IsPhoneRun given.first log machine
+  pub run : IsPhoneRun given.first log card
   pub rests : asked (history log) ≡ Rest
+  pub legal : IsLegal (heard (log_lines log)) (trace log)
+  pub of_card : RunShows given.first (steps log) (shown log) card
   pub cause : StopsReading may_be_heard text found left end
-  pub stands : now.held ≡ Some machine.card.persistent
+  pub seen : IsSeen card now
+  pub stands : Stands card (shown log) now
   pub written : now.taken ≡ Some (given.before ++ entries_text (trace log))
   pub counted : IsCounted given.meter now.meter (plan_given (steps log)) (shown log)
-  pub minds : ends_calm (shown log) ≡ true → now.boxes ≡ machine.card.boxes
 
 -- The run ended while this was carried out which the lines told the handset, of which the last is the one that ended it; or in
--- the handset's start, before any line.
+-- the handset's start, before any line. What the sink has taken is the beginning of a trace that the rules of the handset ask for, and that
+-- trace without its notes is that of a run of the card itself, whose memory stands for what it holds at its end.
 pub record StopsAmid (text : List ℕ) (opening : List ScriptLine) (given : Beginning) (end : StepEnd) (now : Moment) : Type 0 where
   pub found : LineList
   pub more : LineList
@@ -92,6 +96,8 @@ pub record StopsAmid (text : List ℕ) (opening : List ScriptLine) (given : Begi
   pub parted : lines text ≡ found ++ more
   pub are_served : AreServed opening found played
   pub ended : RunEnds given (told_back played) now end
+  pub begun : ShowsBegun given (told_back played) now
+  pub of_card : EndIsOfTheCard given (told_back played) now end ended
 
 abbrev pub PhoneComesTo : List ℕ → List ScriptLine → Beginning → Option (List ℕ) → PlayEnd → Moment → Type 0
 PhoneComesTo text opening given left Finished now = PhoneEnds text opening given left Finished now

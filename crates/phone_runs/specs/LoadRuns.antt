@@ -5,14 +5,14 @@ use Rattle.script_form.specs.declared.handset.HandsetLine.{HandsetLine}
 use Rattle.script_form.specs.declared.trace.TraceLine.{TraceLine}
 use Rattle.script_form.specs.declared.trace.TraceLine.TheVariants.{Note}
 use Rattle.card_model.specs.Counts.{IsCounted}
-use Rattle.card_model.specs.States.{Machine}
 use Rattle.card_core.specs.Parts.{CardParts}
 use Rattle.handset_model.specs.Legal.{TraceEntry, Seen, Shown}
 use Rattle.handset_model.specs.Rules.{asked}
 use Rattle.handset_model.specs.declared.known.Duty.TheVariants.{Rest}
 use Rattle.terminal_side.specs.Kept.{Kept}
-use Rattle.run_steps.specs.Runs.{ends_calm, line_of}
-use Rattle.run_steps.specs.Stepping.{Moment, moment}
+use Rattle.run_steps.specs.Runs.{line_of}
+use Rattle.run_steps.specs.Stepping.{Moment, Stands, moment}
+use Rattle.run_steps.specs.Views.{CardView}
 use Rattle.run_steps.specs.declared.steps.StepEnd.TheVariants.{ResetFailed}
 use Rattle.long_runs.specs.Counts.{counts_of}
 use Rattle.long_runs.specs.declared.counts.Counts.{Counts}
@@ -32,14 +32,13 @@ all_heard made = map Hears made
 -- This is counted in the trace of a run of a handset over these lines, on a card that stood so at first.
 pub record IsCountedRun (made : List HandsetLine) (given : Beginning) (counts : Counts) (now : Moment) : Type 0 where
   pub log : List Event
-  pub machine : Machine
-  pub run : IsPhoneRun given.first log machine
+  pub card : CardView
+  pub run : IsPhoneRun given.first log card
   pub lines_are : log_lines log ≡ all_heard made
   pub rests : asked (history log) ≡ Rest
   pub counts_are : counts ≡ counts_of (map entry_line (trace log))
-  pub stands : now.held ≡ Some machine.card.persistent
+  pub stands : Stands card (shown log) now
   pub counted : IsCounted given.meter now.meter [] (shown log)
-  pub minds : ends_calm (shown log) ≡ true → now.boxes ≡ machine.card.boxes
 
 -- the memory failed in a reset that was asked for amid the lines
 pub record FailsAmid (made : List HandsetLine) (given : Beginning) (now : Moment) : Type 0 where

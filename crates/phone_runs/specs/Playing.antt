@@ -1,10 +1,10 @@
 -- The lines of a script, carried out by a handset.
-use Rattle.std.specs.Prelude.{◌≡◌, ℕ, ◌+◌, ◌<◌, ◌^◌, [], Some, false}
+use Rattle.std.specs.Prelude.{◌≡◌, ℕ, ◌+◌, ◌<◌, ◌^◌, [], Some}
 use Rattle.uicc_types.specs.declared.plans.TheConstants.Plan.{NONE}
 use Rattle.card_model.specs.Counts.{IsCounted}
 use Rattle.handset_model.specs.History.{span_of}
 use Rattle.handset_model.specs.Legal.{IsBounded}
-use Rattle.run_steps.specs.Stepping.{Moment}
+use Rattle.run_steps.specs.Stepping.{IsSeen, Moment, Rests}
 use Rattle.phone_runs.specs.Logs.{PhoneLine, Hears, Arms}
 use Rattle.phone_runs.specs.Runs.{Beginning}
 use Rattle.phone_runs.specs.declared.playing.PhoneMove.{PhoneMove}
@@ -27,8 +27,8 @@ IsFit clock (move.Plans plan) = Unit {0}
 
 -- nothing has happened yet of which the counts tell, and no fault is planned or to be mended
 pub record Begins (given : Beginning) (now : Moment) : Type 0 where
-  pub told : now.machine ≡ Some given.first
+  pub seen : IsSeen given.first now
   pub written : now.taken ≡ Some given.before
   pub counted : IsCounted given.meter now.meter [] []
   pub waits : now.waiting ≡ NONE
-  pub rests : now.is_due ≡ false
+  pub rests : Rests given.first [] now.is_due

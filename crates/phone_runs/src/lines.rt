@@ -10,7 +10,6 @@ ghost use Rattle.phone_runs.specs.LineTallies.{TalliesLines};
 ghost use Rattle.phone_runs.specs.Lines.{EndsAmid, GivesServed, IsBetweenLines, IsLineFurther, IsServing};
 ghost use Rattle.phone_runs.specs.Effects.{may_be_heard};
 ghost use Rattle.phone_runs.specs.Runs.{Beginning};
-ghost use Rattle.phone_runs.specs.Showing.{LineShows, Outset, ServesShowing};
 
 use crate::effects::{PhoneEffect, effect_on_phone};
 use crate::playing::play_on_phone;
@@ -40,11 +39,6 @@ pub fn serve_line<S: Store, B: Applet, R: Source, W: Sink>(
         → IsServing text opening given script.old (R.left source.old) phone.old
         (moment_at card.old (W.taken trace.old))
         → GivesServed text opening given script.new (R.left source.new) phone.new
-        (moment_at card.new (W.taken trace.new)) result }
-    ensures shows { (text : List ℕ) (opening : List AnyLine) (given : Outset)
-        → ServesShowing text opening given script.old (R.left source.old) phone.old
-        (moment_at card.old (W.taken trace.old))
-        → LineShows text opening given script.new (R.left source.new) phone.new
         (moment_at card.new (W.taken trace.new)) result }
     // Which lines were read, over any memory, and why no more of them.
     ensures reads { (text : List ℕ) (opening : List AnyLine)

@@ -10,7 +10,6 @@ ghost use Rattle.phone_runs.specs.Logs.{Event, Hears, lines_back};
 ghost use Rattle.phone_runs.specs.Playing.{Begins, IsFit, line_of, span_of_move};
 ghost use Rattle.phone_runs.specs.Runs.{Beginning, IsAt, Settles};
 ghost use Rattle.phone_runs.specs.Serving.{IsAtRest};
-ghost use Rattle.phone_runs.specs.Showing.{BeginsShowing, IsShowing, Outset, ShowsSettled};
 
 use crate::serving::{Places, settle};
 use applet_trait::Applet;
@@ -42,8 +41,6 @@ pub fn start_phone<S: Store, B: Applet, W: Sink>(
     requires new { phone.old ≡ unstarted }
     ensures starts { (given : Beginning) → Begins given (moment_at card.old (W.taken trace.old))
         → Settles given [] phone.new (moment_at card.new (W.taken trace.new)) result }
-    ensures shows { (given : Outset) → BeginsShowing given (moment_at card.old (W.taken trace.old))
-        → ShowsSettled given [] phone.new (moment_at card.new (W.taken trace.new)) result }
     ensures rest { OnOk result (IsAtRest phone.new) }
     ensures clock { OnOk result (phone.new.known.clock ≡ 0) }
     ensures failed { result ≡ Err StepEnd.ResetFailed
@@ -70,10 +67,6 @@ pub fn play_on_phone<S: Store, B: Applet, W: Sink>(
         → IsAt given log phone.old (moment_at card.old (W.taken trace.old))
         → Settles given (line_of line ∷ lines_back log) phone.new (moment_at card.new (W.taken trace.new))
         result }
-    ensures shows { (given : Outset) (log : List Event)
-        → IsShowing given log phone.old (moment_at card.old (W.taken trace.old))
-        → ShowsSettled given (line_of line ∷ lines_back log) phone.new
-        (moment_at card.new (W.taken trace.new)) result }
     ensures rest { OnOk result (IsAtRest phone.new) }
     ensures clock { OnOk result (phone.new.known.clock ≡ phone.old.known.clock + span_of_move line) }
     ensures failed { result ≡ Err StepEnd.ResetFailed
@@ -108,10 +101,6 @@ pub fn hear_line<S: Store, B: Applet, W: Sink>(
         → IsAt given log phone.old (moment_at card.old (W.taken trace.old))
         → Settles given (Hears line.now ∷ lines_back log) phone.new (moment_at card.new (W.taken trace.new))
         result }
-    ensures shows { (given : Outset) (log : List Event)
-        → IsShowing given log phone.old (moment_at card.old (W.taken trace.old))
-        → ShowsSettled given (Hears line.now ∷ lines_back log) phone.new
-        (moment_at card.new (W.taken trace.new)) result }
     ensures rest { OnOk result (IsAtRest phone.new) }
     ensures clock { OnOk result (phone.new.known.clock ≡ phone.old.known.clock + span_of line.now) }
     ensures failed { result ≡ Err StepEnd.ResetFailed

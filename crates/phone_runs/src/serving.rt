@@ -9,7 +9,6 @@ ghost use Rattle.run_steps.specs.Tallies.{Tallies, tally};
 ghost use Rattle.phone_runs.specs.Logs.{Event, lines_back};
 ghost use Rattle.phone_runs.specs.Runs.{Beginning, GoesFurther, IsAt, Settles};
 ghost use Rattle.phone_runs.specs.Serving.{IsAtRest, IsPhoneServed, IsServedMore, replied, reset_by};
-ghost use Rattle.phone_runs.specs.Showing.{IsShowing, Outset, ShowsFurther, ShowsSettled};
 
 use applet_trait::Applet;
 use byte_streams::{Failed, Sink};
@@ -54,9 +53,6 @@ pub fn settle<S: Store, B: Applet, W: Sink>(
     ensures settles { (given : Beginning) (log : List Event)
         → IsAt given log phone.old (moment_at card.old (W.taken trace.old))
         → Settles given (lines_back log) phone.new (moment_at card.new (W.taken trace.new)) result }
-    ensures shows { (given : Outset) (log : List Event)
-        → IsShowing given log phone.old (moment_at card.old (W.taken trace.old))
-        → ShowsSettled given (lines_back log) phone.new (moment_at card.new (W.taken trace.new)) result }
     ensures rest { OnOk result (IsAtRest phone.new) }
     ensures clock { OnOk result (phone.new.known.clock ≡ phone.old.known.clock) }
     ensures failed { result ≡ Err StepEnd.ResetFailed
@@ -85,9 +81,6 @@ fn serve<S: Store, B: Applet, W: Sink>(
     ensures further { (given : Beginning) (log : List Event)
         → IsAt given log phone.old (moment_at card.old (W.taken trace.old))
         → GoesFurther given (lines_back log) phone.new (moment_at card.new (W.taken trace.new)) result }
-    ensures shows { (given : Outset) (log : List Event)
-        → IsShowing given log phone.old (moment_at card.old (W.taken trace.old))
-        → ShowsFurther given (lines_back log) phone.new (moment_at card.new (W.taken trace.new)) result }
     ensures more { result ≡ Ok true → IsServedMore phone.old phone.new }
     ensures rests { result ≡ Ok false → phone.new.asked ≡ duty.Rest }
     ensures same { result ≡ Ok false → phone.new ≡ phone.old }

@@ -9,25 +9,24 @@ use Rattle.t0_link.specs.Linking.{Course}
 use Rattle.byte_streams.specs.Streams.{TakesFront}
 use Rattle.script_form.specs.Traces.{trace_text}
 use Rattle.script_form.specs.declared.trace.TraceLine.TheVariants as line
-use Rattle.card_model.specs.Counts.{IsCounted}
 use Rattle.card_model.specs.Runs.{armed_after}
-use Rattle.card_model.specs.States.{Machine}
 use Rattle.run_steps.specs.Ends.{End, moment_at}
 use Rattle.run_steps.specs.Tpdus.{BreaksTpdu, Delivers, TakesTpdu, steps_of}
-use Rattle.run_steps.proofs.SteppingLemmas.{ToldFront, in_one_line, text_of_one, text_of_two, told_front, told_more}
+use Rattle.run_steps.proofs.SteppingLemmas.{ToldFront, holds_seen, idle_counted, in_one_line, text_of_one, text_of_two, told_front, told_more}
 use Rattle.run_steps.specs.Shown.{shown_for}
 use Rattle.run_steps.specs.Runs.{item_text, machine_of}
-use Rattle.run_steps.proofs.StandingLemmas.{machine_stands}
+use Rattle.run_steps.specs.Stepping.{IsSeenBy}
+use Rattle.run_steps.specs.Views.{CardView}
 
-module _ (tpdu before : List ℕ) (old : Machine) (course : Course) (keeps kept : Option Answer) where
+module _ (tpdu before : List ℕ) (old : CardView) (course : Course) (keeps kept : Option Answer) where
   -- both lines were written
   pub takes : (from to : End) (taken mid now : Option (List ℕ)) (reply : TraceItem) → taken ≡ Some before → Delivers old course reply kept from to
       → mid ≡ append_known taken (trace_text (line.Command tpdu)) → now ≡ append_known mid (item_text reply) → TakesTpdu old before tpdu course kept (moment_at from taken) (moment_at to now)
   takes from to taken mid now reply told delivered command replied = record {
-    machine = delivered.machine;
+    card = delivered.card;
     own = delivered.own;
     reply = reply;
-    told = delivered.told;
+    seen = delivered.seen;
     gives = delivered.gives;
     written = told_more mid now (item_text reply) (before ++ item_text (item.Command tpdu)) replied (told_more taken mid (item_text (item.Command tpdu)) before command told) ∙ ap Some (text_of_two (item.Command tpdu) reply before);
     counted = delivered.counted;
@@ -41,12 +40,12 @@ module _ (tpdu before : List ℕ) (old : Machine) (course : Course) (keeps kept 
   breaks_reply from to taken mid now reply told delivered command broken =
       let front : ToldFront now (item_text reply) (before ++ item_text (item.Command tpdu)) = told_front mid now (item_text reply) (before ++ item_text (item.Command tpdu)) broken (told_more taken mid (item_text (item.Command tpdu)) before command told) in
       record {
-        machine = delivered.machine;
+        card = delivered.card;
         own = delivered.own;
         pending = shown_for tpdu reply;
         front = item_text (item.Command tpdu) ++ front.front;
         set = armed_after from.waiting (steps_of course);
-        stands = machine_stands to.parts delivered.machine delivered.told;
+        stands = holds_seen to.parts delivered.card delivered.seen;
         broken = inr (reply, delivered.gives, refl, refl);
         cut_off = record {
           whole = item.Command tpdu ∷ [];
@@ -61,19 +60,19 @@ module _ (tpdu before : List ℕ) (old : Machine) (course : Course) (keeps kept 
       }
 
 -- the sink failed in the line of the TPDU
-pub breaks_tpdu : (tpdu before : List ℕ) (old : Machine) (course : Course) (keeps : Option Answer) (end : End) (taken now : Option (List ℕ)) → IsCounted end.parts.meter end.parts.meter [] [] → machine_of end.parts ≡ Some old → taken ≡ Some before
+pub breaks_tpdu : (tpdu before : List ℕ) (old : CardView) (course : Course) (keeps : Option Answer) (end : End) (taken now : Option (List ℕ)) → IsSeenBy old (machine_of end.parts) end.parts.is_on → taken ≡ Some before
     → Becomes (TakesFront (trace_text (line.Command tpdu))) taken now → BreaksTpdu old before tpdu course keeps keeps (moment_at end taken) (moment_at end now)
-breaks_tpdu tpdu before old course keeps end taken now counted is told broken =
+breaks_tpdu tpdu before old course keeps end taken now is told broken =
     let front : ToldFront now (item_text (item.Command tpdu)) before = told_front taken now (item_text (item.Command tpdu)) before broken told in
     record {
-      machine = old;
+      card = old;
       own = [];
       pending = item.Command tpdu ∷ [];
       front = front.front;
       set = [];
-      stands = machine_stands end.parts old is;
+      stands = holds_seen end.parts old is;
       broken = inl (refl, refl, refl, refl, refl);
       cut_off = in_one_line (item.Command tpdu) before now front;
       written = front.written;
-      counted = counted;
+      counted = idle_counted end.parts.meter;
     }

@@ -25,7 +25,8 @@ use Rattle.run_steps.proofs.SteppingLemmas.{idle_counted}
 use Rattle.run_steps.specs.Ends.{Comes, End, Meets, MeetsAnswer, MeetsCut, end_words, reply_for}
 use Rattle.run_steps.specs.Runs.{is_calm, machine_of}
 use Rattle.run_steps.proofs.StandingLemmas.{machine_is}
-use Rattle.run_steps.specs.Stepping.{IsBare, IsReply, Sends, seen}
+use Rattle.run_steps.specs.Stepping.{Sends, seen}
+use Rattle.run_steps.specs.Views.{IsBare, IsReply}
 use Rattle.run_steps.specs.Shown.{item_of, shown_over, without_bytes}
 use Rattle.run_steps.specs.Stepped.{GivesOwnStep, LinkChangesNoStep}
 

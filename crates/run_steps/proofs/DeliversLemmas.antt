@@ -4,6 +4,7 @@ use Rattle.std.specs.Prelude.{⊤}
 use Rattle.uicc_types.specs.Counts.{Meter, names_fault}
 use Rattle.uicc_types.specs.declared.answers.Answer.{Answer}
 use Rattle.uicc_types.specs.declared.plans.Plan.{Plan}
+use Rattle.uicc_types.specs.declared.runs.Step.TheVariants as step
 use Rattle.uicc_types.specs.declared.runs.TraceItem.{TraceItem}
 use Rattle.uicc_types.specs.declared.runs.TraceItem.TheVariants as item
 use Rattle.t0_link.specs.declared.endpoint.Endpoint.{Ghosts as EndpointWords}
@@ -18,14 +19,14 @@ use Rattle.t0_link.specs.Tpdus.{is_passed, is_passed_by, transfer_in}
 use Rattle.card_model.specs.Counts.{IsCounted}
 use Rattle.card_model.specs.Laws.{PlansAreCounted}
 use Rattle.card_model.specs.Runs.{due}
-use Rattle.card_model.specs.States.{Machine}
-use Rattle.run_steps.specs.Ends.{End, MeetsAnswer, MeetsCut, TakesCommand, planned, reply_for, unplanned, with_plan_set, without_plan}
+use Rattle.run_steps.specs.Ends.{End, Meets, MeetsAnswer, MeetsCut, TakesCommand, planned, reply_for, unplanned, with_plan_set, without_plan}
 use Rattle.run_steps.specs.Tpdus.{Delivers, IsPrepared}
 use Rattle.run_steps.specs.Shown.{item_of, kept_over, shown_over}
 use Rattle.run_steps.specs.Runs.{machine_of}
-use Rattle.run_steps.specs.Stepping.{IsBare, Sends, seen}
+use Rattle.run_steps.specs.Stepping.{IsSeenBy, RestsOn, seen}
+use Rattle.run_steps.specs.Views.{CardView, IsBare}
 use Rattle.run_steps.proofs.SendsLemmas.{bare_reply, sends_off}
-use Rattle.run_steps.proofs.SteppingLemmas.{counted_after, disarmed_machine, idle_counted, machine_set, with_command}
+use Rattle.run_steps.proofs.SteppingLemmas.{Showed, WithPlan, command_showed, counted_after, idle_counted, none_waits, rests_back, seen_back, seen_set, still_rests, with_command, with_plan}
 
 -- ---- a command that is passed to a card's end
 
@@ -72,53 +73,51 @@ command_counted plans from mid sent to waiting apdu shown given back counted =
 -- ---- a TPDU that was given to the link
 
 -- an APDU was passed, and the card was sent its command
-passed_on : PlansAreCounted → (apdu : List ℕ) (make : Answer → Linked) (old : Machine) (from set sent to : End) (shown reply : TraceItem) (kept : Option Answer)
-    → set ≡ with_plan_set from → to ≡ without_plan (names_fault from.waiting) sent
-    → Sends old apdu shown sent.parts → IsBare shown → IsCounted set.parts.meter sent.parts.meter [] (shown ∷ []) → sent.waiting ≡ set.waiting
+passed_on : PlansAreCounted → (apdu : List ℕ) (make : Answer → Linked) (old : CardView) (from set sent to : End) (shown reply : TraceItem) (kept : Option Answer)
+    → WithPlan from set sent to → Showed old (step.Apdu apdu) (item.Command apdu ∷ shown ∷ []) shown sent.parts → IsBare shown → IsCounted set.parts.meter sent.parts.meter [] (shown ∷ [])
     → reply ≡ shown_over make shown → kept ≡ kept_over make shown → Delivers old (Passes apdu make) reply kept from to
-passed_on plans apdu make old from set sent to shown reply kept given same sends bare counted waits replied keeps = record {
-  machine = sends.machine;
+passed_on plans apdu make old from set sent to shown reply kept with_it showed bare counted replied keeps = record {
+  card = showed.card;
   own = item.Command apdu ∷ shown ∷ [];
-  told = disarmed_machine (names_fault from.waiting) sent.parts to.parts (ap (λ (e : End). e.parts) same) ∙ sends.told;
-  gives = record { shown = shown; came = refl; gives = sends.gives; bare = bare; seen = replied; keeps = keeps };
-  counted = command_counted plans from.parts.meter set.parts.meter sent.parts.meter to.parts.meter from.waiting apdu shown (ap (λ (e : End). e.parts.meter) given) (ap (λ (e : End). e.parts.meter) same) counted;
-  waits = ap (λ (e : End). e.waiting) same ∙ waits ∙ ap (λ (e : End). e.waiting) given;
-  rests = λ nothing calm. ap (λ (e : End). e.parts.is_due) same ∙ sends.rests calm;
+  seen = seen_back (names_fault from.waiting) sent to showed.card with_it.back showed.seen;
+  gives = record { shown = shown; came = refl; gives = showed.gives; bare = bare; seen = replied; keeps = keeps };
+  counted = command_counted plans from.parts.meter set.parts.meter sent.parts.meter to.parts.meter from.waiting apdu shown (ap (λ (e : End). e.parts.meter) with_it.given) (ap (λ (e : End). e.parts.meter) with_it.back) counted;
+  waits = none_waits from set sent to with_it;
+  rests = rests_back showed.card (item.Command apdu ∷ shown ∷ []) shown from.parts.is_due sent.parts.is_due to.parts.is_due (ap (λ (e : End). e.parts.is_due) with_it.back) (λ calm. calm) (λ none. absurd (cc)) showed.rests;
 }
 
-module _ (words : EndpointWords End) (old : Machine) (from set sent to : End) (plans : PlansAreCounted) (is : machine_of from.parts ≡ Some old)
+module _ (words : EndpointWords End) (old : CardView) (from set sent to : End) (plans : PlansAreCounted) (is : IsSeenBy old (machine_of from.parts) from.parts.is_on)
     (meets : (apdu : List ℕ) (result : Result ⊤ LinkFault) (answer : Answer) → Transmits words.is_on words.step words.lost set sent apdu result answer → Transmits {E = End} (λ end. end.parts.is_on) MeetsAnswer MeetsCut set sent apdu result answer) where
-  set_so : set ≡ with_plan_set from → machine_of set.parts ≡ Some old
-  set_so given = machine_set from set old given is
-
-  -- it was taken back, as it was set
-  back_so : (is_given : Bool) → is_given ≡ names_fault from.waiting → to ≡ without_plan is_given sent → to ≡ without_plan (names_fault from.waiting) sent
-  back_so is_given named back = back ∙ ap (λ b. without_plan b sent) named
+  -- a command that met the card
+  met_showed : (apdu : List ℕ) (shown : TraceItem) → set ≡ with_plan_set from → Meets set apdu shown sent → Showed old (step.Apdu apdu) (item.Command apdu ∷ shown ∷ []) shown sent.parts
+  met_showed apdu shown given met = command_showed old apdu shown set.parts sent.parts (seen_set from set old given is) met.takes.sends met.takes.replies
 
   pub delivers : (course : Course) (result : Result ⊤ LinkFault) (left : Linked) (is_given : Bool) → IsPrepared course from is_given set → to ≡ without_plan is_given sent → Exchanges words set sent course result left → OnErr result (left.kept ≡ None)
       → Delivers old course (seen (reply_for result) left.answer) left.kept from to
   delivers (Answers linked) (Ok done) left is_given given same exchanged none =
       let stays : to ≡ from = same ∙ ap (λ b. without_plan b sent) given.1 ∙ exchanged.0 ∙ given.0 in
       record {
-        machine = old;
+        card = old;
         own = [];
-        told = ap (λ (e : End). machine_of e.parts) stays ∙ is;
+        seen = subst (λ (e : End). IsSeenBy old (machine_of e.parts) e.parts.is_on) (sym stays) is;
         gives = record { silent = refl; seen = ap (λ (l : Linked). item_of l.answer) exchanged.1; keeps = ap (λ (l : Linked). l.kept) exchanged.1; stays = refl };
         counted = subst (λ (e : End). IsCounted from.parts.meter e.parts.meter [] []) (sym stays) (idle_counted from.parts.meter);
         waits = ap (λ (e : End). e.waiting) stays;
-        rests = λ nothing calm. ap (λ (e : End). e.parts.is_due) stays ∙ nothing refl;
+        rests = subst (λ (e : End). RestsOn old [] from.parts.is_due e.parts.is_due) (sym stays) (still_rests old from.parts.is_due);
       }
   delivers (Answers linked) (Err fault) left is_given given same exchanged none = absurd exchanged
   delivers (Passes apdu make) (Ok done) left is_given given same exchanged none =
       let met : MeetsAnswer set apdu exchanged.answer sent = meets apdu (Ok done) exchanged.answer exchanged.transmitted in
-      passed_on plans apdu make old from set sent to (item_of exchanged.answer) (item_of left.answer) left.kept given.0 (back_so is_given given.1 same) (met.takes.sends old (set_so given.0)) (bare_reply set.parts.is_on sent.parts.is_on (item_of exchanged.answer) met.takes.replies) met.takes.counted met.waits
+      passed_on plans apdu make old from set sent to (item_of exchanged.answer) (item_of left.answer) left.kept (with_plan from set sent to is_given given.0 given.1 met.waits same) (met_showed apdu (item_of exchanged.answer) given.0 met)
+      (bare_reply set.parts.is_on sent.parts.is_on (item_of exchanged.answer) met.takes.replies) met.takes.counted
       (ap (λ (l : Linked). item_of l.answer) exchanged.answered) (ap (λ (l : Linked). l.kept) exchanged.answered)
   delivers (Passes apdu make) (Err PowerLost) left is_given given same exchanged none =
       let met : MeetsCut set apdu sent = (meets apdu (Err PowerLost) exchanged.answer exchanged.transmitted).0 in
-      passed_on plans apdu make old from set sent to item.Cut item.Cut left.kept given.0 (back_so is_given given.1 same) (met.takes.sends old (set_so given.0)) tt met.takes.counted met.waits refl none
+      passed_on plans apdu make old from set sent to item.Cut item.Cut left.kept (with_plan from set sent to is_given given.0 given.1 met.waits same) (met_showed apdu item.Cut given.0 met) tt met.takes.counted refl none
   delivers (Passes apdu make) (Err NoPower) left is_given given same exchanged none =
       let off : (set.parts.is_on ≡ false) × (sent ≡ set) = meets apdu (Err NoPower) exchanged.answer exchanged.transmitted in
-      passed_on plans apdu make old from set sent to item.Off item.Off left.kept given.0 (back_so is_given given.1 same)
-      (sends_off set.parts sent.parts apdu old (set_so given.0) off.0 (ap (λ (e : End). machine_of e.parts) off.1)) tt
+      passed_on plans apdu make old from set sent to item.Off item.Off left.kept (with_plan from set sent to is_given given.0 given.1 (ap (λ (e : End). e.waiting) off.1) same)
+      (command_showed old apdu item.Off set.parts sent.parts (seen_set from set old given.0 is) (λ machine set_is. sends_off set.parts sent.parts apdu machine set_is off.0 (ap (λ (e : End). machine_of e.parts) off.1))
+      (off.0, ap (λ (e : End). e.parts.is_on) off.1 ∙ off.0)) tt
       (subst (λ (e : End). IsCounted set.parts.meter e.parts.meter [] (item.Off ∷ [])) (sym off.1) (off_counted set.parts.meter (idle_counted set.parts.meter)))
-      (ap (λ (e : End). e.waiting) off.1) refl none
+      refl none

@@ -6,7 +6,7 @@ use Rattle.uicc_types.specs.declared.runs.TraceItem.{TraceItem}
 use Rattle.card_model.specs.Runs.{IsRun, StepEnds, StepGives}
 use Rattle.card_model.specs.States.{Machine}
 use Rattle.run_steps.specs.Runs.{GoesOn, ends_calm, item_text, text_of}
-use Rattle.run_steps.specs.Showing.{MayShow, MayShowAll}
+use Rattle.run_steps.specs.Views.{MayShow, MayShowAll}
 
 -- a run that shows nothing and moves nothing comes first
 run_same : (old new : Machine) (more : List Step) (none items : List TraceItem) (middle : Machine) → none ≡ [] → middle ≡ old → GoesOn middle more items new → GoesOn old more (none ++ items) new

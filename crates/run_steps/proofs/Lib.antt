@@ -8,9 +8,9 @@ mod LeLemmas
 mod LinkedLemmas
 mod LooksAtLeLemmas
 mod SendsLemmas
-mod ShowingLemmas
 pub mod StandingLemmas
 mod SteppedLemmas
 pub mod SteppingLemmas
 pub mod TakesFrontLemmas
+pub mod ViewLemmas
 mod worked

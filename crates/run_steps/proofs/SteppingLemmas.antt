@@ -1,5 +1,6 @@
 -- What a step shows, and what the sink has taken of it.
 use Rattle.std.proofs.Common.{◌≡◌, ◌≤◌, ℕ, Bool, true, false, if◌then◌else◌, List, [], ◌∷◌, ◌++◌, Option, Some, None, Result, Ok, Err, refl, sym, ap, ◌∙◌, append_assoc, inl, inr, subst, option_map, arith, OnOk, OnErr, append-nil}
+use Rattle.std.proofs.lemmas.List.Concat.{flat_map-append}
 use Rattle.std.specs.Io.KnownBytes.{append_known}
 use Rattle.uicc_types.specs.Counts.{Meter, armed as plan_given, names_fault, raised}
 use Rattle.uicc_types.specs.Told.{Becomes, IsFront}
@@ -14,7 +15,7 @@ use Rattle.script_form.specs.Traces.{trace_text}
 use Rattle.script_form.specs.declared.trace.TraceLine.TheVariants as line
 use Rattle.card_model.specs.Counts.{IsCounted}
 use Rattle.card_model.specs.Laws.{PlansAreCounted}
-use Rattle.card_model.specs.Runs.{StepGives, armed_after, due, plans_joined, waiting_after}
+use Rattle.card_model.specs.Runs.{armed_after, due, plans_joined, waiting_after}
 use Rattle.card_model.specs.States.{Machine, powered, unpowered, restarted}
 use Rattle.card_core.specs.Cards.{held_by}
 use Rattle.card_core.specs.Parts.{CardParts}
@@ -22,11 +23,12 @@ use Rattle.card_core.proofs.RestartLemmas.{metered_same}
 use Rattle.run_steps.specs.declared.steps.ResetOutcome.{ResetOutcome}
 use Rattle.run_steps.specs.declared.steps.ResetOutcome.TheVariants as restart
 use Rattle.run_steps.specs.Ends.{Comes, End, disarmed, moment_at, planned, unplanned, with_plan_set, without_plan}
-use Rattle.run_steps.specs.Runs.{is_calm, item_text, machine_of, text_of}
-use Rattle.run_steps.specs.Stepping.{BreaksOff, BreaksStep, EndsStep, GivesShowing, IsCutOff, Resets, Sends, TakesStep, moment, shown_of}
+use Rattle.run_steps.specs.Runs.{ends_calm, is_calm, item_text, machine_of, text_of}
+use Rattle.run_steps.specs.Stepping.{BreaksOff, BreaksStep, EndsStep, GivesShowing, Holds, IsCutOff, IsSeenBy, Resets, Rests, RestsOn, Sends, Stands, TakesStep, moment, shown_of}
+use Rattle.run_steps.specs.Views.{CardView, IsReply, ItsPower, Known, LastShows, StepShows, TheCard}
 use Rattle.run_steps.specs.declared.steps.StepEnd.{StepEnd}
 use Rattle.run_steps.specs.declared.steps.StepEnd.TheVariants.{SinkFailed, ResetFailed}
-use Rattle.run_steps.proofs.StandingLemmas.{machine_stands}
+use Rattle.run_steps.proofs.StandingLemmas.{machine_minds, machine_stands}
 
 -- ---- what was taken
 
@@ -89,192 +91,13 @@ same_machine parts meter = ap (option_map (λ card. record { card = card; on = p
 pub disarmed_machine : (is_given : Bool) (sent after : CardParts) → after ≡ disarmed is_given sent → machine_of after ≡ machine_of sent
 disarmed_machine is_given sent after same = ap machine_of same ∙ same_machine sent (unplanned is_given sent.meter)
 
--- what a step shows in one line was written, or the sink failed in that line
-pub writes_one : (result : Result (Unit {0}) StepEnd) (old : Machine) (before : List ℕ) (step : Step) (from after : CardParts) (taken now : Option (List ℕ)) (waiting left : Plan) (shown : TraceItem) (machine : Machine)
-    → taken ≡ Some before → left ≡ waiting_after waiting (step ∷ []) → machine_of after ≡ Some machine → (is_calm shown ≡ true → after.is_due ≡ false) → StepGives old step (shown ∷ []) machine
-    → BreaksOff old step (shown ∷ []) (armed_after waiting (step ∷ [])) (armed_after waiting (step ∷ [])) machine
-    → IsCounted from.meter after.meter (armed_after waiting (step ∷ [])) (shown ∷ [])
-    → OnOk result (now ≡ append_known taken (item_text shown)) → OnErr result (Becomes (TakesFront (item_text shown)) taken now) → OnErr result (result ≡ Err SinkFailed)
-    → GivesShowing result (λ done. shown ∷ []) old before step (moment from taken waiting) (moment after now left)
-writes_one (Ok done) old before step from after taken now waiting left shown machine told waits is rests gives broken counted ok err sink = record {
-  taken = record {
-    machine = machine;
-    shown = shown ∷ [];
-    told = is;
-    gives = gives;
-    written = told_more taken now (item_text shown) before ok told ∙ ap (λ back. Some (before ++ back)) (sym (text_of_one shown));
-    counted = counted;
-    waits = waits;
-    rests = λ nothing calm. rests calm;
-  };
-  shows = refl;
-}
-writes_one (Err SinkFailed) old before step from after taken now waiting left shown machine told waits is rests gives broken counted ok err sink =
-    let front = told_front taken now (item_text shown) before err told in
-    record {
-      machine = machine;
-      pending = shown ∷ [];
-      front = front.front;
-      set = armed_after waiting (step ∷ []);
-      stands = machine_stands after machine is;
-      broken = broken;
-      cut_off = in_one_line shown before now front;
-      written = front.written;
-      counted = counted;
-    }
-writes_one (Err ResetFailed) old before step from after taken now waiting left shown machine told waits is rests gives broken counted ok err sink = absurd (cc)
-
--- ---- a command
-
--- a command and what came of it
-pub exchanges : (result : Result (Unit {0}) StepEnd) (apdu before : List ℕ) (old : Machine) (from set sent after : CardParts) (taken mid now : Option (List ℕ)) (waiting left : Plan) (shown : TraceItem)
-    → PlansAreCounted → machine_of from ≡ Some old → taken ≡ Some before → set ≡ record from { meter = planned from.meter waiting } → left ≡ NONE
-    → mid ≡ append_known taken (trace_text (line.Command apdu)) → ((o : Machine) → machine_of set ≡ Some o → Sends o apdu shown sent) → IsCounted set.meter sent.meter [] (shown ∷ []) → after ≡ disarmed (names_fault waiting) sent
-    → OnOk result (now ≡ append_known mid (item_text shown)) → OnErr result (Becomes (TakesFront (item_text shown)) mid now) → OnErr result (result ≡ Err SinkFailed)
-    → GivesShowing result (λ done. item.Command apdu ∷ shown ∷ []) old before (step.Apdu apdu) (moment from taken waiting) (moment after now left)
-exchanges (Ok done) apdu before old from set sent after taken mid now waiting left shown plans is told given none command sends counts same ok err sink =
-    let sent_so = sends old (ap machine_of given ∙ same_machine from (planned from.meter waiting) ∙ is) in
-    let first = told_more taken mid (trace_text (line.Command apdu)) before command told in
-    record {
-      taken = record {
-        machine = sent_so.machine;
-        shown = item.Command apdu ∷ shown ∷ [];
-        told = disarmed_machine (names_fault waiting) sent after same ∙ sent_so.told;
-        gives = sent_so.gives;
-        written = told_more mid now (item_text shown) _ ok first ∙ ap Some (text_of_two (item.Command apdu) shown before);
-        counted = with_command _ _ _ apdu shown (counted_after plans from.meter set.meter sent.meter after.meter waiting (shown ∷ []) (ap (λ (p : CardParts). p.meter) given) (ap (λ (p : CardParts). p.meter) same) counts);
-        waits = none;
-        rests = λ nothing calm. ap (λ (p : CardParts). p.is_due) same ∙ sent_so.rests calm;
-      };
-      shows = refl;
-    }
-exchanges (Err SinkFailed) apdu before old from set sent after taken mid now waiting left shown plans is told given none command sends counts same ok err sink =
-    let sent_so = sends old (ap machine_of given ∙ same_machine from (planned from.meter waiting) ∙ is) in
-    let first = told_more taken mid (trace_text (line.Command apdu)) before command told in
-    let front = told_front mid now (item_text shown) _ err first in
-    record {
-      machine = sent_so.machine;
-      pending = item.Command apdu ∷ shown ∷ [];
-      front = item_text (item.Command apdu) ++ front.front;
-      set = due waiting ++ [];
-      stands = machine_stands after sent_so.machine (disarmed_machine (names_fault waiting) sent after same ∙ sent_so.told);
-      broken = inr (sent_so.gives, refl);
-      cut_off = record {
-        whole = item.Command apdu ∷ [];
-        last = shown;
-        part = front.front;
-        parted = refl;
-        begun = front.begun;
-        written = ap (λ start. start ++ front.front) (sym (text_of_one (item.Command apdu)));
-      };
-      written = front.written ∙ ap Some (append_assoc before (item_text (item.Command apdu)) front.front);
-      counted = with_command _ _ _ apdu shown (counted_after plans from.meter set.meter sent.meter after.meter waiting (shown ∷ []) (ap (λ (p : CardParts). p.meter) given) (ap (λ (p : CardParts). p.meter) same) counts);
-    }
-exchanges (Err ResetFailed) apdu before old from set sent after taken mid now waiting left shown plans is told given none command sends counts same ok err sink = absurd (cc)
-
--- the line of the command broke off
-pub breaks_command : (apdu before : List ℕ) (old : Machine) (from : CardParts) (taken now : Option (List ℕ)) (waiting : Plan)
-    → ((m : Meter) → IsCounted m m [] []) → machine_of from ≡ Some old → taken ≡ Some before → Becomes (TakesFront (trace_text (line.Command apdu))) taken now
-    → BreaksStep old before (step.Apdu apdu) (moment from taken waiting) (moment from now waiting)
-breaks_command apdu before old from taken now waiting idle is told broken =
-    let front = told_front taken now (trace_text (line.Command apdu)) before broken told in
-    let counted = idle from.meter in
-    record {
-      machine = old;
-      pending = item.Command apdu ∷ [];
-      front = front.front;
-      set = [];
-      stands = machine_stands from old is;
-      broken = inl (refl, refl, refl);
-      cut_off = in_one_line (item.Command apdu) before now front;
-      written = front.written;
-      counted = record { failures = counted.failures; cuts = counted.cuts; plans = counted.plans; latest = counted.latest; no_plan = counted.no_plan };
-    }
-
 -- nothing was done
 pub idle_counted : (m : Meter) → IsCounted m m [] []
 idle_counted m = record { failures = refl; cuts = refl; plans = refl; latest = refl; no_plan = λ none. none }
 
--- ---- a reset
-
-reset_counted : PlansAreCounted → (from set after : CardParts) (waiting : Plan) (shown : TraceItem) (sent : CardParts) → set ≡ record from { meter = planned from.meter waiting } → after ≡ disarmed (names_fault waiting) sent → IsCounted set.meter sent.meter [] (shown ∷ [])
-    → IsCounted from.meter after.meter (due waiting ++ []) (shown ∷ [])
-reset_counted plans from set after waiting shown sent given same counts =
-    counted_after plans from.meter set.meter sent.meter after.meter waiting (shown ∷ []) (ap (λ (p : CardParts). p.meter) given) (ap (λ (p : CardParts). p.meter) same) counts
-
 -- the machine is the same where a plan was set
 pub set_machine : (from set : CardParts) (waiting : Plan) (old : Machine) → set ≡ record from { meter = planned from.meter waiting } → machine_of from ≡ Some old → machine_of set ≡ Some old
 set_machine from set waiting old given is = ap machine_of given ∙ same_machine from (planned from.meter waiting) ∙ is
-
-pub restarts : (result : Result (Unit {0}) StepEnd) (before : List ℕ) (old : Machine) (from set sent after : CardParts) (taken now : Option (List ℕ)) (waiting left : Plan)
-    → PlansAreCounted → machine_of from ≡ Some old → taken ≡ Some before → set ≡ record from { meter = planned from.meter waiting } → left ≡ NONE
-    → ((o : Machine) → machine_of set ≡ Some o → Resets restart.Done o sent) → IsCounted set.meter sent.meter [] (item.Reset ∷ []) → after ≡ disarmed (names_fault waiting) sent
-    → OnOk result (now ≡ append_known taken (item_text item.Reset)) → OnErr result (Becomes (TakesFront (item_text item.Reset)) taken now) → OnErr result (result ≡ Err SinkFailed)
-    → GivesShowing result (λ done. item.Reset ∷ []) old before step.Reset (moment from taken waiting) (moment after now left)
-restarts result before old from set sent after taken now waiting left plans is told given none resets counts same ok err sink =
-    let done : StepGives old step.Reset (item.Reset ∷ []) (powered (restarted old.card)) = inl (record { seen = refl; moved = refl }) in
-    writes_one result old before step.Reset from after taken now waiting left item.Reset (powered (restarted old.card)) told none
-    (disarmed_machine (names_fault waiting) sent after same ∙ (resets old (set_machine from set waiting old given is)).0) (λ calm. ap (λ (p : CardParts). p.is_due) same ∙ (resets old (set_machine from set waiting old given is)).1) done (inl done, refl) (reset_counted plans from set after waiting item.Reset sent given same counts) ok err sink
-
-pub restart_cut : (result : Result (Unit {0}) StepEnd) (before : List ℕ) (old : Machine) (from set sent after : CardParts) (taken now : Option (List ℕ)) (waiting left : Plan)
-    → PlansAreCounted → machine_of from ≡ Some old → taken ≡ Some before → set ≡ record from { meter = planned from.meter waiting } → left ≡ NONE
-    → ((o : Machine) → machine_of set ≡ Some o → Resets restart.Cut o sent) → IsCounted set.meter sent.meter [] (item.Cut ∷ []) → after ≡ disarmed (names_fault waiting) sent
-    → OnOk result (now ≡ append_known taken (item_text item.Cut)) → OnErr result (Becomes (TakesFront (item_text item.Cut)) taken now) → OnErr result (result ≡ Err SinkFailed)
-    → GivesShowing result (λ done. item.Cut ∷ []) old before step.Reset (moment from taken waiting) (moment after now left)
-restart_cut result before old from set sent after taken now waiting left plans is told given none resets counts same ok err sink =
-    let done : StepGives old step.Reset (item.Cut ∷ []) (unpowered (restarted old.card)) = inr (record { seen = refl; moved = refl }) in
-    writes_one result old before step.Reset from after taken now waiting left item.Cut (unpowered (restarted old.card)) told none
-    (disarmed_machine (names_fault waiting) sent after same ∙ resets old (set_machine from set waiting old given is)) (λ calm. absurd (cc)) done (inl done, refl) (reset_counted plans from set after waiting item.Cut sent given same counts) ok err sink
-
--- the memory failed, and the line that says so was written
-pub restart_failed : (before : List ℕ) (old : Machine) (from set sent after : CardParts) (taken now : Option (List ℕ)) (waiting left : Plan)
-    → PlansAreCounted → machine_of from ≡ Some old → taken ≡ Some before → set ≡ record from { meter = planned from.meter waiting }
-    → ((o : Machine) → machine_of set ≡ Some o → Resets restart.Failed o sent) → IsCounted set.meter sent.meter [] (item.EepromFailed ∷ []) → after ≡ disarmed (names_fault waiting) sent
-    → now ≡ append_known taken (item_text item.EepromFailed) → EndsStep old before step.Reset (moment from taken waiting) (moment after now left)
-restart_failed before old from set sent after taken now waiting left plans is told given resets counts same ok = record {
-  machine = powered (restarted old.card);
-  shown = item.EepromFailed ∷ [];
-  stands = ap held_by same ∙ resets old (set_machine from set waiting old given is);
-  ends = record { seen = refl; moved = refl };
-  written = told_more taken now (item_text item.EepromFailed) before ok told ∙ ap (λ back. Some (before ++ back)) (sym (text_of_one item.EepromFailed));
-  counted = reset_counted plans from set after waiting item.EepromFailed sent given same counts;
-}
-
--- the sink failed in it
-pub restart_failed_broken : (before : List ℕ) (old : Machine) (from set sent after : CardParts) (taken now : Option (List ℕ)) (waiting left : Plan)
-    → PlansAreCounted → machine_of from ≡ Some old → taken ≡ Some before → set ≡ record from { meter = planned from.meter waiting }
-    → ((o : Machine) → machine_of set ≡ Some o → Resets restart.Failed o sent) → IsCounted set.meter sent.meter [] (item.EepromFailed ∷ []) → after ≡ disarmed (names_fault waiting) sent
-    → Becomes (TakesFront (item_text item.EepromFailed)) taken now → BreaksStep old before step.Reset (moment from taken waiting) (moment after now left)
-restart_failed_broken before old from set sent after taken now waiting left plans is told given resets counts same err =
-    let front = told_front taken now (item_text item.EepromFailed) before err told in
-    record {
-      machine = powered (restarted old.card);
-      pending = item.EepromFailed ∷ [];
-      front = front.front;
-      set = due waiting ++ [];
-      stands = ap held_by same ∙ resets old (set_machine from set waiting old given is);
-      broken = (inr (record { seen = refl; moved = refl }), refl);
-      cut_off = in_one_line item.EepromFailed before now front;
-      written = front.written;
-      counted = reset_counted plans from set after waiting item.EepromFailed sent given same counts;
-    }
-
--- ---- a plan
-
-pub plans_more : (before : List ℕ) (old : Machine) (from to : End) (taken : Option (List ℕ)) (plan : Plan) → machine_of from.parts ≡ Some old → taken ≡ Some before → to ≡ record from { waiting = plans_joined from.waiting plan }
-    → TakesStep old before (step.Plan plan) (moment_at from taken) (moment_at to taken)
-plans_more before old from to taken plan is told joins =
-    let later : End = record from { waiting = plans_joined from.waiting plan } in
-    subst (λ (e : End). TakesStep old before (step.Plan plan) (moment_at from taken) (moment_at e taken)) (sym joins) (record {
-      machine = old;
-      shown = [];
-      told = is;
-      gives = record { seen = refl; stays = refl };
-      written = told ∙ ap Some (sym (append-nil before));
-      counted = idle_counted from.parts.meter;
-      waits = refl;
-      rests = λ nothing calm. nothing refl;
-    })
 
 -- ---- at an end
 
@@ -322,14 +145,244 @@ faults_behind from set sent after done kept =
 pub reset_failed : (from set sent after : End) → WithPlan from set sent after → sent.parts.meter.faults ≡ raised set.parts.meter.faults → after.parts.meter.faults ≡ raised from.parts.meter.faults
 reset_failed from set sent after done failed = faults_back (names_fault from.waiting) sent after done.back ∙ failed ∙ ap raised (faults_set from set done.given)
 
+-- ---- what is known of the card
+
+-- a plan that is set, and taken back, changes nothing of what is known of it
+pub seen_set : (from set : End) (card : CardView) → set ≡ with_plan_set from → IsSeenBy card (machine_of from.parts) from.parts.is_on → IsSeenBy card (machine_of set.parts) set.parts.is_on
+seen_set from set (TheCard machine) given seen = machine_set from set machine given seen
+seen_set from set (ItsPower on) given seen = ap (λ (e : End). e.parts.is_on) given ∙ seen
+
+pub seen_back : (is_given : Bool) (sent after : End) (card : CardView) → after ≡ without_plan is_given sent → IsSeenBy card (machine_of sent.parts) sent.parts.is_on → IsSeenBy card (machine_of after.parts) after.parts.is_on
+seen_back is_given sent after (TheCard machine) back seen = disarmed_machine is_given sent.parts after.parts (ap (λ (e : End). e.parts) back) ∙ seen
+seen_back is_given sent after (ItsPower on) back seen = ap (λ (e : End). e.parts.is_on) back ∙ seen
+
+-- its memory holds what it does
+pub holds_seen : (parts : CardParts) (card : CardView) → IsSeenBy card (machine_of parts) parts.is_on → Holds card (held_by parts)
+holds_seen parts (TheCard machine) seen = machine_stands parts machine seen
+holds_seen parts (ItsPower on) seen = tt
+
+-- what it leaves, at the end of what was shown
+pub stands_seen : (parts : CardParts) (taken : Option (List ℕ)) (waiting : Plan) (card : CardView) (shown : List TraceItem) → IsSeenBy card (machine_of parts) parts.is_on → Rests card shown parts.is_due → Stands card shown (moment parts taken waiting)
+stands_seen parts taken waiting (TheCard machine) shown seen rests = record { stands = machine_stands parts machine seen; minds = λ calm. machine_minds parts machine seen (rests calm) }
+stands_seen parts taken waiting (ItsPower on) shown seen rests = tt
+
+-- a command was sent, or a reset was done, and these items are shown of it, of which this is the last
+pub record Showed (old : CardView) (step : Step) (items : List TraceItem) (shown : TraceItem) (sent : CardParts) : Type 0 where
+  pub card : CardView
+  pub seen : IsSeenBy card (machine_of sent) sent.is_on
+  pub gives : StepShows old step items card
+  pub rests : Known (λ (machine : Machine). is_calm shown ≡ true → sent.is_due ≡ false) (λ on. Unit {0}) card
+
+pub command_showed : (old : CardView) (apdu : List ℕ) (shown : TraceItem) (set sent : CardParts) → IsSeenBy old (machine_of set) set.is_on → ((machine : Machine) → machine_of set ≡ Some machine → Sends machine apdu shown sent) → IsReply set.is_on shown sent.is_on
+    → Showed old (step.Apdu apdu) (item.Command apdu ∷ shown ∷ []) shown sent
+command_showed (TheCard machine) apdu shown set sent seen sends replies = let it = sends machine seen in record { card = TheCard it.machine; seen = it.told; gives = it.gives; rests = it.rests }
+command_showed (ItsPower on) apdu shown set sent seen sends replies = record {
+  card = ItsPower sent.is_on;
+  seen = refl;
+  gives = (shown, subst (λ (b : Bool). IsReply b shown sent.is_on) seen replies, refl);
+  rests = tt;
+}
+
+pub reset_showed : (old : CardView) (set sent : CardParts) → IsSeenBy old (machine_of set) set.is_on → ((machine : Machine) → machine_of set ≡ Some machine → Resets restart.Done machine sent) → sent.is_on ≡ true
+    → Showed old step.Reset (item.Reset ∷ []) item.Reset sent
+reset_showed (TheCard machine) set sent seen resets on = record {
+  card = TheCard (powered (restarted machine.card));
+  seen = (resets machine seen).0;
+  gives = inl (record { seen = refl; moved = refl });
+  rests = λ calm. (resets machine seen).1;
+}
+reset_showed (ItsPower b) set sent seen resets on = record { card = ItsPower true; seen = on; gives = inl (refl, refl); rests = tt }
+
+pub cut_showed : (old : CardView) (set sent : CardParts) → IsSeenBy old (machine_of set) set.is_on → ((machine : Machine) → machine_of set ≡ Some machine → Resets restart.Cut machine sent) → sent.is_on ≡ false
+    → Showed old step.Reset (item.Cut ∷ []) item.Cut sent
+cut_showed (TheCard machine) set sent seen resets off = record {
+  card = TheCard (unpowered (restarted machine.card));
+  seen = resets machine seen;
+  gives = inr (record { seen = refl; moved = refl });
+  rests = λ calm. absurd (cc);
+}
+cut_showed (ItsPower b) set sent seen resets off = record { card = ItsPower false; seen = off; gives = inr (refl, refl); rests = tt }
+
+-- the memory failed in a reset
+pub record Failed (old : CardView) (sent : CardParts) : Type 0 where
+  pub card : CardView
+  pub stands : Holds card (held_by sent)
+  pub ends : LastShows old step.Reset (item.EepromFailed ∷ []) card
+
+pub reset_failed_so : (old : CardView) (set sent : CardParts) → IsSeenBy old (machine_of set) set.is_on → ((machine : Machine) → machine_of set ≡ Some machine → Resets restart.Failed machine sent) → Failed old sent
+reset_failed_so (TheCard machine) set sent seen resets = record { card = TheCard (powered (restarted machine.card)); stands = resets machine seen; ends = record { seen = refl; moved = refl } }
+reset_failed_so (ItsPower on) set sent seen resets = record { card = ItsPower on; stands = tt; ends = refl }
+
+holds_back : (is_given : Bool) (sent after : End) (card : CardView) → after ≡ without_plan is_given sent → Holds card (held_by sent.parts) → Holds card (held_by after.parts)
+holds_back is_given sent after card back holds = subst (λ (e : End). Holds card (held_by e.parts)) (sym back) holds
+
+-- ---- what the sink has taken of a step
+
+-- the lines before the last one were taken, and so was that
+text_behind : (whole : List TraceItem) (shown : TraceItem) (before : List ℕ) → (before ++ text_of whole) ++ item_text shown ≡ before ++ text_of (whole ++ shown ∷ [])
+text_behind whole shown before =
+    append_assoc before (text_of whole) (item_text shown) ∙ ap (λ back. before ++ (text_of whole ++ back)) (sym (text_of_one shown)) ∙ ap (λ back. before ++ back) (sym (flat_map-append item_text whole (shown ∷ [])))
+
+-- the last one broke off
+abbrev cut_off_behind : (whole : List TraceItem) (shown : TraceItem) (before : List ℕ) (now : Option (List ℕ)) → (told : ToldFront now (item_text shown) before) → IsCutOff (whole ++ shown ∷ []) (text_of whole ++ told.front)
+cut_off_behind whole shown before now told = record { whole = whole; last = shown; part = told.front; parted = refl; begun = told.begun; written = refl }
+
+pub rests_back : (card : CardView) (items : List TraceItem) (shown : TraceItem) (from sent after : Bool) → after ≡ sent → ((calm : ends_calm items ≡ true) → is_calm shown ≡ true) → (items ≡ [] → ⊥)
+    → Known (λ (machine : Machine). is_calm shown ≡ true → sent ≡ false) (λ on. Unit {0}) card → RestsOn card items from after
+rests_back (TheCard machine) items shown from sent after same last some rests = λ nothing calm. same ∙ rests (last calm)
+rests_back (ItsPower on) items shown from sent after same last some rests = tt
+
+-- a step that was taken, with a plan set before it and taken back behind it: its last line was written, or the sink failed in that
+module _ (old : CardView) (step : Step) (whole : List TraceItem) (shown : TraceItem) (before : List ℕ) (from set sent after : End) (taken mid now : Option (List ℕ)) (plans : PlansAreCounted)
+    (showed : Showed old step (whole ++ shown ∷ []) shown sent.parts) (with_it : WithPlan from set sent after) (counts : IsCounted from.parts.meter after.parts.meter (armed_after from.waiting (step ∷ [])) (whole ++ shown ∷ []))
+    (waits : waiting_after from.waiting (step ∷ []) ≡ NONE) (last : ends_calm (whole ++ shown ∷ []) ≡ true → is_calm shown ≡ true) (some : whole ++ shown ∷ [] ≡ [] → ⊥)
+    (off : (card : CardView) → StepShows old step (whole ++ shown ∷ []) card → BreaksOff old step (whole ++ shown ∷ []) (armed_after from.waiting (step ∷ [])) (armed_after from.waiting (step ∷ [])) card)
+    (told : mid ≡ Some (before ++ text_of whole)) where
+  pub writes_last : (result : Result (Unit {0}) StepEnd) → OnOk result (now ≡ append_known mid (item_text shown)) → OnErr result (Becomes (TakesFront (item_text shown)) mid now) → OnErr result (result ≡ Err SinkFailed)
+      → GivesShowing result (λ done. whole ++ shown ∷ []) old before step (moment_at from taken) (moment_at after now)
+  writes_last (Ok done) ok err sink = record {
+    taken = record {
+      card = showed.card;
+      shown = whole ++ shown ∷ [];
+      seen = seen_back (names_fault from.waiting) sent after showed.card with_it.back showed.seen;
+      gives = showed.gives;
+      written = told_more mid now (item_text shown) (before ++ text_of whole) ok told ∙ ap Some (text_behind whole shown before);
+      counted = counts;
+      waits = none_waits from set sent after with_it ∙ sym waits;
+      rests = rests_back showed.card (whole ++ shown ∷ []) shown from.parts.is_due sent.parts.is_due after.parts.is_due (ap (λ (e : End). e.parts.is_due) with_it.back) last some showed.rests;
+    };
+    shows = refl;
+  }
+  writes_last (Err SinkFailed) ok err sink =
+      let front : ToldFront now (item_text shown) (before ++ text_of whole) = told_front mid now (item_text shown) (before ++ text_of whole) err told in
+      record {
+        card = showed.card;
+        pending = whole ++ shown ∷ [];
+        front = text_of whole ++ front.front;
+        set = armed_after from.waiting (step ∷ []);
+        stands = holds_seen after.parts showed.card (seen_back (names_fault from.waiting) sent after showed.card with_it.back showed.seen);
+        broken = off showed.card showed.gives;
+        cut_off = record { whole = whole; last = shown; part = front.front; parted = refl; begun = front.begun; written = refl };
+        written = front.written ∙ ap Some (append_assoc before (text_of whole) front.front);
+        counted = counts;
+      }
+  writes_last (Err ResetFailed) ok err sink = absurd (cc)
+
+-- ---- a command
+
+-- what it counted, with the plan
+pub counted_with_plan : PlansAreCounted → (from set sent after : End) (shown : TraceItem) → WithPlan from set sent after → IsCounted set.parts.meter sent.parts.meter [] (shown ∷ []) → IsCounted from.parts.meter after.parts.meter (due from.waiting ++ []) (shown ∷ [])
+counted_with_plan plans from set sent after shown done counts =
+    counted_after plans from.parts.meter set.parts.meter sent.parts.meter after.parts.meter from.waiting (shown ∷ []) (ap (λ (e : End). e.parts.meter) done.given) (ap (λ (e : End). e.parts.meter) done.back) counts
+
 -- a command that came to it, and what came of that
-pub exchanges_at : (result : Result (Unit {0}) StepEnd) (apdu before : List ℕ) (old : Machine) (from set sent after : End) (taken mid now : Option (List ℕ)) (shown : TraceItem)
-    → PlansAreCounted → machine_of from.parts ≡ Some old → taken ≡ Some before → WithPlan from set sent after → mid ≡ append_known taken (trace_text (line.Command apdu)) → Comes set apdu shown sent
+pub exchanges_at : (result : Result (Unit {0}) StepEnd) (apdu before : List ℕ) (old : CardView) (from set sent after : End) (taken mid now : Option (List ℕ)) (shown : TraceItem)
+    → PlansAreCounted → IsSeenBy old (machine_of from.parts) from.parts.is_on → taken ≡ Some before → WithPlan from set sent after → mid ≡ append_known taken (trace_text (line.Command apdu)) → Comes set apdu shown sent
     → OnOk result (now ≡ append_known mid (item_text shown)) → OnErr result (Becomes (TakesFront (item_text shown)) mid now) → OnErr result (result ≡ Err SinkFailed)
     → GivesShowing result (λ done. item.Command apdu ∷ shown ∷ []) old before (step.Apdu apdu) (moment_at from taken) (moment_at after now)
-exchanges_at result apdu before old from set sent after taken mid now shown plans is told done command comes ok err sink =
-    exchanges result apdu before old from.parts set.parts sent.parts after.parts taken mid now from.waiting after.waiting shown plans is told (parts_set from set done.given) (none_waits from set sent after done) command
-    comes.sends comes.counted (ap (λ (e : End). e.parts) done.back) ok err sink
+exchanges_at result apdu before old from set sent after taken mid now shown plans is told with_it command comes ok err sink =
+    writes_last old (step.Apdu apdu) (item.Command apdu ∷ []) shown before from set sent after taken mid now plans
+    (command_showed old apdu shown set.parts sent.parts (seen_set from set old with_it.given is) comes.sends comes.replies) with_it
+    (with_command from.parts.meter after.parts.meter (due from.waiting ++ []) apdu shown (counted_with_plan plans from set sent after shown with_it comes.counted))
+    refl (λ calm. calm) (λ none. absurd (cc)) (λ card gives. inr (gives, refl))
+    (told_more taken mid (trace_text (line.Command apdu)) before command told ∙ ap (λ back. Some (before ++ back)) (sym (text_of_one (item.Command apdu)))) result ok err sink
+
+-- the line of the command broke off
+pub breaks_command : (apdu before : List ℕ) (old : CardView) (from : End) (taken now : Option (List ℕ)) → IsSeenBy old (machine_of from.parts) from.parts.is_on → taken ≡ Some before → Becomes (TakesFront (trace_text (line.Command apdu))) taken now
+    → BreaksStep old before (step.Apdu apdu) (moment_at from taken) (moment_at from now)
+breaks_command apdu before old from taken now is told broken =
+    let front = told_front taken now (trace_text (line.Command apdu)) before broken told in
+    let counted = idle_counted from.parts.meter in
+    record {
+      card = old;
+      pending = item.Command apdu ∷ [];
+      front = front.front;
+      set = [];
+      stands = holds_seen from.parts old is;
+      broken = inl (refl, refl, refl);
+      cut_off = in_one_line (item.Command apdu) before now front;
+      written = front.written;
+      counted = record { failures = counted.failures; cuts = counted.cuts; plans = counted.plans; latest = counted.latest; no_plan = counted.no_plan };
+    }
+
+-- ---- a reset
+
+-- it was done, or power was lost in it, which is shown in this line
+pub restarts_at : (result : Result (Unit {0}) StepEnd) (before : List ℕ) (old : CardView) (from set sent after : End) (taken now : Option (List ℕ)) (shown : TraceItem)
+    → PlansAreCounted → taken ≡ Some before → WithPlan from set sent after → Showed old step.Reset (shown ∷ []) shown sent.parts → IsCounted set.parts.meter sent.parts.meter [] (shown ∷ [])
+    → OnOk result (now ≡ append_known taken (item_text shown)) → OnErr result (Becomes (TakesFront (item_text shown)) taken now) → OnErr result (result ≡ Err SinkFailed)
+    → GivesShowing result (λ done. shown ∷ []) old before step.Reset (moment_at from taken) (moment_at after now)
+restarts_at result before old from set sent after taken now shown plans told with_it showed counts ok err sink =
+    writes_last old step.Reset [] shown before from set sent after taken taken now plans showed with_it (counted_with_plan plans from set sent after shown with_it counts) refl (λ calm. calm) (λ none. absurd (cc))
+    (λ card gives. (inl gives, refl)) (told ∙ ap Some (sym (append-nil before))) result ok err sink
+
+-- the memory failed in it, and the line that says so was written
+pub restart_failed : (before : List ℕ) (old : CardView) (from set sent after : End) (taken now : Option (List ℕ)) → PlansAreCounted → taken ≡ Some before → WithPlan from set sent after → Failed old sent.parts
+    → IsCounted set.parts.meter sent.parts.meter [] (item.EepromFailed ∷ []) → now ≡ append_known taken (item_text item.EepromFailed) → EndsStep old before step.Reset (moment_at from taken) (moment_at after now)
+restart_failed before old from set sent after taken now plans told with_it failed counts ok = record {
+  card = failed.card;
+  shown = item.EepromFailed ∷ [];
+  stands = holds_back (names_fault from.waiting) sent after failed.card with_it.back failed.stands;
+  ends = failed.ends;
+  written = told_more taken now (item_text item.EepromFailed) before ok told ∙ ap (λ back. Some (before ++ back)) (sym (text_of_one item.EepromFailed));
+  counted = counted_with_plan plans from set sent after item.EepromFailed with_it counts;
+}
+
+-- the sink failed in it
+pub restart_failed_broken : (before : List ℕ) (old : CardView) (from set sent after : End) (taken now : Option (List ℕ)) → PlansAreCounted → taken ≡ Some before → WithPlan from set sent after → Failed old sent.parts
+    → IsCounted set.parts.meter sent.parts.meter [] (item.EepromFailed ∷ []) → Becomes (TakesFront (item_text item.EepromFailed)) taken now → BreaksStep old before step.Reset (moment_at from taken) (moment_at after now)
+restart_failed_broken before old from set sent after taken now plans told with_it failed counts err =
+    let front = told_front taken now (item_text item.EepromFailed) before err told in
+    record {
+      card = failed.card;
+      pending = item.EepromFailed ∷ [];
+      front = front.front;
+      set = due from.waiting ++ [];
+      stands = holds_back (names_fault from.waiting) sent after failed.card with_it.back failed.stands;
+      broken = (inr failed.ends, refl);
+      cut_off = in_one_line item.EepromFailed before now front;
+      written = front.written;
+      counted = counted_with_plan plans from set sent after item.EepromFailed with_it counts;
+    }
+
+-- ---- only a reset can be the last step
+
+pub no_last_command : (old new : CardView) (apdu : List ℕ) (items : List TraceItem) → LastShows old (step.Apdu apdu) items new → ⊥
+no_last_command (TheCard old) (TheCard new) apdu items none = none
+no_last_command (ItsPower on) (ItsPower after) apdu items none = none
+no_last_command (TheCard old) (ItsPower after) apdu items none = none
+no_last_command (ItsPower on) (TheCard new) apdu items none = none
+
+pub no_last_plan : (old new : CardView) (plan : Plan) (items : List TraceItem) → LastShows old (step.Plan plan) items new → ⊥
+no_last_plan (TheCard old) (TheCard new) plan items none = none
+no_last_plan (ItsPower on) (ItsPower after) plan items none = none
+no_last_plan (TheCard old) (ItsPower after) plan items none = none
+no_last_plan (ItsPower on) (TheCard new) plan items none = none
+
+-- ---- a plan
+
+pub still_shows : (old : CardView) (plan : Plan) → StepShows old (step.Plan plan) [] old
+still_shows (TheCard machine) plan = record { seen = refl; stays = refl }
+still_shows (ItsPower on) plan = (refl, refl)
+
+pub still_rests : (old : CardView) (due : Bool) → RestsOn old [] due due
+still_rests (TheCard machine) due = λ nothing calm. nothing refl
+still_rests (ItsPower on) due = tt
+
+pub plans_more : (before : List ℕ) (old : CardView) (from to : End) (taken : Option (List ℕ)) (plan : Plan) → IsSeenBy old (machine_of from.parts) from.parts.is_on → taken ≡ Some before → to ≡ record from { waiting = plans_joined from.waiting plan }
+    → TakesStep old before (step.Plan plan) (moment_at from taken) (moment_at to taken)
+plans_more before old from to taken plan is told joins =
+    let later : End = record from { waiting = plans_joined from.waiting plan } in
+    subst (λ (e : End). TakesStep old before (step.Plan plan) (moment_at from taken) (moment_at e taken)) (sym joins) (record {
+      card = old;
+      shown = [];
+      seen = is;
+      gives = still_shows old plan;
+      written = told ∙ ap Some (sym (append-nil before));
+      counted = idle_counted from.parts.meter;
+      waits = refl;
+      rests = still_rests old from.parts.is_due;
+    })
 
 -- ---- what a reset came to, told another way
 

@@ -13,7 +13,8 @@ use Rattle.card_model.specs.Counts.{IsCounted, is_cut, is_failure}
 use Rattle.card_model.specs.States.{Machine}
 use Rattle.card_core.specs.Parts.{CardParts}
 use Rattle.run_steps.specs.Runs.{machine_of}
-use Rattle.run_steps.specs.Stepping.{IsReply, Moment, Resets, Sends, moment, shown_of}
+use Rattle.run_steps.specs.Stepping.{Moment, Resets, Sends, moment, shown_of}
+use Rattle.run_steps.specs.Views.{IsReply}
 use Rattle.run_steps.specs.declared.steps.Reply.{Reply}
 use Rattle.run_steps.specs.declared.steps.Reply.TheVariants as reply
 use Rattle.run_steps.specs.declared.steps.ResetOutcome.{ResetOutcome}

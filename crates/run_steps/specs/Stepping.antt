@@ -1,5 +1,5 @@
 -- What one step comes to: between two steps a card stands somewhere, the sink has taken something, and a plan may wait.
-use Rattle.std.specs.Prelude.{◌≡◌, ◌⊎◌, ℕ, Bool, true, false, List, [], ◌∷◌, ◌++◌, Option, Some, Result, Ok, Err, ⊤}
+use Rattle.std.specs.Prelude.{◌≡◌, ◌⊎◌, ℕ, Bool, true, false, List, [], ◌∷◌, ◌++◌, Option, Some, Result, Ok, Err}
 use Rattle.uicc_types.specs.Counts.{Meter}
 use Rattle.uicc_types.specs.Told.{IsFront}
 use Rattle.uicc_types.specs.declared.answers.Answer.{Answer}
@@ -10,12 +10,13 @@ use Rattle.uicc_types.specs.declared.runs.TraceItem.{TraceItem}
 use Rattle.uicc_types.specs.declared.runs.TraceItem.TheVariants as item
 use Rattle.card_state.specs.Persistent.{Persistent}
 use Rattle.applet_trait.specs.Minds.{AppletState}
-use Rattle.card_model.specs.Counts.{IsCounted, is_failure}
-use Rattle.card_model.specs.Runs.{StepGives, StepEnds, armed_after, waiting_after}
+use Rattle.card_model.specs.Counts.{IsCounted}
+use Rattle.card_model.specs.Runs.{StepGives, armed_after, waiting_after}
 use Rattle.card_model.specs.States.{Machine, powered, unpowered, restarted}
 use Rattle.card_core.specs.Cards.{held_by}
 use Rattle.card_core.specs.Parts.{CardParts}
 use Rattle.run_steps.specs.Runs.{ends_calm, is_calm, item_text, machine_of, text_of}
+use Rattle.run_steps.specs.Views.{CardView, Known, LastShows, StepShows}
 use Rattle.run_steps.specs.declared.steps.Reply.{Reply}
 use Rattle.run_steps.specs.declared.steps.Reply.TheVariants as reply
 use Rattle.run_steps.specs.declared.steps.ResetOutcome.{ResetOutcome}
@@ -50,59 +51,92 @@ pub record IsCutOff (pending : List TraceItem) (front : List ℕ) : Type 0 where
   pub begun : IsFront part (item_text last)
   pub written : front ≡ text_of whole ++ part
 
--- What a step has shown, and where the card stands then, where the sink fails in the last line of it. Where that is the line of
+-- ---- where the card stands
+
+-- the card is seen so, by the machine that it is, where that is known, and its power
+abbrev pub IsSeenBy : CardView → Option Machine → Bool → Type 0
+IsSeenBy card machine is_on = Known (λ known. machine ≡ Some known) (λ on. is_on ≡ on) card
+
+abbrev pub IsSeen : CardView → Moment → Type 0
+IsSeen card now = IsSeenBy card now.machine now.is_on
+
+-- the memory holds for good what the card does
+abbrev pub Holds : CardView → Option Persistent → Type 0
+Holds card held = Known (λ machine. held ≡ Some machine.card.persistent) (λ on. Unit {0}) card
+
+-- The card itself has no box to wake behind what was shown, if it met no fault last, and had none to wake before that where nothing was
+-- shown. Of its power nothing more is known.
+abbrev pub RestsOn : CardView → List TraceItem → Bool → Bool → Type 0
+RestsOn card shown was_due is_due = Known (λ machine. (shown ≡ [] → was_due ≡ false) → ends_calm shown ≡ true → is_due ≡ false) (λ on. Unit {0}) card
+
+-- the same of all that was shown since it was opened
+abbrev pub Rests : CardView → List TraceItem → Bool → Type 0
+Rests card shown is_due = Known (λ machine. ends_calm shown ≡ true → is_due ≡ false) (λ on. Unit {0}) card
+
+-- What the card itself leaves at the end of what was shown: its memory stands for what it holds, and where it met no fault last, just the
+-- boxes that it has are there, with the minds that they have.
+pub record CardStands (machine : Machine) (shown : List TraceItem) (now : Moment) : Type 0 where
+  pub stands : now.held ≡ Some machine.card.persistent
+  pub minds : ends_calm shown ≡ true → now.boxes ≡ machine.card.boxes
+
+abbrev pub Stands : CardView → List TraceItem → Moment → Type 0
+Stands card shown now = Known (λ machine. CardStands machine shown now) (λ on. Unit {0}) card
+
+-- ---- a step
+
+-- What a step has shown, and how the card is seen then, where the sink fails in the last line of it. Where that is the line of
 -- a command, the card was sent nothing and is as it was, and no plan was set.
-abbrev pub BreaksOff : Machine → Step → List TraceItem → List Plan → List Plan → Machine → Type 0
+abbrev pub BreaksOff : CardView → Step → List TraceItem → List Plan → List Plan → CardView → Type 0
 BreaksOff old (step.Apdu apdu) items due set new =
-    ((items ≡ item.Command apdu ∷ []) × (new ≡ old) × (set ≡ [])) ⊎ (StepGives old (step.Apdu apdu) items new × (set ≡ due))
-BreaksOff old step.Reset items due set new = (StepGives old step.Reset items new ⊎ StepEnds old step.Reset items new) × (set ≡ due)
+    ((items ≡ item.Command apdu ∷ []) × (new ≡ old) × (set ≡ [])) ⊎ (StepShows old (step.Apdu apdu) items new × (set ≡ due))
+BreaksOff old step.Reset items due set new = (StepShows old step.Reset items new ⊎ LastShows old step.Reset items new) × (set ≡ due)
 BreaksOff old (step.Plan plan) items due set new = ⊥
 
 -- a step was taken, and all that it shows
-pub record TakesStep (old : Machine) (before : List ℕ) (step : Step) (from to : Moment) : Type 0 where
-  pub machine : Machine
+pub record TakesStep (old : CardView) (before : List ℕ) (step : Step) (from to : Moment) : Type 0 where
+  pub card : CardView
   pub shown : List TraceItem
-  pub told : to.machine ≡ Some machine
-  pub gives : StepGives old step shown machine
+  pub seen : IsSeen card to
+  pub gives : StepShows old step shown card
   pub written : to.taken ≡ Some (before ++ text_of shown)
   pub counted : IsCounted from.meter to.meter (armed_after from.waiting (step ∷ [])) shown
   pub waits : to.waiting ≡ waiting_after from.waiting (step ∷ [])
-  pub rests : (shown ≡ [] → from.is_due ≡ false) → ends_calm shown ≡ true → to.is_due ≡ false
+  pub rests : RestsOn card shown from.is_due to.is_due
 
 -- the sink failed in the last line of what a step has shown
-pub record BreaksStep (old : Machine) (before : List ℕ) (step : Step) (from to : Moment) : Type 0 where
-  pub machine : Machine
+pub record BreaksStep (old : CardView) (before : List ℕ) (step : Step) (from to : Moment) : Type 0 where
+  pub card : CardView
   pub pending : List TraceItem
   pub front : List ℕ
   pub set : List Plan
-  pub stands : to.held ≡ Some machine.card.persistent
-  pub broken : BreaksOff old step pending (armed_after from.waiting (step ∷ [])) set machine
+  pub stands : Holds card to.held
+  pub broken : BreaksOff old step pending (armed_after from.waiting (step ∷ [])) set card
   pub cut_off : IsCutOff pending front
   pub written : to.taken ≡ Some (before ++ front)
   pub counted : IsCounted from.meter to.meter set pending
 
 -- a step was the last
-pub record EndsStep (old : Machine) (before : List ℕ) (step : Step) (from to : Moment) : Type 0 where
-  pub machine : Machine
+pub record EndsStep (old : CardView) (before : List ℕ) (step : Step) (from to : Moment) : Type 0 where
+  pub card : CardView
   pub shown : List TraceItem
-  pub stands : to.held ≡ Some machine.card.persistent
-  pub ends : StepEnds old step shown machine
+  pub stands : Holds card to.held
+  pub ends : LastShows old step shown card
   pub written : to.taken ≡ Some (before ++ text_of shown)
   pub counted : IsCounted from.meter to.meter (armed_after from.waiting (step ∷ [])) shown
 
 -- what a step comes to
-abbrev pub GivesStep : Result (Unit {0}) StepEnd → Machine → List ℕ → Step → Moment → Moment → Type 0
+abbrev pub GivesStep : Result (Unit {0}) StepEnd → CardView → List ℕ → Step → Moment → Moment → Type 0
 GivesStep (Ok done) old before step from to = TakesStep old before step from to
 GivesStep (Err SinkFailed) old before step from to = BreaksStep old before step from to
 GivesStep (Err ResetFailed) old before step from to = EndsStep old before step from to
 
 -- a step was taken, and this is what it shows
-pub record TakesShowing (shown : List TraceItem) (old : Machine) (before : List ℕ) (step : Step) (from to : Moment) : Type 0 where
+pub record TakesShowing (shown : List TraceItem) (old : CardView) (before : List ℕ) (step : Step) (from to : Moment) : Type 0 where
   pub taken : TakesStep old before step from to
   pub shows : taken.shown ≡ shown
 
 -- what a step comes to of which an outcome tells what it shows
-abbrev pub GivesShowing : {A : Type 0} → Result A StepEnd → (A → List TraceItem) → Machine → List ℕ → Step → Moment → Moment → Type 0
+abbrev pub GivesShowing : {A : Type 0} → Result A StepEnd → (A → List TraceItem) → CardView → List ℕ → Step → Moment → Moment → Type 0
 GivesShowing (Ok outcome) shows old before step from to = TakesShowing (shows outcome) old before step from to
 GivesShowing (Err end) shows old before step from to = GivesStep (Err end) old before step from to
 
@@ -122,25 +156,6 @@ exchanged apdu answer reply = item.Command apdu ∷ seen reply answer ∷ []
 abbrev pub restarted_by : Restarted → List TraceItem
 restarted_by ended.Done = item.Reset ∷ []
 restarted_by ended.Cut = item.Cut ∷ []
-
--- an answer that tells of a failing memory has no data
-abbrev pub IsBare : TraceItem → Type 0
-IsBare (item.Answer body status) = is_failure (item.Answer body status) ≡ true → body ≡ []
-IsBare (item.Command apdu) = ⊤
-IsBare item.Reset = ⊤
-IsBare item.Cut = ⊤
-IsBare item.Off = ⊤
-IsBare item.EepromFailed = ⊤
-
--- What may come of a command, by the power before it and behind it: with power an answer, or that it was lost; and without, that there
--- was none.
-abbrev pub IsReply : Bool → TraceItem → Bool → Type 0
-IsReply on (item.Answer body status) after = (on ≡ true) × IsBare (item.Answer body status) × (after ≡ true)
-IsReply on item.Cut after = (on ≡ true) × (after ≡ false)
-IsReply on item.Off after = (on ≡ false) × (after ≡ false)
-IsReply on (item.Command apdu) after = ⊥
-IsReply on item.Reset after = ⊥
-IsReply on item.EepromFailed after = ⊥
 
 -- ---- inside a step
 

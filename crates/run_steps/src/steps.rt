@@ -7,13 +7,12 @@ ghost use Rattle.uicc_types.specs.declared.byte_lists.TheConstants.{LONGEST_COMM
 ghost use Rattle.uicc_types.specs.declared.runs.Step.TheVariants as step;
 ghost use Rattle.byte_streams.specs.Streams.{TakesFront};
 ghost use Rattle.script_form.specs.Traces.{trace_text};
-ghost use Rattle.card_model.specs.States.{Machine};
 ghost use Rattle.run_steps.specs.Ends.{moment_at};
 ghost use Rattle.run_steps.specs.Moves.{IsShort, step_of};
-ghost use Rattle.run_steps.specs.Runs.{item_text, machine_of};
-ghost use Rattle.run_steps.specs.Showing.{Shows, ShowsAny};
-ghost use Rattle.run_steps.specs.Stepping.{GivesShowing, GivesStep, exchanged, restarted_by, seen};
+ghost use Rattle.run_steps.specs.Runs.{item_text};
+ghost use Rattle.run_steps.specs.Stepping.{GivesShowing, GivesStep, IsSeen, exchanged, restarted_by, seen};
 ghost use Rattle.run_steps.specs.Tallies.{Tallies, tally};
+ghost use Rattle.run_steps.specs.Views.{CardView};
 
 use crate::carriers::Carrier;
 use crate::ends::CardEnd;
@@ -74,12 +73,10 @@ pub fn take_step<S: Store, B: Applet, W: Sink>(
     trace: &mut W,
 ) -> Result<(), StepEnd>
     requires short { IsShort step }
-    ensures gives { (old : Machine) (before : List ℕ) → machine_of end.old.parts ≡ Some old
+    // By what is known of the card: the card itself where its memory tells its bytes, and its power over any memory.
+    ensures gives { (old : CardView) (before : List ℕ) → IsSeen old (moment_at end.old (W.taken trace.old))
         → W.taken trace.old ≡ Some before
         → GivesStep result old before (step_of step.entry) (moment_at end.old (W.taken trace.old))
-        (moment_at end.new (W.taken trace.new)) }
-    ensures shows { (before : List ℕ) → W.taken trace.old ≡ Some before
-        → ShowsAny result before (step_of step.entry) (moment_at end.old (W.taken trace.old))
         (moment_at end.new (W.taken trace.new)) }
     ensures failed { result ≡ Err StepEnd.ResetFailed
         → end.new.parts.meter.faults ≡ raised end.old.parts.meter.faults }
@@ -114,12 +111,10 @@ pub fn exchange<S: Store, B: Applet, W: Sink>(
     trace: &mut W,
 ) -> Result<Reply, StepEnd>
     requires short { length apdu.now ≤ LONGEST_COMMAND }
-    ensures gives { (old : Machine) (before : List ℕ) → machine_of end.old.parts ≡ Some old
+    // By what is known of the card: the card itself where its memory tells its bytes, and its power over any memory.
+    ensures gives { (old : CardView) (before : List ℕ) → IsSeen old (moment_at end.old (W.taken trace.old))
         → W.taken trace.old ≡ Some before
         → GivesShowing result (exchanged apdu.now answer.new) old before (step.Apdu apdu.now)
-        (moment_at end.old (W.taken trace.old)) (moment_at end.new (W.taken trace.new)) }
-    ensures shows { (before : List ℕ) → W.taken trace.old ≡ Some before
-        → Shows result (exchanged apdu.now answer.new) before (step.Apdu apdu.now)
         (moment_at end.old (W.taken trace.old)) (moment_at end.new (W.taken trace.new)) }
     ensures ends { result ≢ Err StepEnd.ResetFailed }
     ensures tallies { Tallies (tally W.Sink end.old trace.old) (tally W.Sink end.new trace.new)
@@ -170,12 +165,10 @@ pub fn restart<S: Store, B: Applet, W: Sink>(
     end: &mut CardEnd<S, B>,
     trace: &mut W,
 ) -> Result<Restarted, StepEnd>
-    ensures gives { (old : Machine) (before : List ℕ) → machine_of end.old.parts ≡ Some old
+    // By what is known of the card: the card itself where its memory tells its bytes, and its power over any memory.
+    ensures gives { (old : CardView) (before : List ℕ) → IsSeen old (moment_at end.old (W.taken trace.old))
         → W.taken trace.old ≡ Some before
         → GivesShowing result restarted_by old before step.Reset (moment_at end.old (W.taken trace.old))
-        (moment_at end.new (W.taken trace.new)) }
-    ensures shows { (before : List ℕ) → W.taken trace.old ≡ Some before
-        → Shows result restarted_by before step.Reset (moment_at end.old (W.taken trace.old))
         (moment_at end.new (W.taken trace.new)) }
     ensures failed { result ≡ Err StepEnd.ResetFailed
         → end.new.parts.meter.faults ≡ raised end.old.parts.meter.faults }

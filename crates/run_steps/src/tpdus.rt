@@ -4,13 +4,12 @@ ghost use Rattle.uicc_types.specs.declared.answers.Answer.{Answer as AnyAnswer};
 ghost use Rattle.uicc_types.specs.declared.byte_lists.TheConstants.{LONGEST_COMMAND};
 ghost use Rattle.t0_link.specs.Exchanging.{IsPassed};
 ghost use Rattle.t0_link.specs.Linking.{link_answer};
-ghost use Rattle.card_model.specs.States.{Machine};
 ghost use Rattle.run_steps.specs.Ends.{moment_at};
 ghost use Rattle.run_steps.specs.Tpdus.{Delivers, GivesTpdu, IsPrepared};
 ghost use Rattle.run_steps.specs.Runs.{machine_of};
-ghost use Rattle.run_steps.specs.Showing.{ShowsCourse, TpduShows};
-ghost use Rattle.run_steps.specs.Stepping.{seen};
+ghost use Rattle.run_steps.specs.Stepping.{IsSeen, IsSeenBy, seen};
 ghost use Rattle.run_steps.specs.Tallies.{Tallies, tally};
+ghost use Rattle.run_steps.specs.Views.{CardView};
 
 use crate::carriers::reply_of;
 use crate::ends::CardEnd;
@@ -38,9 +37,8 @@ fn deliver<S: Store, B: Applet>(
     tpdu: &[u8],
     answer: &mut Answer,
 ) -> Reply
-    ensures delivers { (old : Machine) → machine_of end.old.parts ≡ Some old
+    ensures delivers { (old : CardView) → IsSeenBy old (machine_of end.old.parts) end.old.parts.is_on
         → Delivers old (link_answer link.old tpdu.now) (seen result answer.new) link.new end.old end.new }
-    ensures shows { ShowsCourse (link_answer link.old tpdu.now) (seen result answer.new) link.new end.old end.new }
     ensures stays { (IsPassed (link_answer link.old tpdu.now) → ⊥) → end.new ≡ end.old }
     ensures kept { end.old.parts.meter.faults ≤ end.new.parts.meter.faults }
 {
@@ -63,12 +61,10 @@ pub fn take_tpdu<S: Store, B: Applet, W: Sink>(
     trace: &mut W,
 ) -> Result<(), Failed>
     requires { length tpdu.now ≤ LONGEST_COMMAND }
-    ensures gives { (old : Machine) (before : List ℕ) → machine_of end.old.parts ≡ Some old
+    // By what is known of the card: the card itself where its memory tells its bytes, and its power over any memory.
+    ensures gives { (old : CardView) (before : List ℕ) → IsSeen old (moment_at end.old (W.taken trace.old))
         → W.taken trace.old ≡ Some before
         → GivesTpdu result old before tpdu.now (link_answer link.old tpdu.now) link.old link.new
-        (moment_at end.old (W.taken trace.old)) (moment_at end.new (W.taken trace.new)) }
-    ensures shows { (before : List ℕ) → W.taken trace.old ≡ Some before
-        → TpduShows result before tpdu.now (link_answer link.old tpdu.now) link.old link.new
         (moment_at end.old (W.taken trace.old)) (moment_at end.new (W.taken trace.new)) }
     ensures stays { (IsPassed (link_answer link.old tpdu.now) → ⊥) → end.new ≡ end.old }
     ensures tallies { Tallies (tally W.Sink end.old trace.old) (tally W.Sink end.new trace.new) (IsErr result) }

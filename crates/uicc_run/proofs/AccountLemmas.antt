@@ -5,10 +5,9 @@ use Rattle.uicc_types.specs.declared.runs.Step.{Step}
 use Rattle.uicc_types.specs.declared.runs.Step.TheVariants as step
 use Rattle.uicc_types.specs.declared.runs.TraceItem.{TraceItem}
 use Rattle.t0_link.specs.Linking.{Answers, Course, Passes, link_answer}
-use Rattle.card_model.specs.States.{Machine}
-use Rattle.run_steps.proofs.GoesOnLemmas.{run_one, run_then}
-use Rattle.run_steps.specs.Runs.{GoesOn}
+use Rattle.run_steps.proofs.ViewLemmas.{steps_nowhere, steps_one, steps_then}
 use Rattle.run_steps.specs.Tpdus.{CourseGives, steps_of}
+use Rattle.run_steps.specs.Views.{CardView, StepsShow}
 use Rattle.uicc_run.specs.Accounts.{Account, AreTold, Deed, IsTold, Takes, Transfers, joined, nothing}
 
 -- ---- accounts behind accounts
@@ -27,14 +26,14 @@ joined_assoc one two three =
     ∙ ap (λ (i : List TraceItem). Made (one.steps ++ (two.steps ++ three.steps)) (one.own ++ (two.own ++ three.own)) i) (append_assoc one.shown two.shown three.shown)
 
 -- nothing was done first
-told_same : (more : List Deed) (kept between after : Option Answer) (old middle new : Machine) (none account : Account) → none ≡ nothing → between ≡ kept → middle ≡ old → AreTold more between middle account after new
+told_same : (more : List Deed) (kept between after : Option Answer) (old middle new : CardView) (none account : Account) → none ≡ nothing → between ≡ kept → middle ≡ old → AreTold more between middle account after new
     → AreTold more kept old (joined none account) after new
 told_same more kept between after old middle new none account nothing_is same stays told =
     subst (λ (a : Account). AreTold more kept old (joined a account) after new) (sym nothing_is)
-    (subst (λ (k : Option Answer). AreTold more k old account after new) same (subst (λ (m : Machine). AreTold more between m account after new) stays told))
+    (subst (λ (k : Option Answer). AreTold more k old account after new) same (subst (λ (m : CardView). AreTold more between m account after new) stays told))
 
 -- things are told behind others
-pub told_then : (first more : List Deed) (kept between after : Option Answer) (old middle new : Machine) (one two : Account) → AreTold first kept old one between middle → AreTold more between middle two after new
+pub told_then : (first more : List Deed) (kept between after : Option Answer) (old middle new : CardView) (one two : Account) → AreTold first kept old one between middle → AreTold more between middle two after new
     → AreTold (first ++ more) kept old (joined one two) after new
 told_then [] more kept between after old middle new one two told rest = told_same more kept between after old middle new one two told.account_is told.keeps told.stays rest
 told_then (deed ∷ first) more kept between after old middle new one two told rest = record {
@@ -48,7 +47,7 @@ told_then (deed ∷ first) more kept between after old middle new one two told r
 }
 
 -- one thing is told
-pub told_one : (deed : Deed) (kept after : Option Answer) (old new : Machine) (account : Account) → IsTold deed kept old account after new → AreTold (deed ∷ []) kept old account after new
+pub told_one : (deed : Deed) (kept after : Option Answer) (old new : CardView) (account : Account) → IsTold deed kept old account after new → AreTold (deed ∷ []) kept old account after new
 told_one deed kept after old new account told = record {
   first = account;
   others = nothing;
@@ -61,21 +60,21 @@ told_one deed kept after old new account told = record {
 
 -- ---- the run of the card
 
-goes_by_course : (course : Course) (old new : Machine) (own : List TraceItem) (reply : TraceItem) (after : Option Answer) → CourseGives course old own reply after new → GoesOn old (steps_of course) own new
-goes_by_course (Answers linked) old new own reply after gives = record { seen = gives.silent; stays = gives.stays }
-goes_by_course (Passes apdu make) old new own reply after gives = run_one old new (step.Apdu apdu) own gives.gives
+goes_by_link : (course : Course) (old new : CardView) (own : List TraceItem) (reply : TraceItem) (after : Option Answer) → CourseGives course old own reply after new → StepsShow old (steps_of course) own new
+goes_by_link (Answers linked) old new own reply after gives = subst (λ (i : List TraceItem). StepsShow old [] i new) (sym gives.silent) (steps_nowhere old new gives.stays)
+goes_by_link (Passes apdu make) old new own reply after gives = steps_one old new (step.Apdu apdu) own gives.gives
 
-pub goes_by : (deed : Deed) (kept after : Option Answer) (old new : Machine) (account : Account) → IsTold deed kept old account after new → GoesOn old account.steps account.own new
-goes_by (Takes step) kept after old new account told = subst (λ (s : List Step). GoesOn old s account.own new) (sym told.steps_are) (run_one old new step account.own told.gives)
+pub goes_by : (deed : Deed) (kept after : Option Answer) (old new : CardView) (account : Account) → IsTold deed kept old account after new → StepsShow old account.steps account.own new
+goes_by (Takes step) kept after old new account told = subst (λ (s : List Step). StepsShow old s account.own new) (sym told.steps_are) (steps_one old new step account.own told.gives)
 goes_by (Transfers tpdu) kept after old new account told =
-    subst (λ (s : List Step). GoesOn old s account.own new) (sym told.steps_are) (goes_by_course (link_answer kept tpdu) old new account.own told.reply after told.gives)
+    subst (λ (s : List Step). StepsShow old s account.own new) (sym told.steps_are) (goes_by_link (link_answer kept tpdu) old new account.own told.reply after told.gives)
 
-goes_as : (account other : Account) (old new : Machine) → account ≡ other → GoesOn old other.steps other.own new → GoesOn old account.steps account.own new
-goes_as account other old new same goes = subst (λ (a : Account). GoesOn old a.steps a.own new) (sym same) goes
+goes_as : (account other : Account) (old new : CardView) → account ≡ other → StepsShow old other.steps other.own new → StepsShow old account.steps account.own new
+goes_as account other old new same goes = subst (λ (a : Account). StepsShow old a.steps a.own new) (sym same) goes
 
-pub goes_on : (deeds : List Deed) (kept after : Option Answer) (old new : Machine) (account : Account) → AreTold deeds kept old account after new → GoesOn old account.steps account.own new
-goes_on [] kept after old new account told = goes_as account nothing old new told.account_is (record { seen = refl; stays = told.stays })
+pub goes_on : (deeds : List Deed) (kept after : Option Answer) (old new : CardView) (account : Account) → AreTold deeds kept old account after new → StepsShow old account.steps account.own new
+goes_on [] kept after old new account told = goes_as account nothing old new told.account_is (steps_nowhere old new told.stays)
 goes_on (deed ∷ more) kept after old new account told =
     goes_as account (joined told.first told.others) old new told.account_is
-    (run_then told.first.steps told.others.steps old told.middle new told.first.own told.others.own
+    (steps_then told.first.steps told.others.steps old told.middle new told.first.own told.others.own
     (goes_by deed kept told.between old told.middle told.first told.told) (goes_on more told.between after told.middle new told.others told.rest))

@@ -11,6 +11,7 @@ mod ModeLemmas
 mod OpeningLemmas
 mod PlayingLemmas
 mod ReadingLemmas
+mod RunningLemmas
 mod ScriptsLemmas
 mod ServingLemmas
 mod ShowingLemmas
@@ -18,3 +19,4 @@ mod ShowsAsManyLemmas
 mod StoresLemmas
 mod TerminalsLemmas
 mod WithLineLemmas
+mod worked

@@ -37,6 +37,7 @@ use Rattle.long_runs.specs.LoadLines.{made_lines}
 use Rattle.long_runs.specs.FixedRows.{fixed_rows}
 use Rattle.long_runs.specs.Rows.{IsFirstRefused}
 use Rattle.long_runs.specs.declared.counts.Counts.{Counts}
+use Rattle.run_steps.specs.Views.{TheCard}
 use Rattle.phone_runs.specs.LoadRuns.{GivesLoad, all_heard}
 use Rattle.phone_runs.specs.declared.counting.MemoryFailed.{MemoryFailed}
 use Rattle.phone_runs.specs.Laws.{RunsAreLegal, RunsAreOfTheCard}
@@ -62,11 +63,11 @@ load_begins given card mark told meter boxes parts join stands counted boxes_are
     let opens : card_of parts ≡ Some (woken (migrated card) (with_all_shelves given.boxes)) =
     is ∙ ap (λ h. opened h boxes) (stands_found mark told (Ok card) stands) ∙ ap (λ b. Some (woken (migrated card) (with_all_shelves b))) boxes_are in
     record {
-      told = is_machine parts (woken (migrated card) (with_all_shelves given.boxes)) true opens on;
+      seen = is_machine parts (woken (migrated card) (with_all_shelves given.boxes)) true opens on;
       written = refl;
       counted = join given.meter meter parts.meter [] [] [] [] counted (caused_counted meter parts.meter caused (λ so. so) (λ so. so));
       waits = refl;
-      rests = rests;
+      rests = λ calm. rests;
     }
 
 heard_made : (made : List HandsetLine) → heard (all_heard made) ≡ made
@@ -82,8 +83,8 @@ comes_to_load given start count card leaves at (Ok counts) legal of_card fixed l
   is_fixed = fixed;
   lines_are = refl;
   counted = gives;
-  legal = subst (λ l. IsLegal l (trace gives.log)) (ap heard gives.lines_are ∙ heard_made (made_lines start count)) (legal (first_machine card given.boxes) gives.machine gives.log gives.run gives.rests);
-  of_card = of_card (first_machine card given.boxes) gives.machine gives.log gives.run;
+  legal = subst (λ l. IsLegal l (trace gives.log)) (ap heard gives.lines_are ∙ heard_made (made_lines start count)) (legal (TheCard (first_machine card given.boxes)) gives.card gives.log gives.run gives.rests);
+  of_card = of_card (TheCard (first_machine card given.boxes)) gives.card gives.log gives.run;
   left = left;
 }
 comes_to_load given start count card leaves at (Err failed) legal of_card fixed left gives = record { card = card; at = at; is_fixed = fixed; failed = gives; left = left }

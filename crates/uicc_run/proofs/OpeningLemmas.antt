@@ -11,7 +11,6 @@ use Rattle.byte_streams.specs.Reading.{at_start, pending}
 use Rattle.script_form.specs.declared.lines.ScriptLine.{ScriptLine}
 use Rattle.script_form.specs.declared.lines.ScriptLine.TheVariants.{Passed, Start, Reset, Df, Transparent, Linear, Cyclic, Fill, Rec, Pin, Row, Apdu, Tpdu, Cut, Fail, ReadFail, UserOk, UserEnd, UserBack, UserNone, UserType, UserPick, UserPress, UserIdle, UserDial, NetPlace, NetPoll, Time, Cmd, Echo, Lose}
 use Rattle.script_reader.proofs.AreReadLemmas.{Say-from_read}
-use Rattle.script_reader.specs.declared.behind.PlayEnd.{PlayEnd}
 use Rattle.script_reader.specs.declared.reader.ScriptReader.{ScriptReader}
 use Rattle.card_state.specs.Migration.{migrated}
 use Rattle.card_state.specs.Persistent.{Persistent}
@@ -21,7 +20,7 @@ use Rattle.layout_mount.proofs.MountedLemmas.{read_told}
 use Rattle.applet_trait.specs.Minds.{AppletState}
 use Rattle.card_model.specs.Counts.{IsCounted}
 use Rattle.card_model.specs.Laws.{CountsJoin}
-use Rattle.card_model.specs.States.{IsGood, woken}
+use Rattle.card_model.specs.States.{IsGood, Machine, woken}
 use Rattle.card_core.specs.Cards.{card_of, held_by}
 use Rattle.card_core.specs.Openings.{opened, with_all_shelves}
 use Rattle.card_core.specs.Parts.{CardParts}
@@ -32,11 +31,12 @@ use Rattle.card_core.specs.declared.opening_faults.OpenFault.TheVariants as faul
 use Rattle.section_lines.specs.SectionReading.{AtStart, InSection}
 use Rattle.section_lines.specs.Script.{described, then_on, with_lines}
 use Rattle.run_steps.specs.Stepping.{moment}
+use Rattle.run_steps.specs.Views.{TheCard}
+use Rattle.uicc_run.specs.Runs.{first_machine}
 use Rattle.run_steps.proofs.StandingLemmas.{is_machine}
 use Rattle.uicc_run.specs.Endings.{KeepsBytes}
 use Rattle.uicc_run.specs.Headline.{Comes, FailsToFormat, HasNoMemory, HoldsStart, IsMigratedAtMost, IsNotOpened}
 use Rattle.uicc_run.specs.Opening.{IsGiven, IsMade, IsStarted, ending_for, makes}
-use Rattle.uicc_run.specs.Serving.{ComesTo}
 use Rattle.uicc_run.specs.Playing.{Given, IsOpened, Leaves}
 use Rattle.uicc_run.specs.Scripts.{ReachesStart}
 use Rattle.uicc_run.specs.Steps.{may_stand}
@@ -244,30 +244,33 @@ some_of (Some x) is = (x, refl)
 -- the card was opened
 pub starts : (given : Given) (script : ScriptReader) (left taken : Option (List ℕ)) (mark : ℕ) (told : Option (List ℕ)) (meter : Meter) (boxes : List (Option AppletState)) (parts : CardParts) → CountsJoin
     → IsMade given script left taken (option_map (stands_for mark) told) meter boxes → is_some (standing mark told) ≡ true → card_of parts ≡ opened (standing mark told) boxes → parts.is_on ≡ true → parts.is_due ≡ false → IfSome (card_of parts) IsGood → Caused meter parts.meter ⊥ ⊥
-    → IsStarted given script left (moment parts taken NONE)
+    → (first : Machine) × IsStarted given (TheCard first) script left (moment parts taken NONE)
 starts given script left taken mark told meter boxes parts join made holds is on rests good caused =
     let start = some_of (standing mark told) holds in
     let card : card_of parts ≡ Some (woken (migrated start.0) (with_all_shelves given.boxes)) =
-    is ∙ ap (λ h. opened h boxes) start.1 ∙ ap (λ b. Some (woken (migrated start.0) (with_all_shelves b))) made.boxes_are in
-    record {
-      found = made.at.given;
-      section = made.at.section;
-      start = start.0;
-      lines = record {
-        read = made.at.read;
-        opened = made.opens start.0 (found_standing mark told start.0 start.1);
-        good = if_some_at (card_of parts) IsGood (woken (migrated start.0) (with_all_shelves given.boxes)) good card;
-        in_place = All-nil (λ line. may_stand given.is_served line ≡ true);
-      };
-      follows = made.at.follows;
-      begins = record {
-        told = is_machine parts (woken (migrated start.0) (with_all_shelves given.boxes)) true card on;
-        written = made.taken_is;
-        counted = join given.meter meter parts.meter [] [] [] [] made.counted (caused_counted meter parts.meter caused (λ so. so) (λ so. so));
-        waits = refl;
-        rests = rests;
-      };
-    }
+    is ∙ ap (λ h. opened h boxes) start.1 ∙ ap (λ b. Some (woken (migrated start.0) (with_all_shelves b))) made.boxes_are in (
+      first_machine start.0 given.boxes,
+      record {
+        found = made.at.given;
+        section = made.at.section;
+        card = made.card;
+        lines = record { read = made.at.read; described = made.at.described; in_place = All-nil (λ line. may_stand given.is_served line ≡ true) };
+        opened = record {
+          start = start.0;
+          opened = made.opens start.0 (found_standing mark told start.0 start.1);
+          machine_is = refl;
+          good = if_some_at (card_of parts) IsGood (woken (migrated start.0) (with_all_shelves given.boxes)) good card;
+        };
+        follows = made.at.follows;
+        begins = record {
+          seen = is_machine parts (woken (migrated start.0) (with_all_shelves given.boxes)) true card on;
+          written = made.taken_is;
+          counted = join given.meter meter parts.meter [] [] [] [] made.counted (caused_counted meter parts.meter caused (λ so. so) (λ so. so));
+          waits = refl;
+          rests = λ calm. rests;
+        };
+      },
+    )
 
 -- it was not
 abbrev pub not_opened : (given : Given) (script : ScriptReader) (left taken : Option (List ℕ)) (card held_then : Option Persistent) (meter_then : Meter) (boxes_then : List (Option AppletState)) → AtStart given.boxes given.first given.text script left card → taken ≡ Some given.before
@@ -410,11 +413,11 @@ not_begun given left taken mark told meter boxes boxes_then text is = record {
 -- ---- closing
 
 -- the device of a card that was given back stands for what the card did
-pub given_back : (given : Given) (left taken : Option (List ℕ)) (end : PlayEnd) (parts : CardParts) (mark : ℕ) (told : Option (List ℕ)) (meter : Meter) (boxes : List (Option AppletState)) → mark ≡ parts.store_mark → told ≡ parts.told → meter ≡ parts.meter → boxes ≡ parts.boxes
-    → ComesTo given left end (record { held = held_by parts; taken = taken; meter = parts.meter; boxes = parts.boxes }) → ComesTo given left end (record { held = standing mark told; taken = taken; meter = meter; boxes = boxes })
-given_back given left taken end parts mark told meter boxes same_mark same_told same_meter same_boxes comes =
+pub given_back : (P : Leaves → Type 0) (taken : Option (List ℕ)) (parts : CardParts) (mark : ℕ) (told : Option (List ℕ)) (meter : Meter) (boxes : List (Option AppletState)) → mark ≡ parts.store_mark → told ≡ parts.told → meter ≡ parts.meter → boxes ≡ parts.boxes
+    → P (record { held = held_by parts; taken = taken; meter = parts.meter; boxes = parts.boxes }) → P (record { held = standing mark told; taken = taken; meter = meter; boxes = boxes })
+given_back P taken parts mark told meter boxes same_mark same_told same_meter same_boxes comes =
     let Held : Option Persistent → Meter → List (Option AppletState) → Leaves = λ h m b. record { held = h; taken = taken; meter = m; boxes = b } in
-    subst (ComesTo given left end)
+    subst P
     (ap (λ b. Held (held_by parts) parts.meter b) (sym same_boxes) ∙ ap (λ m. Held (held_by parts) m boxes) (sym same_meter) ∙ ap (λ t. Held (standing parts.store_mark t) meter boxes) (sym same_told) ∙ ap (λ k. Held (standing k told) meter boxes) (sym same_mark)) comes
 
 -- ---- the beginning

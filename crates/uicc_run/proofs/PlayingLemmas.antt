@@ -1,9 +1,12 @@
--- From one line after `start` to the next, and why the run ends there.
-use Rattle.std.proofs.Common.{◌≡◌, ℕ, true, false, List, [], ◌∷◌, ◌++◌, Option, Some, None, refl, sym, ap, ◌∙◌, append_assoc, subst}
+-- From one line after `start` to the next, and why the run ends there, by what is known of the card.
+use Rattle.std.proofs.Common.{◌≡◌, ℕ, Bool, true, false, List, [], ◌∷◌, ◌++◌, Option, Some, None, refl, sym, ap, ◌∙◌, append_assoc, subst}
 use Rattle.std.proofs.lemmas.List.Elements.{All-push}
 use Rattle.uicc_types.specs.declared.answers.Answer.{Answer}
+use Rattle.uicc_types.specs.declared.plans.Plan.{Plan}
+use Rattle.uicc_types.specs.declared.plans.TheConstants.Plan.{NONE}
 use Rattle.uicc_types.specs.declared.runs.Step.{Step}
 use Rattle.uicc_types.specs.declared.runs.Step.TheVariants as step
+use Rattle.uicc_types.specs.declared.runs.TraceItem.{TraceItem}
 use Rattle.t0_link.specs.Linking.{link_answer}
 use Rattle.byte_streams.specs.Lines.{LineList}
 use Rattle.script_form.specs.Forms.{IsLine}
@@ -21,234 +24,262 @@ use Rattle.card_model.specs.Counts.{IsCounted}
 use Rattle.card_model.specs.Laws.{CountsJoin, PlansAreSetInOrder}
 use Rattle.card_model.specs.Runs.{plan_given, armed_after, waiting_after}
 use Rattle.card_model.specs.States.{Machine}
-use Rattle.run_steps.proofs.GoesOnLemmas.{calm_before, calm_behind, run_ends, run_of}
-use Rattle.run_steps.specs.Runs.{GoesOn, ends_calm, text_of}
-use Rattle.run_steps.specs.Stepping.{BreaksOff, BreaksStep, EndsStep, Moment, TakesStep}
-use Rattle.run_steps.specs.Tpdus.{BreaksOffTpdu, BreaksTpdu, TakesTpdu, steps_of}
+use Rattle.run_steps.proofs.GoesOnLemmas.{text_of-append}
+use Rattle.run_steps.proofs.SteppingLemmas.{no_last_command, no_last_plan}
+use Rattle.run_steps.proofs.ViewLemmas.{rests_then, run_failed, run_shown}
+use Rattle.run_steps.specs.Runs.{text_of}
+use Rattle.run_steps.specs.Stepping.{BreaksStep, EndsStep, Holds, IsCutOff, IsSeen, Moment, Rests, RestsOn, TakesStep}
+use Rattle.run_steps.specs.Views.{CardView, ItsPower, Known, TheCard}
+use Rattle.run_steps.specs.Tpdus.{BreaksTpdu, TakesTpdu, steps_of}
 use Rattle.run_steps.specs.Shown.{shown_for}
-use Rattle.uicc_run.specs.Accounts.{Account, AreTold, Deed, IsTold, Takes, Transfers, joined, kept_behind}
-use Rattle.uicc_run.specs.Playing.{BreaksSo, CardComesTo, EndsSo, FailsSo, Given, IsPlayed, IsPlaying, Leaves, Reaches, StopsPlaying, left_at}
-use Rattle.uicc_run.specs.Runs.{HasKindsOf, first_machine}
-use Rattle.uicc_run.specs.Showing.{AreShown}
+use Rattle.uicc_run.specs.Accounts.{Account, AreTold, BreaksOffDeed, Deed, IsTold, Takes, Transfers, joined, kept_behind}
+use Rattle.uicc_run.specs.Playing.{AreReadInPlace, BreaksSo, CardComesTo, CardLeaves, CarriedOut, EndsSo, FailsSo, Given, IsFirst, IsPlaying, Leaves, Reaches, StopsPlaying, left_at}
+use Rattle.uicc_run.specs.Runs.{HasKindsOf}
 use Rattle.uicc_run.specs.Steps.{deeds, deeds_of, may_follow, may_stand}
-use Rattle.uicc_run.proofs.ShowsAsManyLemmas.{shows_in_step, shows_in_tpdu, shows_as_many}
-use Rattle.uicc_run.proofs.AccountLemmas.{goes_on, told_one, told_then}
+use Rattle.uicc_run.proofs.AccountLemmas.{goes_by, goes_on, told_one, told_then}
 use Rattle.uicc_run.proofs.DeedsLemmas.{deeds_none, deeds_one}
-use Rattle.uicc_run.proofs.ShowingLemmas.{behind, plans_then, stands_there, told_broken, told_shows, waiting_then}
+use Rattle.uicc_run.proofs.ShowsAsManyLemmas.{shows_as_many, shows_broken}
+
+-- where the lines go to the card
+pub stands_there : (given : Given) (line : ScriptLine) (may : Bool) → given.is_served ≡ false → may_follow line ≡ may → may_stand given.is_served line ≡ may
+stands_there given line may unserved follows = subst (λ served. may_stand served line ≡ may) (sym unserved) follows
 
 -- one more line behind `start`
-played_more : (given : Given) (found : LineList) (section played : List ScriptLine) (start : Persistent) (bytes : List ℕ) (line : ScriptLine) → IsPlayed given found section played start → IsOnly (IsLine bytes) line → may_stand given.is_served line ≡ true
-    → IsPlayed given (found ++ Some bytes ∷ []) section (played ++ line ∷ []) start
-played_more given found section played start bytes line so_far only may = record {
+read_more : (given : Given) (found : LineList) (section played : List ScriptLine) (card : Option Persistent) (bytes : List ℕ) (line : ScriptLine) → AreReadInPlace given found section played card → IsOnly (IsLine bytes) line → may_stand given.is_served line ≡ true
+    → AreReadInPlace given (found ++ Some bytes ∷ []) section (played ++ line ∷ []) card
+read_more given found section played card bytes line so_far only may = record {
   read = subst (AreRead (found ++ Some bytes ∷ [])) (append_assoc section (Start ∷ played) (line ∷ [])) (AreRead-more found (section ++ Start ∷ played) bytes line so_far.read only);
-  opened = so_far.opened;
-  good = so_far.good;
+  described = so_far.described;
   in_place = All-push (λ l. may_stand given.is_served l ≡ true) played line so_far.in_place may;
 }
 
--- a line that does nothing
-pub plays_on : (given : Given) (script next : ScriptReader) (left left_then : Option (List ℕ)) (kept : Option Answer) (now : Moment) (line : ScriptLine)
-    → ((found : LineList) → Follows given.text found script left → Finds given.text found next left_then line) → may_follow line ≡ true → deeds_of line ≡ []
-    → IsPlaying given script left kept now → IsPlaying given next left_then kept now
-plays_on given script next left left_then kept now line search_so may none playing =
-    let finds = search_so playing.found playing.follows in
-    record {
-      found = playing.found ++ Some finds.bytes ∷ [];
-      section = playing.section;
-      played = playing.played ++ line ∷ [];
-      start = playing.start;
-      machine = playing.machine;
-      account = playing.account;
-      unserved = playing.unserved;
-      lines = played_more given playing.found playing.section playing.played playing.start finds.bytes line playing.lines finds.read (stands_there given line true playing.unserved may);
-      are_told = subst (λ d. AreTold d None (first_machine playing.start given.boxes) playing.account kept playing.machine) (sym (deeds_none playing.played line none)) playing.are_told;
-      follows = finds.follows;
-      told = playing.told;
-      written = playing.written;
-      counted = playing.counted;
-      waits = playing.waits;
-      rests = playing.rests;
-    }
+-- the text behind what was taken
+behind : (before : List ℕ) (shown more : List TraceItem) → (before ++ text_of shown) ++ text_of more ≡ before ++ text_of (shown ++ more)
+behind before shown more = append_assoc before (text_of shown) (text_of more) ∙ ap (λ rest. before ++ rest) (sym (text_of-append shown more))
+
+-- the plans of steps behind those of others, and the one that waits behind them
+plans_then : PlansAreSetInOrder → (steps more : List Step) (waiting : Plan) → waiting ≡ waiting_after NONE steps → plan_given steps ++ armed_after waiting more ≡ plan_given (steps ++ more)
+plans_then order steps more waiting waits = ap (λ w. plan_given steps ++ armed_after w more) waits ∙ sym (order NONE steps more).0
+
+waiting_then : PlansAreSetInOrder → (steps more : List Step) (waiting : Plan) → waiting ≡ waiting_after NONE steps → waiting_after waiting more ≡ waiting_after NONE (steps ++ more)
+waiting_then order steps more waiting waits = ap (λ w. waiting_after w more) waits ∙ sym (order NONE steps more).1
+
+-- lines that were carried out, from what they came to
+abbrev pub carried_out : (given : Given) (first : CardView) (found : LineList) (section played : List ScriptLine) (described : Option Persistent) (account : Account) (kept : Option Answer) (card : CardView)
+    → AreReadInPlace given found section played described → IsFirst given section first → AreTold (deeds played) None first account kept card → CarriedOut given first
+carried_out given first found section played described account kept card lines opened told = record {
+  found = found;
+  section = section;
+  played = played;
+  described = described;
+  account = account;
+  kept = kept;
+  card = card;
+  lines = lines;
+  opened = opened;
+  are_told = told;
+  run = run_shown account.steps first card account.own (goes_on (deeds played) None kept first card account told);
+  shows = shows_as_many (deeds played) kept first card account told;
+}
 
 -- ---- what a line comes to
 
 -- it was carried out
-pub record Does (deed : Deed) (kept : Option Answer) (old : Machine) (before : List ℕ) (from to : Moment) (after : Option Answer) : Type 0 where
-  pub machine : Machine
+pub record Does (deed : Deed) (kept : Option Answer) (old : CardView) (before : List ℕ) (from to : Moment) (after : Option Answer) : Type 0 where
+  pub card : CardView
   pub account : Account
-  pub told : to.machine ≡ Some machine
-  pub is_told : IsTold deed kept old account after machine
+  pub seen : IsSeen card to
+  pub is_told : IsTold deed kept old account after card
   pub written : to.taken ≡ Some (before ++ text_of account.shown)
   pub counted : IsCounted from.meter to.meter (armed_after from.waiting account.steps) account.own
   pub waits : to.waiting ≡ waiting_after from.waiting account.steps
-  pub rests : (account.own ≡ [] → from.is_due ≡ false) → ends_calm account.own ≡ true → to.is_due ≡ false
+  pub rests : RestsOn card account.own from.is_due to.is_due
 
--- a step was taken
-pub step_does : (step : Step) (kept after : Option Answer) (old : Machine) (before : List ℕ) (from to : Moment) → after ≡ kept_behind step kept → TakesStep old before step from to → Does (Takes step) kept old before from to after
-step_does step kept after old before from to keeps taken = record {
-  machine = taken.machine;
-  account = record { steps = step ∷ []; own = taken.shown; shown = taken.shown };
-  told = taken.told;
-  is_told = record { steps_are = refl; gives = taken.gives; shown_is = refl; keeps = keeps };
-  written = taken.written;
-  counted = taken.counted;
-  waits = taken.waits;
-  rests = taken.rests;
-}
+-- the sink failed in it
+pub record Breaks (deed : Deed) (kept : Option Answer) (old : CardView) (before : List ℕ) (from to : Moment) (after : Option Answer) : Type 0 where
+  pub card : CardView
+  pub own : List TraceItem
+  pub pending : List TraceItem
+  pub front : List ℕ
+  pub set : List Plan
+  pub broken : BreaksOffDeed deed kept old own pending from.waiting set after card
+  pub cut_off : IsCutOff pending front
+  pub stands : Holds card to.held
+  pub written : to.taken ≡ Some (before ++ front)
+  pub counted : IsCounted from.meter to.meter set own
 
--- a TPDU was taken
-pub tpdu_does : (tpdu : List ℕ) (kept after : Option Answer) (old : Machine) (before : List ℕ) (from to : Moment) → TakesTpdu old before tpdu (link_answer kept tpdu) after from to → Does (Transfers tpdu) kept old before from to after
-tpdu_does tpdu kept after old before from to taken = record {
-  machine = taken.machine;
-  account = record { steps = steps_of (link_answer kept tpdu); own = taken.own; shown = shown_for tpdu taken.reply };
-  told = taken.told;
-  is_told = record { reply = taken.reply; steps_are = refl; gives = taken.gives; shown_is = refl };
-  written = taken.written;
-  counted = taken.counted;
-  waits = taken.waits;
-  rests = taken.rests;
-}
+-- a step
+module _ (step : Step) (kept after : Option Answer) (old : CardView) (before : List ℕ) (from to : Moment) where
+  pub step_does : after ≡ kept_behind step kept → TakesStep old before step from to → Does (Takes step) kept old before from to after
+  step_does keeps taken = record {
+    card = taken.card;
+    account = record { steps = step ∷ []; own = taken.shown; shown = taken.shown };
+    seen = taken.seen;
+    is_told = record { steps_are = refl; gives = taken.gives; shown_is = refl; keeps = keeps };
+    written = taken.written;
+    counted = taken.counted;
+    waits = taken.waits;
+    rests = taken.rests;
+  }
+
+  pub step_breaks : BreaksStep old before step from to → Breaks (Takes step) kept old before from to after
+  step_breaks broken = record {
+    card = broken.card;
+    own = broken.pending;
+    pending = broken.pending;
+    front = broken.front;
+    set = broken.set;
+    broken = (refl, broken.broken);
+    cut_off = broken.cut_off;
+    stands = broken.stands;
+    written = broken.written;
+    counted = broken.counted;
+  }
+
+-- a TPDU
+module _ (tpdu : List ℕ) (kept after : Option Answer) (old : CardView) (before : List ℕ) (from to : Moment) where
+  pub tpdu_does : TakesTpdu old before tpdu (link_answer kept tpdu) after from to → Does (Transfers tpdu) kept old before from to after
+  tpdu_does taken = record {
+    card = taken.card;
+    account = record { steps = steps_of (link_answer kept tpdu); own = taken.own; shown = shown_for tpdu taken.reply };
+    seen = taken.seen;
+    is_told = record { reply = taken.reply; steps_are = refl; gives = taken.gives; shown_is = refl };
+    written = taken.written;
+    counted = taken.counted;
+    waits = taken.waits;
+    rests = taken.rests;
+  }
+
+  pub tpdu_breaks : BreaksTpdu old before tpdu (link_answer kept tpdu) kept after from to → Breaks (Transfers tpdu) kept old before from to after
+  tpdu_breaks broken = record {
+    card = broken.card;
+    own = broken.own;
+    pending = broken.pending;
+    front = broken.front;
+    set = broken.set;
+    broken = broken.broken;
+    cut_off = broken.cut_off;
+    stands = broken.stands;
+    written = broken.written;
+    counted = broken.counted;
+  }
 
 -- ---- behind the lines before
 
--- a line that was carried out
-pub plays_further : (given : Given) (script next : ScriptReader) (left left_then : Option (List ℕ)) (kept after : Option Answer) (from to : Moment) (line : ScriptLine) (deed : Deed) → CountsJoin → PlansAreSetInOrder
-    → ((found : LineList) → Follows given.text found script left → Finds given.text found next left_then line) → may_follow line ≡ true → deeds_of line ≡ deed ∷ []
-    → ((old : Machine) (before : List ℕ) → from.machine ≡ Some old → from.taken ≡ Some before → Does deed kept old before from to after)
-    → IsPlaying given script left kept from → IsPlaying given next left_then after to
-plays_further given script next left left_then kept after from to line deed join order search_so may one does playing =
-    let finds = search_so playing.found playing.follows in
-    let done = does playing.machine (given.before ++ text_of playing.account.shown) playing.told playing.written in
-    let first = first_machine playing.start given.boxes in
-    record {
-      found = playing.found ++ Some finds.bytes ∷ [];
-      section = playing.section;
-      played = playing.played ++ line ∷ [];
-      start = playing.start;
-      machine = done.machine;
-      account = joined playing.account done.account;
-      unserved = playing.unserved;
-      lines = played_more given playing.found playing.section playing.played playing.start finds.bytes line playing.lines finds.read (stands_there given line true playing.unserved may);
-      are_told = subst (λ d. AreTold d None first (joined playing.account done.account) after done.machine) (sym (deeds_one playing.played line deed one))
-          (told_then (deeds playing.played) (deed ∷ []) None kept after first playing.machine done.machine playing.account done.account playing.are_told (told_one deed kept after playing.machine done.machine done.account done.is_told));
-      follows = finds.follows;
-      told = done.told;
-      written = done.written ∙ ap Some (behind given.before playing.account.shown done.account.shown);
-      counted = subst (λ l. IsCounted given.meter to.meter l (playing.account.own ++ done.account.own)) (plans_then order playing.account.steps done.account.steps from.waiting playing.waits)
-          (join given.meter from.meter to.meter (plan_given playing.account.steps) (armed_after from.waiting done.account.steps) playing.account.own done.account.own playing.counted done.counted);
-      waits = done.waits ∙ waiting_then order playing.account.steps done.account.steps from.waiting playing.waits;
-      rests = λ calm. done.rests (λ none. playing.rests (calm_before playing.account.own done.account.own none calm)) (calm_behind playing.account.own done.account.own calm);
-    }
+module _ (given : Given) (first : CardView) (script next : ScriptReader) (left left_then : Option (List ℕ)) (line : ScriptLine)
+    (search_so : (found : LineList) → Follows given.text found script left → Finds given.text found next left_then line) where
+  -- a line that does nothing
+  pub plays_on : (kept : Option Answer) (now : Moment) → may_follow line ≡ true → deeds_of line ≡ [] → IsPlaying given first script left kept now → IsPlaying given first next left_then kept now
+  plays_on kept now may none playing =
+      let done = playing.done in
+      let finds = search_so done.found playing.follows in
+      record {
+        done = record {
+          found = done.found ++ Some finds.bytes ∷ [];
+          section = done.section;
+          played = done.played ++ line ∷ [];
+          described = done.described;
+          account = done.account;
+          kept = done.kept;
+          card = done.card;
+          lines = read_more given done.found done.section done.played done.described finds.bytes line done.lines finds.read (stands_there given line true playing.unserved may);
+          opened = done.opened;
+          are_told = subst (λ (d : List Deed). AreTold d None first done.account done.kept done.card) (sym (deeds_none done.played line none)) done.are_told;
+          run = done.run;
+          shows = done.shows;
+        };
+        unserved = playing.unserved;
+        follows = finds.follows;
+        keeps = playing.keeps;
+        seen = playing.seen;
+        written = playing.written;
+        counted = playing.counted;
+        waits = playing.waits;
+        rests = playing.rests;
+      }
 
--- the run of the card so far
-pub run_so_far : (given : Given) (script : ScriptReader) (left : Option (List ℕ)) (kept : Option Answer) (now : Moment) → (playing : IsPlaying given script left kept now)
-    → GoesOn (first_machine playing.start given.boxes) playing.account.steps playing.account.own playing.machine
-run_so_far given script left kept now playing = goes_on (deeds playing.played) None kept (first_machine playing.start given.boxes) playing.machine playing.account playing.are_told
+  -- a line that was carried out
+  pub plays_further : (kept after : Option Answer) (from to : Moment) (deed : Deed) → CountsJoin → PlansAreSetInOrder → may_follow line ≡ true → deeds_of line ≡ deed ∷ []
+      → ((old : CardView) (before : List ℕ) → IsSeen old from → from.taken ≡ Some before → Does deed kept old before from to after)
+      → IsPlaying given first script left kept from → IsPlaying given first next left_then after to
+  plays_further kept after from to deed join order may one does playing =
+      let done = playing.done in
+      let finds = search_so done.found playing.follows in
+      let more = does done.card (given.before ++ text_of done.account.shown) playing.seen playing.written in
+      let is_told : IsTold deed done.kept done.card more.account after more.card = subst (λ (k : Option Answer). IsTold deed k done.card more.account after more.card) (sym playing.keeps) more.is_told in
+      record {
+        done = carried_out given first (done.found ++ Some finds.bytes ∷ []) done.section (done.played ++ line ∷ []) done.described (joined done.account more.account) after more.card
+            (read_more given done.found done.section done.played done.described finds.bytes line done.lines finds.read (stands_there given line true playing.unserved may)) done.opened
+            (subst (λ (d : List Deed). AreTold d None first (joined done.account more.account) after more.card) (sym (deeds_one done.played line deed one))
+            (told_then (deeds done.played) (deed ∷ []) None done.kept after first done.card more.card done.account more.account done.are_told (told_one deed done.kept after done.card more.card more.account is_told)));
+        unserved = playing.unserved;
+        follows = finds.follows;
+        keeps = refl;
+        seen = more.seen;
+        written = more.written ∙ ap Some (behind given.before done.account.shown more.account.shown);
+        counted = subst (λ l. IsCounted given.meter to.meter l (done.account.own ++ more.account.own)) (plans_then order done.account.steps more.account.steps from.waiting playing.waits)
+            (join given.meter from.meter to.meter (plan_given done.account.steps) (armed_after from.waiting more.account.steps) done.account.own more.account.own playing.counted more.counted);
+        waits = more.waits ∙ waiting_then order done.account.steps more.account.steps from.waiting playing.waits;
+        rests = rests_then done.card more.card more.account.steps done.account.own more.account.own from.is_due to.is_due (goes_by deed done.kept after done.card more.card more.account is_told) playing.rests more.rests;
+      }
 
--- what was shown so far
-pub shown_so_far : (given : Given) (script : ScriptReader) (left : Option (List ℕ)) (kept : Option Answer) (now : Moment) → (playing : IsPlaying given script left kept now) → AreShown (deeds playing.played) None playing.account kept
-shown_so_far given script left kept now playing = told_shows (deeds playing.played) None kept (first_machine playing.start given.boxes) playing.machine playing.account playing.are_told
+  -- the next line is for this
+  abbrev reaches : (kept : Option Answer) (from : Moment) (deed : Deed) → deeds_of line ≡ deed ∷ [] → IsPlaying given first script left kept from → Reaches given first deed
+  reaches kept from deed one playing =
+      let finds = search_so playing.done.found playing.follows in
+      record { done = playing.done; bytes = finds.bytes; more = finds.more; line = line; parted = finds.parted; read = finds.read; one_deed = one }
 
--- the next line is for this
-abbrev pub reaches : (given : Given) (script next : ScriptReader) (left left_then : Option (List ℕ)) (kept : Option Answer) (from : Moment) (line : ScriptLine) (deed : Deed)
-    → ((found : LineList) → Follows given.text found script left → Finds given.text found next left_then line) → deeds_of line ≡ deed ∷ [] → IsPlaying given script left kept from → Reaches given deed
-reaches given script next left left_then kept from line deed search_so one playing =
-    let finds = search_so playing.found playing.follows in
-    record {
-      found = playing.found;
-      section = playing.section;
-      played = playing.played;
-      start = playing.start;
-      old = playing.machine;
-      account = playing.account;
-      kept = kept;
-      lines_are = playing.lines;
-      are_told = playing.are_told;
-      of_card = run_of playing.account.steps (first_machine playing.start given.boxes) playing.machine playing.account.own (run_so_far given script left kept from playing);
-      shows = shows_as_many (deeds playing.played) kept playing.account (shown_so_far given script left kept from playing);
-      bytes = finds.bytes;
-      more = finds.more;
-      line = line;
-      parted = finds.parted;
-      read = finds.read;
-      one_deed = one;
-    }
+  -- the sink failed in it
+  pub breaks_in : (kept after : Option Answer) (from to : Moment) (deed : Deed) → CountsJoin → deeds_of line ≡ deed ∷ []
+      → ((old : CardView) (before : List ℕ) → IsSeen old from → from.taken ≡ Some before → Breaks deed kept old before from to after)
+      → IsPlaying given first script left kept from → BreaksSo given first (left_at to)
+  breaks_in kept after from to deed join one breaks playing =
+      let done = playing.done in
+      let broken = breaks done.card (given.before ++ text_of done.account.shown) playing.seen playing.written in
+      let off : BreaksOffDeed deed done.kept done.card broken.own broken.pending (waiting_after NONE done.account.steps) broken.set after broken.card =
+      subst (λ (k : Option Answer). BreaksOffDeed deed k done.card broken.own broken.pending (waiting_after NONE done.account.steps) broken.set after broken.card) (sym playing.keeps)
+      (subst (λ (w : Plan). BreaksOffDeed deed kept done.card broken.own broken.pending w broken.set after broken.card) playing.waits broken.broken) in
+      record {
+        deed = deed;
+        at = reaches kept from deed one playing;
+        card = broken.card;
+        own = broken.own;
+        pending = broken.pending;
+        front = broken.front;
+        set = broken.set;
+        after = after;
+        broken = off;
+        shows = shows_broken (deeds done.played) done.kept after first done.card done.account done.are_told deed broken.own broken.pending _ broken.set broken.card off;
+        cut_off = broken.cut_off;
+        stands = broken.stands;
+        written = broken.written;
+        counted = join given.meter from.meter to.meter (plan_given done.account.steps) broken.set done.account.own broken.own playing.counted broken.counted;
+      }
 
--- a step was the last, which only a reset can be
-pub ends_in_step : (given : Given) (script next : ScriptReader) (left left_then : Option (List ℕ)) (kept : Option Answer) (from to : Moment) (line : ScriptLine) (last : Step) → CountsJoin → PlansAreSetInOrder
-    → ((found : LineList) → Follows given.text found script left → Finds given.text found next left_then line) → deeds_of line ≡ Takes last ∷ []
-    → ((old : Machine) (before : List ℕ) → from.machine ≡ Some old → from.taken ≡ Some before → EndsStep old before last from to)
-    → IsPlaying given script left kept from → FailsSo given (left_at to)
-ends_in_step given script next left left_then kept from to line (step.Apdu apdu) join order search_so one ends playing =
-    let ended = ends playing.machine (given.before ++ text_of playing.account.shown) playing.told playing.written in absurd ended.ends
-ends_in_step given script next left left_then kept from to line (step.Plan plan) join order search_so one ends playing =
-    let ended = ends playing.machine (given.before ++ text_of playing.account.shown) playing.told playing.written in absurd ended.ends
-ends_in_step given script next left left_then kept from to line step.Reset join order search_so one ends playing =
-    let ended = ends playing.machine (given.before ++ text_of playing.account.shown) playing.told playing.written in
-    record {
-      at = reaches given script next left left_then kept from line (Takes step.Reset) search_so one playing;
-      machine = ended.machine;
-      last = ended.shown;
-      ends = ended.ends;
-      before_it = from.meter;
-      counted_before = playing.counted;
-      counted_in_it = subst (λ w. IsCounted from.meter to.meter (armed_after w (step.Reset ∷ [])) ended.shown) playing.waits ended.counted;
-      of_card = run_ends playing.account.steps step.Reset (first_machine playing.start given.boxes) playing.machine ended.machine playing.account.own ended.shown (run_so_far given script left kept from playing) ended.ends;
-      stands = ended.stands;
-      written = ended.written ∙ ap Some (behind given.before playing.account.shown ended.shown);
-      counted = subst (λ l. IsCounted given.meter to.meter l (playing.account.own ++ ended.shown)) (plans_then order playing.account.steps (step.Reset ∷ []) from.waiting playing.waits)
-          (join given.meter from.meter to.meter (plan_given playing.account.steps) (armed_after from.waiting (step.Reset ∷ [])) playing.account.own ended.shown playing.counted ended.counted);
-    }
-
--- the sink failed in a step
-pub breaks_in_step : (given : Given) (script next : ScriptReader) (left left_then : Option (List ℕ)) (kept after : Option Answer) (from to : Moment) (line : ScriptLine) (step : Step) → CountsJoin
-    → ((found : LineList) → Follows given.text found script left → Finds given.text found next left_then line) → deeds_of line ≡ Takes step ∷ []
-    → ((old : Machine) (before : List ℕ) → from.machine ≡ Some old → from.taken ≡ Some before → BreaksStep old before step from to)
-    → IsPlaying given script left kept from → BreaksSo given (left_at to)
-breaks_in_step given script next left left_then kept after from to line step join search_so one breaks playing =
-    let broken = breaks playing.machine (given.before ++ text_of playing.account.shown) playing.told playing.written in
-    record {
-      deed = Takes step;
-      at = reaches given script next left left_then kept from line (Takes step) search_so one playing;
-      machine = broken.machine;
-      own = broken.pending;
-      pending = broken.pending;
-      front = broken.front;
-      set = broken.set;
-      after = after;
-      broken = (refl, subst (λ w. BreaksOff playing.machine step broken.pending (armed_after w (step ∷ [])) broken.set broken.machine) playing.waits broken.broken);
-      shows = shows_in_step (deeds playing.played) kept after playing.account (shown_so_far given script left kept from playing) broken.pending;
-      cut_off = broken.cut_off;
-      stands = broken.stands;
-      written = broken.written;
-      counted = join given.meter from.meter to.meter (plan_given playing.account.steps) broken.set playing.account.own broken.pending playing.counted broken.counted;
-    }
-
--- the sink failed in a TPDU
-pub breaks_in_tpdu : (given : Given) (script next : ScriptReader) (left left_then : Option (List ℕ)) (kept after : Option Answer) (from to : Moment) (line : ScriptLine) (tpdu : List ℕ) → CountsJoin
-    → ((found : LineList) → Follows given.text found script left → Finds given.text found next left_then line) → deeds_of line ≡ Transfers tpdu ∷ []
-    → ((old : Machine) (before : List ℕ) → from.machine ≡ Some old → from.taken ≡ Some before → BreaksTpdu old before tpdu (link_answer kept tpdu) kept after from to)
-    → IsPlaying given script left kept from → BreaksSo given (left_at to)
-breaks_in_tpdu given script next left left_then kept after from to line tpdu join search_so one breaks playing =
-    let broken = breaks playing.machine (given.before ++ text_of playing.account.shown) playing.told playing.written in
-    let course = link_answer kept tpdu in
-    record {
-      deed = Transfers tpdu;
-      at = reaches given script next left left_then kept from line (Transfers tpdu) search_so one playing;
-      machine = broken.machine;
-      own = broken.own;
-      pending = broken.pending;
-      front = broken.front;
-      set = broken.set;
-      after = after;
-      broken = subst (λ w. BreaksOffTpdu playing.machine tpdu course broken.own broken.pending (armed_after w (steps_of course)) broken.set kept after broken.machine) playing.waits broken.broken;
-      shows = shows_in_tpdu (deeds playing.played) kept after playing.account (shown_so_far given script left kept from playing) tpdu broken.own broken.pending
-          (told_broken playing.machine broken.machine tpdu course broken.own broken.pending _ broken.set kept after broken.broken);
-      cut_off = broken.cut_off;
-      stands = broken.stands;
-      written = broken.written;
-      counted = join given.meter from.meter to.meter (plan_given playing.account.steps) broken.set playing.account.own broken.own playing.counted broken.counted;
-    }
+  -- a step was the last, which only a reset can be
+  pub fails_in : (kept : Option Answer) (from to : Moment) (last : Step) → CountsJoin → PlansAreSetInOrder → deeds_of line ≡ Takes last ∷ []
+      → ((old : CardView) (before : List ℕ) → IsSeen old from → from.taken ≡ Some before → EndsStep old before last from to) → IsPlaying given first script left kept from → FailsSo given first (left_at to)
+  fails_in kept from to (step.Apdu apdu) join order one fails playing =
+      let failed = fails playing.done.card (given.before ++ text_of playing.done.account.shown) playing.seen playing.written in absurd (no_last_command playing.done.card failed.card apdu failed.shown failed.ends)
+  fails_in kept from to (step.Plan plan) join order one fails playing =
+      let failed = fails playing.done.card (given.before ++ text_of playing.done.account.shown) playing.seen playing.written in absurd (no_last_plan playing.done.card failed.card plan failed.shown failed.ends)
+  fails_in kept from to step.Reset join order one fails playing =
+      let done = playing.done in
+      let failed = fails done.card (given.before ++ text_of done.account.shown) playing.seen playing.written in
+      record {
+        at = reaches kept from (Takes step.Reset) one playing;
+        card = failed.card;
+        last = failed.shown;
+        ends = failed.ends;
+        before_it = from.meter;
+        counted_before = playing.counted;
+        counted_in_it = subst (λ (w : Plan). IsCounted from.meter to.meter (armed_after w (step.Reset ∷ [])) failed.shown) playing.waits failed.counted;
+        of_card = run_failed done.account.steps step.Reset first done.card failed.card done.account.own failed.shown (goes_on (deeds done.played) None done.kept first done.card done.account done.are_told) failed.ends;
+        stands = failed.stands;
+        written = failed.written ∙ ap Some (behind given.before done.account.shown failed.shown);
+        counted = subst (λ l. IsCounted given.meter to.meter l (done.account.own ++ failed.shown)) (plans_then order done.account.steps (step.Reset ∷ []) from.waiting playing.waits)
+            (join given.meter from.meter to.meter (plan_given done.account.steps) (armed_after from.waiting (step.Reset ∷ [])) done.account.own failed.shown playing.counted failed.counted);
+      }
 
 -- ---- why it ends
 
@@ -257,33 +288,27 @@ pub record HaveBoxes (now : Moment) (machine : Machine) : Type 0 where
   pub kinds : HasKindsOf machine.card.boxes now.boxes
   pub minds : now.is_due ≡ false → now.boxes ≡ machine.card.boxes
 
+leaves_so : (card : CardView) (own : List TraceItem) (now : Moment) → ((machine : Machine) → now.machine ≡ Some machine → now.held ≡ Some machine.card.persistent) → ((machine : Machine) → now.machine ≡ Some machine → HaveBoxes now machine)
+    → IsSeen card now → Rests card own now.is_due → Known (λ (machine : Machine). CardLeaves machine own (left_at now)) (λ on. Unit {0}) card
+leaves_so (TheCard machine) own now stands boxes seen rests = record { stands = stands machine seen; kinds = (boxes machine seen).kinds; minds = λ calm. (boxes machine seen).minds (rests calm) }
+leaves_so (ItsPower on) own now stands boxes seen rests = tt
+
 -- the run ends behind the lines that were read
-pub ends_playing : (given : Given) (script : ScriptReader) (left left_then : Option (List ℕ)) (kept : Option Answer) (end : PlayEnd) (now : Moment) → ((machine : Machine) → now.machine ≡ Some machine → now.held ≡ Some machine.card.persistent) → ((machine : Machine) → now.machine ≡ Some machine → HaveBoxes now machine)
-    → ((found : LineList) → Follows given.text found script left → StopsPlaying given found left_then end) → IsPlaying given script left kept now → EndsSo given left_then end (left_at now)
-ends_playing given script left left_then kept end now stands boxes cause playing = record {
-  found = playing.found;
-  section = playing.section;
-  played = playing.played;
-  start = playing.start;
-  machine = playing.machine;
-  account = playing.account;
-  kept = kept;
-  lines = playing.lines;
-  are_told = playing.are_told;
-  of_card = run_of playing.account.steps (first_machine playing.start given.boxes) playing.machine playing.account.own (run_so_far given script left kept now playing);
-  shows = shows_as_many (deeds playing.played) kept playing.account (shown_so_far given script left kept now playing);
-  cause = cause playing.found playing.follows;
-  stands = stands playing.machine playing.told;
+pub ends_playing : (given : Given) (first : CardView) (script : ScriptReader) (left left_then : Option (List ℕ)) (kept : Option Answer) (end : PlayEnd) (now : Moment)
+    → ((machine : Machine) → now.machine ≡ Some machine → now.held ≡ Some machine.card.persistent) → ((machine : Machine) → now.machine ≡ Some machine → HaveBoxes now machine)
+    → ((found : LineList) → Follows given.text found script left → StopsPlaying given found left_then end) → IsPlaying given first script left kept now → EndsSo given first left_then end (left_at now)
+ends_playing given first script left left_then kept end now stands boxes cause playing = record {
+  done = playing.done;
+  cause = cause playing.done.found playing.follows;
   written = playing.written;
   counted = playing.counted;
-  kinds = (boxes playing.machine playing.told).kinds;
-  minds = λ calm. (boxes playing.machine playing.told).minds (playing.rests calm);
+  leaves = leaves_so playing.done.card playing.done.account.own now stands boxes playing.seen playing.rests;
 }
 
 -- whatever the end is
-pub comes_to_end : (given : Given) (left : Option (List ℕ)) (end : PlayEnd) (now : Leaves) → EndsSo given left end now → CardComesTo given left end now
-comes_to_end given left Finished now ends = ends
-comes_to_end given left (BadLine number) now ends = ends
-comes_to_end given left ReadFailed now ends = ends
-comes_to_end given left SinkFailed now ends = absurd ends.cause
-comes_to_end given left ResetFailed now ends = absurd ends.cause
+pub comes_to_end : (given : Given) (first : CardView) (left : Option (List ℕ)) (end : PlayEnd) (now : Leaves) → EndsSo given first left end now → CardComesTo given first left end now
+comes_to_end given first left Finished now ends = ends
+comes_to_end given first left (BadLine number) now ends = ends
+comes_to_end given first left ReadFailed now ends = ends
+comes_to_end given first left SinkFailed now ends = absurd ends.cause
+comes_to_end given first left ResetFailed now ends = absurd ends.cause

@@ -1,6 +1,7 @@
 -- What an undisturbed run comes to, by its script and the card that is to be opened.
-use Rattle.std.proofs.Common.{◌≡◌, ℕ, ◌+◌, ◌<◌, Bool, true, false, List, [], ◌∷◌, ◌++◌, length, Option, Some, None, is_some, Result, Ok, Err, refl, sym, ap, ◌∙◌, inl, inr, ⊎_elim, arith, subst, ◌⊎◌, All, IfSome, if◌then◌else◌, append-nil}
+use Rattle.std.proofs.Common.{◌≡◌, ℕ, ◌+◌, ◌<◌, Bool, true, false, List, [], ◌∷◌, ◌++◌, length, Option, Some, None, is_some, Result, Ok, Err, refl, sym, ap, ◌∙◌, inl, inr, ⊎_elim, arith, subst, append_assoc, ◌⊎◌, All, IfSome, if◌then◌else◌, append-nil}
 use Rattle.std.specs.Io.KnownBytes.{append_known}
+use Rattle.std.specs.List.{AllPass}
 use Rattle.std.proofs.lemmas.Bool.{cases_order}
 use Rattle.std.proofs.lemmas.List.Elements.{All-contains, All-nil}
 use Rattle.byte_streams.specs.Lines.{LineList, lines}
@@ -11,25 +12,29 @@ use Rattle.script_form.specs.declared.lines.ScriptLine.{ScriptLine}
 use Rattle.script_form.specs.declared.lines.ScriptLine.TheVariants.{Start}
 use Rattle.script_form.specs.declared.trace.TraceLine.TheVariants as line
 use Rattle.script_reader.proofs.AreReadLemmas.{Say-from_read}
-use Rattle.script_reader.specs.Said.{Say}
+use Rattle.script_reader.specs.Behind.{StopsReading}
+use Rattle.script_reader.specs.Said.{AreRead, Say}
 use Rattle.script_reader.specs.declared.behind.PlayEnd.{PlayEnd}
 use Rattle.script_reader.specs.declared.behind.PlayEnd.TheVariants as play
 use Rattle.script_reader.specs.declared.faults.ScriptFault.TheVariants as script
 use Rattle.card_state.specs.Persistent.{Persistent, Registration}
 use Rattle.applet_trait.specs.Minds.{AppletState}
-use Rattle.card_model.specs.States.{HasBox, IsGood}
+use Rattle.card_model.specs.States.{HasBox, IsGood, Machine}
 use Rattle.card_core.specs.Openings.{with_all_shelves}
 use Rattle.card_core.specs.Boxes.{IsFirstWithoutBox}
 use Rattle.section_lines.specs.SectionReading.{EndsInSection}
 use Rattle.section_lines.specs.RowLaws.{AreOfTheirBoxes}
 use Rattle.section_lines.proofs.RowsHaveBoxesLemmas.{rows_have_boxes}
 use Rattle.section_lines.specs.Script.{with_lines}
+use Rattle.run_steps.specs.Views.{TheCard}
+use Rattle.phone_runs.specs.Lines.{PhoneEnds}
 use Rattle.bip_runs.proofs.IsLineLemmas.{Only, only_first, only_last, only_says, says_itself}
 use Rattle.uicc_run.specs.Endings.{IsUnshown, status_for}
 use Rattle.uicc_run.specs.Headline.{Closes, Comes, IsNoCard, IsNotOpened, LacksBox, last_text}
-use Rattle.uicc_run.specs.Playing.{EndsSo, Given, IsOpened, IsPlayed, Leaves, StopsPlaying}
-use Rattle.uicc_run.specs.Reading.{AreReadInPlace, EndsBehind, HasStarted, ReadsTo}
-use Rattle.uicc_run.specs.Serving.{ComesTo, EndsServing}
+use Rattle.uicc_run.specs.Playing.{AreReadInPlace, EndsSo, Given, IsOpened, Leaves}
+use Rattle.uicc_run.specs.Reading.{EndsBehind, HasStarted, ReadsTo}
+use Rattle.uicc_run.proofs.ServingLemmas.{opening}
+use Rattle.uicc_run.specs.Serving.{ComesTo, ServedComesTo, beginning}
 use Rattle.uicc_run.specs.Runs.{first_machine}
 use Rattle.uicc_run.specs.Steps.{may_stand}
 use Rattle.uicc_run.specs.Scripts.{AreInPlace, CanOpen, CannotOpen, HoldsWholeCard, IsFirstBad, IsFirstTooMuch, IsGoodScript, MeetsBad, NoBoxOn, NoCardAt, ReachesStart, Refusal, RefusesAndTells, StopsAndTells, StopsAtStart, StopsBehind, TellsNext, TellsWhy, refusal_line}
@@ -44,11 +49,6 @@ abbrev rules_of : Given → Rules
 rules_of given = record { cast = given.boxes; may = may_stand given.is_served }
 
 -- ---- the card that is opened
-
-opened_card : (cast : List (Option AppletState)) (first : Option Persistent) (memory : Result Persistent ℕ) (section : List ScriptLine) (start : Persistent) → IsOpened cast first memory section start
-    → (card : Option Persistent) × (with_lines cast first section ≡ Ok card)
-opened_card cast (Some bare) memory section start opened = (Some start, opened)
-opened_card cast None memory section start opened = (None, opened.0)
 
 -- where none is described it is the memory's
 memory_holds : (cast : List (Option AppletState)) (first : Option Persistent) (memory : Result Persistent ℕ) (section : List ScriptLine) (start : Persistent) → with_lines cast first section ≡ Ok None → IsOpened cast first memory section start → memory ≡ Ok start
@@ -473,28 +473,46 @@ record EndsInLines (given : Given) (left : Option (List ℕ)) (end : PlayEnd) (l
   front : List ℕ
   written : leaves.taken ≡ Some front
 
-played_so : (given : Given) (left : Option (List ℕ)) (end : PlayEnd) (leaves : Leaves) (found : LineList) (section played : List ScriptLine) (start : Persistent) (front : List ℕ) → IsPlayed given found section played start → StopsPlaying given found left end
-    → leaves.taken ≡ Some front → EndsInLines given left end leaves
-played_so given left end leaves found section played start front are cause written =
-    let card = opened_card given.boxes given.first given.memory section start are.opened in
+ends_played : (given : Given) (left : Option (List ℕ)) (end : PlayEnd) (leaves : Leaves) (first : Machine) → EndsSo given (TheCard first) left end leaves → EndsInLines given left end leaves
+ends_played given left end leaves first ends =
+    let done = ends.done in
+    let card = done.opened in
     record {
-      ends = record { found = found; section = section; played = played; card = card.0; lines_are = record { read = are.read; described = card.1; in_place = are.in_place }; cause = cause };
-      opens = was_to_open given section start card.0 card.1 are.opened are.good;
-      front = front;
-      written = written;
+      ends = record { found = done.found; section = done.section; played = done.played; card = done.described; lines_are = done.lines; cause = ends.cause };
+      opens = was_to_open given done.section card.start done.described done.lines.described card.opened (subst (λ (m : Machine). IsGood m.card) card.machine_is card.good);
+      front = _;
+      written = ends.written;
     }
 
-ends_in_lines : (given : Given) (left : Option (List ℕ)) (end : PlayEnd) (leaves : Leaves) → EndsSo given left end leaves ⊎ EndsServing given left end leaves → EndsInLines given left end leaves
-ends_in_lines given left end leaves (inl ends) = played_so given left end leaves ends.found ends.section ends.played ends.start _ ends.lines ends.cause ends.written
-ends_in_lines given left end leaves (inr ends) = played_so given left end leaves ends.found ends.section ends.played ends.start _ ends.lines_are ends.cause ends.written
+ends_served : (given : Given) (left : Option (List ℕ)) (end : PlayEnd) (leaves : Leaves) (first : Machine) → given.is_served ≡ true → (served : ServedComesTo given (TheCard first) left end leaves)
+    → PhoneEnds given.text (opening served.section) (beginning given (TheCard first)) left end served.at → EndsInLines given left end leaves
+ends_served given left end leaves first is served ends =
+    let card = served.opened in
+    record {
+      ends = record {
+        found = ends.found;
+        section = served.section;
+        played = ends.played;
+        card = served.card;
+        lines_are = record {
+          read = subst (AreRead ends.found) (append_assoc served.section (Start ∷ []) ends.played) ends.are_served.read;
+          described = served.described;
+          in_place = subst (λ s. AllPass (may_stand s) ends.played) (sym is) ends.are_served.in_place;
+        };
+        cause = subst (λ s. StopsReading (may_stand s) given.text ends.found left end) (sym is) ends.cause;
+      };
+      opens = was_to_open given served.section card.start served.card served.described card.opened (subst (λ (m : Machine). IsGood m.card) card.machine_is card.good);
+      front = _;
+      written = ap (λ (l : Leaves). l.taken) served.left_is ∙ ends.written;
+    }
 
-behind_end : (given : Given) (left : Option (List ℕ)) (leaves : Leaves) → ComesTo given left play.Finished leaves → EndsSo given left play.Finished leaves ⊎ EndsServing given left play.Finished leaves
-behind_end given left leaves (inl card) = inl card.1
-behind_end given left leaves (inr served) = inr served.1
+behind_end : (given : Given) (left : Option (List ℕ)) (leaves : Leaves) (first : Machine) → ComesTo given (TheCard first) left play.Finished leaves → EndsInLines given left play.Finished leaves
+behind_end given left leaves first (inl card) = ends_played given left play.Finished leaves first card.1
+behind_end given left leaves first (inr served) = ends_served given left play.Finished leaves first served.0 served.1 served.1.comes
 
-behind_bad : (given : Given) (left : Option (List ℕ)) (number : ℕ) (leaves : Leaves) → ComesTo given left (play.BadLine number) leaves → EndsSo given left (play.BadLine number) leaves ⊎ EndsServing given left (play.BadLine number) leaves
-behind_bad given left number leaves (inl card) = inl card.1
-behind_bad given left number leaves (inr served) = inr served.1
+behind_bad : (given : Given) (left : Option (List ℕ)) (number : ℕ) (leaves : Leaves) (first : Machine) → ComesTo given (TheCard first) left (play.BadLine number) leaves → EndsInLines given left (play.BadLine number) leaves
+behind_bad given left number leaves first (inl card) = ends_played given left (play.BadLine number) leaves first card.1
+behind_bad given left number leaves first (inr served) = ends_served given left (play.BadLine number) leaves first served.0 served.1 served.1.comes
 
 finished_so : (given : Given) (status : ℕ) (left : Option (List ℕ)) (leaves : Leaves) → EndsInLines given left play.Finished leaves → status ≡ 0 → (finishes : Finishes given status) × OpensAt given (Behind finishes.card)
 finished_so given status left leaves came is = (finished given status left came.ends is, came.opens)
@@ -514,8 +532,8 @@ verdict_of given left taken FormatFailed leaves status is told comes boxed used 
 verdict_of given left taken EepromFailed leaves status is told comes boxed used sound four six = absurd (six refl)
 verdict_of given left taken (NotACard at) leaves status is told comes boxed used sound four six = inr (inr (inr (no_card_so given status at left taken leaves is comes told)))
 verdict_of given left taken (NoApplet shelf) leaves status is told comes boxed used sound four six = inr (inr (inr (no_box_so given status shelf left taken leaves (boxed is) is comes told)))
-verdict_of given left taken (Played play.Finished) leaves status is told comes boxed used sound four six = inr (inl (finished_so given status left leaves (ends_in_lines given left play.Finished leaves (behind_end given left leaves comes)) is))
-verdict_of given left taken (Played (play.BadLine number)) leaves status is told comes boxed used sound four six = inr (inr (inl (stopped_so given status number left taken leaves (ends_in_lines given left (play.BadLine number) leaves (behind_bad given left number leaves comes)) is told)))
+verdict_of given left taken (Played play.Finished) leaves status is told comes boxed used sound four six = inr (inl (finished_so given status left leaves (behind_end given left leaves comes.0 comes.1) is))
+verdict_of given left taken (Played (play.BadLine number)) leaves status is told comes boxed used sound four six = inr (inr (inl (stopped_so given status number left taken leaves (behind_bad given left number leaves comes.0 comes.1) is told)))
 verdict_of given left taken (Played play.ReadFailed) leaves status is told comes boxed used sound four six = absurd (sound refl)
 verdict_of given left taken (Played play.SinkFailed) leaves status is told comes boxed used sound four six = absurd (four refl)
 verdict_of given left taken (Played play.ResetFailed) leaves status is told comes boxed used sound four six = absurd (six refl)

@@ -4,10 +4,8 @@ use Rattle.uicc_types.specs.Counts.{Meter}
 use Rattle.card_state.specs.Persistent.{Persistent}
 use Rattle.applet_trait.specs.Minds.{AppletState}
 use Rattle.uicc_run.specs.Endings.{KeepsBytes}
-use Rattle.uicc_run.specs.Headline.{Comes}
-use Rattle.uicc_run.specs.Loading.{ComesToLoad}
 use Rattle.uicc_run.specs.Opening.{IsGiven}
-use Rattle.uicc_run.specs.Playing.{Given}
+use Rattle.uicc_run.specs.Playing.{Given, Leaves}
 use Rattle.uicc_run.specs.Stores.{content_in, held_in, memory_in}
 use Rattle.uicc_run.specs.declared.endings.Ending.{Ending}
 
@@ -22,10 +20,9 @@ given_over given pages taken contents memory meter meter_now boxes over same sam
 }
 
 -- and so is what it comes to
-pub comes_over : (given : Given) (pages : Bool) (left taken contents : Option (List ℕ)) (ending : Ending) (meter : Meter) (boxes : List (Option AppletState)) → given.pages ≡ pages
-    → Comes given left ending (record { held = held_in pages contents; taken = taken; meter = meter; boxes = boxes }) → Comes given left ending (record { held = held_in given.pages contents; taken = taken; meter = meter; boxes = boxes })
-comes_over given pages left taken contents ending meter boxes over comes =
-    subst (λ p. Comes given left ending (record { held = held_in p contents; taken = taken; meter = meter; boxes = boxes })) (sym over) comes
+pub comes_over : (P : Leaves → Type 0) (given : Given) (pages : Bool) (taken contents : Option (List ℕ)) (meter : Meter) (boxes : List (Option AppletState)) → given.pages ≡ pages
+    → P (record { held = held_in pages contents; taken = taken; meter = meter; boxes = boxes }) → P (record { held = held_in given.pages contents; taken = taken; meter = meter; boxes = boxes })
+comes_over P given pages taken contents meter boxes over comes = subst (λ p. P (record { held = held_in p contents; taken = taken; meter = meter; boxes = boxes })) (sym over) comes
 
 pub keeps_over : (given : Given) (pages : Bool) (old new : Option (List ℕ)) → given.pages ≡ pages → content_in pages new ≡ content_in pages old → content_in given.pages new ≡ content_in given.pages old
 keeps_over given pages old new over same = subst (λ p. content_in p new ≡ content_in p old) (sym over) same
@@ -34,9 +31,3 @@ keeps_over given pages old new over same = subst (λ p. content_in p new ≡ con
 pub kept_over : (given : Given) (pages : Bool) (ending : Ending) (contents contents_now : Option (List ℕ)) → given.pages ≡ pages → contents_now ≡ contents → KeepsBytes ending (held_in given.pages contents) → KeepsBytes ending (held_in pages contents_now)
 kept_over given pages ending contents contents_now over same kept =
     subst (λ e. KeepsBytes ending (held_in pages e)) (sym same) (subst (λ p. KeepsBytes ending (held_in p contents)) over kept)
-
--- and of a long run
-pub load_comes_over : (given : Given) (start count : ℕ) (pages : Bool) (taken contents : Option (List ℕ)) (ending : Ending) (meter : Meter) (boxes : List (Option AppletState)) → given.pages ≡ pages
-    → ComesToLoad given start count ending (record { held = held_in pages contents; taken = taken; meter = meter; boxes = boxes }) → ComesToLoad given start count ending (record { held = held_in given.pages contents; taken = taken; meter = meter; boxes = boxes })
-load_comes_over given start count pages taken contents ending meter boxes over comes =
-    subst (λ p. ComesToLoad given start count ending (record { held = held_in p contents; taken = taken; meter = meter; boxes = boxes })) (sym over) comes

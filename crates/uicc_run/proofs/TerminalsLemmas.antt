@@ -14,7 +14,7 @@ use Rattle.bip_runs.specs.Serving.{EndsServing}
 use Rattle.bip_runs.specs.Traces.{trace_of}
 use Rattle.uicc_run.specs.Endings.{status_for}
 use Rattle.uicc_run.specs.Headline.{Closes, last_text}
-use Rattle.uicc_run.specs.Running.{ServesChannels}
+use Rattle.uicc_run.specs.Running.{ServesToEnd}
 use Rattle.uicc_run.specs.Worlds.{World, Seen, seen}
 use Rattle.uicc_run.specs.Scripts.{StopsAndTells, TellsNext}
 use Rattle.uicc_run.specs.Terminals.{AskForBip, ComesToBip, TracesBip}
@@ -144,12 +144,10 @@ bip_two text begun before seen was traces two = elim traces.closes [
 -- ---- all of it
 
 -- what a run comes to whose trace is that of the channels
-pub channels_served : {MemoryIsSame BoxesAreSame : Type 0} → (words : List (List ℕ)) (status : ℕ) (before after : World)
-    → ((text : List ℕ) → AskForBip words → before.left ≡ Some text → TracesBip text before.taken (seen status before after)) → (AskForBip words → MemoryIsSame × BoxesAreSame) → (AskForBip words → status ≤ 5)
-    → (status ≡ 3 → Rose before.source after.source) → (status ≡ 4 → Rose before.sink after.sink) → ServesChannels words status before after MemoryIsSame BoxesAreSame
-channels_served words status before after traced same low read put = record {
-  bip = traced;
-  bip_untouched = same;
+pub serves_to_end : (words : List (List ℕ)) (status : ℕ) (before after : World)
+    → ((text : List ℕ) → AskForBip words → before.left ≡ Some text → TracesBip text before.taken (seen status before after)) → (AskForBip words → status ≤ 5)
+    → (status ≡ 3 → Rose before.source after.source) → (status ≡ 4 → Rose before.sink after.sink) → ServesToEnd words status before after
+serves_to_end words status before after traced low read put = record {
   bip_statuses = low;
   bip_complete = λ text asks told sound good. bip_completes text before.taken (seen status before after) (traced text asks told) good (λ three. sound.source_sound (read three)) (λ four. sound.sink_sound (put four));
   bip_bad_line = λ text begun asks told was sound found bad.

@@ -8,10 +8,10 @@ use Rattle.uicc_types.specs.declared.runs.Step.TheVariants as step
 use Rattle.uicc_types.specs.declared.runs.TraceItem.{TraceItem}
 use Rattle.t0_link.specs.Linking.{link_answer}
 use Rattle.card_model.specs.Counts.{is_cut, is_failure}
-use Rattle.card_model.specs.Runs.{StepGives, armed_after}
-use Rattle.card_model.specs.States.{Machine}
+use Rattle.card_model.specs.Runs.{armed_after}
 use Rattle.run_steps.specs.Stepping.{BreaksOff}
 use Rattle.run_steps.specs.Tpdus.{BreaksOffTpdu, CourseGives, steps_of}
+use Rattle.run_steps.specs.Views.{CardView, StepShows}
 use Rattle.run_steps.specs.Shown.{shown_for}
 
 -- what a line after `start` is for: a step of the card, or a TPDU for the link
@@ -41,43 +41,43 @@ kept_behind step.Reset kept = None
 kept_behind (step.Plan plan) kept = kept
 
 -- the card took this step, and the trace shows what the card did
-pub record StepIsTold (step : Step) (kept : Option Answer) (old : Machine) (account : Account) (after : Option Answer) (new : Machine) : Type 0 where
+pub record StepIsTold (step : Step) (kept : Option Answer) (old : CardView) (account : Account) (after : Option Answer) (new : CardView) : Type 0 where
   pub steps_are : account.steps ≡ step ∷ []
-  pub gives : StepGives old step account.own new
+  pub gives : StepShows old step account.own new
   pub shown_is : account.shown ≡ account.own
   pub keeps : after ≡ kept_behind step kept
 
 -- The link was given this TPDU. The card took the step of the APDU that was passed, or none where the link answered by itself, and the
 -- trace shows the TPDU and the link's answer.
-pub record TpduIsTold (tpdu : List ℕ) (kept : Option Answer) (old : Machine) (account : Account) (after : Option Answer) (new : Machine) : Type 0 where
+pub record TpduIsTold (tpdu : List ℕ) (kept : Option Answer) (old : CardView) (account : Account) (after : Option Answer) (new : CardView) : Type 0 where
   pub reply : TraceItem
   pub steps_are : account.steps ≡ steps_of (link_answer kept tpdu)
   pub gives : CourseGives (link_answer kept tpdu) old account.own reply after new
   pub shown_is : account.shown ≡ shown_for tpdu reply
 
 -- what the link kept and the card before it, what came of it, and the two behind it
-abbrev pub IsTold : Deed → Option Answer → Machine → Account → Option Answer → Machine → Type 0
+abbrev pub IsTold : Deed → Option Answer → CardView → Account → Option Answer → CardView → Type 0
 IsTold (Takes step) kept old account after new = StepIsTold step kept old account after new
 IsTold (Transfers tpdu) kept old account after new = TpduIsTold tpdu kept old account after new
 
 -- ---- one line after the other
 
-pub record NothingIsTold (kept : Option Answer) (old : Machine) (account : Account) (after : Option Answer) (new : Machine) : Type 0 where
+pub record NothingIsTold (kept : Option Answer) (old : CardView) (account : Account) (after : Option Answer) (new : CardView) : Type 0 where
   pub account_is : account ≡ nothing
   pub keeps : after ≡ kept
   pub stays : new ≡ old
 
 -- one thing was done, and then others
-pub record ThenTold (deed : Deed) (Rest : Option Answer → Machine → Account → Type 0) (kept : Option Answer) (old : Machine) (account : Account) : Type 0 where
+pub record ThenTold (deed : Deed) (Rest : Option Answer → CardView → Account → Type 0) (kept : Option Answer) (old : CardView) (account : Account) : Type 0 where
   pub first : Account
   pub others : Account
   pub between : Option Answer
-  pub middle : Machine
+  pub middle : CardView
   pub told : IsTold deed kept old first between middle
   pub rest : Rest between middle others
   pub account_is : account ≡ joined first others
 
-abbrev pub AreTold : List Deed → Option Answer → Machine → Account → Option Answer → Machine → Type 0
+abbrev pub AreTold : List Deed → Option Answer → CardView → Account → Option Answer → CardView → Type 0
 AreTold [] kept old account after new = NothingIsTold kept old account after new
 AreTold (deed ∷ more) kept old account after new = ThenTold deed (λ between middle others. AreTold more between middle others after new) kept old account
 
@@ -93,7 +93,8 @@ pub record ShowsAsMany (own shown : List TraceItem) : Type 0 where
 
 -- What a line has shown, and where card and link stand then, where the sink fails in the last line of that: what the link kept, the card,
 -- what the card showed of its own, what was to be written, the plan that waited, those that were set, and what link and card are then.
-abbrev pub BreaksOffDeed : Deed → Option Answer → Machine → List TraceItem → List TraceItem → Plan → List Plan → Option Answer → Machine → Type 0
-BreaksOffDeed (Takes step) kept old own pending waiting set after new = (pending ≡ own) × BreaksOff old step own (armed_after waiting (step ∷ [])) set new
+abbrev pub BreaksOffDeed : Deed → Option Answer → CardView → List TraceItem → List TraceItem → Plan → List Plan → Option Answer → CardView → Type 0
+BreaksOffDeed (Takes step) kept old own pending waiting set after new =
+    (pending ≡ own) × BreaksOff old step own (armed_after waiting (step ∷ [])) set new
 BreaksOffDeed (Transfers tpdu) kept old own pending waiting set after new =
     BreaksOffTpdu old tpdu (link_answer kept tpdu) own pending (armed_after waiting (steps_of (link_answer kept tpdu))) set kept after new

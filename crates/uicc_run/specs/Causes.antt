@@ -60,8 +60,8 @@ pub record EndsFor (ending : Ending) (before after : World) (TraceIsSame MemoryI
 -- that it was quiet where no card was open; and how many bytes of the script were taken at most.
 pub record ReadsUntold (IsFor : Given → Type 0) (ending : Ending) (before after : World) : Type 0 where
   pub reads : (given : Given) → IsFor given → ReadsTo given after.left ending
-  pub shows : (given : Given) → IsFor given → before.taken ≡ Some given.before
-      → ShowsTo given before.meter after.left ending after.taken after.meter
+  pub shows : (given : Given) → IsFor given → before.taken ≡ Some given.before → before.meter ≡ given.meter
+      → ShowsTo given after.left ending (left_in given.pages after)
   pub quiet : (given : Given) → IsFor given → IsUnopened ending → IsQuiet before after
   pub taken : (text : List ℕ) → before.left ≡ Some text → IsTaken (MOST_BYTES + 1) text after.left
 

@@ -15,12 +15,14 @@ use Rattle.card_state.specs.Migration.{migrated}
 use Rattle.card_state.specs.Persistent.{Persistent}
 use Rattle.card_state.specs.Sections.{bare_card}
 use Rattle.card_model.specs.Counts.{IsCounted}
+use Rattle.card_model.specs.States.{Machine}
 use Rattle.card_core.specs.Openings.{with_all_shelves}
 use Rattle.card_core.specs.Boxes.{IsFirstWithoutBox}
 use Rattle.command_line.specs.declared.requests.Mode.{Mode}
 use Rattle.command_line.specs.declared.requests.Mode.TheVariants as mode
 use Rattle.section_lines.specs.SectionReading.{EndsInSection, IsTakenForLast}
 use Rattle.section_lines.specs.Script.{with_lines}
+use Rattle.run_steps.specs.Views.{TheCard}
 use Rattle.uicc_run.specs.Endings.{line_for, status_for}
 use Rattle.uicc_run.specs.Listeners.{is_handset, listener_of}
 use Rattle.uicc_run.specs.Serving.{ComesTo}
@@ -121,7 +123,7 @@ Comes given left FormatFailed leaves = FailsToFormat given left leaves
 Comes given left EepromFailed leaves = FailsToOpen given left leaves
 Comes given left (NotACard at) leaves = IsNoCard given at left leaves
 Comes given left (NoApplet shelf) leaves = LacksBox given shelf left leaves
-Comes given left (Played end) leaves = ComesTo given left end leaves
+Comes given left (Played end) leaves = (first : Machine) × ComesTo given (TheCard first) left end leaves
 Comes given left (Counted lines counts) leaves = ⊥
 Comes given left LoadFailed leaves = ⊥
 

@@ -6,13 +6,13 @@ use Rattle.card_state.specs.Sections.{bare_card}
 use Rattle.card_state.specs.Standing.{stands_for}
 use Rattle.applet_trait.specs.Minds.{AppletState}
 use Rattle.card_model.specs.Counts.{IsCounted}
-use Rattle.card_model.specs.Runs.{IsRun}
 use Rattle.handset_model.specs.Legal.{IsLegal}
 use Rattle.command_line.specs.Model.{IsRequest}
 use Rattle.command_line.specs.declared.requests.Devices.{Devices}
 use Rattle.command_line.specs.declared.requests.Mode.TheVariants.{Load}
 use Rattle.section_lines.specs.Script.{with_lines}
 use Rattle.run_steps.specs.Stepping.{Moment}
+use Rattle.run_steps.specs.Views.{RunShows, TheCard}
 use Rattle.long_runs.specs.LoadLines.{made_lines}
 use Rattle.long_runs.specs.FixedRows.{fixed_rows}
 use Rattle.long_runs.specs.Rows.{IsFirstRefused}
@@ -48,7 +48,7 @@ IsFixedCard boxes card = with_lines boxes (Some bare_card) fixed_rows ≡ Ok (So
 
 -- what its handset begins with: the trace is not kept
 abbrev pub load_beginning : Given → Persistent → Beginning
-load_beginning given card = record { first = first_machine card given.boxes; before = []; meter = given.meter }
+load_beginning given card = record { first = TheCard (first_machine card given.boxes); before = []; meter = given.meter }
 
 -- this is left of a moment
 pub record IsLeft (leaves : Leaves) (at : Moment) : Type 0 where
@@ -65,7 +65,7 @@ pub record Loads (given : Given) (start count lines : ℕ) (counts : Counts) (le
   pub lines_are : lines ≡ count
   pub counted : IsCountedRun (made_lines start count) (load_beginning given card) counts at
   pub legal : IsLegal (made_lines start count) (trace counted.log)
-  pub of_card : IsRun (first_machine card given.boxes) (steps counted.log) (shown counted.log) counted.machine
+  pub of_card : RunShows (TheCard (first_machine card given.boxes)) (steps counted.log) (shown counted.log) counted.card
   pub left : IsLeft leaves at
 
 -- the memory failed in a reset that was asked for amid the lines

@@ -15,10 +15,11 @@ use Rattle.command_line.specs.Model.{IsRequest}
 use Rattle.command_line.specs.declared.requests.Request.{Request}
 use Rattle.section_lines.specs.SectionReading.{AtStart}
 use Rattle.run_steps.specs.Stepping.{Moment}
+use Rattle.run_steps.specs.Views.{CardView}
 use Rattle.phone_runs.specs.Playing.{Begins}
 use Rattle.uicc_run.specs.Headline.{ReadsForCard, first_of, is_served_by}
 use Rattle.uicc_run.specs.Listeners.{is_handset}
-use Rattle.uicc_run.specs.Playing.{Given, IsOpened, IsPlayed}
+use Rattle.uicc_run.specs.Playing.{AreReadInPlace, Given, IsFirst, IsOpened}
 use Rattle.uicc_run.specs.Worlds.{World}
 use Rattle.uicc_run.specs.Serving.{beginning}
 use Rattle.uicc_run.specs.Stores.{memory_in}
@@ -47,14 +48,15 @@ pub record RunsFrom (given : Given) (words : List (List ℕ)) (before : World) :
   pub others_are : IsGiven given before.taken (memory_in given.pages before.contents) before.meter before.boxes
   pub is_asked : (asked : Request) → IsRequest words asked → IsAskedFor given asked
 
--- The same of what decides which lines are read: nothing is said of the memory and its counts,
+-- The same over any memory: nothing is said of what it holds,
 pub record ReadsFrom (given : Given) (words : List (List ℕ)) (before : World) : Type 0 where
   pub text_is : before.left ≡ Some given.text
   pub before_is : before.taken ≡ Some given.before
+  pub meter_is : before.meter ≡ given.meter
   pub boxes_are : before.boxes ≡ given.boxes
   pub is_asked : (asked : Request) → IsRequest words asked → IsAskedFor given asked
 
--- nor of the sink.
+-- nor of its counts and the sink.
 pub record IsToRead (given : Given) (words : List (List ℕ)) (before : World) : Type 0 where
   pub text_is : before.left ≡ Some given.text
   pub boxes_are : before.boxes ≡ given.boxes
@@ -81,14 +83,15 @@ pub record IsMade (given : Given) (script : ScriptReader) (left taken : Option (
   pub counted : IsCounted given.meter meter [] []
   pub boxes_are : boxes ≡ given.boxes
 
--- the card was opened that the lines before `start` and the memory are for, and nothing was done to it
-pub record IsStarted (given : Given) (script : ScriptReader) (left : Option (List ℕ)) (now : Moment) : Type 0 where
+-- the card was opened that the lines before `start` and the memory are for, it is seen so, and nothing was done to it
+pub record IsStarted (given : Given) (first : CardView) (script : ScriptReader) (left : Option (List ℕ)) (now : Moment) : Type 0 where
   pub found : LineList
   pub section : List ScriptLine
-  pub start : Persistent
-  pub lines : IsPlayed given found section [] start
+  pub card : Option Persistent
+  pub lines : AreReadInPlace given found section [] card
+  pub opened : IsFirst given section first
   pub follows : Follows given.text found script left
-  pub begins : Begins (beginning given start) now
+  pub begins : Begins (beginning given first) now
 
 -- a store with this mark was formatted as a card is described, or it was left as it was where none is
 abbrev pub makes : Option Persistent → ℕ → Option (List ℕ) → Option (List ℕ) → Type 0

@@ -21,11 +21,12 @@ use Rattle.script_reader.specs.declared.reader.ScriptReader.{ScriptReader}
 use Rattle.card_state.specs.Persistent.{Persistent}
 use Rattle.applet_trait.specs.Minds.{AppletState}
 use Rattle.card_model.specs.Counts.{IsCounted}
-use Rattle.card_model.specs.Runs.{IsRun, StepEnds, plan_given, armed_after, waiting_after}
+use Rattle.card_model.specs.Runs.{plan_given, armed_after, waiting_after}
 use Rattle.card_model.specs.States.{IsGood, Machine}
 use Rattle.section_lines.specs.Script.{with_lines}
 use Rattle.run_steps.specs.Runs.{ends_calm, text_of}
-use Rattle.run_steps.specs.Stepping.{IsCutOff, Moment}
+use Rattle.run_steps.specs.Stepping.{Holds, IsCutOff, IsSeen, Moment, Rests}
+use Rattle.run_steps.specs.Views.{CardView, IsRunOf, Known, LastShows, RunShows}
 use Rattle.uicc_run.specs.Accounts.{Account, AreTold, BreaksOffDeed, Deed, ShowsAsMany, Takes}
 use Rattle.uicc_run.specs.Runs.{HasKindsOf, first_machine}
 use Rattle.uicc_run.specs.Steps.{deeds, deeds_of, may_stand}
@@ -60,118 +61,129 @@ abbrev pub IsOpened : List (Option AppletState) → Option Persistent → Result
 IsOpened boxes (Some bare) memory section start = with_lines boxes (Some bare) section ≡ Ok (Some start)
 IsOpened boxes None memory section start = (with_lines boxes None section ≡ Ok None) × (memory ≡ Ok start)
 
--- The lines up to `start` and behind it that were read, and the card that was opened: a good one, in which each applet that is
--- registered has its box.
-pub record IsPlayed (given : Given) (found : LineList) (section played : List ScriptLine) (start : Persistent) : Type 0 where
+-- The lines up to `start` and behind it were read, each in its place and with one reading alone; those before it describe this card, or
+-- none.
+pub record AreReadInPlace (given : Given) (found : LineList) (section played : List ScriptLine) (card : Option Persistent) : Type 0 where
   pub read : AreRead found (section ++ Start ∷ played)
-  pub opened : IsOpened given.boxes given.first given.memory section start
-  pub good : IsGood (first_machine start given.boxes).card
+  pub described : with_lines given.boxes given.first section ≡ Ok card
   pub in_place : AllPass (may_stand given.is_served) played
 
--- lines after `start` have been carried out, all that they show was taken, and the link keeps this
-pub record IsPlaying (given : Given) (script : ScriptReader) (left : Option (List ℕ)) (kept : Option Answer) (now : Moment) : Type 0 where
+-- The card itself as it is opened behind these lines: it holds what they describe, or what the memory stood for, and it is a good one, in
+-- which each applet that is registered has its box.
+pub record IsCardOpened (given : Given) (section : List ScriptLine) (machine : Machine) : Type 0 where
+  pub start : Persistent
+  pub opened : IsOpened given.boxes given.first given.memory section start
+  pub machine_is : machine ≡ first_machine start given.boxes
+  pub good : IsGood machine.card
+
+-- how the card is seen that is opened behind these lines: that very card, or one that has power
+abbrev pub IsFirst : Given → List ScriptLine → CardView → Type 0
+IsFirst given section first = Known (IsCardOpened given section) (λ on. on ≡ true) first
+
+-- Lines after `start` were read and carried out, by a card that was seen so first: what they came to, line by line (`are_told`), what the
+-- card showed of its own in its steps (`run`), how it is seen behind them, and what the link keeps then.
+pub record CarriedOut (given : Given) (first : CardView) : Type 0 where
   pub found : LineList
   pub section : List ScriptLine
   pub played : List ScriptLine
-  pub start : Persistent
-  pub machine : Machine
+  pub described : Option Persistent
   pub account : Account
+  pub kept : Option Answer
+  pub card : CardView
+  pub lines : AreReadInPlace given found section played described
+  pub opened : IsFirst given section first
+  pub are_told : AreTold (deeds played) None first account kept card
+  pub run : RunShows first account.steps account.own card
+  pub shows : ShowsAsMany account.own account.shown
+
+-- ---- between two lines
+
+-- lines after `start` have been carried out, all that they show was taken, and the link keeps this
+pub record IsPlaying (given : Given) (first : CardView) (script : ScriptReader) (left : Option (List ℕ)) (kept : Option Answer) (now : Moment) : Type 0 where
+  pub done : CarriedOut given first
   pub unserved : given.is_served ≡ false
-  pub lines : IsPlayed given found section played start
-  pub are_told : AreTold (deeds played) None (first_machine start given.boxes) account kept machine
-  pub follows : Follows given.text found script left
-  pub told : now.machine ≡ Some machine
-  pub written : now.taken ≡ Some (given.before ++ text_of account.shown)
-  pub counted : IsCounted given.meter now.meter (plan_given account.steps) account.own
-  pub waits : now.waiting ≡ waiting_after NONE account.steps
-  pub rests : ends_calm account.own ≡ true → now.is_due ≡ false
+  pub follows : Follows given.text done.found script left
+  pub keeps : done.kept ≡ kept
+  pub seen : IsSeen done.card now
+  pub written : now.taken ≡ Some (given.before ++ text_of done.account.shown)
+  pub counted : IsCounted given.meter now.meter (plan_given done.account.steps) done.account.own
+  pub waits : now.waiting ≡ waiting_after NONE done.account.steps
+  pub rests : Rests done.card done.account.own now.is_due
+
+-- ---- why it ends
 
 -- why a run ends after `start`
 abbrev pub StopsPlaying : Given → LineList → Option (List ℕ) → PlayEnd → Type 0
 StopsPlaying given found left end = StopsReading (may_stand given.is_served) given.text found left end
 
--- The run ended so: the card that was opened took the steps of the lines after `start`, of which none was the last, and of a TPDU the
--- step of the APDU that the link passed, or none. The trace shows what the card showed, or what the link made of that. Each box that the card has at its end is handed back on its shelf, of its kind; where nothing failed in the
--- last command or reset just these are, with the minds that they have there.
-pub record EndsSo (given : Given) (left : Option (List ℕ)) (end : PlayEnd) (now : Leaves) : Type 0 where
-  pub found : LineList
-  pub section : List ScriptLine
-  pub played : List ScriptLine
-  pub start : Persistent
-  pub machine : Machine
-  pub account : Account
-  pub kept : Option Answer
-  pub lines : IsPlayed given found section played start
-  pub are_told : AreTold (deeds played) None (first_machine start given.boxes) account kept machine
-  pub of_card : IsRun (first_machine start given.boxes) account.steps account.own machine
-  pub shows : ShowsAsMany account.own account.shown
-  pub cause : StopsPlaying given found left end
+-- What the card itself leaves: the memory stands for what it holds. Each box that it has is handed back on its shelf, of its kind; where
+-- nothing failed in the last command or reset just these are, with the minds that they have.
+pub record CardLeaves (machine : Machine) (own : List TraceItem) (now : Leaves) : Type 0 where
   pub stands : now.held ≡ Some machine.card.persistent
-  pub written : now.taken ≡ Some (given.before ++ text_of account.shown)
-  pub counted : IsCounted given.meter now.meter (plan_given account.steps) account.own
   pub kinds : HasKindsOf machine.card.boxes now.boxes
-  pub minds : ends_calm account.own ≡ true → now.boxes ≡ machine.card.boxes
+  pub minds : ends_calm own ≡ true → now.boxes ≡ machine.card.boxes
+
+-- The run ended so: the card that was opened took the steps of the lines after `start`, of which none was the last, and of a TPDU the
+-- step of the APDU that the link passed, or none. The trace shows what the card showed, or what the link made of that. The device counted
+-- what the card showed, and was given just the plans that were due.
+pub record EndsSo (given : Given) (first : CardView) (left : Option (List ℕ)) (end : PlayEnd) (now : Leaves) : Type 0 where
+  pub done : CarriedOut given first
+  pub cause : StopsPlaying given done.found left end
+  pub written : now.taken ≡ Some (given.before ++ text_of done.account.shown)
+  pub counted : IsCounted given.meter now.meter (plan_given done.account.steps) done.account.own
+  pub leaves : Known (λ machine. CardLeaves machine done.account.own now) (λ on. Unit {0}) done.card
 
 -- lines after `start` have been carried out, and the next line of the script is for this
-pub record Reaches (given : Given) (deed : Deed) : Type 0 where
-  pub found : LineList
-  pub section : List ScriptLine
-  pub played : List ScriptLine
-  pub start : Persistent
-  pub old : Machine
-  pub account : Account
-  pub kept : Option Answer
-  pub lines_are : IsPlayed given found section played start
-  pub are_told : AreTold (deeds played) None (first_machine start given.boxes) account kept old
-  pub of_card : IsRun (first_machine start given.boxes) account.steps account.own old
-  pub shows : ShowsAsMany account.own account.shown
+pub record Reaches (given : Given) (first : CardView) (deed : Deed) : Type 0 where
+  pub done : CarriedOut given first
   pub bytes : List ℕ
   pub more : LineList
   pub line : ScriptLine
-  pub parted : lines given.text ≡ found ++ Some bytes ∷ more
+  pub parted : lines given.text ≡ done.found ++ Some bytes ∷ more
   pub read : IsOnly (IsLine bytes) line
   pub one_deed : deeds_of line ≡ deed ∷ []
 
 -- The sink failed in a line: it has taken all that the lines before show, and what this one shows up to somewhere in the last line of it.
-pub record BreaksSo (given : Given) (now : Leaves) : Type 0 where
+pub record BreaksSo (given : Given) (first : CardView) (now : Leaves) : Type 0 where
   pub deed : Deed
-  pub at : Reaches given deed
-  pub machine : Machine
+  pub at : Reaches given first deed
+  pub card : CardView
   pub own : List TraceItem
   pub pending : List TraceItem
   pub front : List ℕ
   pub set : List Plan
   pub after : Option Answer
-  pub broken : BreaksOffDeed deed at.kept at.old own pending (waiting_after NONE at.account.steps) set after machine
-  pub shows : ShowsAsMany (at.account.own ++ own) (at.account.shown ++ pending)
+  pub broken : BreaksOffDeed deed at.done.kept at.done.card own pending (waiting_after NONE at.done.account.steps) set after card
+  pub shows : ShowsAsMany (at.done.account.own ++ own) (at.done.account.shown ++ pending)
   pub cut_off : IsCutOff pending front
-  pub stands : now.held ≡ Some machine.card.persistent
-  pub written : now.taken ≡ Some (given.before ++ text_of at.account.shown ++ front)
-  pub counted : IsCounted given.meter now.meter (plan_given at.account.steps ++ set) (at.account.own ++ own)
+  pub stands : Holds card now.held
+  pub written : now.taken ≡ Some (given.before ++ text_of at.done.account.shown ++ front)
+  pub counted : IsCounted given.meter now.meter (plan_given at.done.account.steps ++ set) (at.done.account.own ++ own)
 
 -- The memory failed in the reset that the next line of the script asks for: the trace says so behind all that the lines before show. A
--- fault was counted for it in that reset itself, from what the memory had counted before it.
-pub record FailsSo (given : Given) (now : Leaves) : Type 0 where
-  pub at : Reaches given (Takes step.Reset)
-  pub machine : Machine
+-- fault was counted for it in that reset itself, from what the memory had counted before it. Of the card itself, this is its run.
+pub record FailsSo (given : Given) (first : CardView) (now : Leaves) : Type 0 where
+  pub at : Reaches given first (Takes step.Reset)
+  pub card : CardView
   pub last : List TraceItem
-  pub ends : StepEnds at.old step.Reset last machine
+  pub ends : LastShows at.done.card step.Reset last card
   pub before_it : Meter
-  pub counted_before : IsCounted given.meter before_it (plan_given at.account.steps) at.account.own
-  pub counted_in_it : IsCounted before_it now.meter (armed_after (waiting_after NONE at.account.steps) (step.Reset ∷ [])) last
-  pub of_card : IsRun (first_machine at.start given.boxes) (at.account.steps ++ step.Reset ∷ []) (at.account.own ++ last) machine
-  pub stands : now.held ≡ Some machine.card.persistent
-  pub written : now.taken ≡ Some (given.before ++ text_of (at.account.shown ++ last))
-  pub counted : IsCounted given.meter now.meter (plan_given (at.account.steps ++ step.Reset ∷ [])) (at.account.own ++ last)
+  pub counted_before : IsCounted given.meter before_it (plan_given at.done.account.steps) at.done.account.own
+  pub counted_in_it : IsCounted before_it now.meter (armed_after (waiting_after NONE at.done.account.steps) (step.Reset ∷ [])) last
+  pub of_card : IsRunOf first (at.done.account.steps ++ step.Reset ∷ []) (at.done.account.own ++ last) card
+  pub stands : Holds card now.held
+  pub written : now.taken ≡ Some (given.before ++ text_of (at.done.account.shown ++ last))
+  pub counted : IsCounted given.meter now.meter (plan_given (at.done.account.steps ++ step.Reset ∷ [])) (at.done.account.own ++ last)
 
-abbrev pub CardComesTo : Given → Option (List ℕ) → PlayEnd → Leaves → Type 0
-CardComesTo given left Finished now = EndsSo given left Finished now
-CardComesTo given left (BadLine number) now = EndsSo given left (BadLine number) now
-CardComesTo given left ReadFailed now = EndsSo given left ReadFailed now
-CardComesTo given left SinkFailed now = BreaksSo given now
-CardComesTo given left ResetFailed now = FailsSo given now
+-- by each end
+abbrev pub CardComesTo : Given → CardView → Option (List ℕ) → PlayEnd → Leaves → Type 0
+CardComesTo given first left Finished now = EndsSo given first left Finished now
+CardComesTo given first left (BadLine number) now = EndsSo given first left (BadLine number) now
+CardComesTo given first left ReadFailed now = EndsSo given first left ReadFailed now
+CardComesTo given first left SinkFailed now = BreaksSo given first now
+CardComesTo given first left ResetFailed now = FailsSo given first now
 
 -- what a line after `start` comes to: it was carried out, or the run ends
-abbrev pub GivesPlayed : Given → ScriptReader → Option (List ℕ) → Option Answer → Moment → Result (Unit {0}) PlayEnd → Type 0
-GivesPlayed given script left kept now (Ok done) = IsPlaying given script left kept now
-GivesPlayed given script left kept now (Err end) = CardComesTo given left end (left_at now)
+abbrev pub GivesPlayed : Given → CardView → ScriptReader → Option (List ℕ) → Option Answer → Moment → Result (Unit {0}) PlayEnd → Type 0
+GivesPlayed given first script left kept now (Ok done) = IsPlaying given first script left kept now
+GivesPlayed given first script left kept now (Err end) = CardComesTo given first left end (left_at now)

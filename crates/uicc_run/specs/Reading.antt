@@ -1,26 +1,14 @@
 -- Which lines of its script a run reads, and why no more of them, whatever its memory holds or tells.
-use Rattle.std.specs.List.{AllPass}
-use Rattle.std.specs.Prelude.{◌≡◌, ℕ, List, [], ◌∷◌, ◌++◌, Option, Ok}
+use Rattle.std.specs.Prelude.{◌≡◌, ℕ, List, [], ◌++◌, Option}
 use Rattle.byte_streams.specs.Lines.{LineList, lines}
 use Rattle.script_form.specs.declared.lines.ScriptLine.{ScriptLine}
-use Rattle.script_form.specs.declared.lines.ScriptLine.TheVariants.{Start}
-use Rattle.script_reader.specs.Said.{AreRead}
 use Rattle.script_reader.specs.declared.behind.PlayEnd.{PlayEnd}
 use Rattle.script_reader.specs.declared.behind.PlayEnd.TheVariants.{Finished, BadLine, ReadFailed, SinkFailed, ResetFailed}
 use Rattle.card_state.specs.Persistent.{Persistent}
 use Rattle.section_lines.specs.SectionReading.{EndsInSection}
-use Rattle.section_lines.specs.Script.{with_lines}
-use Rattle.uicc_run.specs.Playing.{Given, StopsPlaying}
-use Rattle.uicc_run.specs.Steps.{may_stand}
+use Rattle.uicc_run.specs.Playing.{AreReadInPlace, Given, StopsPlaying}
 use Rattle.uicc_run.specs.declared.endings.Ending.{Ending}
 use Rattle.uicc_run.specs.declared.endings.Ending.TheVariants.{Usage, NoMemory, Section, FormatFailed, EepromFailed, NotACard, NoApplet, Played, Counted, LoadFailed}
-
--- The lines up to `start` and behind it were read, each in its place and with one reading alone; those before it describe this card, or
--- none.
-pub record AreReadInPlace (given : Given) (found : LineList) (section played : List ScriptLine) (card : Option Persistent) : Type 0 where
-  pub read : AreRead found (section ++ Start ∷ played)
-  pub described : with_lines given.boxes given.first section ≡ Ok card
-  pub in_place : AllPass (may_stand given.is_served) played
 
 -- `start` was read
 pub record HasStarted (given : Given) : Type 0 where

@@ -24,13 +24,6 @@ use Rattle.uicc_run.specs.Unplanned.{IsUnplanned}
 use Rattle.uicc_run.specs.declared.endings.Ending.{Ending}
 use Rattle.uicc_run.specs.declared.endings.Ending.TheVariants.{Usage, EepromFailed}
 
--- Over a memory that tells its bytes the trace is that of the abstract card, and the memory holds at the end what that card does.
-abbrev pub IsTraced : List (List ℕ) → ℕ → World → World → Type 0 → Type 0 → Type 0
-IsTraced words status before after MemoryIsSame BoxesAreSame =
-    (given : Given) → RunsFrom given words before
-    → Traces given after.left (left_in given.pages after) status
-    (IsCaused given words before after MemoryIsSame BoxesAreSame)
-
 -- How a run of a script ended, over any memory: the sink took the last line of that end behind what is shown before it. Which lines were
 -- read, and why no more of them, where the lines or the source ended it. Where a card was open, what the lines show, to the card or by a
 -- handset, and what the device has counted of that. Where no card was open, nothing was shown, the device was given no plan and counts no
@@ -41,15 +34,11 @@ pub record EndsUntold (given : Given) (status : ℕ) (before after : World) (Mem
   pub put : Option (List ℕ)
   pub closes : Closes ending put after.taken status
   pub reads : ReadsTo given after.left ending
-  pub shows : ShowsTo given before.meter after.left ending put after.meter
+  pub shows : ShowsTo given after.left ending (record (left_in given.pages after) { taken = put })
   pub unshown : IsUnopened ending → put ≡ Some given.before
   pub unplanned : IsUnopened ending → IsUnplanned before.meter after.meter
   pub boxes_kept : IsUnopened ending → BoxesAreSame
   pub untouched : IsEarly ending → MemoryIsSame
-
-abbrev pub IsEndedUntold : List (List ℕ) → ℕ → World → World → Type 0 → Type 0 → Type 0
-IsEndedUntold words status before after MemoryIsSame BoxesAreSame =
-    (given : Given) → ReadsFrom given words before → EndsUntold given status before after MemoryIsSame BoxesAreSame
 
 -- Where neither the source nor the sink failed and the run doesn't end for its memory, a good script is carried out to its end, if there
 -- is memory to begin with and the card can be opened, of which nothing is known over a memory that tells nothing. Status 0 comes only
@@ -94,20 +83,13 @@ pub record RefusesCards (words : List (List ℕ)) (status : ℕ) (before after :
   pub refused_only : (given : Given) → ReadsFrom given words before → status ≡ 7
       → (card : Option Persistent) × ReachesStart given card
 
--- A long run comes to the counts of a trace that its lines have on its card, and takes nothing from the script.
-pub record LoadsLines (words : List (List ℕ)) (status : ℕ) (before after : World) (ScriptIsSame MemoryIsSame BoxesAreSame : Type 0) : Type 0 where
-  pub load : (given : Given) (start count : ℕ) → LoadsFrom given start count words before
-      → TracesLoad given start count (left_in given.pages after) status
-      (IsLoadCaused given before after MemoryIsSame BoxesAreSame)
+-- A long run is carried out to its end, where each of its rows has its box and nothing fails.
+pub record LoadsToEnd (words : List (List ℕ)) (status : ℕ) (before after : World) : Type 0 where
   pub load_complete : (given : Given) (start count : ℕ) (card : Persistent) → LoadsFrom given start count words before
       → IsUndisturbed (seen status before after) → IsFixedCard given.boxes card → (status ≡ 0) ⊎ (status ≡ 5)
-  pub load_unread : (start count : ℕ) → AskToLoad words start count → ScriptIsSame
 
--- The channels of a terminal: the trace is that of the script's lines, and on each channel the card got what it gave, in order. The
--- memory and the boxes are as they were. Statuses come as above.
-pub record ServesChannels (words : List (List ℕ)) (status : ℕ) (before after : World) (MemoryIsSame BoxesAreSame : Type 0) : Type 0 where
-  pub bip : (text : List ℕ) → AskForBip words → before.left ≡ Some text → TracesBip text before.taken (seen status before after)
-  pub bip_untouched : AskForBip words → MemoryIsSame × BoxesAreSame
+-- Statuses of the channels of a terminal: 0 to 5, of which 0 and 2 come as for a card.
+pub record ServesToEnd (words : List (List ℕ)) (status : ℕ) (before after : World) : Type 0 where
   pub bip_statuses : AskForBip words → status ≤ 5
   pub bip_complete : (text : List ℕ) → AskForBip words → before.left ≡ Some text → IsUnbroken (seen status before after)
       → IsGoodBip text → (status ≡ 0) ⊎ (status ≡ 5)
@@ -120,11 +102,10 @@ pub record ServesChannels (words : List (List ℕ)) (status : ℕ) (before after
       → status ≡ 2
       → StopsAndTells (IsFirstBadBip text) text after.left after.taken
 
--- Words in no form are refused with status 1 and its line, and nothing is read then. Status 1 comes only so.
-pub record RefusesWords (words : List (List ℕ)) (status : ℕ) (before after : World) (ScriptIsSame : Type 0) : Type 0 where
+-- Words in no form are refused with status 1 and its line. Status 1 comes only so.
+pub record RefusesWords (words : List (List ℕ)) (status : ℕ) (before after : World) : Type 0 where
   pub usage : (AskForRun words → ⊥) → Closes Usage before.taken after.taken status
   pub usage_only : status ≡ 1 → AskForRun words → ⊥
-  pub unread : (AskForRun words → ⊥) → ScriptIsSame
 
 -- Why each status comes. With 6 behind more than its last line, as in a reset, a fault was counted: a loss of power is none.
 pub record HasCauses (status : ℕ) (before after : World) : Type 0 where
@@ -135,10 +116,47 @@ pub record HasCauses (status : ℕ) (before after : World) : Type 0 where
   pub reset_failed : status ≡ 6
       → Rose before.meter.faults after.meter.faults ⊎ (after.taken ≡ append_known before.taken (last_text EepromFailed))
 
--- What stays: the memory where the words are in no form or there is no room for what a line describes; all but 16,777,217 bytes of the
--- script; and where `play` had no memory to begin with, the device is as it was, or it was formatted and holds just the card of the script.
-pub record LeavesTheRest (words : List (List ℕ)) (status : ℕ) (before after : World) (MemoryIsSame : Type 0) : Type 0 where
+-- ---- the four parts of what `run` owes
+
+-- Where all tell their bytes. Of a script for a card, be it made, opened or served by a handset, the trace is that of the abstract card, and
+-- the memory holds at the end what that card does. A long run comes to the counts of a trace that its lines have on its card. Of the
+-- channels of a terminal the trace is that of the script's lines, and on each channel the card got what it gave, in order.
+pub record TellsAll (words : List (List ℕ)) (status : ℕ) (before after : World) (MemoryIsSame BoxesAreSame : Type 0) : Type 0 where
+  pub trace : (given : Given) → RunsFrom given words before
+      → Traces given after.left (left_in given.pages after) status (IsCaused given words before after MemoryIsSame BoxesAreSame)
+  pub load : (given : Given) (start count : ℕ) → LoadsFrom given start count words before
+      → TracesLoad given start count (left_in given.pages after) status (IsLoadCaused given before after MemoryIsSame BoxesAreSame)
+  pub bip : (text : List ℕ) → AskForBip words → before.left ≡ Some text → TracesBip text before.taken (seen status before after)
+
+-- which scripts end with which status: carried out to the end, 0; words in no form, 1; a bad line, 2; no card, 7; no room for a line, 8;
+-- and why 3, 4 and 6 come
+pub record HasStatuses (words : List (List ℕ)) (status : ℕ) (before after : World) : Type 0 where
+  pub good : CarriesOut words status before after
+  pub usage : RefusesWords words status before after
+  pub bad : StopsAtBad words status before after
+  pub no_card : RefusesCards words status before after
+  pub no_room : StopsForRoom words status before after
+  pub load : LoadsToEnd words status before after
+  pub bip : ServesToEnd words status before after
+  pub causes : HasCauses status before after
+
+-- What stays: the memory where the words are in no form or there is no room for what a line describes, and for the channels of a terminal,
+-- and so do the boxes there; the script, where words are in no form and in a long run, and all but 16,777,217 bytes of it else; and where
+-- `play` had no memory to begin with, the device is as it was, or it was formatted and holds just the card of the script.
+pub record LeavesTheRest (words : List (List ℕ)) (status : ℕ) (before after : World) (ScriptIsSame MemoryIsSame BoxesAreSame : Type 0) : Type 0 where
   pub untouched : (status ≡ 1) ⊎ (status ≡ 8) → MemoryIsSame
+  pub bip_untouched : AskForBip words → MemoryIsSame × BoxesAreSame
+  pub unread : (AskForRun words → ⊥) → ScriptIsSame
+  pub load_unread : (start count : ℕ) → AskToLoad words start count → ScriptIsSame
   pub taken : (text : List ℕ) → before.left ≡ Some text → IsTaken (MOST_BYTES + 1) text after.left
   pub no_memory : (given : Given) → RunsFrom given words before → is_some given.first ≡ true → status ≡ 5
       → MemoryIsSame ⊎ HoldsDescribed given (content_in given.pages after.contents)
+
+-- What a run owes its caller by its words, its status, and what is seen of it before and behind it: where all tell their bytes; over any
+-- memory, also one that tells nothing, as an image; which scripts end with which status; and what stays. What it is for the script, the
+-- memory and the boxes to be as they were.
+pub record RunsAsAsked (words : List (List ℕ)) (status : ℕ) (before after : World) (ScriptIsSame MemoryIsSame BoxesAreSame : Type 0) : Type 0 where
+  pub told : TellsAll words status before after MemoryIsSame BoxesAreSame
+  pub untold : (given : Given) → ReadsFrom given words before → EndsUntold given status before after MemoryIsSame BoxesAreSame
+  pub statuses : HasStatuses words status before after
+  pub stays : LeavesTheRest words status before after ScriptIsSame MemoryIsSame BoxesAreSame

@@ -1,6 +1,6 @@
 //! The rest of a script: what is done to the card, line by line.
 ghost use Rattle.std.specs.Prelude.{◌≡◌, ◌<◌, List, ℕ, None, Err, OnOk, true, false};
-ghost use Rattle.uicc_types.specs.Counts.{Meter, raised};
+ghost use Rattle.uicc_types.specs.Counts.{raised};
 ghost use Rattle.byte_streams.specs.Reading.{IsWithin};
 ghost use Rattle.script_form.specs.declared.lines.ScriptLine.{ScriptLine as AnyLine};
 ghost use Rattle.script_reader.specs.Behind.{GivesRead, IsReading, LinesReadTo};
@@ -8,14 +8,13 @@ ghost use Rattle.script_reader.specs.Reading.{reading, room_of};
 ghost use Rattle.run_steps.specs.Ends.{moment_at};
 ghost use Rattle.run_steps.specs.Moves.{step_of};
 ghost use Rattle.run_steps.specs.Tallies.{tally};
+ghost use Rattle.run_steps.specs.Views.{CardView};
 ghost use Rattle.phone_runs.specs.LineTallies.{TalliesLines};
 ghost use Rattle.phone_runs.specs.Lines.{IsBetweenLines, IsServing, PhoneComesTo};
 ghost use Rattle.phone_runs.specs.Runs.{Beginning};
-ghost use Rattle.phone_runs.specs.Showing.{Outset, PhoneShowsTo, ServesShowing};
 ghost use Rattle.uicc_run.specs.Accounts.{kept_behind};
 ghost use Rattle.uicc_run.specs.Listeners.{is_handset};
 ghost use Rattle.uicc_run.specs.Playing.{CardComesTo, Given, GivesPlayed, IsPlaying, left_at};
-ghost use Rattle.uicc_run.specs.Showing.{GivesShown, IsShowing, LinesShow};
 ghost use Rattle.uicc_run.specs.Steps.{may_follow, may_stand};
 
 use crate::effects::{Effect, effect_of};
@@ -45,21 +44,15 @@ pub(crate) fn play_lines<S: Store, B: Applet, R: Source, W: Sink>(
     trace: &mut W,
 ) -> PlayEnd
     requires between { is_handset listener ≡ true → IsBetweenLines script.old phone.old }
-    ensures played { (given : Given) → is_handset listener ≡ false
-        → IsPlaying given script.old (R.left source.old) None (moment_at card.old (W.taken trace.old))
-        → CardComesTo given (R.left source.new) result (left_at (moment_at card.new (W.taken trace.new))) }
+    // By what is known of the card: the card itself where its memory tells its bytes, and its power over any memory.
+    ensures played { (given : Given) (first : CardView) → is_handset listener ≡ false
+        → IsPlaying given first script.old (R.left source.old) None (moment_at card.old (W.taken trace.old))
+        → CardComesTo given first (R.left source.new) result (left_at (moment_at card.new (W.taken trace.new))) }
     ensures served { (text : List ℕ) (opening : List AnyLine) (given : Beginning) → is_handset listener ≡ true
         → IsServing text opening given script.old (R.left source.old) phone.old
         (moment_at card.old (W.taken trace.old))
         → PhoneComesTo text opening given (R.left source.new) result (moment_at card.new (W.taken trace.new)) }
-    // Over any memory: what is shown, and which lines were read and why no more of them.
-    ensures shows { (given : Given) (first : Meter) → is_handset listener ≡ false
-        → IsShowing given first script.old (R.left source.old) None (moment_at card.old (W.taken trace.old))
-        → LinesShow given first (R.left source.new) result (W.taken trace.new) card.new.parts.meter }
-    ensures serves { (text : List ℕ) (opening : List AnyLine) (given : Outset) → is_handset listener ≡ true
-        → ServesShowing text opening given script.old (R.left source.old) phone.old
-        (moment_at card.old (W.taken trace.old))
-        → PhoneShowsTo text opening given (R.left source.new) result (moment_at card.new (W.taken trace.new)) }
+    // Over any memory: which lines were read and why no more of them.
     ensures reads { (text : List ℕ) (opening : List AnyLine)
         → IsReading (may_stand (is_handset listener)) opening text script.old (R.left source.old)
         → LinesReadTo (may_stand (is_handset listener)) opening text (R.left source.new) result }
@@ -109,12 +102,9 @@ fn play_line<S: Store, B: Applet, R: Source, W: Sink>(
     answer: &mut Answer,
     trace: &mut W,
 ) -> Result<(), PlayEnd>
-    ensures played { (given : Given)
-        → IsPlaying given script.old (R.left source.old) link.old (moment_at card.old (W.taken trace.old))
-        → GivesPlayed given script.new (R.left source.new) link.new (moment_at card.new (W.taken trace.new)) result }
-    ensures shows { (given : Given) (first : Meter)
-        → IsShowing given first script.old (R.left source.old) link.old (moment_at card.old (W.taken trace.old))
-        → GivesShown given first script.new (R.left source.new) link.new
+    ensures played { (given : Given) (first : CardView)
+        → IsPlaying given first script.old (R.left source.old) link.old (moment_at card.old (W.taken trace.old))
+        → GivesPlayed given first script.new (R.left source.new) link.new
         (moment_at card.new (W.taken trace.new)) result }
     ensures reads { (text : List ℕ) (opening : List AnyLine)
         → IsReading may_follow opening text script.old (R.left source.old)

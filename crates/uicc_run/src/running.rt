@@ -1,6 +1,6 @@
 //! A whole run: the words of the command line, the script, the card's memory and the trace.
 ghost use Rattle.std.specs.Prelude.{◌≡◌, ◌≢◌, ◌⊎◌, ◌≤◌, ℕ, List, [], Some, None, true, map, string_bytes, is_some, option_map, IsErrOf, OnOk, OnErr, Option};
-ghost use Rattle.uicc_types.specs.Counts.{Meter, Rose};
+ghost use Rattle.uicc_types.specs.Counts.{Rose};
 ghost use Rattle.uicc_types.specs.Told.{Becomes};
 ghost use Rattle.byte_streams.specs.Reading.{IsWithin};
 ghost use Rattle.script_form.specs.declared.lines.ScriptLine.{ScriptLine as AnyLine};
@@ -15,8 +15,8 @@ ghost use Rattle.card_model.specs.Counts.{IsCounted};
 ghost use Rattle.section_lines.specs.SectionReading.{AtStart};
 ghost use Rattle.run_steps.specs.Ends.{moment_at};
 ghost use Rattle.run_steps.specs.Tallies.{tally};
+ghost use Rattle.run_steps.specs.Views.{CardView};
 ghost use Rattle.phone_runs.specs.LineTallies.{TalliesLines};
-ghost use Rattle.phone_runs.specs.Showing.{Outset, PhoneShowsTo, StartsShowing};
 ghost use Rattle.uicc_run.specs.Causes.{EndsFor, FitsRun, FitsStore, KeepsMemory, KeepsOpened, KeepsCardThere, KeepsStoreForm, LoadsUntold, ReadsUntold, RefusesAtFirst};
 ghost use Rattle.uicc_run.specs.Endings.{HasFailed, IsUnopened, status_for};
 ghost use Rattle.uicc_run.specs.Headline.{Closes, Comes};
@@ -24,10 +24,10 @@ ghost use Rattle.uicc_run.specs.Listeners.{is_handset};
 ghost use Rattle.uicc_run.specs.Opening.{IsGiven, IsMade, IsStarted, IsToPlay, IsToRead, RunsFrom, ending_for, makes};
 ghost use Rattle.uicc_run.specs.Playing.{Given, left_at};
 ghost use Rattle.uicc_run.specs.Reading.{ReadsTo};
-ghost use Rattle.uicc_run.specs.Running.{CarriesOut, HasCauses, IsEndedUntold, IsTraced, LeavesTheRest, LoadsLines, RefusesCards, RefusesWords, ServesChannels, StopsAtBad, StopsForRoom};
+ghost use Rattle.uicc_run.specs.Running.{RunsAsAsked};
 ghost use Rattle.uicc_run.specs.Worlds.{left_in, left_of, world, stored};
 ghost use Rattle.uicc_run.specs.Serving.{ComesTo};
-ghost use Rattle.uicc_run.specs.Showing.{IsShowing, LinesShow, ShowsTo};
+ghost use Rattle.uicc_run.specs.Showing.{ShowsTo};
 ghost use Rattle.uicc_run.specs.Steps.{may_stand};
 ghost use Rattle.uicc_run.specs.Stores.{memory_in, size_of};
 ghost use Rattle.uicc_run.specs.Terminals.{AskForBip, ServesBip};
@@ -46,7 +46,7 @@ use command_line::{Mode, asked_for};
 use eeprom_model::Eeprom;
 use layout_section::{Section, format};
 use page_store::PageStore;
-use phone_runs::{Places, end_of, phone_runs_are_lawful, start_phone};
+use phone_runs::{Places, end_of, start_phone};
 use run_steps::{CardEnd, Carrier};
 use script_form::write_trace;
 use script_reader::{PlayEnd, ScriptReader};
@@ -69,49 +69,10 @@ pub fn run<R: Source, W: Sink, E: Eeprom, B: Applet>(
     cast: Vec<Option<B>>,
 ) -> (u8, E, Vec<Option<B>>)
     requires fits { FitsRun (map string_bytes words.now) (E.byte_count eeprom) cast.items }
-    // Over a memory that tells its bytes.
-    ensures trace { IsTraced (map string_bytes words.now) result.0
-        (world R.Source W.Sink E.Eeprom B.Applet script.old trace.old eeprom cast.items)
-        (world R.Source W.Sink E.Eeprom B.Applet script.new trace.new result.1 result.2.items)
-        (result.1 ≡ eeprom) (result.2.items ≡ cast.items) }
-    // Over any memory, also one that tells nothing, as an image.
-    ensures untold { IsEndedUntold (map string_bytes words.now) result.0
-        (world R.Source W.Sink E.Eeprom B.Applet script.old trace.old eeprom cast.items)
-        (world R.Source W.Sink E.Eeprom B.Applet script.new trace.new result.1 result.2.items)
-        (result.1 ≡ eeprom) (result.2.items ≡ cast.items) }
-    // Which scripts are carried out, and where the others stop.
-    ensures good { CarriesOut (map string_bytes words.now) result.0
-        (world R.Source W.Sink E.Eeprom B.Applet script.old trace.old eeprom cast.items)
-        (world R.Source W.Sink E.Eeprom B.Applet script.new trace.new result.1 result.2.items) }
-    ensures bad { StopsAtBad (map string_bytes words.now) result.0
-        (world R.Source W.Sink E.Eeprom B.Applet script.old trace.old eeprom cast.items)
-        (world R.Source W.Sink E.Eeprom B.Applet script.new trace.new result.1 result.2.items) }
-    ensures no_room { StopsForRoom (map string_bytes words.now) result.0
-        (world R.Source W.Sink E.Eeprom B.Applet script.old trace.old eeprom cast.items)
-        (world R.Source W.Sink E.Eeprom B.Applet script.new trace.new result.1 result.2.items) }
-    ensures no_card { RefusesCards (map string_bytes words.now) result.0
-        (world R.Source W.Sink E.Eeprom B.Applet script.old trace.old eeprom cast.items)
-        (world R.Source W.Sink E.Eeprom B.Applet script.new trace.new result.1 result.2.items) }
-    // The runs of other words.
-    ensures load { LoadsLines (map string_bytes words.now) result.0
+    ensures { RunsAsAsked (map string_bytes words.now) result.0
         (world R.Source W.Sink E.Eeprom B.Applet script.old trace.old eeprom cast.items)
         (world R.Source W.Sink E.Eeprom B.Applet script.new trace.new result.1 result.2.items)
         (script.new ≡ script.old) (result.1 ≡ eeprom) (result.2.items ≡ cast.items) }
-    ensures bip { ServesChannels (map string_bytes words.now) result.0
-        (world R.Source W.Sink E.Eeprom B.Applet script.old trace.old eeprom cast.items)
-        (world R.Source W.Sink E.Eeprom B.Applet script.new trace.new result.1 result.2.items)
-        (result.1 ≡ eeprom) (result.2.items ≡ cast.items) }
-    ensures usage { RefusesWords (map string_bytes words.now) result.0
-        (world R.Source W.Sink E.Eeprom B.Applet script.old trace.old eeprom cast.items)
-        (world R.Source W.Sink E.Eeprom B.Applet script.new trace.new result.1 result.2.items)
-        (script.new ≡ script.old) }
-    // Why each status comes, and what stays.
-    ensures causes { HasCauses result.0
-        (world R.Source W.Sink E.Eeprom B.Applet script.old trace.old eeprom cast.items)
-        (world R.Source W.Sink E.Eeprom B.Applet script.new trace.new result.1 result.2.items) }
-    ensures stays { LeavesTheRest (map string_bytes words.now) result.0
-        (world R.Source W.Sink E.Eeprom B.Applet script.old trace.old eeprom cast.items)
-        (world R.Source W.Sink E.Eeprom B.Applet script.new trace.new result.1 result.2.items) (result.1 ≡ eeprom) }
 {
     let (ending, eeprom, cast) = carry_out(alloc, words, script, trace, eeprom, cast);
     (close(&ending, trace), eeprom, cast)
@@ -270,11 +231,11 @@ fn make_and_play<S: Store, R: Source, W: Sink, B: Applet>(
     ensures reads { (given : Given) (described : Option Persistent) → given.is_served ≡ is_handset listener
         → AtStart given.boxes given.first given.text reader.old (R.left script.old) described
         → ReadsTo given (R.left script.new) result.0 }
-    ensures shows { (given : Given) (described : Option Persistent) (first : Meter)
-        → given.is_served ≡ is_handset listener
+    ensures shows { (given : Given) (described : Option Persistent) → given.is_served ≡ is_handset listener
         → AtStart given.boxes given.first given.text reader.old (R.left script.old) described
-        → W.taken trace.old ≡ Some given.before → IsCounted first (S.meter store) [] []
-        → ShowsTo given first (R.left script.new) result.0 (W.taken trace.new) (S.meter result.1) }
+        → W.taken trace.old ≡ Some given.before → IsCounted given.meter (S.meter store) [] []
+        → ShowsTo given (R.left script.new) result.0 (left_of (S.store_mark result.1)
+        (stored R.Source W.Sink S.Store B.Applet script.new trace.new result.1 result.2.items)) }
     ensures within { (text : List ℕ) → IsWithin text (reading reader.old) (R.left script.old)
         → IsWithin text (reading reader.new) (R.left script.new) }
     ensures memory { KeepsCardThere (S.store_mark store) card.now result.0
@@ -332,11 +293,11 @@ fn open_and_play<S: Store, R: Source, W: Sink, B: Applet>(
     ensures reads { (given : Given) (described : Option Persistent) → given.is_served ≡ is_handset listener
         → AtStart given.boxes given.first given.text reader.old (R.left script.old) described
         → ReadsTo given (R.left script.new) result.0 }
-    ensures shows { (given : Given) (described : Option Persistent) (first : Meter)
-        → given.is_served ≡ is_handset listener
+    ensures shows { (given : Given) (described : Option Persistent) → given.is_served ≡ is_handset listener
         → AtStart given.boxes given.first given.text reader.old (R.left script.old) described
-        → W.taken trace.old ≡ Some given.before → IsCounted first (S.meter store) [] []
-        → ShowsTo given first (R.left script.new) result.0 (W.taken trace.new) (S.meter result.1) }
+        → W.taken trace.old ≡ Some given.before → IsCounted given.meter (S.meter store) [] []
+        → ShowsTo given (R.left script.new) result.0 (left_of (S.store_mark result.1)
+        (stored R.Source W.Sink S.Store B.Applet script.new trace.new result.1 result.2.items)) }
     ensures within { (text : List ℕ) → IsWithin text (reading reader.old) (R.left script.old)
         → IsWithin text (reading reader.new) (R.left script.new) }
     ensures memory { KeepsOpened (S.store_mark store) result.0
@@ -372,15 +333,10 @@ fn carry_on<S: Store, B: Applet, R: Source, W: Sink>(
     card: &mut CardEnd<S, B>,
     trace: &mut W,
 ) -> PlayEnd
-    ensures comes { (given : Given) → given.is_served ≡ is_handset listener
-        → IsStarted given reader.old (R.left script.old) (moment_at card.old (W.taken trace.old))
-        → ComesTo given (R.left script.new) result (left_at (moment_at card.new (W.taken trace.new))) }
-    ensures shows { (given : Given) (first : Meter) → given.is_served ≡ is_handset listener
-        → IsShowing given first reader.old (R.left script.old) None (moment_at card.old (W.taken trace.old))
-        → LinesShow given first (R.left script.new) result (W.taken trace.new) card.new.parts.meter }
-    ensures served { (text : List ℕ) (opening : List AnyLine) (outset : Outset) → is_handset listener ≡ true
-        → StartsShowing text opening outset reader.old (R.left script.old) (moment_at card.old (W.taken trace.old))
-        → PhoneShowsTo text opening outset (R.left script.new) result (moment_at card.new (W.taken trace.new)) }
+    // By what is known of the card: the card itself where its memory tells its bytes, and its power over any memory.
+    ensures comes { (given : Given) (first : CardView) → given.is_served ≡ is_handset listener
+        → IsStarted given first reader.old (R.left script.old) (moment_at card.old (W.taken trace.old))
+        → ComesTo given first (R.left script.new) result (left_at (moment_at card.new (W.taken trace.new))) }
     ensures reads { (text : List ℕ) (opening : List AnyLine)
         → IsReading (may_stand (is_handset listener)) opening text reader.old (R.left script.old)
         → LinesReadTo (may_stand (is_handset listener)) opening text (R.left script.new) result }
@@ -389,8 +345,6 @@ fn carry_on<S: Store, B: Applet, R: Source, W: Sink>(
     ensures tallies { TalliesLines (tally W.Sink card.old trace.old) (tally W.Sink card.new trace.new)
         (R.faults script.old) (R.faults script.new) (λ end. result ≡ end) }
 {
-    // This call is a law, and does nothing.
-    phone_runs_are_lawful();
     let mut phone = Phone::new();
     let mut places = Places::new();
     match listener {

@@ -12,6 +12,7 @@ use Rattle.card_model.specs.Runs.{Commands, MeetsNoPower, armed_after, waiting_a
 use Rattle.card_model.specs.States.{Machine}
 use Rattle.run_steps.specs.Tpdus.{CourseGives, steps_of}
 use Rattle.run_steps.specs.Shown.{item_of, kept_over, shown_over}
+use Rattle.run_steps.specs.Views.{CardView, TheCard}
 
 abbrev answered : List ℕ → ℕ → Answer
 answered body status = record { body = body; status = record { 0 = status } }
@@ -65,7 +66,7 @@ a_cut_keeps_nothing : kept_over kept_back item.Cut ≡ None
 a_cut_keeps_nothing = refl
 
 -- what was kept is dropped also where the card is off
-off_gives : (machine : Machine) → machine.on ≡ false → CourseGives (link_answer (Some parameters) select) machine (item.Command select ∷ item.Off ∷ []) item.Off None machine
+off_gives : (machine : Machine) → machine.on ≡ false → CourseGives (link_answer (Some parameters) select) (TheCard machine) (item.Command select ∷ item.Off ∷ []) item.Off None (TheCard machine)
 unfolding link_answer transfer_in
 off_gives machine off = record {
   shown = item.Off;
@@ -92,18 +93,18 @@ a_plan_goes_on_waiting : waiting_after failing (steps_of (link_answer (Some para
 unfolding link_answer transfer_in
 a_plan_goes_on_waiting = refl
 
-fetching_gives : (machine : Machine) → CourseGives (link_answer (Some parameters) (get_response 0x05)) machine [] (item_of parameters) None machine
+fetching_gives : (card : CardView) → CourseGives (link_answer (Some parameters) (get_response 0x05)) card [] (item_of parameters) None card
 unfolding link_answer transfer_in
-fetching_gives machine = record { silent = refl; seen = refl; keeps = refl; stays = refl }
+fetching_gives card = record { silent = refl; seen = refl; keeps = refl; stays = refl }
 
-another_length_gives : (machine : Machine) → CourseGives (link_answer (Some parameters) (get_response 0x04)) machine [] (item_of (answered [] 0x6C05)) (Some parameters) machine
+another_length_gives : (card : CardView) → CourseGives (link_answer (Some parameters) (get_response 0x04)) card [] (item_of (answered [] 0x6C05)) (Some parameters) card
 unfolding link_answer transfer_in
-another_length_gives machine = record { silent = refl; seen = refl; keeps = refl; stays = refl }
+another_length_gives card = record { silent = refl; seen = refl; keeps = refl; stays = refl }
 
-nothing_gives : (machine : Machine) → CourseGives (link_answer None (get_response 0x05)) machine [] (item_of (answered [] 0x6985)) None machine
+nothing_gives : (card : CardView) → CourseGives (link_answer None (get_response 0x05)) card [] (item_of (answered [] 0x6985)) None card
 unfolding link_answer transfer_in
-nothing_gives machine = record { silent = refl; seen = refl; keeps = refl; stays = refl }
+nothing_gives card = record { silent = refl; seen = refl; keeps = refl; stays = refl }
 
-no_tpdu_gives : (machine : Machine) → CourseGives (link_answer (Some parameters) (0x00 ∷ 0xB0 ∷ 0x00 ∷ 0x00 ∷ [])) machine [] (item_of (answered [] 0x6700)) (Some parameters) machine
+no_tpdu_gives : (card : CardView) → CourseGives (link_answer (Some parameters) (0x00 ∷ 0xB0 ∷ 0x00 ∷ 0x00 ∷ [])) card [] (item_of (answered [] 0x6700)) (Some parameters) card
 unfolding link_answer transfer_in
-no_tpdu_gives machine = record { silent = refl; seen = refl; keeps = refl; stays = refl }
+no_tpdu_gives card = record { silent = refl; seen = refl; keeps = refl; stays = refl }

@@ -3,7 +3,6 @@ use Rattle.script_reader.proofs.BehindLemmas.{bad_behind, ends_reading, reads_on
 use Rattle.phone_runs.specs.Effects.{may_be_heard}
 use Rattle.phone_runs.specs.Playing.{line_of}
 use Rattle.phone_runs.proofs.LineLemmas.{ends_amid, ends_serving, lines_end, serves_further, serves_on, stops_in_line, unread_amid}
-use Rattle.phone_runs.proofs.ShowingLemmas.{lines_show, serves_line, serves_so, shows_end, stops_amid, stops_so}
 use Rattle.phone_runs.proofs.lines.serve_line.Goals as goal
 
 pub returns-in-Err-clause-served : goal.returns-in-Err-clause-served
@@ -57,33 +56,3 @@ returns-in-Ok-play_on_phone-clause-reads g c = λ text opening reading.
 
 pub returns-in-Err-play_on_phone-clause-reads : goal.returns-in-Err-play_on_phone-clause-reads
 returns-in-Err-play_on_phone-clause-reads g c = λ text opening reading. unread_amid opening text _ c.in-Err-play_on_phone.end c.end_of.result c.end_of.ensures
-
--- ---- what is shown
-
-pub returns-in-Err-clause-shows : goal.returns-in-Err-clause-shows
-returns-in-Err-clause-shows g c = λ text opening given serving.
-    shows_end text opening given _ _ _ (lines_show text opening given _ _ _ _ _ _ (λ found follows. c.in-Err.ensures.gives may_be_heard text found follows) serving)
-
-pub returns-in-Nothing-clause-shows : goal.returns-in-Nothing-clause-shows
-returns-in-Nothing-clause-shows g c = λ text opening given serving.
-    let effect = rw c.in-Nothing.is at c.effect_on_phone.ensures.effect in
-    serves_so text opening given _ _ _ _ _ _ c.read_behind.new.line (λ found follows. c.in-Ok.ensures.gives may_be_heard text found follows) effect.0 effect.1 serving
-
-pub returns-in-OutOfPlace-clause-shows : goal.returns-in-OutOfPlace-clause-shows
-returns-in-OutOfPlace-clause-shows g c = λ text opening given serving.
-    let effect = rw c.in-OutOfPlace.is at c.effect_on_phone.ensures.effect in
-    lines_show text opening given _ _ _ _ _ _
-    (λ found follows. bad_behind may_be_heard text found c.read_behind.new.script _ c.read_behind.new.line _ (c.in-Ok.ensures.gives may_be_heard text found follows) effect c.number.ensures) serving
-
-pub returns-in-Ok-play_on_phone-clause-shows : goal.returns-in-Ok-play_on_phone-clause-shows
-returns-in-Ok-play_on_phone-clause-shows g c = λ text opening given serving.
-    let effect = rw c.in-Takes.is at c.effect_on_phone.ensures.effect in
-    serves_line text opening given _ _ _ _ _ _ _ _ c.read_behind.new.line (line_of c.in-Takes.act) (λ found follows. c.in-Ok.ensures.gives may_be_heard text found follows) effect.0 effect.1 serving
-    (c.in-Ok-play_on_phone.ensures.shows given serving.log serving.at)
-
-pub returns-in-Err-play_on_phone-clause-shows : goal.returns-in-Err-play_on_phone-clause-shows
-returns-in-Err-play_on_phone-clause-shows g c = λ text opening given serving.
-    let effect = rw c.in-Takes.is at c.effect_on_phone.ensures.effect in
-    stops_amid text opening given _ c.in-Err-play_on_phone.end _ _ c.end_of.ensures
-    (stops_so text opening given _ _ _ (g.R.Source.left c.read_behind.new.source) _ _ _ c.read_behind.new.line (line_of c.in-Takes.act) c.in-Err-play_on_phone.end (λ found follows. c.in-Ok.ensures.gives may_be_heard text found follows) effect.0 effect.1 serving
-    (c.in-Err-play_on_phone.ensures.shows given serving.log serving.at))

@@ -4,7 +4,6 @@ use Rattle.handset_model.specs.History.{Said}
 use Rattle.phone_runs.proofs.IsServedMoreLemmas.{said_clock, said_served}
 use Rattle.phone_runs.proofs.RunsLemmas.{hears_line}
 use Rattle.phone_runs.proofs.ServeLemmas.{rest_of}
-use Rattle.phone_runs.proofs.ShowingLemmas.{line_heard}
 use Rattle.phone_runs.specs.Logs.{Happens}
 use Rattle.phone_runs.proofs.playing.hear_line.Goals as goal
 
@@ -23,8 +22,3 @@ pub returns-clause-clock : goal.returns-clause-clock
 returns-clause-clock g c =
     on_ok_weaker c.settle.result (λ same. same ∙ said_clock c.args.phone.now c.hear.new.self c.requires.rest.served.history c.args.line.now c.requires.rest.served.keeps (c.hear.ensures c.requires.rest.served.history c.requires.rest.served.keeps))
     c.settle.ensures.clock
-
-pub returns-clause-shows : goal.returns-clause-shows
-returns-clause-shows g c = λ given log at.
-    c.settle.ensures.shows given (Happens (Said c.args.line.now) ∷ log)
-    (line_heard given log c.args.line.now c.args.phone.now c.hear.new.self _ (rest_of c.args.phone.now _ at.keeps c.requires.rest.rests) (c.hear.ensures _ at.keeps) at)

@@ -1,7 +1,6 @@
 use Rattle.std.proofs.Common.{◌∷◌, refl}
 use Rattle.phone_runs.proofs.RunsLemmas.{plans_line}
 use Rattle.phone_runs.proofs.ServeLemmas.{rest_of}
-use Rattle.phone_runs.proofs.ShowingLemmas.{plan_heard}
 use Rattle.phone_runs.specs.Logs.{Plans}
 use Rattle.phone_runs.proofs.playing.play_on_phone.Goals as goal
 
@@ -18,10 +17,3 @@ returns-in-Plans-clause-plays g c = λ given log at.
 
 pub returns-in-Hears-clause-plays : goal.returns-in-Hears-clause-plays
 returns-in-Hears-clause-plays g c = λ given log at. rw c.in-Hears.is (c.hear_line.ensures.plays given log at)
-
-pub returns-in-Plans-clause-shows : goal.returns-in-Plans-clause-shows
-returns-in-Plans-clause-shows g c = λ given log at.
-    rw c.in-Plans.is (plan_heard c.plans_are_set_in_order.ensures given log c.in-Plans.plan c.args.phone.now c.args.card.now c.plan.new.self _ (rest_of c.args.phone.now _ at.keeps c.requires.rest.rests) c.plan.ensures at)
-
-pub returns-in-Hears-clause-shows : goal.returns-in-Hears-clause-shows
-returns-in-Hears-clause-shows g c = λ given log at. rw c.in-Hears.is (c.hear_line.ensures.shows given log at)

@@ -3,7 +3,6 @@ use Rattle.std.proofs.lemmas.Result.{on_ok_weaker}
 use Rattle.terminal_side.specs.Kept.{Kept}
 use Rattle.terminal_side.proofs.KeptLemmas.{clock_kept}
 use Rattle.phone_runs.proofs.RunsLemmas.{begins_empty}
-use Rattle.phone_runs.proofs.ShowingLemmas.{empty_shows}
 use Rattle.phone_runs.proofs.playing.start_phone.Goals as goal
 
 pub returns-clause-starts : goal.returns-clause-starts
@@ -13,7 +12,3 @@ returns-clause-starts g c = λ given begins.
 pub returns-clause-clock : goal.returns-clause-clock
 returns-clause-clock g c =
     on_ok_weaker c.settle.result (λ same. same ∙ ap (λ (k : Kept). k.known.clock) (c.start.ensures.first c.requires.new) ∙ clock_kept []) c.settle.ensures.clock
-
-pub returns-clause-shows : goal.returns-clause-shows
-returns-clause-shows g c = λ given begins.
-    c.settle.ensures.shows given [] (empty_shows given c.start.new.self _ (c.start.ensures.first c.requires.new) begins)

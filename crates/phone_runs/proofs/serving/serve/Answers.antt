@@ -1,10 +1,9 @@
 -- A command, a reset and a note each add one event to the log; what the places hold is what the handset asked for, and it has less to do.
 use Rattle.std.proofs.Common.{rules}
-use Rattle.run_steps.proofs.StandingLemmas.{machine_stands}
+use Rattle.run_steps.proofs.SteppingLemmas.{holds_seen}
 use Rattle.run_steps.specs.Ends.{moment_at}
 use Rattle.run_steps.proofs.TakesFrontLemmas.{tells_front, tells_whole}
 use Rattle.phone_runs.proofs.ServeLemmas.{asks_note, asks_reset, asks_send, none_further, none_rests, none_same, note_ends, note_further, note_more, reset_ends, reset_further, reset_more, sent_ends, sent_further, sent_more}
-use Rattle.phone_runs.proofs.ShowingLemmas.{none_shows, note_shows, note_shows_end, reset_shows, reset_shows_end, sent_shows, sent_shows_end}
 use Rattle.phone_runs.proofs.serving.serve.Goals as goal
 
 pub returns-in-Nothing-clause-further : goal.returns-in-Nothing-clause-further
@@ -60,46 +59,10 @@ returns-in-Ok-write_note-clause-more g c = λ same.
 pub returns-in-Err-write_note-clause-further : goal.returns-in-Err-write_note-clause-further
 returns-in-Err-write_note-clause-further g c = λ given log at.
     note_ends c.args.phone.now c.next_into.new.self _ c.next_into.new.note given log (moment_at c.args.card.now (g.W.Sink.taken c.args.trace.now)) (g.W.Sink.taken c.write_note.new.sink)
-    (machine_stands c.args.card.now.parts) (record { item = c.next_into.ensures.item; after = c.next_into.ensures.after }) (asks_note c.next_into.result c.next_into.new.apdu c.next_into.new.note c.in-Show.is) c.in-Err-write_note.ensures.err at
+    (holds_seen c.args.card.now.parts) (record { item = c.next_into.ensures.item; after = c.next_into.ensures.after }) (asks_note c.next_into.result c.next_into.new.apdu c.next_into.new.note c.in-Show.is) c.in-Err-write_note.ensures.err at
 
 pub returns-in-Ok-write_note-clause-tallies : goal.returns-in-Ok-write_note-clause-tallies
 returns-in-Ok-write_note-clause-tallies g c = record { kept = search rules; sink = search rules; tells = tells_whole _ _ _ c.in-Ok-write_note.ensures.ok }
 
 pub returns-in-Err-write_note-clause-tallies : goal.returns-in-Err-write_note-clause-tallies
 returns-in-Err-write_note-clause-tallies g c = record { kept = search rules; sink = search rules; tells = tells_front _ _ _ c.in-Err-write_note.ensures.err }
-
--- ---- over any memory
-
-pub returns-in-Nothing-clause-shows : goal.returns-in-Nothing-clause-shows
-returns-in-Nothing-clause-shows g c = λ given log at.
-    none_shows c.args.phone.now c.next_into.new.self given log _ (record { item = c.in-Nothing.ensures.item; after = c.in-Nothing.ensures.after }) c.requires.served at
-
-pub returns-in-Ok-clause-shows : goal.returns-in-Ok-clause-shows
-returns-in-Ok-clause-shows g c = λ given log at.
-    sent_shows c.runs_are_counted.ensures.join c.plans_are_set_in_order.ensures c.args.phone.now c.next_into.new.self c.hear.new.phone _ c.as_slice-apdu.result.now c.in-Ok.reply c.exchange.new.answer given log _ _
-    (record { item = c.next_into.ensures.item; after = c.next_into.ensures.after }) (asks_send c.next_into.result c.next_into.new.apdu c.as_slice-apdu.result.now c.next_into.new.note c.in-Send.is c.as_slice-apdu.ensures.value) c.hear.ensures c.in-Ok.ensures.shows at
-
-pub returns-in-Err-clause-shows : goal.returns-in-Err-clause-shows
-returns-in-Err-clause-shows g c = λ given log at.
-    sent_shows_end c.runs_are_counted.ensures.join c.args.phone.now c.next_into.new.self _ c.as_slice-apdu.result.now c.in-Err.end given log _ _
-    (record { item = c.next_into.ensures.item; after = c.next_into.ensures.after }) (asks_send c.next_into.result c.next_into.new.apdu c.as_slice-apdu.result.now c.next_into.new.note c.in-Send.is c.as_slice-apdu.ensures.value) c.in-Err.ensures.shows at
-
-pub returns-in-Ok-restart-clause-shows : goal.returns-in-Ok-restart-clause-shows
-returns-in-Ok-restart-clause-shows g c = λ given log at.
-    reset_shows c.runs_are_counted.ensures.join c.plans_are_set_in_order.ensures c.args.phone.now c.next_into.new.self c.begin_anew.new.phone _ c.in-Ok-restart.restarted given log _ _
-    (record { item = c.next_into.ensures.item; after = c.next_into.ensures.after }) (asks_reset c.next_into.result c.next_into.new.apdu c.next_into.new.note c.in-Reset.is) c.begin_anew.ensures c.in-Ok-restart.ensures.shows at
-
-pub returns-in-Err-restart-clause-shows : goal.returns-in-Err-restart-clause-shows
-returns-in-Err-restart-clause-shows g c = λ given log at.
-    reset_shows_end c.runs_are_counted.ensures.join c.plans_are_set_in_order.ensures c.args.phone.now c.next_into.new.self _ c.in-Err-restart.end given log _ _
-    (record { item = c.next_into.ensures.item; after = c.next_into.ensures.after }) (asks_reset c.next_into.result c.next_into.new.apdu c.next_into.new.note c.in-Reset.is) c.in-Err-restart.ensures.shows at
-
-pub returns-in-Ok-write_note-clause-shows : goal.returns-in-Ok-write_note-clause-shows
-returns-in-Ok-write_note-clause-shows g c = λ given log at.
-    note_shows c.args.phone.now c.next_into.new.self _ c.next_into.new.note given log (moment_at c.args.card.now (g.W.Sink.taken c.args.trace.now)) (g.W.Sink.taken c.write_note.new.sink)
-    (record { item = c.next_into.ensures.item; after = c.next_into.ensures.after }) (asks_note c.next_into.result c.next_into.new.apdu c.next_into.new.note c.in-Show.is) c.in-Ok-write_note.ensures.ok at
-
-pub returns-in-Err-write_note-clause-shows : goal.returns-in-Err-write_note-clause-shows
-returns-in-Err-write_note-clause-shows g c = λ given log at.
-    note_shows_end c.args.phone.now c.next_into.new.self _ c.next_into.new.note given log (moment_at c.args.card.now (g.W.Sink.taken c.args.trace.now)) (g.W.Sink.taken c.write_note.new.sink)
-    (record { item = c.next_into.ensures.item; after = c.next_into.ensures.after }) (asks_note c.next_into.result c.next_into.new.apdu c.next_into.new.note c.in-Show.is) c.in-Err-write_note.ensures.err at

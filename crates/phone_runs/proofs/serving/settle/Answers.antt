@@ -1,17 +1,14 @@
 -- The log grows with each thing served, but tells the same lines: what one more comes to is led back to the log that the loop began with.
 use Rattle.std.proofs.Common.{Ok, ap, ◌∙◌, arith}
 use Rattle.phone_runs.proofs.ServeLemmas.{ends_again, reaches_again, rests_again}
-use Rattle.phone_runs.proofs.ShowingLemmas.{all_again, end_again, more_again}
 use Rattle.phone_runs.proofs.serving.settle.Goals as goal
 
 pub loop-end-preserved : goal.loop-end-preserved
 loop-end-preserved g c =
     let further = rw c.in-Ok-true.field-0-test at c.in-Ok-true.ensures.further in
-    let further_shown = rw c.in-Ok-true.field-0-test at c.in-Ok-true.ensures.shows in
     let more = c.in-Ok-true.ensures.more (ap Ok c.in-Ok-true.field-0-test) in
     record {
       reached = λ given log at. let reached = c.loop-end.invariant.reached given log at in reaches_again given _ _ _ _ reached.lines_are (further given reached.log reached.at);
-      shows = λ given log at. let shown = c.loop-end.invariant.shows given log at in more_again given _ _ _ _ shown.lines_are (further_shown given shown.log shown.at);
       served = more.served;
       clock = more.clock ∙ c.loop-end.invariant.clock;
       kept = omega (arith, c.in-Ok-true.ensures.tallies.kept, c.loop-end.invariant.kept);
@@ -29,14 +26,3 @@ pub returns-in-Err-clause-settles : goal.returns-in-Err-clause-settles
 returns-in-Err-clause-settles g c = λ given log at.
     let reached = c.loop-end.invariant.reached given log at in
     ends_again given _ _ _ _ reached.lines_are (c.in-Err.ensures.further given reached.log reached.at)
-
-pub returns-in-Ok-false-clause-shows : goal.returns-in-Ok-false-clause-shows
-returns-in-Ok-false-clause-shows g c = λ given log at.
-    let further = rw c.in-Ok-false.field-0-test at c.in-Ok-false.ensures.shows in
-    let shown = c.loop-end.invariant.shows given log at in
-    all_again given _ _ _ _ shown.lines_are (further given shown.log shown.at)
-
-pub returns-in-Err-clause-shows : goal.returns-in-Err-clause-shows
-returns-in-Err-clause-shows g c = λ given log at.
-    let shown = c.loop-end.invariant.shows given log at in
-    end_again given _ _ _ _ shown.lines_are (c.in-Err.ensures.shows given shown.log shown.at)

@@ -4,15 +4,12 @@ use Rattle.run_steps.specs.Ends.{moment_at}
 use Rattle.phone_runs.specs.Logs.{Event, lines_back}
 use Rattle.phone_runs.specs.Runs.{Beginning, IsAt, Reaches}
 use Rattle.phone_runs.specs.Serving.{IsPhoneServed, work_at}
-use Rattle.phone_runs.specs.Showing.{IsShowing, Outset, ShowsMore}
 use Rattle.phone_runs.proofs.serving.settle.Given as goal
 
 abbrev pub invariant-loop-end : goal.invariant-loop-end
 invariant-loop-end g l = record {
   reached : (given : Beginning) (log : List Event) → IsAt given log l.initial.phone (moment_at l.initial.card (g.W.Sink.taken l.initial.trace))
       → Reaches given (lines_back log) l.phone (moment_at l.card (g.W.Sink.taken l.trace));
-  shows : (given : Outset) (log : List Event) → IsShowing given log l.initial.phone (moment_at l.initial.card (g.W.Sink.taken l.initial.trace))
-      → ShowsMore given (lines_back log) l.phone (moment_at l.card (g.W.Sink.taken l.trace));
   served : IsPhoneServed l.phone;
   clock : l.phone.known.clock ≡ l.initial.phone.known.clock;
   kept : l.initial.card.parts.meter.faults ≤ l.card.parts.meter.faults;

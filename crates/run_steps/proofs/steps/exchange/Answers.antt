@@ -1,7 +1,6 @@
 -- A plan is set before the command and taken back after: the machine is the same with it, and the sink may break off in either line.
 use Rattle.std.proofs.Common.{Ok, Err, ◌∙◌, rules}
-use Rattle.run_steps.proofs.ShowingLemmas.{command_cut_off, exchange_shows}
-use Rattle.run_steps.proofs.SteppingLemmas.{breaks_command, exchanges_at, faults_behind, idle_counted, with_plan}
+use Rattle.run_steps.proofs.SteppingLemmas.{breaks_command, exchanges_at, faults_behind, with_plan}
 use Rattle.run_steps.specs.Stepping.{seen}
 use Rattle.run_steps.proofs.TakesFrontLemmas.{tells_front, tells_whole}
 use Rattle.run_steps.proofs.steps.exchange.Goals as goal
@@ -19,8 +18,7 @@ returns-in-Err-write_reply-clause-gives g c = λ old before is told.
     c.in-Err-write_reply.ensures.ok c.in-Err-write_reply.ensures.err c.in-Err-write_reply.ensures.sink
 
 pub returns-in-Err-clause-gives : goal.returns-in-Err-clause-gives
-returns-in-Err-clause-gives g c = λ old before is told.
-    breaks_command c.args.apdu.now before old c.args.end.now.parts _ _ c.args.end.now.waiting idle_counted is told c.in-Err.ensures.err
+returns-in-Err-clause-gives g c = λ old before is told. breaks_command c.args.apdu.now before old c.args.end.now _ _ is told c.in-Err.ensures.err
 
 pub returns-in-Ok-write_reply-clause-tallies : goal.returns-in-Ok-write_reply-clause-tallies
 returns-in-Ok-write_reply-clause-tallies g c = record {
@@ -42,18 +40,3 @@ returns-in-Err-write_reply-clause-tallies g c = record {
 
 pub returns-in-Err-clause-tallies : goal.returns-in-Err-clause-tallies
 returns-in-Err-clause-tallies g c = record { kept = search rules; sink = search rules; tells = tells_front _ _ _ c.in-Err.ensures.err }
-
-pub returns-in-Ok-write_reply-clause-shows : goal.returns-in-Ok-write_reply-clause-shows
-returns-in-Ok-write_reply-clause-shows g c = λ before told.
-    exchange_shows (Ok c.in-Ok-write_reply.field-0) c.args.apdu.now before c.args.end.now c.set_plan-is_set.new.self c.send-reply.new.end c.clear_plan.new.self _ _ _ (seen c.send-reply.result c.send-reply.new.answer) c.runs_are_counted.ensures.plans told
-    (with_plan c.args.end.now c.set_plan-is_set.new.self c.send-reply.new.end c.clear_plan.new.self c.set_plan-is_set.result c.set_plan-is_set.ensures.set c.set_plan-is_set.ensures.is_set c.send-reply.ensures.waits c.clear_plan.ensures)
-    c.in-Ok.ensures.ok c.send-reply.ensures.replies c.send-reply.ensures.counted c.in-Ok-write_reply.ensures.ok c.in-Ok-write_reply.ensures.err c.in-Ok-write_reply.ensures.sink
-
-pub returns-in-Err-write_reply-clause-shows : goal.returns-in-Err-write_reply-clause-shows
-returns-in-Err-write_reply-clause-shows g c = λ before told.
-    exchange_shows (Err c.in-Err-write_reply.why) c.args.apdu.now before c.args.end.now c.set_plan-is_set.new.self c.send-reply.new.end c.clear_plan.new.self _ _ _ (seen c.send-reply.result c.send-reply.new.answer) c.runs_are_counted.ensures.plans told
-    (with_plan c.args.end.now c.set_plan-is_set.new.self c.send-reply.new.end c.clear_plan.new.self c.set_plan-is_set.result c.set_plan-is_set.ensures.set c.set_plan-is_set.ensures.is_set c.send-reply.ensures.waits c.clear_plan.ensures)
-    c.in-Ok.ensures.ok c.send-reply.ensures.replies c.send-reply.ensures.counted c.in-Err-write_reply.ensures.ok c.in-Err-write_reply.ensures.err c.in-Err-write_reply.ensures.sink
-
-pub returns-in-Err-clause-shows : goal.returns-in-Err-clause-shows
-returns-in-Err-clause-shows g c = λ before told. command_cut_off c.args.apdu.now before c.args.end.now _ _ told c.in-Err.ensures.err

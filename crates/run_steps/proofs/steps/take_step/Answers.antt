@@ -1,4 +1,3 @@
-use Rattle.run_steps.proofs.ShowingLemmas.{plan_shows}
 use Rattle.run_steps.proofs.SteppingLemmas.{plans_more}
 use Rattle.run_steps.proofs.steps.take_step.Goals as goal
 
@@ -11,12 +10,3 @@ returns-in-Ok-clause-gives g c = λ old before is told. rw c.in-Send.is (c.in-Ok
 
 pub returns-in-Ok-restart-clause-gives : goal.returns-in-Ok-restart-clause-gives
 returns-in-Ok-restart-clause-gives g c = λ old before is told. rw c.in-Reset.is (c.in-Ok-restart.ensures.gives old before is told).taken
-
-pub returns-in-Plans-clause-shows : goal.returns-in-Plans-clause-shows
-returns-in-Plans-clause-shows g c = λ before told. rw c.in-Plans.is (plan_shows before c.args.end.now c.plan.new.self _ c.in-Plans.plan told c.plan.ensures)
-
-pub returns-in-Ok-clause-shows : goal.returns-in-Ok-clause-shows
-returns-in-Ok-clause-shows g c = λ before told. rw c.in-Send.is (_, c.in-Ok.ensures.shows before told)
-
-pub returns-in-Ok-restart-clause-shows : goal.returns-in-Ok-restart-clause-shows
-returns-in-Ok-restart-clause-shows g c = λ before told. rw c.in-Reset.is (_, c.in-Ok-restart.ensures.shows before told)

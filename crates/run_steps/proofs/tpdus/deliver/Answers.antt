@@ -3,8 +3,6 @@ use Rattle.t0_link.specs.Linking.{Linked, link_answer}
 use Rattle.run_steps.specs.Ends.{end_words}
 use Rattle.run_steps.specs.Tpdus.{Delivers}
 use Rattle.run_steps.proofs.DeliversLemmas.{delivers}
-use Rattle.run_steps.proofs.ShowingLemmas.{course_shows}
-use Rattle.run_steps.specs.Showing.{ShowsCourse}
 use Rattle.run_steps.proofs.tpdus.deliver.Goals as goal
 use Rattle.run_steps.specs.Stepping.{seen}
 use Rattle.run_steps.specs.declared.steps.Reply.{Reply}
@@ -14,13 +12,5 @@ returns-clause-delivers g c = λ old is.
     let left : Linked = record { answer = c.exchange-outcome.new.out; kept = c.exchange-outcome.new.self } in
     subst (λ (reply : Reply). Delivers old (link_answer c.args.link.now c.args.tpdu.now) (seen reply left.answer) left.kept c.args.end.now c.clear_plan.new.self) (sym c.reply_of.ensures)
     (delivers end_words old c.args.end.now c.prepare-is_set.new.end c.exchange-outcome.new.card c.clear_plan.new.self c.runs_are_counted.ensures.plans is
-    (λ apdu result answer transmitted. transmitted) (link_answer c.args.link.now c.args.tpdu.now) c.exchange-outcome.result left c.prepare-is_set.result (c.prepare-is_set.ensures c.args.link.now) c.clear_plan.ensures
-    c.exchange-outcome.ensures.moves c.exchange-outcome.ensures.none_kept)
-
-pub returns-clause-shows : goal.returns-clause-shows
-returns-clause-shows g c =
-    let left : Linked = record { answer = c.exchange-outcome.new.out; kept = c.exchange-outcome.new.self } in
-    subst (λ (reply : Reply). ShowsCourse (link_answer c.args.link.now c.args.tpdu.now) (seen reply left.answer) left.kept c.args.end.now c.clear_plan.new.self) (sym c.reply_of.ensures)
-    (course_shows end_words c.args.end.now c.prepare-is_set.new.end c.exchange-outcome.new.card c.clear_plan.new.self c.runs_are_counted.ensures.plans
     (λ apdu result answer transmitted. transmitted) (link_answer c.args.link.now c.args.tpdu.now) c.exchange-outcome.result left c.prepare-is_set.result (c.prepare-is_set.ensures c.args.link.now) c.clear_plan.ensures
     c.exchange-outcome.ensures.moves c.exchange-outcome.ensures.none_kept)

@@ -1,8 +1,6 @@
 -- The sink may break off in the TPDU's line, before the link is given it, or in the reply's, after: what was taken is joined of both lines.
 use Rattle.std.proofs.Common.{◌∙◌, rules}
 use Rattle.t0_link.specs.Linking.{link_answer}
-use Rattle.run_steps.proofs.ShowingLemmas.{reply_cut_off, tpdu_cut_off, tpdu_shows}
-use Rattle.run_steps.proofs.SteppingLemmas.{idle_counted}
 use Rattle.run_steps.proofs.BreaksTpduLemmas.{breaks_reply, breaks_tpdu, takes}
 use Rattle.run_steps.proofs.TakesFrontLemmas.{tells_front, tells_whole}
 use Rattle.run_steps.proofs.tpdus.take_tpdu.Goals as goal
@@ -19,7 +17,7 @@ returns-in-Err-write_reply-clause-gives g c = λ old before is told.
 
 pub returns-in-Err-clause-gives : goal.returns-in-Err-clause-gives
 returns-in-Err-clause-gives g c = λ old before is told.
-    breaks_tpdu c.args.tpdu.now before old (link_answer c.args.link.now c.args.tpdu.now) c.args.link.now c.args.end.now _ _ (idle_counted c.args.end.now.parts.meter) is told c.in-Err.ensures.err
+    breaks_tpdu c.args.tpdu.now before old (link_answer c.args.link.now c.args.tpdu.now) c.args.link.now c.args.end.now _ _ is told c.in-Err.ensures.err
 
 pub returns-in-Ok-write_reply-clause-tallies : goal.returns-in-Ok-write_reply-clause-tallies
 returns-in-Ok-write_reply-clause-tallies g c = record {
@@ -41,17 +39,3 @@ returns-in-Err-clause-tallies g c = record {
   sink = search rules;
   tells = tells_front _ _ _ c.in-Err.ensures.err;
 }
-
-pub returns-in-Ok-write_reply-clause-shows : goal.returns-in-Ok-write_reply-clause-shows
-returns-in-Ok-write_reply-clause-shows g c = λ before told.
-    tpdu_shows c.args.tpdu.now before (link_answer c.args.link.now c.args.tpdu.now) c.args.link.now c.deliver-reply.new.link c.args.end.now c.deliver-reply.new.end _ _ _ _ told
-    c.deliver-reply.ensures.shows c.in-Ok.ensures.ok c.in-Ok-write_reply.ensures.ok
-
-pub returns-in-Err-write_reply-clause-shows : goal.returns-in-Err-write_reply-clause-shows
-returns-in-Err-write_reply-clause-shows g c = λ before told.
-    reply_cut_off c.args.tpdu.now before (link_answer c.args.link.now c.args.tpdu.now) c.args.link.now c.deliver-reply.new.link c.args.end.now c.deliver-reply.new.end _ _ _ _ told
-    c.deliver-reply.ensures.shows c.in-Ok.ensures.ok c.in-Err-write_reply.ensures.err
-
-pub returns-in-Err-clause-shows : goal.returns-in-Err-clause-shows
-returns-in-Err-clause-shows g c = λ before told.
-    tpdu_cut_off c.args.tpdu.now before (link_answer c.args.link.now c.args.tpdu.now) c.args.link.now c.args.end.now _ _ told c.in-Err.ensures.err

@@ -6,50 +6,49 @@ use Rattle.run_steps.proofs.StandingLemmas.{machine_minds, machine_stands}
 use Rattle.uicc_run.proofs.HasKindsOfLemmas.{machine_kinds}
 use Rattle.uicc_run.specs.Steps.{may_follow, may_stand}
 use Rattle.uicc_run.specs.Accounts.{Takes, Transfers}
-use Rattle.uicc_run.proofs.PlayingLemmas.{breaks_in_step, breaks_in_tpdu, comes_to_end, ends_in_step, ends_playing, plays_further, plays_on, step_does, tpdu_does}
-use Rattle.uicc_run.proofs.ShowingLemmas.{cut_in_step, cut_in_tpdu, ends_showing, shows_failure, shows_further, shows_on, shows_to_end, stands_there, step_does_show, tpdu_does_show}
+use Rattle.uicc_run.proofs.PlayingLemmas.{breaks_in, comes_to_end, ends_playing, fails_in, plays_further, plays_on, stands_there, step_breaks, step_does, tpdu_breaks, tpdu_does}
 use Rattle.uicc_run.proofs.playing.play_line.Goals as goal
 
 pub returns-in-Err-clause-played : goal.returns-in-Err-clause-played
-returns-in-Err-clause-played g c = λ given playing.
-    comes_to_end given _ _ _ (ends_playing given _ _ _ _ _ _ (machine_stands c.args.card.now.parts) (λ machine is. record { kinds = machine_kinds c.args.card.now.parts machine is; minds = machine_minds c.args.card.now.parts machine is }) (λ found follows. c.in-Err.ensures.gives (may_stand given.is_served) given.text found follows) playing)
+returns-in-Err-clause-played g c = λ given first playing.
+    comes_to_end given first _ _ _ (ends_playing given first _ _ _ _ _ _ (machine_stands c.args.card.now.parts) (λ machine is. record { kinds = machine_kinds c.args.card.now.parts machine is; minds = machine_minds c.args.card.now.parts machine is }) (λ found follows. c.in-Err.ensures.gives (may_stand given.is_served) given.text found follows) playing)
 
 pub returns-in-Nothing-clause-played : goal.returns-in-Nothing-clause-played
-returns-in-Nothing-clause-played g c = λ given playing.
-    plays_on given _ _ _ _ _ _ c.read_behind.new.line (λ found follows. c.in-Ok.ensures.gives (may_stand given.is_served) given.text found follows) c.in-Nothing.ensures.0 c.in-Nothing.ensures.1 playing
+returns-in-Nothing-clause-played g c = λ given first playing.
+    plays_on given first _ _ _ _ c.read_behind.new.line (λ found follows. c.in-Ok.ensures.gives (may_stand given.is_served) given.text found follows) _ _ c.in-Nothing.ensures.0 c.in-Nothing.ensures.1 playing
 
 pub returns-in-OutOfPlace-clause-played : goal.returns-in-OutOfPlace-clause-played
-returns-in-OutOfPlace-clause-played g c = λ given playing.
-    ends_playing given _ _ _ _ _ _ (machine_stands c.args.card.now.parts) (λ machine is. record { kinds = machine_kinds c.args.card.now.parts machine is; minds = machine_minds c.args.card.now.parts machine is }) (λ found follows. bad_behind (may_stand given.is_served) given.text found c.read_behind.new.script _ c.read_behind.new.line _ (c.in-Ok.ensures.gives (may_stand given.is_served) given.text found follows) (stands_there given c.read_behind.new.line false playing.unserved c.in-OutOfPlace.ensures) c.number.ensures) playing
+returns-in-OutOfPlace-clause-played g c = λ given first playing.
+    ends_playing given first _ _ _ _ _ _ (machine_stands c.args.card.now.parts) (λ machine is. record { kinds = machine_kinds c.args.card.now.parts machine is; minds = machine_minds c.args.card.now.parts machine is }) (λ found follows. bad_behind (may_stand given.is_served) given.text found c.read_behind.new.script _ c.read_behind.new.line _ (c.in-Ok.ensures.gives (may_stand given.is_served) given.text found follows) (stands_there given c.read_behind.new.line false playing.unserved c.in-OutOfPlace.ensures) c.number.ensures) playing
 
 pub returns-in-Ok-take_step-clause-played : goal.returns-in-Ok-take_step-clause-played
-returns-in-Ok-take_step-clause-played g c = λ given playing.
-    plays_further given _ _ _ _ c.args.link.now c.drop_kept.new.link _ _ c.read_behind.new.line (Takes (step_of c.in-Takes.step)) c.runs_are_counted.ensures.join c.plans_are_set_in_order.ensures (λ found follows. c.in-Ok.ensures.gives (may_stand given.is_served) given.text found follows)
+returns-in-Ok-take_step-clause-played g c = λ given first playing.
+    plays_further given first _ _ _ _ c.read_behind.new.line (λ found follows. c.in-Ok.ensures.gives (may_stand given.is_served) given.text found follows) c.args.link.now c.drop_kept.new.link _ _ (Takes (step_of c.in-Takes.step)) c.runs_are_counted.ensures.join c.plans_are_set_in_order.ensures
     c.in-Takes.ensures.0 c.in-Takes.ensures.1
-    (λ old before is told. step_does (step_of c.in-Takes.step) c.args.link.now c.drop_kept.new.link old before _ _ c.drop_kept.ensures (c.in-Ok-take_step.ensures.gives old before is told)) playing
+    (λ old before seen told. step_does (step_of c.in-Takes.step) c.args.link.now c.drop_kept.new.link old before _ _ c.drop_kept.ensures (c.in-Ok-take_step.ensures.gives old before seen told)) playing
 
 pub returns-in-Err-SinkFailed-clause-played : goal.returns-in-Err-SinkFailed-clause-played
-returns-in-Err-SinkFailed-clause-played g c = λ given playing.
+returns-in-Err-SinkFailed-clause-played g c = λ given first playing.
     let gives = rw c.in-Err-SinkFailed.field-0-is at c.in-Err-SinkFailed.ensures.gives in
-    breaks_in_step given _ _ _ (g.R.Source.left c.read_behind.new.source) c.args.link.now c.drop_kept.new.link _ _ c.read_behind.new.line (step_of c.in-Takes.step) c.runs_are_counted.ensures.join (λ found follows. c.in-Ok.ensures.gives (may_stand given.is_served) given.text found follows)
-    c.in-Takes.ensures.1 gives playing
+    breaks_in given first _ _ _ (g.R.Source.left c.read_behind.new.source) c.read_behind.new.line (λ found follows. c.in-Ok.ensures.gives (may_stand given.is_served) given.text found follows) c.args.link.now c.drop_kept.new.link _ _ (Takes (step_of c.in-Takes.step)) c.runs_are_counted.ensures.join
+    c.in-Takes.ensures.1 (λ old before seen told. step_breaks (step_of c.in-Takes.step) c.args.link.now c.drop_kept.new.link old before _ _ (gives old before seen told)) playing
 
 pub returns-in-Err-ResetFailed-clause-played : goal.returns-in-Err-ResetFailed-clause-played
-returns-in-Err-ResetFailed-clause-played g c = λ given playing.
+returns-in-Err-ResetFailed-clause-played g c = λ given first playing.
     let gives = rw c.in-Err-ResetFailed.field-0-is at c.in-Err-ResetFailed.ensures.gives in
-    ends_in_step given _ _ _ _ c.args.link.now _ _ c.read_behind.new.line (step_of c.in-Takes.step) c.runs_are_counted.ensures.join c.plans_are_set_in_order.ensures (λ found follows. c.in-Ok.ensures.gives (may_stand given.is_served) given.text found follows)
+    fails_in given first _ _ _ (g.R.Source.left c.read_behind.new.source) c.read_behind.new.line (λ found follows. c.in-Ok.ensures.gives (may_stand given.is_served) given.text found follows) c.args.link.now _ _ (step_of c.in-Takes.step) c.runs_are_counted.ensures.join c.plans_are_set_in_order.ensures
     c.in-Takes.ensures.1 gives playing
 
 pub returns-in-Ok-take_tpdu-clause-played : goal.returns-in-Ok-take_tpdu-clause-played
-returns-in-Ok-take_tpdu-clause-played g c = λ given playing.
-    plays_further given _ _ _ _ c.args.link.now c.take_tpdu.new.link _ _ c.read_behind.new.line (Transfers c.in-Transfers.tpdu.now) c.runs_are_counted.ensures.join c.plans_are_set_in_order.ensures (λ found follows. c.in-Ok.ensures.gives (may_stand given.is_served) given.text found follows)
+returns-in-Ok-take_tpdu-clause-played g c = λ given first playing.
+    plays_further given first _ _ _ _ c.read_behind.new.line (λ found follows. c.in-Ok.ensures.gives (may_stand given.is_served) given.text found follows) c.args.link.now c.take_tpdu.new.link _ _ (Transfers c.in-Transfers.tpdu.now) c.runs_are_counted.ensures.join c.plans_are_set_in_order.ensures
     c.in-Transfers.ensures.0 c.in-Transfers.ensures.1
-    (λ old before is told. tpdu_does c.in-Transfers.tpdu.now c.args.link.now c.take_tpdu.new.link old before _ _ (c.in-Ok-take_tpdu.ensures.gives old before is told)) playing
+    (λ old before seen told. tpdu_does c.in-Transfers.tpdu.now c.args.link.now c.take_tpdu.new.link old before _ _ (c.in-Ok-take_tpdu.ensures.gives old before seen told)) playing
 
 pub returns-in-Err-take_tpdu-clause-played : goal.returns-in-Err-take_tpdu-clause-played
-returns-in-Err-take_tpdu-clause-played g c = λ given playing.
-    breaks_in_tpdu given _ _ _ (g.R.Source.left c.read_behind.new.source) c.args.link.now c.take_tpdu.new.link _ _ c.read_behind.new.line c.in-Transfers.tpdu.now c.runs_are_counted.ensures.join (λ found follows. c.in-Ok.ensures.gives (may_stand given.is_served) given.text found follows)
-    c.in-Transfers.ensures.1 c.in-Err-take_tpdu.ensures.gives playing
+returns-in-Err-take_tpdu-clause-played g c = λ given first playing.
+    breaks_in given first _ _ _ (g.R.Source.left c.read_behind.new.source) c.read_behind.new.line (λ found follows. c.in-Ok.ensures.gives (may_stand given.is_served) given.text found follows) c.args.link.now c.take_tpdu.new.link _ _ (Transfers c.in-Transfers.tpdu.now) c.runs_are_counted.ensures.join
+    c.in-Transfers.ensures.1 (λ old before seen told. tpdu_breaks c.in-Transfers.tpdu.now c.args.link.now c.take_tpdu.new.link old before _ _ (c.in-Err-take_tpdu.ensures.gives old before seen told)) playing
 
 -- ---- over any memory
 
@@ -72,46 +71,3 @@ returns-in-Ok-take_step-clause-reads g c = λ text opening reading.
 pub returns-in-Ok-take_tpdu-clause-reads : goal.returns-in-Ok-take_tpdu-clause-reads
 returns-in-Ok-take_tpdu-clause-reads g c = λ text opening reading.
     reads_on may_follow opening text _ _ _ _ c.read_behind.new.line (λ found follows. c.in-Ok.ensures.gives may_follow text found follows) c.in-Transfers.ensures.0 reading
-
--- ---- what is shown
-
-pub returns-in-Err-clause-shows : goal.returns-in-Err-clause-shows
-returns-in-Err-clause-shows g c = λ given first showing.
-    shows_to_end given first _ _ _ _ (ends_showing given first _ _ _ _ _ _ (λ found follows. c.in-Err.ensures.gives (may_stand given.is_served) given.text found follows) showing)
-
-pub returns-in-Nothing-clause-shows : goal.returns-in-Nothing-clause-shows
-returns-in-Nothing-clause-shows g c = λ given first showing.
-    shows_on given first _ _ _ _ _ _ c.read_behind.new.line (λ found follows. c.in-Ok.ensures.gives (may_stand given.is_served) given.text found follows) c.in-Nothing.ensures.0 c.in-Nothing.ensures.1 showing
-
-pub returns-in-OutOfPlace-clause-shows : goal.returns-in-OutOfPlace-clause-shows
-returns-in-OutOfPlace-clause-shows g c = λ given first showing.
-    ends_showing given first _ _ _ _ _ _ (λ found follows. bad_behind (may_stand given.is_served) given.text found c.read_behind.new.script _ c.read_behind.new.line _ (c.in-Ok.ensures.gives (may_stand given.is_served) given.text found follows) (stands_there given c.read_behind.new.line false showing.unserved c.in-OutOfPlace.ensures) c.number.ensures) showing
-
-pub returns-in-Ok-take_step-clause-shows : goal.returns-in-Ok-take_step-clause-shows
-returns-in-Ok-take_step-clause-shows g c = λ given first showing.
-    shows_further given first _ _ _ _ c.args.link.now c.drop_kept.new.link _ _ c.read_behind.new.line (Takes (step_of c.in-Takes.step)) c.runs_are_counted.ensures.join c.plans_are_set_in_order.ensures (λ found follows. c.in-Ok.ensures.gives (may_stand given.is_served) given.text found follows)
-    c.in-Takes.ensures.0 c.in-Takes.ensures.1
-    (λ before told. step_does_show (step_of c.in-Takes.step) c.args.link.now c.drop_kept.new.link before _ _ c.drop_kept.ensures (c.in-Ok-take_step.ensures.shows before told)) showing
-
-pub returns-in-Err-SinkFailed-clause-shows : goal.returns-in-Err-SinkFailed-clause-shows
-returns-in-Err-SinkFailed-clause-shows g c = λ given first showing.
-    let shows = rw c.in-Err-SinkFailed.field-0-is at c.in-Err-SinkFailed.ensures.shows in
-    cut_in_step given first _ _ _ (g.R.Source.left c.read_behind.new.source) c.args.link.now c.drop_kept.new.link _ _ c.read_behind.new.line (step_of c.in-Takes.step) c.runs_are_counted.ensures.join (λ found follows. c.in-Ok.ensures.gives (may_stand given.is_served) given.text found follows)
-    c.in-Takes.ensures.1 shows showing
-
-pub returns-in-Err-ResetFailed-clause-shows : goal.returns-in-Err-ResetFailed-clause-shows
-returns-in-Err-ResetFailed-clause-shows g c = λ given first showing.
-    let shows = rw c.in-Err-ResetFailed.field-0-is at c.in-Err-ResetFailed.ensures.shows in
-    shows_failure given first _ _ _ (g.R.Source.left c.read_behind.new.source) c.args.link.now _ _ c.read_behind.new.line (step_of c.in-Takes.step) c.runs_are_counted.ensures.join c.plans_are_set_in_order.ensures (λ found follows. c.in-Ok.ensures.gives (may_stand given.is_served) given.text found follows)
-    c.in-Takes.ensures.1 shows showing
-
-pub returns-in-Ok-take_tpdu-clause-shows : goal.returns-in-Ok-take_tpdu-clause-shows
-returns-in-Ok-take_tpdu-clause-shows g c = λ given first showing.
-    shows_further given first _ _ _ _ c.args.link.now c.take_tpdu.new.link _ _ c.read_behind.new.line (Transfers c.in-Transfers.tpdu.now) c.runs_are_counted.ensures.join c.plans_are_set_in_order.ensures (λ found follows. c.in-Ok.ensures.gives (may_stand given.is_served) given.text found follows)
-    c.in-Transfers.ensures.0 c.in-Transfers.ensures.1
-    (λ before told. tpdu_does_show c.in-Transfers.tpdu.now c.args.link.now c.take_tpdu.new.link before _ _ (c.in-Ok-take_tpdu.ensures.shows before told)) showing
-
-pub returns-in-Err-take_tpdu-clause-shows : goal.returns-in-Err-take_tpdu-clause-shows
-returns-in-Err-take_tpdu-clause-shows g c = λ given first showing.
-    cut_in_tpdu given first _ _ _ (g.R.Source.left c.read_behind.new.source) c.args.link.now c.take_tpdu.new.link _ _ c.read_behind.new.line c.in-Transfers.tpdu.now c.runs_are_counted.ensures.join (λ found follows. c.in-Ok.ensures.gives (may_stand given.is_served) given.text found follows)
-    c.in-Transfers.ensures.1 c.in-Err-take_tpdu.ensures.shows showing

@@ -5,21 +5,15 @@ use Rattle.script_reader.specs.Behind.{IsReading, LinesReadTo}
 use Rattle.run_steps.specs.Ends.{moment_at}
 use Rattle.uicc_run.specs.Listeners.{is_handset}
 use Rattle.uicc_run.specs.Playing.{IsPlaying}
-use Rattle.uicc_run.specs.Showing.{IsShowing}
 use Rattle.uicc_run.specs.Steps.{may_stand}
 use Rattle.uicc_run.proofs.playing.play_lines.Goals as goal
 
 -- ---- the card
 
 pub returns-in-Err-clause-played : goal.returns-in-Err-clause-played
-returns-in-Err-clause-played g c = λ given unserved playing.
-    let begun = subst (λ (kept : Option Answer). IsPlaying given c.args.script.now (g.R.Source.left c.args.source.now) kept (moment_at c.args.card.now (g.W.Sink.taken c.args.trace.now))) (sym c.new-link.ensures) playing in
-    c.in-Err.ensures.played given (c.loop-script.invariant.playing given unserved begun)
-
-pub returns-in-Err-clause-shows : goal.returns-in-Err-clause-shows
-returns-in-Err-clause-shows g c = λ given first unserved showing.
-    let begun = subst (λ (kept : Option Answer). IsShowing given first c.args.script.now (g.R.Source.left c.args.source.now) kept (moment_at c.args.card.now (g.W.Sink.taken c.args.trace.now))) (sym c.new-link.ensures) showing in
-    c.in-Err.ensures.shows given first (c.loop-script.invariant.shows given first unserved begun)
+returns-in-Err-clause-played g c = λ given first unserved playing.
+    let begun = subst (λ (kept : Option Answer). IsPlaying given first c.args.script.now (g.R.Source.left c.args.source.now) kept (moment_at c.args.card.now (g.W.Sink.taken c.args.trace.now))) (sym c.new-link.ensures) playing in
+    c.in-Err.ensures.played given first (c.loop-script.invariant.playing given first unserved begun)
 
 pub returns-in-Err-clause-reads : goal.returns-in-Err-clause-reads
 returns-in-Err-clause-reads g c = λ text opening reading.
@@ -30,10 +24,8 @@ pub loop-script-preserved-in_default : goal.loop-script-preserved-in_default
 loop-script-preserved-in_default g c =
     let for_card = ap is_handset c.in-Card.is in
     record {
-      playing = λ given unserved playing. c.in_default.ensures.played given (c.loop-script.invariant.playing given unserved playing);
-      shows = λ given first unserved showing. c.in_default.ensures.shows given first (c.loop-script.invariant.shows given first unserved showing);
+      playing = λ given first unserved playing. c.in_default.ensures.played given first (c.loop-script.invariant.playing given first unserved playing);
       serving = λ text opening given served serving. absurd (false≢true (sym for_card ∙ served));
-      serves = λ text opening given served serving. absurd (false≢true (sym for_card ∙ served));
       between = λ served. absurd (false≢true (sym for_card ∙ served));
       reads = λ text opening reading.
           subst (λ s. IsReading (may_stand s) opening text c.play_line.new.script (g.R.Source.left c.play_line.new.source)) (sym for_card)
@@ -50,9 +42,6 @@ loop-script-preserved-in_default g c =
 pub returns-in-Err-serve_line-clause-served : goal.returns-in-Err-serve_line-clause-served
 returns-in-Err-serve_line-clause-served g c = λ text opening given served serving. c.in-Err-serve_line.ensures.served text opening given (c.loop-script.invariant.serving text opening given served serving)
 
-pub returns-in-Err-serve_line-clause-serves : goal.returns-in-Err-serve_line-clause-serves
-returns-in-Err-serve_line-clause-serves g c = λ text opening given served serving. c.in-Err-serve_line.ensures.shows text opening given (c.loop-script.invariant.serves text opening given served serving)
-
 pub returns-in-Err-serve_line-clause-reads : goal.returns-in-Err-serve_line-clause-reads
 returns-in-Err-serve_line-clause-reads g c = λ text opening reading.
     subst (λ s. LinesReadTo (may_stand s) opening text (g.R.Source.left c.serve_line.new.source) c.in-Err-serve_line.end) (sym (ap is_handset c.in-Handset.is))
@@ -62,10 +51,8 @@ pub loop-script-preserved : goal.loop-script-preserved
 loop-script-preserved g c =
     let for_handset = ap is_handset c.in-Handset.is in
     record {
-      playing = λ given unserved playing. absurd (false≢true (sym unserved ∙ for_handset));
-      shows = λ given first unserved showing. absurd (false≢true (sym unserved ∙ for_handset));
+      playing = λ given first unserved playing. absurd (false≢true (sym unserved ∙ for_handset));
       serving = λ text opening given served serving. c.in_default-serve_line.ensures.served text opening given (c.loop-script.invariant.serving text opening given served serving);
-      serves = λ text opening given served serving. c.in_default-serve_line.ensures.shows text opening given (c.loop-script.invariant.serves text opening given served serving);
       between = λ served. c.in_default-serve_line.ensures.further.between;
       reads = λ text opening reading.
           subst (λ s. IsReading (may_stand s) opening text c.serve_line.new.script (g.R.Source.left c.serve_line.new.source)) (sym for_handset)

@@ -1,29 +1,23 @@
 -- Between two lines the run is where it was at first, or further.
 use Rattle.std.proofs.Common.{◌≡◌, List, ℕ, is_some, ◌≤◌, true, false}
-use Rattle.uicc_types.specs.Counts.{Meter}
 use Rattle.byte_streams.specs.Reading.{IsWithin}
 use Rattle.script_form.specs.declared.lines.ScriptLine.{ScriptLine}
 use Rattle.script_reader.specs.Behind.{IsReading}
 use Rattle.run_steps.specs.Ends.{moment_at}
+use Rattle.run_steps.specs.Views.{CardView}
 use Rattle.phone_runs.specs.Lines.{IsBetweenLines, IsServing}
 use Rattle.phone_runs.specs.Runs.{Beginning}
-use Rattle.phone_runs.specs.Showing.{Outset, ServesShowing}
 use Rattle.uicc_run.specs.Listeners.{is_handset}
 use Rattle.uicc_run.specs.Playing.{Given, IsPlaying}
-use Rattle.uicc_run.specs.Showing.{IsShowing}
 use Rattle.uicc_run.specs.Steps.{may_stand}
 use Rattle.uicc_run.proofs.playing.play_lines.Given as goal
 
 abbrev pub invariant-loop-script : goal.invariant-loop-script
 invariant-loop-script g l = record {
-  playing : (given : Given) → is_handset l.listener ≡ false → IsPlaying given l.initial.script (g.R.Source.left l.initial.source) l.initial.link (moment_at l.initial.card (g.W.Sink.taken l.initial.trace))
-      → IsPlaying given l.script (g.R.Source.left l.source) l.link (moment_at l.card (g.W.Sink.taken l.trace));
-  shows : (given : Given) (first : Meter) → is_handset l.listener ≡ false → IsShowing given first l.initial.script (g.R.Source.left l.initial.source) l.initial.link (moment_at l.initial.card (g.W.Sink.taken l.initial.trace))
-      → IsShowing given first l.script (g.R.Source.left l.source) l.link (moment_at l.card (g.W.Sink.taken l.trace));
+  playing : (given : Given) (first : CardView) → is_handset l.listener ≡ false → IsPlaying given first l.initial.script (g.R.Source.left l.initial.source) l.initial.link (moment_at l.initial.card (g.W.Sink.taken l.initial.trace))
+      → IsPlaying given first l.script (g.R.Source.left l.source) l.link (moment_at l.card (g.W.Sink.taken l.trace));
   serving : (text : List ℕ) (opening : List ScriptLine) (given : Beginning) → is_handset l.listener ≡ true → IsServing text opening given l.initial.script (g.R.Source.left l.initial.source) l.initial.phone (moment_at l.initial.card (g.W.Sink.taken l.initial.trace))
       → IsServing text opening given l.script (g.R.Source.left l.source) l.phone (moment_at l.card (g.W.Sink.taken l.trace));
-  serves : (text : List ℕ) (opening : List ScriptLine) (given : Outset) → is_handset l.listener ≡ true → ServesShowing text opening given l.initial.script (g.R.Source.left l.initial.source) l.initial.phone (moment_at l.initial.card (g.W.Sink.taken l.initial.trace))
-      → ServesShowing text opening given l.script (g.R.Source.left l.source) l.phone (moment_at l.card (g.W.Sink.taken l.trace));
   between : is_handset l.listener ≡ true → IsBetweenLines l.script l.phone;
   reads : (text : List ℕ) (opening : List ScriptLine) → IsReading (may_stand (is_handset l.listener)) opening text l.initial.script (g.R.Source.left l.initial.source)
       → IsReading (may_stand (is_handset l.listener)) opening text l.script (g.R.Source.left l.source);

@@ -38,7 +38,7 @@ returns-in-Bip-clause-comes g c = λ given from.
 pub returns-in_default-clause-untold : goal.returns-in_default-clause-untold
 returns-in_default-clause-untold g c = record {
   reads = λ given from. tt;
-  shows = λ given from told. tt;
+  shows = λ given from told counts. tt;
   quiet = λ given from unopened. record { silent = refl; unplanned = unplanned_still _ };
   taken = λ text told. IsTaken-none _ text _ told;
 }
@@ -48,9 +48,9 @@ returns-in-Ok-clause-untold g c = record {
   reads = λ given from.
       let wish = from.is_asked c.in-Some.asked c.in-Some.ensures.so in
       c.read_and_play.ensures.untold.reads given (to_play given _ _ _ _ _ from (wish.served_is ∙ sym (ap is_handset c.listener_for-listener.ensures)) (wish.first_is ∙ makes_bare _ c.in-Play.is ∙ ap Some (sym c.in-Ok.ensures)) wish.store_is);
-  shows = λ given from told.
+  shows = λ given from told counts.
       let wish = from.is_asked c.in-Some.asked c.in-Some.ensures.so in
-      c.read_and_play.ensures.untold.shows given (to_play given _ _ _ _ _ from (wish.served_is ∙ sym (ap is_handset c.listener_for-listener.ensures)) (wish.first_is ∙ makes_bare _ c.in-Play.is ∙ ap Some (sym c.in-Ok.ensures)) wish.store_is) told;
+      c.read_and_play.ensures.untold.shows given (to_play given _ _ _ _ _ from (wish.served_is ∙ sym (ap is_handset c.listener_for-listener.ensures)) (wish.first_is ∙ makes_bare _ c.in-Play.is ∙ ap Some (sym c.in-Ok.ensures)) wish.store_is) told counts;
   quiet = λ given from unopened.
       let wish = from.is_asked c.in-Some.asked c.in-Some.ensures.so in
       c.read_and_play.ensures.untold.quiet given (to_play given _ _ _ _ _ from (wish.served_is ∙ sym (ap is_handset c.listener_for-listener.ensures)) (wish.first_is ∙ makes_bare _ c.in-Play.is ∙ ap Some (sym c.in-Ok.ensures)) wish.store_is) unopened;
@@ -62,9 +62,9 @@ returns-in-Open-clause-untold g c = record {
   reads = λ given from.
       let wish = from.is_asked c.in-Some.asked c.in-Some.ensures.so in
       c.read_and_play-in-Open.ensures.untold.reads given (to_play given _ _ _ _ _ from (wish.served_is ∙ ap is_served_by c.in-Open.is) (wish.first_is ∙ ap first_of c.in-Open.is) wish.store_is);
-  shows = λ given from told.
+  shows = λ given from told counts.
       let wish = from.is_asked c.in-Some.asked c.in-Some.ensures.so in
-      c.read_and_play-in-Open.ensures.untold.shows given (to_play given _ _ _ _ _ from (wish.served_is ∙ ap is_served_by c.in-Open.is) (wish.first_is ∙ ap first_of c.in-Open.is) wish.store_is) told;
+      c.read_and_play-in-Open.ensures.untold.shows given (to_play given _ _ _ _ _ from (wish.served_is ∙ ap is_served_by c.in-Open.is) (wish.first_is ∙ ap first_of c.in-Open.is) wish.store_is) told counts;
   quiet = λ given from unopened.
       let wish = from.is_asked c.in-Some.asked c.in-Some.ensures.so in
       c.read_and_play-in-Open.ensures.untold.quiet given (to_play given _ _ _ _ _ from (wish.served_is ∙ ap is_served_by c.in-Open.is) (wish.first_is ∙ ap first_of c.in-Open.is) wish.store_is) unopened;
@@ -74,7 +74,7 @@ returns-in-Open-clause-untold g c = record {
 pub returns-in-Err-clause-untold : goal.returns-in-Err-clause-untold
 returns-in-Err-clause-untold g c = record {
   reads = λ given from. tt;
-  shows = λ given from told. tt;
+  shows = λ given from told counts. tt;
   quiet = λ given from unopened. record { silent = refl; unplanned = unplanned_still _ };
   taken = λ text told. IsTaken-none _ text _ told;
 }
@@ -84,7 +84,7 @@ returns-in-Load-clause-untold g c = record {
   reads = λ given from.
       let wish = from.is_asked c.in-Some.asked c.in-Some.ensures.so in
       absurd (no_load _ c.in-Load.start c.in-Load.count c.in-Load.is wish.for_card);
-  shows = λ given from told.
+  shows = λ given from told counts.
       let wish = from.is_asked c.in-Some.asked c.in-Some.ensures.so in
       absurd (no_load _ c.in-Load.start c.in-Load.count c.in-Load.is wish.for_card);
   quiet = λ given from unopened.
@@ -98,7 +98,7 @@ returns-in-Bip-clause-untold g c = record {
   reads = λ given from.
       let wish = from.is_asked c.in-Some.asked c.in-Some.ensures.so in
       absurd (no_bip _ c.in-Bip.is wish.for_card);
-  shows = λ given from told.
+  shows = λ given from told counts.
       let wish = from.is_asked c.in-Some.asked c.in-Some.ensures.so in
       absurd (no_bip _ c.in-Bip.is wish.for_card);
   quiet = λ given from unopened.

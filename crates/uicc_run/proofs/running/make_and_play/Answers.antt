@@ -41,9 +41,9 @@ pub returns-in-Err-clause-quiet : goal.returns-in-Err-clause-quiet
 returns-in-Err-clause-quiet g c = λ unopened. record { silent = refl; unplanned = caused_kept _ _ c.make.ensures.keeps.cause }
 
 pub returns-in-Ok-clause-shows : goal.returns-in-Ok-clause-shows
-returns-in-Ok-clause-shows g c = λ given described first served at told counted.
-    c.open_and_play.ensures.shows given described first served at told
+returns-in-Ok-clause-shows g c = λ given described served at told counted.
+    c.open_and_play.ensures.shows given described served at told
     (c.runs_are_counted.ensures.join _ _ _ [] [] [] [] counted (caused_counted _ _ c.make.ensures.keeps.cause (λ so. cc (so, c.in-Ok.is)) (λ so. cc (so, c.in-Ok.is))))
 
 pub returns-in-Err-clause-shows : goal.returns-in-Err-clause-shows
-returns-in-Err-clause-shows g c = λ given described first served at told counted. tt
+returns-in-Err-clause-shows g c = λ given described served at told counted. tt

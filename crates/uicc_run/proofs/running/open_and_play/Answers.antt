@@ -1,12 +1,10 @@
 -- The card opened is the one at the end of the link, and the store handed back is that card's: the lines are told from one to the other.
-use Rattle.std.proofs.Common.{[], None, ap, refl, sym, subst, ◌∙◌}
-use Rattle.uicc_types.specs.Counts.{Meter}
+use Rattle.std.proofs.Common.{[], true, ap, refl, ◌∙◌}
 use Rattle.uicc_types.specs.declared.plans.TheConstants.Plan.{NONE}
 use Rattle.card_core.specs.Parts.{CardParts}
 use Rattle.card_core.specs.Cards.{parts_of}
-use Rattle.run_steps.specs.Ends.{moment_at}
 use Rattle.run_steps.specs.Stepping.{moment}
-use Rattle.phone_runs.specs.Showing.{StartsShowing}
+use Rattle.run_steps.specs.Views.{ItsPower, TheCard}
 use Rattle.uicc_run.specs.Listeners.{is_handset}
 use Rattle.uicc_run.specs.Opening.{IsStarted}
 use Rattle.uicc_run.proofs.HasKindsOfLemmas.{at_end}
@@ -14,19 +12,23 @@ use Rattle.uicc_run.proofs.EndsForLemmas.{ends_played, rose_as}
 use Rattle.uicc_run.proofs.OpeningLemmas.{caused_counted, caused_kept, formatted_then, given_back, refusal_keeps, refused, starts}
 use Rattle.uicc_run.proofs.ReadingLemmas.{reads_behind, reads_refused, reads_start}
 use Rattle.uicc_run.proofs.ServingLemmas.{opening}
-use Rattle.uicc_run.proofs.ShowingLemmas.{outset, refused_shows, serves_shown_first, shows_first}
-use Rattle.uicc_run.specs.Showing.{IsShowing, LinesShow}
+use Rattle.uicc_run.proofs.ShowingLemmas.{refused_shows, starts_with_power}
+use Rattle.uicc_run.specs.Serving.{ComesTo}
 use Rattle.uicc_run.proofs.running.open_and_play.Goals as goal
 
 pub returns-in-Ok-clause-comes : goal.returns-in-Ok-clause-comes
 returns-in-Ok-clause-comes g c = λ given served told made.
-    given_back given (g.R.Source.left c.carry_on-end.new.script) (g.W.Sink.taken c.carry_on-end.new.trace) c.carry_on-end.result c.carry_on-end.new.card.parts _ _ _ _
-    (c.close-store.ensures.mark ∙ ap (λ (p : CardParts). p.store_mark) c.into_parts-card.ensures.parts) (c.close-store.ensures.told ∙ ap (λ (p : CardParts). p.told) c.into_parts-card.ensures.parts)
-    (c.close-store.ensures.meter ∙ ap (λ (p : CardParts). p.meter) c.into_parts-card.ensures.parts) (c.close-store.ensures.boxes ∙ ap (λ (p : CardParts). p.boxes) c.into_parts-card.ensures.parts)
-    (c.carry_on-end.ensures.comes given served
-    (at_end (IsStarted given c.args.reader.now (g.R.Source.left c.args.script.now)) c.new-card.result (parts_of g.S.Store g.B.Applet c.in-Ok.card) (g.W.Sink.taken c.args.trace.now) c.new-card.ensures.parts c.new-card.ensures.waiting
-    (starts given c.args.reader.now (g.R.Source.left c.args.script.now) (g.W.Sink.taken c.args.trace.now) _ _ _ _ (parts_of g.S.Store g.B.Applet c.in-Ok.card)
-    c.runs_are_counted.ensures.join made (c.in-Ok.ensures.opened.opens.card ∙ told) c.in-Ok.ensures.opened.opened c.in-Ok.ensures.opened.on c.in-Ok.ensures.opened.rests c.in-Ok.ensures.opened.ready.good c.in-Ok.ensures.opened.calm)))
+    let parts = parts_of g.S.Store g.B.Applet c.in-Ok.card in
+    let started = starts given c.args.reader.now (g.R.Source.left c.args.script.now) (g.W.Sink.taken c.args.trace.now) _ _ _ _ parts
+    c.runs_are_counted.ensures.join made (c.in-Ok.ensures.opened.opens.card ∙ told) c.in-Ok.ensures.opened.opened c.in-Ok.ensures.opened.on c.in-Ok.ensures.opened.rests c.in-Ok.ensures.opened.ready.good c.in-Ok.ensures.opened.calm in
+    let first = TheCard started.0 in (
+      started.0,
+      given_back (ComesTo given first (g.R.Source.left c.carry_on-end.new.script) c.carry_on-end.result) (g.W.Sink.taken c.carry_on-end.new.trace) c.carry_on-end.new.card.parts _ _ _ _
+          (c.close-store.ensures.mark ∙ ap (λ (p : CardParts). p.store_mark) c.into_parts-card.ensures.parts) (c.close-store.ensures.told ∙ ap (λ (p : CardParts). p.told) c.into_parts-card.ensures.parts)
+          (c.close-store.ensures.meter ∙ ap (λ (p : CardParts). p.meter) c.into_parts-card.ensures.parts) (c.close-store.ensures.boxes ∙ ap (λ (p : CardParts). p.boxes) c.into_parts-card.ensures.parts)
+          (c.carry_on-end.ensures.comes given first served
+          (at_end (IsStarted given first c.args.reader.now (g.R.Source.left c.args.script.now)) c.new-card.result parts (g.W.Sink.taken c.args.trace.now) c.new-card.ensures.parts c.new-card.ensures.waiting started.1)),
+    )
 
 pub returns-in-Ok-clause-reads : goal.returns-in-Ok-clause-reads
 returns-in-Ok-clause-reads g c = λ given described served at.
@@ -63,29 +65,16 @@ returns-in-Ok-clause-ends g c =
     c.carry_on-end.ensures.tallies.steps.tells
 
 pub returns-in-Ok-clause-shows : goal.returns-in-Ok-clause-shows
-returns-in-Ok-clause-shows g c = λ given described first served at told counted.
+returns-in-Ok-clause-shows g c = λ given described served at told counted.
     let parts = parts_of g.S.Store g.B.Applet c.in-Ok.card in
     let taken = g.W.Sink.taken c.args.trace.now in
-    let meter = c.close-store.ensures.meter ∙ ap (λ (p : CardParts). p.meter) c.into_parts-card.ensures.parts in
-    let opened = c.runs_are_counted.ensures.join first (g.S.Store.meter c.args.store) parts.meter [] [] [] [] counted (caused_counted _ _ c.in-Ok.ensures.opened.calm (λ so. so) (λ so. so)) in
-    record {
-      for_card = λ unserved.
-          subst (λ (m : Meter). LinesShow given first (g.R.Source.left c.carry_on-end.new.script) c.carry_on-end.result (g.W.Sink.taken c.carry_on-end.new.trace) m) (sym meter)
-          (c.carry_on-end.ensures.shows given first served
-          (at_end (IsShowing given first c.args.reader.now (g.R.Source.left c.args.script.now) None) c.new-card.result parts taken c.new-card.ensures.parts c.new-card.ensures.waiting
-          (shows_first given first c.args.reader.now (g.R.Source.left c.args.script.now) described (moment parts taken NONE) unserved at c.in-Ok.ensures.opened.on told opened refl)));
-      for_handset = λ is_served. record {
-        section = at.section;
-        card = described;
-        described = at.described;
-        at = moment_at c.carry_on-end.new.card (g.W.Sink.taken c.carry_on-end.new.trace);
-        taken_is = refl;
-        meter_is = meter;
-        shows = c.carry_on-end.ensures.served given.text (opening at.section) (outset given first) (sym served ∙ is_served)
-            (at_end (StartsShowing given.text (opening at.section) (outset given first) c.args.reader.now (g.R.Source.left c.args.script.now)) c.new-card.result parts taken c.new-card.ensures.parts c.new-card.ensures.waiting
-            (serves_shown_first given first c.args.reader.now (g.R.Source.left c.args.script.now) described (moment parts taken NONE) at c.in-Ok.ensures.opened.on told opened refl));
-      };
-    }
+    let opened = c.runs_are_counted.ensures.join given.meter (g.S.Store.meter c.args.store) parts.meter [] [] [] [] counted (caused_counted _ _ c.in-Ok.ensures.opened.calm (λ so. so) (λ so. so)) in
+    given_back (ComesTo given (ItsPower true) (g.R.Source.left c.carry_on-end.new.script) c.carry_on-end.result) (g.W.Sink.taken c.carry_on-end.new.trace) c.carry_on-end.new.card.parts _ _ _ _
+    (c.close-store.ensures.mark ∙ ap (λ (p : CardParts). p.store_mark) c.into_parts-card.ensures.parts) (c.close-store.ensures.told ∙ ap (λ (p : CardParts). p.told) c.into_parts-card.ensures.parts)
+    (c.close-store.ensures.meter ∙ ap (λ (p : CardParts). p.meter) c.into_parts-card.ensures.parts) (c.close-store.ensures.boxes ∙ ap (λ (p : CardParts). p.boxes) c.into_parts-card.ensures.parts)
+    (c.carry_on-end.ensures.comes given (ItsPower true) served
+    (at_end (IsStarted given (ItsPower true) c.args.reader.now (g.R.Source.left c.args.script.now)) c.new-card.result parts taken c.new-card.ensures.parts c.new-card.ensures.waiting
+    (starts_with_power given c.args.reader.now (g.R.Source.left c.args.script.now) described (moment parts taken NONE) at c.in-Ok.ensures.opened.on told opened refl)))
 
 pub returns-in-Err-clause-shows : goal.returns-in-Err-clause-shows
-returns-in-Err-clause-shows g c = λ given described first served at told counted. rw c.ending_of.ensures (refused_shows given first c.in-Err.fault _ _ _)
+returns-in-Err-clause-shows g c = λ given described served at told counted. rw c.ending_of.ensures (refused_shows given c.in-Err.fault _ _)

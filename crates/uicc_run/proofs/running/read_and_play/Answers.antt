@@ -29,7 +29,7 @@ returns-in-Err-clause-untold g c = record {
   reads = λ given play.
       subst (λ b. EndsInSection b given.first given.text (g.R.Source.left c.read_section.new.source) c.in-Err.fault) (ap (minds_of g.B.Applet.mind) c.as_slice.ensures.value ∙ play.boxes_are)
       (c.in-Err.ensures.card given.first given.text (at_first _ given.first given.text c.new-reader.result _ c.args.card c.new-reader.ensures.reader c.new-reader.ensures.number play.first_is play.text_is));
-  shows = λ given play told. tt;
+  shows = λ given play told counts. tt;
   quiet = λ given play unopened. record { silent = refl; unplanned = unplanned_still _ };
   taken = λ text told.
       IsTaken-within text _ _ (c.in-Err.ensures.within text (IsWithin-start text _ _ c.new-reader.ensures.reader told));
@@ -46,7 +46,7 @@ returns-then-pages-clause-comes g c = λ given play is.
     let device = ap (λ s. s.device) c.new-store.ensures in
     let at = at_start_of _ given.boxes given.first given.text _ _ _ (ap (minds_of g.B.Applet.mind) c.as_slice.ensures.value ∙ is.boxes_are) (c.in-Ok.ensures.card given.first given.text (at_first _ given.first given.text c.new-reader.result _ c.args.card c.new-reader.ensures.reader c.new-reader.ensures.number play.first_is play.text_is)) in
     let comes = c.make_and_play-ending.ensures.comes given play.served_is (given_over given true _ (g.E.Eeprom.contents c.args.eeprom) _ (g.E.Eeprom.meter c.args.eeprom) _ _ over (ap (λ e. memory_in true (g.E.Eeprom.contents e)) device) (ap g.E.Eeprom.meter device) is) at in
-    comes_over given true _ _ (g.E.Eeprom.contents c.into_device.result) _ _ _ over
+    comes_over (Comes given (g.R.Source.left c.make_and_play-ending.new.script) c.make_and_play-ending.result.0) given true _ (g.E.Eeprom.contents c.into_device.result) _ _ over
     (subst (λ e. Comes given (g.R.Source.left c.make_and_play-ending.new.script) c.make_and_play-ending.result.0
     (record { held = held_in true (g.E.Eeprom.contents e); taken = g.W.Sink.taken c.make_and_play-ending.new.trace; meter = g.E.Eeprom.meter e; boxes = minds_of g.B.Applet.mind c.make_and_play-ending.result.2.items })) (sym c.into_device.ensures.device) comes)
 
@@ -54,10 +54,12 @@ pub returns-then-pages-clause-untold : goal.returns-then-pages-clause-untold
 returns-then-pages-clause-untold g c = record {
   reads = λ given play.
       c.make_and_play-ending.ensures.reads given _ play.served_is (at_start_of _ given.boxes given.first given.text _ _ _ (ap (minds_of g.B.Applet.mind) c.as_slice.ensures.value ∙ play.boxes_are) (c.in-Ok.ensures.card given.first given.text (at_first _ given.first given.text c.new-reader.result _ c.args.card c.new-reader.ensures.reader c.new-reader.ensures.number play.first_is play.text_is)));
-  shows = λ given play told.
-      subst (λ e. ShowsTo given (g.E.Eeprom.meter c.args.eeprom) (g.R.Source.left c.make_and_play-ending.new.script) c.make_and_play-ending.result.0 (g.W.Sink.taken c.make_and_play-ending.new.trace) (g.E.Eeprom.meter e)) (sym c.into_device.ensures.device)
-      (c.make_and_play-ending.ensures.shows given _ (g.E.Eeprom.meter c.args.eeprom) play.served_is (at_start_of _ given.boxes given.first given.text _ _ _ (ap (minds_of g.B.Applet.mind) c.as_slice.ensures.value ∙ play.boxes_are) (c.in-Ok.ensures.card given.first given.text (at_first _ given.first given.text c.new-reader.result _ c.args.card c.new-reader.ensures.reader c.new-reader.ensures.number play.first_is play.text_is))) told
-      (subst (λ m. IsCounted (g.E.Eeprom.meter c.args.eeprom) m [] []) (sym (ap (λ s. g.E.Eeprom.meter s.device) c.new-store.ensures)) (idle_counted _)));
+  shows = λ given play told counts.
+      comes_over (ShowsTo given (g.R.Source.left c.make_and_play-ending.new.script) c.make_and_play-ending.result.0) given true _ (g.E.Eeprom.contents c.into_device.result) _ _ (play.store_is ∙ c.if-pages.true)
+      (subst (λ e. ShowsTo given (g.R.Source.left c.make_and_play-ending.new.script) c.make_and_play-ending.result.0
+      (record { held = held_in true (g.E.Eeprom.contents e); taken = g.W.Sink.taken c.make_and_play-ending.new.trace; meter = g.E.Eeprom.meter e; boxes = minds_of g.B.Applet.mind c.make_and_play-ending.result.2.items })) (sym c.into_device.ensures.device)
+      (c.make_and_play-ending.ensures.shows given _ play.served_is (at_start_of _ given.boxes given.first given.text _ _ _ (ap (minds_of g.B.Applet.mind) c.as_slice.ensures.value ∙ play.boxes_are) (c.in-Ok.ensures.card given.first given.text (at_first _ given.first given.text c.new-reader.result _ c.args.card c.new-reader.ensures.reader c.new-reader.ensures.number play.first_is play.text_is))) told
+      (subst (λ first. IsCounted first (g.E.Eeprom.meter c.new-store.result.device) [] []) counts (subst (λ m. IsCounted (g.E.Eeprom.meter c.args.eeprom) m [] []) (sym (ap (λ s. g.E.Eeprom.meter s.device) c.new-store.ensures)) (idle_counted _)))));
   quiet = λ given play unopened.
       let quiet = c.make_and_play-ending.ensures.quiet unopened in
       record {
@@ -110,7 +112,7 @@ returns-clause-comes g c = λ given play is.
     let device = ap (λ s. s.device) c.new-store-else-pages.ensures in
     let at = at_start_of _ given.boxes given.first given.text _ _ _ (ap (minds_of g.B.Applet.mind) c.as_slice.ensures.value ∙ is.boxes_are) (c.in-Ok.ensures.card given.first given.text (at_first _ given.first given.text c.new-reader.result _ c.args.card c.new-reader.ensures.reader c.new-reader.ensures.number play.first_is play.text_is)) in
     let comes = c.make_and_play-ending-else-pages.ensures.comes given play.served_is (given_over given false _ (g.E.Eeprom.contents c.args.eeprom) _ (g.E.Eeprom.meter c.args.eeprom) _ _ over (ap (λ e. memory_in false (g.E.Eeprom.contents e)) device) (ap g.E.Eeprom.meter device) is) at in
-    comes_over given false _ _ (g.E.Eeprom.contents c.into_device-else-pages.result) _ _ _ over
+    comes_over (Comes given (g.R.Source.left c.make_and_play-ending-else-pages.new.script) c.make_and_play-ending-else-pages.result.0) given false _ (g.E.Eeprom.contents c.into_device-else-pages.result) _ _ over
     (subst (λ e. Comes given (g.R.Source.left c.make_and_play-ending-else-pages.new.script) c.make_and_play-ending-else-pages.result.0
     (record { held = held_in false (g.E.Eeprom.contents e); taken = g.W.Sink.taken c.make_and_play-ending-else-pages.new.trace; meter = g.E.Eeprom.meter e; boxes = minds_of g.B.Applet.mind c.make_and_play-ending-else-pages.result.2.items })) (sym c.into_device-else-pages.ensures.device) comes)
 
@@ -118,10 +120,12 @@ pub returns-clause-untold : goal.returns-clause-untold
 returns-clause-untold g c = record {
   reads = λ given play.
       c.make_and_play-ending-else-pages.ensures.reads given _ play.served_is (at_start_of _ given.boxes given.first given.text _ _ _ (ap (minds_of g.B.Applet.mind) c.as_slice.ensures.value ∙ play.boxes_are) (c.in-Ok.ensures.card given.first given.text (at_first _ given.first given.text c.new-reader.result _ c.args.card c.new-reader.ensures.reader c.new-reader.ensures.number play.first_is play.text_is)));
-  shows = λ given play told.
-      subst (λ e. ShowsTo given (g.E.Eeprom.meter c.args.eeprom) (g.R.Source.left c.make_and_play-ending-else-pages.new.script) c.make_and_play-ending-else-pages.result.0 (g.W.Sink.taken c.make_and_play-ending-else-pages.new.trace) (g.E.Eeprom.meter e)) (sym c.into_device-else-pages.ensures.device)
-      (c.make_and_play-ending-else-pages.ensures.shows given _ (g.E.Eeprom.meter c.args.eeprom) play.served_is (at_start_of _ given.boxes given.first given.text _ _ _ (ap (minds_of g.B.Applet.mind) c.as_slice.ensures.value ∙ play.boxes_are) (c.in-Ok.ensures.card given.first given.text (at_first _ given.first given.text c.new-reader.result _ c.args.card c.new-reader.ensures.reader c.new-reader.ensures.number play.first_is play.text_is))) told
-      (subst (λ m. IsCounted (g.E.Eeprom.meter c.args.eeprom) m [] []) (sym (ap (λ s. g.E.Eeprom.meter s.device) c.new-store-else-pages.ensures)) (idle_counted _)));
+  shows = λ given play told counts.
+      comes_over (ShowsTo given (g.R.Source.left c.make_and_play-ending-else-pages.new.script) c.make_and_play-ending-else-pages.result.0) given false _ (g.E.Eeprom.contents c.into_device-else-pages.result) _ _ (play.store_is ∙ c.if-pages.false)
+      (subst (λ e. ShowsTo given (g.R.Source.left c.make_and_play-ending-else-pages.new.script) c.make_and_play-ending-else-pages.result.0
+      (record { held = held_in false (g.E.Eeprom.contents e); taken = g.W.Sink.taken c.make_and_play-ending-else-pages.new.trace; meter = g.E.Eeprom.meter e; boxes = minds_of g.B.Applet.mind c.make_and_play-ending-else-pages.result.2.items })) (sym c.into_device-else-pages.ensures.device)
+      (c.make_and_play-ending-else-pages.ensures.shows given _ play.served_is (at_start_of _ given.boxes given.first given.text _ _ _ (ap (minds_of g.B.Applet.mind) c.as_slice.ensures.value ∙ play.boxes_are) (c.in-Ok.ensures.card given.first given.text (at_first _ given.first given.text c.new-reader.result _ c.args.card c.new-reader.ensures.reader c.new-reader.ensures.number play.first_is play.text_is))) told
+      (subst (λ first. IsCounted first (g.E.Eeprom.meter c.new-store-else-pages.result.device) [] []) counts (subst (λ m. IsCounted (g.E.Eeprom.meter c.args.eeprom) m [] []) (sym (ap (λ s. g.E.Eeprom.meter s.device) c.new-store-else-pages.ensures)) (idle_counted _)))));
   quiet = λ given play unopened.
       let quiet = c.make_and_play-ending-else-pages.ensures.quiet unopened in
       record {

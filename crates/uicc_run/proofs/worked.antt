@@ -1,0 +1,2 @@
+-- Definitions, worked out on examples.
+mod LinesByPower
