@@ -1,6 +1,5 @@
 mod BlanksLemmas
 mod BytesOfPageLemmas
-mod CallsLemmas
 mod DoneCountLemmas
 mod EntriesPieceLemmas
 mod InPageLemmas

@@ -1,6 +1,5 @@
 pub mod Below
 pub mod Blanks
-pub mod Calls
 pub mod Commits
 pub mod Laws
 pub mod Paged

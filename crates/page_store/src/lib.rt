@@ -2,7 +2,6 @@
 //! changes the map that says where they lie.
 #![tactic(auto)]
 
-mod counted;
 mod filling;
 mod inner;
 mod moves;

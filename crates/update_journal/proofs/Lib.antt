@@ -1,5 +1,4 @@
 mod AreBytesLemmas
-pub mod CallsLemmas
 pub mod EntriesLemmas
 mod HiddenLemmas
 pub mod IsUnderWayLemmas

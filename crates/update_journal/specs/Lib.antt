@@ -1,4 +1,3 @@
-pub mod Calls
 pub mod Entries
 pub mod Hidden
 pub mod Journal
