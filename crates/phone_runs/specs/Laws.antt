@@ -50,7 +50,7 @@ EndsAreBegun = (given : Beginning) (told : List PhoneLine) (now : Moment) (end :
 
 -- ---- the card at those two ends
 
--- all that has happened, and behind it what is seen of the card in one step more
+-- all that has happened, and after it what is seen of the card in one step more
 abbrev pub trace_with : List Event → List TraceItem → List TraceEntry
 trace_with log items = trace log ++ map Seen items
 
@@ -61,7 +61,7 @@ pub record ShowsRun (given : Beginning) (told : List PhoneLine) (entries : List 
   pub run : IsRunOf given.first steps (items_seen entries) card
   pub stands : Holds card now.held
 
--- The same, where the line of a command stands behind it, which the card was not sent.
+-- The same, where the line of a command stands after it, which the card was not sent.
 pub record ShowsUnsent (given : Beginning) (told : List PhoneLine) (entries : List TraceEntry) (apdu : List ℕ) (steps : List Step) (card : CardView) (now : Moment) : Type 0 where
   pub shows : ShowsTrace given told (entries ++ Seen (item.Command apdu) ∷ []) now
   pub run : IsRunOf given.first steps (items_seen entries) card
@@ -97,7 +97,7 @@ pub record IsPhoneUndisturbed (first : Machine) (told : List PhoneLine) (log : L
   pub failures : ShowsNoFailure (shown log)
   pub cuts : ShowsNoCut (shown log)
 
--- The same happened in two runs, so they show one trace, and the card behind them is the same.
+-- The same happened in two runs, so they show one trace, and the card after them is the same.
 pub record AreOne (log other : List Event) (now left : CardView) : Type 0 where
   pub happened : log ≡ other
   pub shows : trace log ≡ trace other

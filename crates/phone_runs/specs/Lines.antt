@@ -28,7 +28,7 @@ use Rattle.phone_runs.specs.Serving.{IsAtRest}
 use Rattle.phone_runs.specs.Traces.{entries_text}
 use Rattle.phone_runs.specs.declared.effects.TheConstants.{LONGEST_SPAN}
 
--- lines of a text say what stands up to `start`, and behind it what may be there where a handset is used
+-- lines of a text say what stands up to `start`, and after it what may be there where a handset is used
 pub record AreServed (opening : List ScriptLine) (found : LineList) (played : List ScriptLine) : Type 0 where
   pub read : AreRead found (opening ++ played)
   pub in_place : AllPass may_be_heard played
@@ -44,7 +44,7 @@ pub record StandsAtStart (text : List ℕ) (opening : List ScriptLine) (given : 
   pub follows : Follows text found script left
   pub begins : Begins given now
 
--- lines behind `start` have been carried out, all that happened was taken by the sink, and the handset rests
+-- lines after `start` have been carried out, all that happened was taken by the sink, and the handset rests
 pub record IsServing (text : List ℕ) (opening : List ScriptLine) (given : Beginning) (script : ScriptReader) (left : Option (List ℕ)) (phone : Kept) (now : Moment) : Type 0 where
   pub found : LineList
   pub played : List ScriptLine
@@ -60,7 +60,7 @@ pub record IsBetweenLines (script : ScriptReader) (phone : Kept) : Type 0 where
   pub rest : IsAtRest phone
   pub clock : phone.known.clock ≤ line_count script * LONGEST_SPAN
 
--- so it is again behind a line, and less is left of the script
+-- so it is again after a line, and less is left of the script
 pub record IsLineFurther (old new : ScriptReader) (phone : Kept) : Type 0 where
   pub between : IsBetweenLines new phone
   pub nearer : room_of new < room_of old
@@ -99,6 +99,7 @@ pub record StopsAmid (text : List ℕ) (opening : List ScriptLine) (given : Begi
   pub begun : ShowsBegun given (told_back played) now
   pub of_card : EndIsOfTheCard given (told_back played) now end ended
 
+-- what lines for a handset have come to, by why no more of them are carried out
 abbrev pub PhoneComesTo : List ℕ → List ScriptLine → Beginning → Option (List ℕ) → PlayEnd → Moment → Type 0
 PhoneComesTo text opening given left Finished now = PhoneEnds text opening given left Finished now
 PhoneComesTo text opening given left (BadLine number) now = PhoneEnds text opening given left (BadLine number) now

@@ -87,7 +87,7 @@ pub record BreaksSo (given : Beginning) (heard : List PhoneLine) (now : Moment) 
   pub run : IsPhoneRun given.first log old
   pub broken : BreaksIn given log old now (asked (history log))
 
--- The memory failed in a reset that was asked for: the trace says so behind all that these lines have shown before.
+-- The memory failed in a reset that was asked for: the trace says so after all that these lines have shown before.
 pub record FailsSo (given : Beginning) (heard : List PhoneLine) (now : Moment) : Type 0 where
   pub log : List Event
   pub old : CardView

@@ -57,14 +57,15 @@ pub record IsCutOff (pending : List TraceItem) (front : List ℕ) : Type 0 where
 abbrev pub IsSeenBy : CardView → Option Machine → Bool → Type 0
 IsSeenBy card machine is_on = Known (λ known. machine ≡ Some known) (λ on. is_on ≡ on) card
 
+-- the card is seen so at a moment of a run
 abbrev pub IsSeen : CardView → Moment → Type 0
 IsSeen card now = IsSeenBy card now.machine now.is_on
 
--- the memory holds for good what the card does
+-- The memory holds for good what the card does. Where its power alone is known this says nothing.
 abbrev pub Holds : CardView → Option Persistent → Type 0
 Holds card held = Known (λ machine. held ≡ Some machine.card.persistent) (λ on. Unit {0}) card
 
--- The card itself has no box to wake behind what was shown, if it met no fault last, and had none to wake before that where nothing was
+-- The card itself has no box to wake after what was shown, if it met no fault last, and had none to wake before that where nothing was
 -- shown. Of its power nothing more is known.
 abbrev pub RestsOn : CardView → List TraceItem → Bool → Bool → Type 0
 RestsOn card shown was_due is_due = Known (λ machine. (shown ≡ [] → was_due ≡ false) → ends_calm shown ≡ true → is_due ≡ false) (λ on. Unit {0}) card
@@ -79,6 +80,7 @@ pub record CardStands (machine : Machine) (shown : List TraceItem) (now : Moment
   pub stands : now.held ≡ Some machine.card.persistent
   pub minds : ends_calm shown ≡ true → now.boxes ≡ machine.card.boxes
 
+-- the same by what is known of the card; of its power nothing
 abbrev pub Stands : CardView → List TraceItem → Moment → Type 0
 Stands card shown now = Known (λ machine. CardStands machine shown now) (λ on. Unit {0}) card
 

@@ -15,12 +15,12 @@ pub data CardView : Type 0 where
   TheCard : Machine → CardView
   ItsPower : Bool → CardView
 
--- what holds by what is known of the card: the first of the card itself, the second of its power
+-- What holds by what is known of the card: the first where the card itself is known, and the second where its power alone is.
 abbrev pub Known : (Machine → Type 0) → (Bool → Type 0) → CardView → Type 0
 Known OfCard OfPower (TheCard machine) = OfCard machine
 Known OfCard OfPower (ItsPower on) = OfPower on
 
--- the same of the card before something and behind it, of which as much is known behind it as before
+-- the same of the card before something and after it, of which as much is known after it as before
 abbrev pub KnownAlike : (Machine → Machine → Type 0) → (Bool → Bool → Type 0) → CardView → CardView → Type 0
 KnownAlike OfCards OfPowers (TheCard old) (TheCard new) = OfCards old new
 KnownAlike OfCards OfPowers (ItsPower on) (ItsPower after) = OfPowers on after
@@ -38,7 +38,7 @@ IsBare item.Cut = ⊤
 IsBare item.Off = ⊤
 IsBare item.EepromFailed = ⊤
 
--- What may come of a command, by the power before it and behind it: with power an answer, or that it was lost; and without, that there
+-- What may come of a command, by the power before it and after it: with power an answer, or that it was lost; and without, that there
 -- was none.
 abbrev pub IsReply : Bool → TraceItem → Bool → Type 0
 IsReply on (item.Answer body status) after = (on ≡ true) × IsBare (item.Answer body status) × (after ≡ true)
@@ -48,7 +48,7 @@ IsReply on (item.Command apdu) after = ⊥
 IsReply on item.Reset after = ⊥
 IsReply on item.EepromFailed after = ⊥
 
--- By the power before a step and behind it: a command is shown with what came of it; a reset in one line, that it was done, or that power
+-- By the power before a step and after it: a command is shown with what came of it; a reset in one line, that it was done, or that power
 -- was lost; and a plan not at all.
 abbrev pub MayShow : Bool → Step → List TraceItem → Bool → Type 0
 MayShow on (step.Apdu apdu) items after = (reply : TraceItem) × IsReply on reply after × (items ≡ item.Command apdu ∷ reply ∷ [])
@@ -77,7 +77,7 @@ MayEnd (step.Plan plan) items = ⊥
 
 -- ---- steps
 
--- a step that shows this, and the card before it and behind it
+-- a step that shows this, and the card before it and after it
 abbrev pub StepShows : CardView → Step → List TraceItem → CardView → Type 0
 StepShows old step items new = KnownAlike (λ card next. StepGives card step items next) (λ on after. MayShow on step items after) old new
 
@@ -89,10 +89,10 @@ LastShows old step items new = KnownAlike (λ card next. StepEnds card step item
 abbrev pub StepsShow : CardView → List Step → List TraceItem → CardView → Type 0
 StepsShow old steps items new = KnownAlike (λ card next. GoesOn card steps items next) (λ on after. MayShowAll on steps items after) old new
 
--- of the card itself, that it is a run, be it that its last step ended it
+-- Where the card itself is known, these are its run, whose last step may have ended it. Where its power alone is known this says nothing.
 abbrev pub IsRunOf : CardView → List Step → List TraceItem → CardView → Type 0
 IsRunOf old steps items new = KnownAlike (λ card next. IsRun card steps items next) (λ on after. Unit {0}) old new
 
--- the same of steps of which none was the last, with what their power allows
+-- of the card itself a run; of its power, steps of which none was the last, with what it allows
 abbrev pub RunShows : CardView → List Step → List TraceItem → CardView → Type 0
 RunShows old steps items new = KnownAlike (λ card next. IsRun card steps items next) (λ on after. MayShowAll on steps items after) old new

@@ -55,13 +55,14 @@ pub record TpduIsTold (tpdu : List ℕ) (kept : Option Answer) (old : CardView) 
   pub gives : CourseGives (link_answer kept tpdu) old account.own reply after new
   pub shown_is : account.shown ≡ shown_for tpdu reply
 
--- what the link kept and the card before it, what came of it, and the two behind it
+-- what the link kept and the card before it, what came of it, and the two after it
 abbrev pub IsTold : Deed → Option Answer → CardView → Account → Option Answer → CardView → Type 0
 IsTold (Takes step) kept old account after new = StepIsTold step kept old account after new
 IsTold (Transfers tpdu) kept old account after new = TpduIsTold tpdu kept old account after new
 
 -- ---- one line after the other
 
+-- nothing was done: nothing is told, and link and card are as they were
 pub record NothingIsTold (kept : Option Answer) (old : CardView) (account : Account) (after : Option Answer) (new : CardView) : Type 0 where
   pub account_is : account ≡ nothing
   pub keeps : after ≡ kept
@@ -77,6 +78,7 @@ pub record ThenTold (deed : Deed) (Rest : Option Answer → CardView → Account
   pub rest : Rest between middle others
   pub account_is : account ≡ joined first others
 
+-- things that were done, one after the other: what is told of all, and what link and card are then
 abbrev pub AreTold : List Deed → Option Answer → CardView → Account → Option Answer → CardView → Type 0
 AreTold [] kept old account after new = NothingIsTold kept old account after new
 AreTold (deed ∷ more) kept old account after new = ThenTold deed (λ between middle others. AreTold more between middle others after new) kept old account

@@ -56,7 +56,7 @@ pub record EndsFor (ending : Ending) (before after : World) (TraceIsSame MemoryI
   pub untouched : IsEarly ending → MemoryIsSame
   pub boxes : IsUnopened ending → BoxesAreSame
 
--- Which lines of the script were read, and why no more of them, where a run is given this; what is shown behind what the sink had taken;
+-- Which lines of the script were read, and why no more of them, where a run is given this; what is shown after what the sink had taken;
 -- that it was quiet where no card was open; and how many bytes of the script were taken at most.
 pub record ReadsUntold (IsFor : Given → Type 0) (ending : Ending) (before after : World) : Type 0 where
   pub reads : (given : Given) → IsFor given → ReadsTo given after.left ending

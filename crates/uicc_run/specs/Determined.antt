@@ -1,4 +1,4 @@
--- What a section and the lines behind it determine: the trace, where nothing fails and no power is lost.
+-- What a section and the lines after it determine: the trace, where nothing fails and no power is lost.
 use Rattle.std.specs.Prelude.{◌≡◌, ℕ, List, [], ◌∷◌, ◌++◌, Option}
 use Rattle.script_form.specs.declared.lines.ScriptLine.{ScriptLine}
 use Rattle.script_form.specs.declared.lines.ScriptLine.TheVariants.{Start}
@@ -19,8 +19,8 @@ use Rattle.uicc_run.specs.Serving.{beginning}
 abbrev pub IsCalm : {given : Given} {first : CardView} {left : Option (List ℕ)} {end : PlayEnd} {now : Leaves} → EndsSo given first left end now → Type 0
 IsCalm run = ShowsNoFailure run.done.account.own × ShowsNoCut run.done.account.own
 
--- Two such runs without a handset that were given the same, and of which the section and the lines behind it are the same, have one trace,
--- and their memories stand for the same behind them.
+-- Two such runs without a handset that were given the same, and of which the section and the lines after it are the same, have one trace,
+-- and their memories stand for the same after them.
 abbrev pub TracesAreOne : Type 0
 TracesAreOne =
     (given : Given) (first first' : Machine) (left left' : Option (List ℕ)) (end end' : PlayEnd) (now now' : Leaves)
@@ -34,8 +34,8 @@ TracesAreOne =
 abbrev pub IsServedCalm : {text : List ℕ} {opening : List ScriptLine} {given : Beginning} {left : Option (List ℕ)} {end : PlayEnd} {at : Moment} → PhoneEnds text opening given left end at → Type 0
 IsServedCalm run = ShowsNoFailure (shown run.log) × ShowsNoCut (shown run.log)
 
--- Two such runs that were given the same, and of which the section and the lines behind it are the same, have one trace, and their
--- memories stand for the same behind them.
+-- Two such runs that were given the same, and of which the section and the lines after it are the same, have one trace, and their
+-- memories stand for the same after them.
 abbrev pub ServedTracesAreOne : Type 0
 ServedTracesAreOne =
     (given : Given) (section : List ScriptLine) (first first' : Machine) (left left' : Option (List ℕ)) (end end' : PlayEnd) (at at' : Moment)

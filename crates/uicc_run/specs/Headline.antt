@@ -88,7 +88,7 @@ pub record LacksBox (given : Given) (shelf : ℕ) (left : Option (List ℕ)) (le
   pub first_missing : IsFirstWithoutBox holds.start.rows (with_all_shelves given.boxes) shelf
   pub counted : IsCounted given.meter leaves.meter [] []
 
--- what a memory stands for that stood for this, where a fault may have come behind the migration
+-- what a memory stands for that stood for this, where a fault may have come after the migration
 abbrev pub IsMigratedAtMost : Result Persistent ℕ → Option Persistent → Type 0
 IsMigratedAtMost (Ok state) held = (held ≡ Some state) ⊎ (held ≡ Some (migrated state))
 IsMigratedAtMost (Err at) held = held ≡ None

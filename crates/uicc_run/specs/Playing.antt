@@ -53,6 +53,7 @@ pub record Leaves : Type 0 where
   pub meter : Meter
   pub boxes : List (Option AppletState)
 
+-- what a run leaves that ends at this moment
 abbrev pub left_at : Moment → Leaves
 left_at now = record { held = now.held; taken = now.taken; meter = now.meter; boxes = now.boxes }
 
@@ -61,14 +62,14 @@ abbrev pub IsOpened : List (Option AppletState) → Option Persistent → Result
 IsOpened boxes (Some bare) memory section start = with_lines boxes (Some bare) section ≡ Ok (Some start)
 IsOpened boxes None memory section start = (with_lines boxes None section ≡ Ok None) × (memory ≡ Ok start)
 
--- The lines up to `start` and behind it were read, each in its place and with one reading alone; those before it describe this card, or
+-- The lines up to `start` and after it were read, each in its place and with one reading alone; those before it describe this card, or
 -- none.
 pub record AreReadInPlace (given : Given) (found : LineList) (section played : List ScriptLine) (card : Option Persistent) : Type 0 where
   pub read : AreRead found (section ++ Start ∷ played)
   pub described : with_lines given.boxes given.first section ≡ Ok card
   pub in_place : AllPass (may_stand given.is_served) played
 
--- The card itself as it is opened behind these lines: it holds what they describe, or what the memory stood for, and it is a good one, in
+-- The card itself as it is opened after these lines: it holds what they describe, or what the memory stood for, and it is a good one, in
 -- which each applet that is registered has its box.
 pub record IsCardOpened (given : Given) (section : List ScriptLine) (machine : Machine) : Type 0 where
   pub start : Persistent
@@ -76,12 +77,12 @@ pub record IsCardOpened (given : Given) (section : List ScriptLine) (machine : M
   pub machine_is : machine ≡ first_machine start given.boxes
   pub good : IsGood machine.card
 
--- how the card is seen that is opened behind these lines: that very card, or one that has power
+-- how the card is seen that is opened after these lines: that very card, or one that has power
 abbrev pub IsFirst : Given → List ScriptLine → CardView → Type 0
 IsFirst given section first = Known (IsCardOpened given section) (λ on. on ≡ true) first
 
 -- Lines after `start` were read and carried out, by a card that was seen so first: what they came to, line by line (`are_told`), what the
--- card showed of its own in its steps (`run`), how it is seen behind them, and what the link keeps then.
+-- card showed of its own in its steps (`run`), how it is seen after them, and what the link keeps then.
 pub record CarriedOut (given : Given) (first : CardView) : Type 0 where
   pub found : LineList
   pub section : List ScriptLine
@@ -160,7 +161,7 @@ pub record BreaksSo (given : Given) (first : CardView) (now : Leaves) : Type 0 w
   pub written : now.taken ≡ Some (given.before ++ text_of at.done.account.shown ++ front)
   pub counted : IsCounted given.meter now.meter (plan_given at.done.account.steps ++ set) (at.done.account.own ++ own)
 
--- The memory failed in the reset that the next line of the script asks for: the trace says so behind all that the lines before show. A
+-- The memory failed in the reset that the next line of the script asks for: the trace says so after all that the lines before show. A
 -- fault was counted for it in that reset itself, from what the memory had counted before it. Of the card itself, this is its run.
 pub record FailsSo (given : Given) (first : CardView) (now : Leaves) : Type 0 where
   pub at : Reaches given first (Takes step.Reset)

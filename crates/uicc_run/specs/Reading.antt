@@ -19,7 +19,7 @@ pub record HasStarted (given : Given) : Type 0 where
   pub parted : lines given.text ≡ found ++ more
   pub lines_are : AreReadInPlace given found section [] card
 
--- no more lines were read behind it, for this cause
+-- no more lines were read after it, for this cause
 pub record EndsBehind (given : Given) (left : Option (List ℕ)) (end : PlayEnd) : Type 0 where
   pub found : LineList
   pub section : List ScriptLine
@@ -28,7 +28,7 @@ pub record EndsBehind (given : Given) (left : Option (List ℕ)) (end : PlayEnd)
   pub lines_are : AreReadInPlace given found section played card
   pub cause : StopsPlaying given found left end
 
--- the same by each end behind `start`; where the sink failed, or the memory in a reset, nothing is said
+-- the same by each end after `start`; where the sink failed, or the memory in a reset, nothing is said
 abbrev pub ReadsBehind : Given → Option (List ℕ) → PlayEnd → Type 0
 ReadsBehind given left Finished = EndsBehind given left Finished
 ReadsBehind given left (BadLine number) = EndsBehind given left (BadLine number)

@@ -1,4 +1,4 @@
--- What a run owes its caller, by its words, its status and what is seen of it before and behind it. Each field is a fact of its own.
+-- What a run owes its caller, by its words, its status and what is seen of it before and after it. Each field is a fact of its own.
 use Rattle.std.specs.Prelude.{◌≡◌, ◌⊎◌, ◌+◌, ◌≤◌, ℕ, List, [], Option, Some, true, is_some}
 use Rattle.std.specs.Io.KnownBytes.{append_known}
 use Rattle.uicc_types.specs.Counts.{CountsFailure, Rose}
@@ -24,7 +24,7 @@ use Rattle.uicc_run.specs.Unplanned.{IsUnplanned}
 use Rattle.uicc_run.specs.declared.endings.Ending.{Ending}
 use Rattle.uicc_run.specs.declared.endings.Ending.TheVariants.{Usage, EepromFailed}
 
--- How a run of a script ended, over any memory: the sink took the last line of that end behind what is shown before it. Which lines were
+-- How a run of a script ended, over any memory: the sink took the last line of that end after what is shown before it. Which lines were
 -- read, and why no more of them, where the lines or the source ended it. Where a card was open, what the lines show, to the card or by a
 -- handset, and what the device has counted of that. Where no card was open, nothing was shown, the device was given no plan and counts no
 -- fewer faults, and the boxes are as they were; and where the script was not read up to `start`, but for want of memory, or its words are
@@ -53,7 +53,7 @@ pub record CarriesOut (words : List (List ℕ)) (status : ℕ) (before after : W
   pub complete_only : (given : Given) → ReadsFrom given words before → status ≡ 0 → IsGoodScript given
   pub read_out : (given : Given) → ReadsFrom given words before → status ≡ 0 → after.left ≡ Some []
 
--- Another script is carried out up to its first bad line, behind `start` where the card can be opened, and the trace ends with its number.
+-- Another script is carried out up to its first bad line, after `start` where the card can be opened, and the trace ends with its number.
 -- Status 2 comes only so, over any memory.
 pub record StopsAtBad (words : List (List ℕ)) (status : ℕ) (before after : World) : Type 0 where
   pub bad_line : (given : Given) → RunsFrom given words before → AskForRun words
@@ -74,7 +74,7 @@ pub record StopsForRoom (words : List (List ℕ)) (status : ℕ) (before after :
   pub no_room_only : (given : Given) → ReadsFrom given words before → status ≡ 8
       → StopsAndTells (IsFirstTooMuch given) given.text after.left after.taken
 
--- A card that can't be opened is refused, with why. Status 7 comes only so; over any memory only where `start` comes behind good lines.
+-- A card that can't be opened is refused, with why. Status 7 comes only so; over any memory only where `start` comes after good lines.
 pub record RefusesCards (words : List (List ℕ)) (status : ℕ) (before after : World) : Type 0 where
   pub no_card : (given : Given) → RunsFrom given words before → AskForRun words
       → IsUndisturbed (seen status before after)
@@ -107,7 +107,7 @@ pub record RefusesWords (words : List (List ℕ)) (status : ℕ) (before after :
   pub usage : (AskForRun words → ⊥) → Closes Usage before.taken after.taken status
   pub usage_only : status ≡ 1 → AskForRun words → ⊥
 
--- Why each status comes. With 6 behind more than its last line, as in a reset, a fault was counted: a loss of power is none.
+-- Why each status comes. With 6 and more than its last line, as in a reset, a fault was counted: a loss of power is none.
 pub record HasCauses (status : ℕ) (before after : World) : Type 0 where
   pub statuses : status ≤ 8
   pub source_failed : CountsFailure before.source after.source (status ≡ 3)
@@ -118,9 +118,10 @@ pub record HasCauses (status : ℕ) (before after : World) : Type 0 where
 
 -- ---- the four parts of what `run` owes
 
--- Where all tell their bytes. Of a script for a card, be it made, opened or served by a handset, the trace is that of the abstract card, and
--- the memory holds at the end what that card does. A long run comes to the counts of a trace that its lines have on its card. Of the
--- channels of a terminal the trace is that of the script's lines, and on each channel the card got what it gave, in order.
+-- Where script, sink and memory tell their bytes: of a script for a card, be it made, opened or served by a handset, the trace is that of the
+-- abstract card, and the memory holds at the end what that card does. Where sink and memory tell theirs: a long run comes to the counts of a
+-- trace that its lines have on its card. Where the script and the sink do: of the channels of a terminal the trace is that of the script's
+-- lines, and on each channel the card got the first of the bytes that it gave, in order.
 pub record TellsAll (words : List (List ℕ)) (status : ℕ) (before after : World) (MemoryIsSame BoxesAreSame : Type 0) : Type 0 where
   pub trace : (given : Given) → RunsFrom given words before
       → Traces given after.left (left_in given.pages after) status (IsCaused given words before after MemoryIsSame BoxesAreSame)
@@ -140,9 +141,10 @@ pub record HasStatuses (words : List (List ℕ)) (status : ℕ) (before after : 
   pub bip : ServesToEnd words status before after
   pub causes : HasCauses status before after
 
--- What stays: the memory where the words are in no form or there is no room for what a line describes, and for the channels of a terminal,
--- and so do the boxes there; the script, where words are in no form and in a long run, and all but 16,777,217 bytes of it else; and where
--- `play` had no memory to begin with, the device is as it was, or it was formatted and holds just the card of the script.
+-- What stays. The memory does where the words are in no form or there is no room for what a line describes, and for the channels of a
+-- terminal, where the boxes do too. The script does where the words are in no form and in a long run; else at most 16,777,217 bytes of it are
+-- taken. Where there was no memory to be had for `play` or `phone`, the device is as it was, or it was formatted and holds just the card of
+-- the script.
 pub record LeavesTheRest (words : List (List ℕ)) (status : ℕ) (before after : World) (ScriptIsSame MemoryIsSame BoxesAreSame : Type 0) : Type 0 where
   pub untouched : (status ≡ 1) ⊎ (status ≡ 8) → MemoryIsSame
   pub bip_untouched : AskForBip words → MemoryIsSame × BoxesAreSame
@@ -152,9 +154,9 @@ pub record LeavesTheRest (words : List (List ℕ)) (status : ℕ) (before after 
   pub no_memory : (given : Given) → RunsFrom given words before → is_some given.first ≡ true → status ≡ 5
       → MemoryIsSame ⊎ HoldsDescribed given (content_in given.pages after.contents)
 
--- What a run owes its caller by its words, its status, and what is seen of it before and behind it: where all tell their bytes; over any
--- memory, also one that tells nothing, as an image; which scripts end with which status; and what stays. What it is for the script, the
--- memory and the boxes to be as they were.
+-- What a run owes its caller by its words, its status, and what is seen of it before and after it: where all tell their bytes; over any
+-- memory, also one that tells nothing, as an image; which scripts end with which status; and what stays. The last three parameters say that
+-- the script, the memory and the boxes are as they were.
 pub record RunsAsAsked (words : List (List ℕ)) (status : ℕ) (before after : World) (ScriptIsSame MemoryIsSame BoxesAreSame : Type 0) : Type 0 where
   pub told : TellsAll words status before after MemoryIsSame BoxesAreSame
   pub untold : (given : Given) → ReadsFrom given words before → EndsUntold given status before after MemoryIsSame BoxesAreSame

@@ -1,4 +1,4 @@
--- Which scripts are carried out to their end, and behind which lines the others stop.
+-- Which scripts are carried out to their end, and after which lines the others stop.
 use Rattle.std.specs.List.{AllPass}
 use Rattle.std.specs.Prelude.{◌≡◌, ◌⊎◌, ℕ, ◌+◌, List, [], ◌∷◌, ◌++◌, All, length, Option, Some, None, IfSome, Ok, Err}
 use Rattle.uicc_types.specs.Counts.{Rose}
@@ -25,7 +25,7 @@ use Rattle.uicc_run.specs.Worlds.{Seen}
 use Rattle.uicc_run.specs.Steps.{may_stand}
 use Rattle.uicc_run.specs.Stores.{mark_of}
 
--- These lines say what stands before `start` and behind it, each in its place; those before it describe this card, over the one
+-- These lines say what stands before `start` and after it, each in its place; those before it describe this card, over the one
 -- that the run begins with.
 pub record AreInPlace (given : Given) (found : LineList) (section played : List ScriptLine) (card : Option Persistent) : Type 0 where
   pub said : Say found (section ++ Start ∷ played)
@@ -59,15 +59,15 @@ pub record StopsBehind (given : Given) (found : LineList) : Type 0 where
   pub good : AreInPlace given found section played card
   pub is : IsBadBehind (may_stand given.is_served) next
 
--- The line behind these is the first of the text that is in no form or out of its place, or the text ends there and has no `start`.
+-- The line after these is the first of the text that is in no form or out of its place, or the text ends there and has no `start`.
 abbrev pub IsFirstBad : Given → LineList → Type 0
 IsFirstBad given found = StopsBefore given found (IsBadHere given.boxes) ⊎ StopsBehind given found
 
--- the line behind these is the first that can't be added, and there is no room for what it describes
+-- the line after these is the first that can't be added, and there is no room for what it describes
 abbrev pub IsFirstTooMuch : Given → LineList → Type 0
 IsFirstTooMuch given found = StopsBefore given found (IsTooMuchHere given.boxes)
 
--- `start` comes behind good lines, which describe this card, or none
+-- `start` comes after good lines, which describe this card, or none
 pub record ReachesStart (given : Given) (card : Option Persistent) : Type 0 where
   pub found : LineList
   pub more : LineList
@@ -107,7 +107,7 @@ abbrev pub CannotOpen : Given → Refusal → Type 0
 CannotOpen given (NoCardAt at) = given.memory ≡ Err at
 CannotOpen given (NoBoxOn shelf) = LacksApplet given shelf
 
--- `start` comes behind lines that describe no card, and it is for this that the memory's can't be opened
+-- `start` comes after lines that describe no card, and it is for this that the memory's can't be opened
 pub record StopsAtStart (given : Given) (why : Refusal) : Type 0 where
   pub reaches : ReachesStart given None
   pub cannot : CannotOpen given why
@@ -122,7 +122,7 @@ pub record RefusesAndTells (given : Given) (taken : Option (List ℕ)) : Type 0 
   pub stops : StopsAtStart given why
   pub tells : TellsWhy given why taken
 
--- the first bad line of the script stands behind these, and the run comes to it
+-- the first bad line of the script stands after these, and the run comes to it
 abbrev pub MeetsBad : Given → LineList → Type 0
 MeetsBad given found = StopsBefore given found (IsBadHere given.boxes) ⊎ (StopsBehind given found × CanOpen given)
 
@@ -145,7 +145,7 @@ pub record IsUndisturbed (seen : Seen) : Type 0 where
   pub sink_sound : Rose seen.sink seen.sink_then → ⊥
   pub memory_sound : seen.status ≡ 6 → ⊥
 
--- what the sink has taken ends with the line that gives the number of the line behind these
+-- what the sink has taken ends with the line that gives the number of the line after these
 abbrev pub TellsNext : LineList → Option (List ℕ) → Type 0
 TellsNext found taken = (front : List ℕ) × (taken ≡ Some (front ++ trace_text (line.Line (length found + 1))))
 

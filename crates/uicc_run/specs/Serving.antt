@@ -15,7 +15,7 @@ use Rattle.uicc_run.specs.Playing.{CardComesTo, Given, IsFirst, Leaves, left_at}
 abbrev pub beginning : Given → CardView → Beginning
 beginning given first = record { first = first; before = given.before; meter = given.meter }
 
--- Where they go to a handset: behind the lines before `start`, which describe this card or none, and the card that was opened, what
+-- Where they go to a handset: after the lines before `start`, which describe this card or none, and the card that was opened, what
 -- `phone_runs` says of them. What is left is what the last moment of that has.
 pub record ServedComesTo (given : Given) (first : CardView) (left : Option (List ℕ)) (end : PlayEnd) (now : Leaves) : Type 0 where
   pub section : List ScriptLine

@@ -72,7 +72,7 @@ abbrev pub over_bench : ℕ → World → World
 over_bench size before = record before { contents = Some (new_bench size).bytes; meter = (new_bench size).meter }
 
 -- What is seen of a run from outside at its end, of which the memory and the boxes may be gone: what the source and the sink counted before
--- it and behind it, what the source has left of the script, what the sink has taken, and the status.
+-- it and after it, what the source has left of the script, what the sink has taken, and the status.
 pub record Seen : Type 0 where
   pub source : ℕ
   pub source_then : ℕ
