@@ -1,6 +1,5 @@
--- The numbers of commands, the events that are asked for, and the entries of a journal, worked out.
+-- The numbers of commands, and the events that are asked for, worked out.
 use Rattle.std.proofs.Common.{◌≡◌, ℕ, false, List, [], ◌∷◌, Some, None, refl}
-use Rattle.update_journal.specs.Entries.{entries}
 use Rattle.card_state.specs.Persistent.{Registration}
 use Rattle.toolkit_commands.specs.declared.commands.Proactive.TheVariants.{SetUpEventList}
 use Rattle.terminal_profile.specs.Profiles.{allowed, allowed_event}
@@ -49,5 +48,3 @@ one_event = refl
 told_before : wanted (Some (0x00 ∷ 0x00 ∷ 0x00 ∷ 0x00 ∷ 0x05 ∷ [])) rows (told (0x01 ∷ [])) ≡ None
 unfolding wanted allowed allowed_event
 told_before = refl
-
--- ---- entries
