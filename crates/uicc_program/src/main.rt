@@ -4,7 +4,7 @@
 
 ghost use Rattle.std.specs.Prelude.{◌≡◌, ◌↔◌, [], IfOk, OnErr};
 ghost use Rattle.boxed_applets.specs.Casts.{program_boxes};
-ghost use Rattle.uicc_run.specs.Answering.{HasLoadedOnBench, HasRunOnBench, HasServed, KeepsToScripts, NameNoImage};
+ghost use Rattle.uicc_run.specs.Answering.{HasLoadedOnBench, HasOuterCauses, HasRunOnBench, HasServed, KeepsToScripts, NameNoImage, RefusesUseless, ShowsPages};
 ghost use Rattle.uicc_run.specs.Pages.{AsksForNone, words_of};
 ghost use Rattle.uicc_run.specs.Worlds.{outside};
 
@@ -64,6 +64,15 @@ fn serve<H: Files<File = File> + Eprint + AllocGlobal, R: Source, W: Sink>(
     ensures bip { IfOk result (λ status. AsksForNone (words_of arguments.now) → HasServed (words_of arguments.now) status
         (outside R.Source W.Sink script.old output.old program_boxes)
         (outside R.Source W.Sink script.new output.new [])) }
+    ensures page { IfOk result (λ status. ShowsPages (words_of arguments.now) status
+        (outside R.Source W.Sink script.old output.old program_boxes)
+        (outside R.Source W.Sink script.new output.new []) (script.new ≡ script.old)) }
+    ensures usage { IfOk result (λ status. RefusesUseless (words_of arguments.now) status
+        (outside R.Source W.Sink script.old output.old program_boxes)
+        (outside R.Source W.Sink script.new output.new [])) }
+    ensures causes { IfOk result (λ status. HasOuterCauses (words_of arguments.now) status
+        (outside R.Source W.Sink script.old output.old program_boxes)
+        (outside R.Source W.Sink script.new output.new []) (script.new ≡ script.old)) }
     // Without memory for the applets nothing is read, and nothing is written.
     ensures unread { OnErr result (script.new ≡ script.old) }
     ensures unwritten { OnErr result (output.new ≡ output.old) }

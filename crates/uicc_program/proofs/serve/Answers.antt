@@ -1,5 +1,5 @@
-use Rattle.std.proofs.Common.{[], arith, subst}
-use Rattle.uicc_run.specs.Answering.{HasLoadedOnBench, HasRunOnBench, HasServed, KeepsToScripts}
+use Rattle.std.proofs.Common.{◌≡◌, [], arith, subst}
+use Rattle.uicc_run.specs.Answering.{HasLoadedOnBench, HasOuterCauses, HasRunOnBench, HasServed, KeepsToScripts, RefusesUseless, ShowsPages}
 use Rattle.uicc_run.specs.Pages.{words_of}
 use Rattle.uicc_run.specs.Worlds.{outside}
 use Rattle.boxed_applets.proofs.CastsLemmas.{all_made}
@@ -29,6 +29,24 @@ returns-clause-bip g c = λ others.
     let after = outside g.R.Source g.W.Sink c.answer.new.script c.answer.new.output [] in
     let made = all_made _ _ c.loop-shelf.invariant.0 (omega arith) in
     subst (λ boxes. HasServed (words_of c.args.arguments.now) c.answer.result (outside g.R.Source g.W.Sink c.args.script.now c.args.output.now boxes) after) made (c.answer.ensures.bip others)
+
+pub returns-clause-page : goal.returns-clause-page
+returns-clause-page g c =
+    let after = outside g.R.Source g.W.Sink c.answer.new.script c.answer.new.output [] in
+    let made = all_made _ _ c.loop-shelf.invariant.0 (omega arith) in
+    subst (λ boxes. ShowsPages (words_of c.args.arguments.now) c.answer.result (outside g.R.Source g.W.Sink c.args.script.now c.args.output.now boxes) after (c.answer.new.script ≡ c.args.script.now)) made c.answer.ensures.page
+
+pub returns-clause-usage : goal.returns-clause-usage
+returns-clause-usage g c =
+    let after = outside g.R.Source g.W.Sink c.answer.new.script c.answer.new.output [] in
+    let made = all_made _ _ c.loop-shelf.invariant.0 (omega arith) in
+    subst (λ boxes. RefusesUseless (words_of c.args.arguments.now) c.answer.result (outside g.R.Source g.W.Sink c.args.script.now c.args.output.now boxes) after) made c.answer.ensures.usage
+
+pub returns-clause-causes : goal.returns-clause-causes
+returns-clause-causes g c =
+    let after = outside g.R.Source g.W.Sink c.answer.new.script c.answer.new.output [] in
+    let made = all_made _ _ c.loop-shelf.invariant.0 (omega arith) in
+    subst (λ boxes. HasOuterCauses (words_of c.args.arguments.now) c.answer.result (outside g.R.Source g.W.Sink c.args.script.now c.args.output.now boxes) after (c.answer.new.script ≡ c.args.script.now)) made c.answer.ensures.causes
 
 pub loop-shelf-preserved : goal.loop-shelf-preserved
 loop-shelf-preserved g c = elim c.match-boxed_applet.branch [
