@@ -7,7 +7,7 @@ use Rattle.store_form.specs.Pieces.{Piece, byte_total, IsWithinBounds}
 use Rattle.update_journal.proofs.EntriesLemmas.{byte_total-cons}
 use Rattle.page_store.specs.Commits.{touches, is_touched, done_count}
 
-abbrev ones : Bool → ℕ
+abbrev pub ones : Bool → ℕ
 ones b = cond b 1 0
 
 count_cons : (q : ℕ → Bool) (x : ℕ) (xs : List ℕ) → count_by q (x ∷ xs) ≡ ones (q x) + count_by q xs

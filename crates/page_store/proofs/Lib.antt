@@ -1,5 +1,6 @@
 mod BlanksLemmas
 mod BytesOfPageLemmas
+mod CallsLemmas
 mod DoneCountLemmas
 mod EntriesPieceLemmas
 mod InPageLemmas

@@ -39,7 +39,7 @@ done_other pieces until page other = ap (λ b. b && is_touched pieces page) (⊎
 not_done : (pieces : List Piece) (until page : ℕ) → until ≤ page → is_done pieces until page ≡ false
 not_done pieces until page high = and_left (nat_lt page until) (is_touched pieces page) (le-ltb page until high)
 
-count_on : (pieces : List Piece) (page : ℕ) → 13 ≤ page → page < 1024 → is_touched pieces page ≡ true → done_count pieces (page + 1) ≡ done_count pieces page + 1
+pub count_on : (pieces : List Piece) (page : ℕ) → 13 ≤ page → page < 1024 → is_touched pieces page ≡ true → done_count pieces (page + 1) ≡ done_count pieces page + 1
 unfolding done_count
 count_on pieces page low high touched =
     let i = page - 13 in
@@ -48,7 +48,7 @@ count_on pieces page low high touched =
     let one_on : page + 1 - 13 ≡ i + 1 = omega arith in
     ap (λ n. count_by (is_touched pieces) (take n (range_with_len 13 1011))) one_on ∙ count_by_more_yes (is_touched pieces) (range_with_len 13 1011) i 0 here (ap (is_touched pieces) at ∙ touched)
 
-count_stays : (pieces : List Piece) (page : ℕ) → 13 ≤ page → page < 1024 → is_touched pieces page ≡ false → done_count pieces (page + 1) ≡ done_count pieces page
+pub count_stays : (pieces : List Piece) (page : ℕ) → 13 ≤ page → page < 1024 → is_touched pieces page ≡ false → done_count pieces (page + 1) ≡ done_count pieces page
 unfolding done_count
 count_stays pieces page low high touched =
     let i = page - 13 in
@@ -189,7 +189,7 @@ stays_there pieces page start kept old new untouched moving = record {
       | inr different ↦ sym (done_other pieces page other different)
     ]
 
-none_counted : (pieces : List Piece) → done_count pieces 13 ≡ 0
+pub none_counted : (pieces : List Piece) → done_count pieces 13 ≡ 0
 unfolding done_count
 none_counted pieces = refl
 

@@ -1,12 +1,12 @@
 -- What a step wants of the store below, what it keeps of it, and what it writes.
-use Rattle.std.specs.Prelude.{◌≡◌, ◌⊎◌, ℕ, ◌+◌, ◌%◌, ◌<◌, ◌≤◌, true, List, length, Option, option_map, All, Result, OnOk, OnErr}
+use Rattle.std.specs.Prelude.{◌≡◌, ◌⊎◌, ℕ, ◌+◌, ◌%◌, ◌<◌, ◌≤◌, true, false, List, length, Option, option_map, All, Result, OnOk, OnErr}
 use Rattle.list_laws.specs.Patches.{patched, Torn}
 use Rattle.uicc_types.specs.Told.{Becomes}
 use Rattle.eeprom_model.specs.declared.device.TheConstants.{PAGE_LENGTH}
-use Rattle.store_form.specs.declared.store.Store.{Ghosts as StoreWords}
 use Rattle.store_form.specs.declared.store.StoreFault.{StoreFault}
 use Rattle.store_form.specs.Faults.{HasCause}
 use Rattle.store_form.specs.Pieces.{Piece, applied, IsUsable, IsUsablePiece}
+use Rattle.page_store.specs.declared.counted.CountedStore.{Ghosts as StoreWords}
 use Rattle.page_store.specs.declared.paged.Known.{Known}
 use Rattle.page_store.specs.declared.places.TheConstants.{CONTENT_SIZE, DEVICE_SIZE, FIRST_MAPPED, PAGES}
 use Rattle.page_store.specs.Commits.{Moves}
@@ -21,9 +21,10 @@ pub record IsBelow {S : Type 0} (words : StoreWords S) (store : S) : Type 0 wher
   pub recovered : words.recovered store ≡ true
   pub size : words.byte_count store ≡ DEVICE_SIZE
 
--- After Ok no recovery is due. Its size and its mark stay, and each fault has its cause.
+-- After Ok no recovery is due, and after a fault one is. Its size and its mark stay, and each fault has its cause.
 pub record KeepsBelow {S T : Type 0} (words : StoreWords S) (old new : S) (result : Result T StoreFault) : Type 0 where
   pub ready : OnOk result (words.recovered new ≡ true)
+  pub due : OnErr result (words.recovered new ≡ false)
   pub size : words.byte_count new ≡ words.byte_count old
   pub mark : words.store_mark new ≡ words.store_mark old
   pub cause : HasCause (words.meter old) (words.meter new) result

@@ -1,5 +1,6 @@
 pub mod Below
 pub mod Blanks
+pub mod Calls
 pub mod Commits
 pub mod Laws
 pub mod Paged

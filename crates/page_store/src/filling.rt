@@ -4,11 +4,14 @@ ghost use Rattle.page_store.specs.Below.{IsBelow, KeepsBelow};
 ghost use Rattle.page_store.specs.Blanks.{IsBlank, first_entries};
 ghost use Rattle.page_store.specs.Pages.{is_well_formed, number_at, entries_of, map_of, content};
 ghost use Rattle.page_store.specs.Tables.{loaded, IsKept};
+ghost use Rattle.update_journal.specs.Calls.{MakesCalls};
+ghost use Rattle.page_store.specs.Calls.{calls_to_blank, calls_to_fill};
 
+use crate::counted::CountedStore;
 use crate::places::{DEVICE_SIZE, MAP, MAP_END, MAPPED, PAGE_COUNT, POOL};
 use crate::tables::Table;
 use eeprom_model::PAGE_LENGTH;
-use store_form::{Store, StoreFault};
+use store_form::StoreFault;
 
 // Puts an entry into the bytes of a map.
 fn put_entry(bytes: &mut [u8; MAP_END - MAP], k: usize, page: u16)
@@ -34,12 +37,13 @@ fn first_map() -> [u8; MAP_END - MAP]
 }
 
 // Fills the first page, and then the pool, with FF.
-fn fill_pages<S: Store>(store: &mut S) -> Result<(), StoreFault>
-    requires below { IsBelow S.Store store.old }
+fn fill_pages<S: CountedStore>(store: &mut S) -> Result<(), StoreFault>
+    requires below { IsBelow S.CountedStore store.old }
     requires no_map { IfSome (S.stable store.old) (λ image. is_well_formed (map_of image) ≡ false) }
     ensures same { content (S.stable store.new) ≡ content (S.stable store.old) }
     ensures blank { OnOk result (IfSome (S.stable store.new) IsBlank) }
-    ensures keeps { KeepsBelow S.Store store.old store.new result }
+    ensures keeps { KeepsBelow S.CountedStore store.old store.new result }
+    ensures calls { MakesCalls (calls_to_blank) (S.programs store.old) (S.programs store.new) result }
 {
     let blank = [0xFF; PAGE_LENGTH];
     store.prepare(0, &blank)?;
@@ -51,13 +55,14 @@ fn fill_pages<S: Store>(store: &mut S) -> Result<(), StoreFault>
 
 /// Fills the first page and the pool with FF and writes the first map. The content is all FF before, at each moment
 /// of it and afterwards.
-pub fn fill<S: Store>(store: &mut S) -> Result<Table, StoreFault>
-    requires below { IsBelow S.Store store.old }
+pub fn fill<S: CountedStore>(store: &mut S) -> Result<Table, StoreFault>
+    requires below { IsBelow S.CountedStore store.old }
     requires no_map { IfSome (S.stable store.old) (λ image. is_well_formed (map_of image) ≡ false) }
     ensures same { content (S.stable store.new) ≡ content (S.stable store.old) }
     ensures kept { IfOk result (λ table. IsKept table (S.stable store.new)) }
     ensures first { IfOk result (λ table. table ≡ loaded first_entries) }
-    ensures keeps { KeepsBelow S.Store store.old store.new result }
+    ensures keeps { KeepsBelow S.CountedStore store.old store.new result }
+    ensures calls { MakesCalls (calls_to_fill) (S.programs store.old) (S.programs store.new) result }
 {
     fill_pages(store)?;
     let bytes = first_map();

@@ -7,12 +7,15 @@ ghost use Rattle.page_store.specs.Below.{AreToWrite, IsBelow, KeepsBelow, Writes
 ghost use Rattle.page_store.specs.Pages.{content};
 ghost use Rattle.page_store.specs.Commits.{inner_piece, moved_below};
 ghost use Rattle.page_store.specs.Tables.{IsKept, IsPool};
+ghost use Rattle.update_journal.specs.Calls.{MakesCalls};
+ghost use Rattle.page_store.specs.Calls.{calls_to_move};
 
+use crate::counted::CountedStore;
 use crate::moves::move_pages;
 use crate::places::{CONTENT_SIZE, DEVICE_SIZE, FIRST_MAPPED, MAP, PAGES};
 use crate::tables::{EntryBytes, Table};
 use eeprom_model::PAGE_LENGTH;
-use store_form::{MOST_BYTES, MOST_PIECES, OWN_START, Store, StoreFault, Writes};
+use store_form::{MOST_BYTES, MOST_PIECES, OWN_START, StoreFault, Writes};
 use uicc_types::Full;
 
 // Adds a piece that has room.
@@ -64,14 +67,19 @@ fn inner_writes(table: &Table, writes: &Writes) -> Writes
 }
 
 /// Moves the pages that the pieces touch, and then changes their entries in the map, and the first page, at once.
-pub fn commit<S: Store>(store: &mut S, table: &mut Table, writes: &Writes) -> Result<(), StoreFault>
-    requires below { IsBelow S.Store store.old }
+pub fn commit<S: CountedStore>(
+    store: &mut S,
+    table: &mut Table,
+    writes: &Writes,
+) -> Result<(), StoreFault>
+    requires below { IsBelow S.CountedStore store.old }
     requires kept { IsKept table.old (S.stable store.old) }
     requires pieces { AreToWrite writes.now }
     ensures writes { WritesAll writes.now (content (S.stable store.old)) (content (S.stable store.new)) result }
     ensures moved { OnOk result (table.new ≡ moved_below writes.now PAGES table.old) }
     ensures kept { OnOk result (IsKept table.new (S.stable store.new)) }
-    ensures keeps { KeepsBelow S.Store store.old store.new result }
+    ensures keeps { KeepsBelow S.CountedStore store.old store.new result }
+    ensures calls { MakesCalls (calls_to_move writes.now table.old) (S.programs store.old) (S.programs store.new) result }
 {
     move_pages(store, table, writes)?;
     let inner = inner_writes(table, writes);

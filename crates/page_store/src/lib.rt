@@ -2,6 +2,7 @@
 //! changes the map that says where they lie.
 #![tactic(auto)]
 
+mod counted;
 mod filling;
 mod inner;
 mod moves;

@@ -1,13 +1,21 @@
 //! The store of pages that move.
-ghost use Rattle.std.specs.Prelude.{◌≡◌, ◌&&◌, option_map};
-ghost use Rattle.update_journal.specs.Journal.{stable, is_settled};
-ghost use Rattle.page_store.specs.Pages.{content};
-ghost use Rattle.page_store.specs.Paged.{is_known};
+ghost use Rattle.std.specs.Prelude.{◌≡◌, ◌+◌, ◌<◌, true, false, length, option_map, slice_range, All, IfSome, OnOk, OnErr};
+ghost use Rattle.uicc_types.specs.Counts.{armed};
+ghost use Rattle.store_form.specs.Faults.{HasCause};
+ghost use Rattle.store_form.specs.Pieces.{IsUsable, IsUsablePiece};
+ghost use Rattle.store_form.specs.StoreCalls.{CommitsPieces, HoldsTheSame, PreparesBytes, StaysItself};
+ghost use Rattle.update_journal.specs.Calls.{calls_at, calls_to_recover, CallsAtMost, MakesCalls};
+ghost use Rattle.update_journal.specs.Journal.{stable};
+ghost use Rattle.update_journal.specs.declared.steps.TheConstants.{MOST_TO_RECOVER};
+ghost use Rattle.page_store.specs.Calls.{calls_to_begin, calls_to_write};
+ghost use Rattle.page_store.specs.Commits.{moved_below};
+ghost use Rattle.page_store.specs.Pages.{content, map_of};
+ghost use Rattle.page_store.specs.Paged.{is_recovered, known_of, table_of};
 ghost use Rattle.page_store.specs.Laws.{told_content, told_own};
 
 use crate::paged;
 use crate::paged::Known;
-use crate::places::DEVICE_SIZE;
+use crate::places::{CONTENT_SIZE, DEVICE_SIZE, PAGES};
 use eeprom_model::Eeprom;
 use std::marker::Model;
 use store_form::{Store, StoreFault, Writes};
@@ -15,7 +23,8 @@ use uicc_types::Plan;
 use update_journal::Journal;
 
 /// A store of 65,536 bytes on a device of 71,680, over a journal in its first pages. What a contract sees of it is its
-/// device, what it knows of the map, and the count of its commits.
+/// device, what it knows of the map, the counts of the program calls that it made and of its commits, and whether the journal needs no
+/// recovery.
 #[derive(Debug, Drop)]
 pub struct PageStore<E: Eeprom> {
     journal: Journal<E>,
@@ -29,7 +38,13 @@ impl<E: Eeprom> Model for PageStore<E> {
 
     ghost Value = { Paged E };
 
-    ghost view = { λ store. record { device = store.journal.device; known = store.known; commits = store.commits } };
+    ghost view = { λ store. record {
+      device = store.journal.device;
+      known = store.known;
+      programs = store.journal.programs;
+      commits = store.commits;
+      is_ready = store.journal.is_ready;
+    } };
 
     ghost invariant = { λ store.
         IsPaged (E.byte_count store.journal.device) store.known (stable (E.contents store.journal.device)) };
@@ -39,7 +54,7 @@ impl<E: Eeprom> PageStore<E> {
     /// A store on this device of 71,680 bytes. A recovery is due.
     pub fn new(eeprom: E) -> PageStore<E>
         requires { E.byte_count eeprom ≡ DEVICE_SIZE }
-        ensures { result ≡ record { device = eeprom; known = Known.Nothing; commits = 0 } }
+        ensures { result ≡ record { device = eeprom; known = Known.Nothing; programs = 0; commits = 0; is_ready = false } }
     {
         PageStore {
             journal: Journal::new(eeprom),
@@ -70,7 +85,7 @@ impl<E: Eeprom> Store for PageStore<E> {
 
     ghost commits = { λ store. store.commits };
 
-    ghost recovered = { λ store. is_known store.known && is_settled (E.contents store.device) };
+    ghost recovered = { is_recovered };
 
     ghost told_length = { λ store. told_content (stable (E.contents store.device)) };
 
@@ -84,29 +99,111 @@ impl<E: Eeprom> Store for PageStore<E> {
         1
     }
 
-    fn read(&mut self, at: usize, out: &mut [u8]) -> Result<(), StoreFault> {
+    fn read(&mut self, at: usize, out: &mut [u8]) -> Result<(), StoreFault>
+        requires recovered { is_recovered self.old ≡ true }
+        requires usable { IsUsable CONTENT_SIZE at (length out.old) }
+        ensures ok { OnOk result (IfSome (content (stable (E.contents self.old.device)))
+            (λ held. out.new ≡ slice_range held at (at + length out.old))) }
+        ensures keeps { HoldsTheSame (λ _. CONTENT_SIZE) (λ _. 1) (λ store. content (stable (E.contents store.device))) (λ store. store.commits) self.old self.new }
+        ensures ready { OnOk result (is_recovered self.new ≡ true) }
+        ensures cause { HasCause (E.meter self.old.device) (E.meter self.new.device) result }
+        ensures off { (E.meter self.old.device).powered ≡ false →
+            (result ≡ Err StoreFault.PowerLost) × (E.meter self.new.device ≡ E.meter self.old.device)
+            × (is_recovered self.new ≡ is_recovered self.old) }
+        // After a fault a recovery is due.
+        ensures due { OnErr result (is_recovered self.new ≡ false) }
+        // Nothing is programmed, and no page moves.
+        ensures calls { self.new.programs ≡ self.old.programs }
+        ensures pages { self.new.known ≡ self.old.known }
+    {
         paged::read(&mut self.journal, &self.known, at, out)
     }
 
-    fn commit(&mut self, writes: &Writes) -> Result<(), StoreFault> {
+    fn commit(&mut self, writes: &Writes) -> Result<(), StoreFault>
+        requires recovered { is_recovered self.old ≡ true }
+        requires some { 0 < length writes.now }
+        requires usable { All (IsUsablePiece CONTENT_SIZE) writes.now }
+        ensures writes { CommitsPieces (λ store. content (stable (E.contents store.device))) (λ store. store.commits) writes.now self.old self.new result }
+        ensures keeps { StaysItself (λ _. CONTENT_SIZE) (λ _. 1) (λ store. content (stable (E.contents store.device))) self.old self.new }
+        ensures ready { OnOk result (is_recovered self.new ≡ true) }
+        ensures cause { HasCause (E.meter self.old.device) (E.meter self.new.device) result }
+        ensures off { (E.meter self.old.device).powered ≡ false →
+            (result ≡ Err StoreFault.PowerLost) × (E.meter self.new.device ≡ E.meter self.old.device)
+            × (content (stable (E.contents self.new.device)) ≡ content (stable (E.contents self.old.device))) × (is_recovered self.new ≡ is_recovered self.old) }
+        // After a fault a recovery is due.
+        ensures due { OnErr result (is_recovered self.new ≡ false) }
+        // A call for each page that is touched, and those of one commit below; where there was no map, those that make one before.
+        ensures calls { MakesCalls (calls_to_write self.old.known writes.now) self.old.programs self.new.programs result }
+        // Each page that is touched lies where it has been free longest, the lowest first. The one that it lay in has been free
+        // shortest then.
+        ensures pages { OnOk result (self.new.known ≡ Known.Mapped (moved_below writes.now PAGES (table_of self.old.known))) }
+        // The map of the device says so.
+        ensures map { OnOk result (IfSome (stable (E.contents self.new.device))
+            (λ image. map_of image ≡ (moved_below writes.now PAGES (table_of self.old.known)).entries)) }
+    {
         paged::commit(&mut self.journal, &mut self.known, writes)?;
         self.commits = self.commits.saturating_add(1);
         Ok(())
     }
 
-    fn prepare(&mut self, at: usize, bytes: &[u8]) -> Result<(), StoreFault> {
+    fn prepare(&mut self, at: usize, bytes: &[u8]) -> Result<(), StoreFault>
+        requires recovered { is_recovered self.old ≡ true }
+        requires usable { IsUsable CONTENT_SIZE at (length bytes.now) }
+        ensures writes { PreparesBytes (λ store. content (stable (E.contents store.device))) (λ store. store.commits) at bytes.now self.old self.new result }
+        ensures keeps { StaysItself (λ _. CONTENT_SIZE) (λ _. 1) (λ store. content (stable (E.contents store.device))) self.old self.new }
+        ensures ready { OnOk result (is_recovered self.new ≡ true) }
+        ensures cause { HasCause (E.meter self.old.device) (E.meter self.new.device) result }
+        ensures off { (E.meter self.old.device).powered ≡ false →
+            (result ≡ Err StoreFault.PowerLost) × (E.meter self.new.device ≡ E.meter self.old.device)
+            × (content (stable (E.contents self.new.device)) ≡ content (stable (E.contents self.old.device))) × (is_recovered self.new ≡ is_recovered self.old) }
+        // After a fault a recovery is due.
+        ensures due { OnErr result (is_recovered self.new ≡ false) }
+        // A call for each page of the range; where there was no map, those that make one before.
+        ensures calls { MakesCalls (calls_to_begin self.old.known + calls_at at (length bytes.now)) self.old.programs self.new.programs result }
+        // No page moves.
+        ensures pages { OnOk result (self.new.known ≡ Known.Mapped (table_of self.old.known)) }
+    {
         paged::prepare(&mut self.journal, &mut self.known, at, bytes)
     }
 
-    fn recover(&mut self) -> Result<(), StoreFault> {
+    fn recover(&mut self) -> Result<(), StoreFault>
+        ensures keeps { HoldsTheSame (λ _. CONTENT_SIZE) (λ _. 1) (λ store. content (stable (E.contents store.device))) (λ store. store.commits) self.old self.new }
+        ensures ready { OnOk result (is_recovered self.new ≡ true) }
+        ensures cause { HasCause (E.meter self.old.device) (E.meter self.new.device) result }
+        ensures off { (E.meter self.old.device).powered ≡ false →
+            (result ≡ Err StoreFault.PowerLost) × (E.meter self.new.device ≡ E.meter self.old.device)
+            × (is_recovered self.new ≡ is_recovered self.old) }
+        // After a fault a recovery is due still.
+        ensures due { OnErr result (is_recovered self.new ≡ false) }
+        // Those of a recovery of the journal, at most 18, also where the device tells nothing.
+        ensures calls { IfSome (option_map calls_to_recover (E.contents self.old.device))
+            (λ times. MakesCalls times self.old.programs self.new.programs result) }
+        ensures few_calls { CallsAtMost MOST_TO_RECOVER self.old.programs self.new.programs }
+        // The map that is known is that of the device, and the free pages stand in ascending order.
+        ensures pages { OnOk result (IfSome (stable (E.contents self.new.device)) (λ image. self.new.known ≡ known_of (map_of image))) }
+    {
         paged::recover(&mut self.journal, &mut self.known)
     }
 
-    fn power_up(&mut self) {
+    fn power_up(&mut self)
+        ensures power { E.meter self.new.device ≡ record (E.meter self.old.device) { powered = true } }
+        ensures keeps { HoldsTheSame (λ _. CONTENT_SIZE) (λ _. 1) (λ store. content (stable (E.contents store.device))) (λ store. store.commits) self.old self.new }
+        ensures ready { is_recovered self.new ≡ is_recovered self.old }
+        // Nothing is programmed, and no page moves.
+        ensures calls { self.new.programs ≡ self.old.programs }
+        ensures pages { self.new.known ≡ self.old.known }
+    {
         self.journal.power_up();
     }
 
-    fn arm(&mut self, plan: Plan) {
+    fn arm(&mut self, plan: Plan)
+        ensures plan { E.meter self.new.device ≡ armed (E.meter self.old.device) plan }
+        ensures keeps { HoldsTheSame (λ _. CONTENT_SIZE) (λ _. 1) (λ store. content (stable (E.contents store.device))) (λ store. store.commits) self.old self.new }
+        ensures ready { is_recovered self.new ≡ is_recovered self.old }
+        // Nothing is programmed, and no page moves.
+        ensures calls { self.new.programs ≡ self.old.programs }
+        ensures pages { self.new.known ≡ self.old.known }
+    {
         self.journal.arm(plan);
     }
 }

@@ -11,7 +11,7 @@ use Rattle.store_form.specs.Pieces.{Piece, applied, IsUsable, IsUsablePiece, IsW
 use Rattle.store_form.specs.Spared.{AreUsable, Rewritten}
 use Rattle.store_form.proofs.SparedLemmas.{length-applied, Rewritten_applied, Rewritten_again, Rewritten_part, Rewritten_take}
 use Rattle.update_journal.specs.Entries.{entries, pieces_in}
-use Rattle.update_journal.specs.Journal.{is_open, stable_of, stable, IsWhole, is_settled, IsUnderWay}
+use Rattle.update_journal.specs.Journal.{is_open, stable_of, stable, IsWhole, is_settled, IsUnderWay, ended, recovered_image}
 use Rattle.update_journal.proofs.StableOfLemmas.{area, pending_open, pending_none, entries_torn, area_spelled, opening, gate_torn, pieces_torn, closing, closed_gate, opened_gate, prepared, prepared_torn, stable_range}
 use Rattle.update_journal.proofs.PatchedLemmas.{HasLength}
 use Rattle.update_journal.proofs.EntriesLemmas.{length-entries}
@@ -208,6 +208,11 @@ while_preparing at count size None None long settled some usable torn = tt
 while_preparing at count size None (Some new) long settled some usable torn = torn
 while_preparing at count size (Some old) None long settled some usable torn = torn
 while_preparing at count size (Some old) (Some new) long settled some usable torn = (prepared_torn at count old new (shut old settled) some (range_in at count size old long usable) torn).1
+
+-- the image that a recovery leaves
+pub recovered_by : (told : Told) (pieces : List Piece) → IfSome told (IsUnderWay pieces) → option_map (ended pieces) told ≡ option_map recovered_image told
+recovered_by None pieces under = refl
+recovered_by (Some image) pieces under = some_same _ _ (rw (under.opened, under.of_pieces) refl)
 
 -- what is read of a settled memory is stable
 pub read_stable : (at count size : ℕ) (told : Told) (out : List ℕ) → HasLength told size → is_settled told ≡ true → IsUsable size at count → IfSome told (λ held. out ≡ slice_range held at (at + count))

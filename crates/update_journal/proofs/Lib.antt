@@ -1,4 +1,5 @@
 mod AreBytesLemmas
+pub mod CallsLemmas
 pub mod EntriesLemmas
 mod HiddenLemmas
 pub mod IsUnderWayLemmas

@@ -1,15 +1,20 @@
 -- What a memory with a journal stands for. Byte 64 is its gate, which is open where it is 5A; the entries of the last
 -- commit stand from byte 128 on, at most up to 831.
-use Rattle.std.specs.Prelude.{◌≡◌, ℕ, Bool, true, not, ◌==◌, if◌then◌else◌, List, [], ◌++◌, length, take, drop, slice_index, slice_range, replicate, Option, Some, None, option_map, unwrap_or, ◌⊎◌}
+use Rattle.std.specs.Prelude.{◌≡◌, ℕ, ◌≤◌, Bool, true, not, ◌==◌, if◌then◌else◌, List, [], ◌∷◌, ◌++◌, length, take, drop, slice_index, slice_range, replicate, Option, Some, None, option_map, unwrap_or, ◌⊎◌}
+use Rattle.list_laws.specs.Patches.{patched}
+use Rattle.uicc_types.specs.Counts.{Meter}
 use Rattle.store_form.specs.declared.store.TheConstants.{OWN_START, OWN_END}
 use Rattle.store_form.specs.Pieces.{Piece, applied}
-use Rattle.update_journal.specs.declared.steps.TheConstants.{GATE, ENTRIES, OPEN}
-use Rattle.update_journal.specs.Entries.{pieces_in}
+use Rattle.update_journal.specs.declared.steps.TheConstants.{GATE, ENTRIES, OPEN, CLOSED}
+use Rattle.update_journal.specs.Entries.{entries, pieces_in}
 
--- a store over a journal: its device, and how many commits it answered with Ok
+-- a store over a journal: its device, how many program calls it made of that, how many commits it answered with Ok, and whether no
+-- recovery is due
 pub record Journaled (E : Type 0) : Type 0 where
   pub device : E
+  pub programs : ℕ
   pub commits : ℕ
+  pub is_ready : Bool
 
 abbrev pub is_open : List ℕ → Bool
 is_open image = slice_index image GATE == OPEN
@@ -38,6 +43,28 @@ IsWhole pieces old new = (stable new ≡ stable old) ⊎ (stable new ≡ option_
 abbrev pub is_settled : Option (List ℕ) → Bool
 is_settled None = true
 is_settled (Some image) = not (is_open image)
+
+-- ---- the bytes of the memory, also those that are the journal's own
+
+-- the image in which a commit of these pieces has been ended: they stand in their places, and the gate is closed
+abbrev pub ended : List Piece → List ℕ → List ℕ
+ended pieces image = patched GATE (CLOSED ∷ []) (applied pieces image)
+
+-- the image that a whole commit leaves: its entries stand in theirs too
+abbrev pub committed : List Piece → List ℕ → List ℕ
+committed pieces image = ended pieces (patched GATE (OPEN ∷ []) (patched ENTRIES (entries pieces) image))
+
+-- the image that a recovery leaves: a gate that isn't open stays as it is, and so does every other byte
+abbrev pub recovered_image : List ℕ → List ℕ
+recovered_image image = if is_open image then ended (pending image) image else image
+
+-- ---- a store over it
+
+-- What holds of every journal. Where no recovery is due its device has power, and its gate isn't open, where that is told.
+pub record IsJournaled (size : ℕ) (meter : Meter) (told : Option (List ℕ)) (is_ready : Bool) : Type 0 where
+  pub roomy : OWN_END ≤ size
+  pub powered : is_ready ≡ true → meter.powered ≡ true
+  pub settled : is_ready ≡ true → is_settled told ≡ true
 
 -- a commit of these pieces is to be ended in the image
 pub record IsUnderWay (pieces : List Piece) (image : List ℕ) : Type 0 where

@@ -1,43 +1,57 @@
 //! The journal as a store.
-ghost use Rattle.std.specs.Prelude.{◌≡◌, ◌≤◌, Some, true, false, option_map, is_some, IfSome, OnOk};
+ghost use Rattle.std.specs.Prelude.{◌≡◌, ◌+◌, ◌≤◌, ◌<◌, Some, true, false, length, option_map, slice_range, All, IfSome, OnOk, OnErr};
+ghost use Rattle.list_laws.specs.Patches.{patched};
+ghost use Rattle.uicc_types.specs.Counts.{armed};
 ghost use Rattle.store_form.specs.Faults.{HasCause};
-ghost use Rattle.update_journal.specs.Journal.{is_open, stable, is_settled};
+ghost use Rattle.store_form.specs.Pieces.{IsUsable, IsUsablePiece};
+ghost use Rattle.store_form.specs.StoreCalls.{CommitsPieces, HoldsTheSame, PreparesBytes, StaysItself};
+ghost use Rattle.update_journal.specs.Calls.{calls_at, calls_to_commit, calls_to_recover, CallsAtMost, MakesCalls};
+ghost use Rattle.update_journal.specs.Journal.{is_open, stable, committed, recovered_image};
 ghost use Rattle.update_journal.specs.Laws.{told_stable, told_own};
 
+use crate::device::CountedDevice;
+use crate::steps::MOST_TO_RECOVER;
 use crate::{device, steps};
 use eeprom_model::Eeprom;
 use std::marker::Model;
 use store_form::{OWN_END, Store, StoreFault, Writes};
 use uicc_types::Plan;
 
-/// A store on a device of at least 832 bytes. What a contract sees of it is its device and the count of its commits.
+/// A store on a device of at least 832 bytes. What a contract sees of it is its device, the counts of the program calls that it made of
+/// that and of its commits, and whether no recovery is due.
 #[derive(Debug, Drop)]
 pub struct Journal<E: Eeprom> {
-    device: E,
+    counted: CountedDevice<E>,
     commits: u64,
+    is_ready: bool,
 }
 
 impl<E: Eeprom> Model for Journal<E> {
-    ghost use Rattle.std.specs.Prelude.{◌≤◌};
-    ghost use Rattle.store_form.specs.declared.store.TheConstants.{OWN_END};
-    ghost use Rattle.update_journal.specs.Journal.{Journaled};
+    ghost use Rattle.update_journal.specs.Journal.{IsJournaled, Journaled};
 
     ghost Value = { Journaled E };
 
-    ghost view = { λ journal. record { device = journal.device; commits = journal.commits } };
+    ghost view = { λ journal. record {
+      device = journal.counted.eeprom;
+      programs = journal.counted.programs;
+      commits = journal.commits;
+      is_ready = journal.is_ready;
+    } };
 
-    ghost invariant = { λ journal. OWN_END ≤ E.byte_count journal.device };
+    ghost invariant = { λ journal.
+        IsJournaled (E.byte_count journal.counted.eeprom) (E.meter journal.counted.eeprom) (E.contents journal.counted.eeprom) journal.is_ready };
 }
 
 impl<E: Eeprom> Journal<E> {
-    /// A journal on this device. Whether a commit is to be ended is not known yet.
+    /// A journal on this device. Whether a commit is to be ended is not known yet: a recovery is due.
     pub fn new(eeprom: E) -> Journal<E>
         requires { OWN_END ≤ E.byte_count eeprom }
-        ensures { result ≡ record { device = eeprom; commits = 0 } }
+        ensures { result ≡ record { device = eeprom; programs = 0; commits = 0; is_ready = false } }
     {
         Journal {
-            device: eeprom,
+            counted: CountedDevice::new(eeprom),
             commits: 0,
+            is_ready: false,
         }
     }
 
@@ -46,7 +60,7 @@ impl<E: Eeprom> Journal<E> {
         ensures device { result ≡ self.device }
         ensures size { OWN_END ≤ E.byte_count result }
     {
-        self.device
+        self.counted.into_device()
     }
 }
 
@@ -61,7 +75,7 @@ impl<E: Eeprom> Store for Journal<E> {
 
     ghost commits = { λ journal. journal.commits };
 
-    ghost recovered = { λ journal. is_settled (E.contents journal.device) };
+    ghost recovered = { λ journal. journal.is_ready };
 
     ghost told_length = { λ journal.
         told_stable (E.contents journal.device) (E.byte_count journal.device) (E.told_length journal.device) };
@@ -72,45 +86,126 @@ impl<E: Eeprom> Store for Journal<E> {
     #[tactic(auto, using(crate::proofs::AreBytesLemmas::told_bytes))]
     fn mark(&self) -> u8 {
         // What the device tells are bytes, which it says with its size.
-        let _size = self.device.size();
+        let _size = self.counted.size();
         0
     }
 
-    fn read(&mut self, at: usize, out: &mut [u8]) -> Result<(), StoreFault> {
-        device::read(&mut self.device, at, out)
+    fn read(&mut self, at: usize, out: &mut [u8]) -> Result<(), StoreFault>
+        requires recovered { self.old.is_ready ≡ true }
+        requires usable { IsUsable (E.byte_count self.old.device) at (length out.old) }
+        ensures ok { OnOk result (IfSome (stable (E.contents self.old.device))
+            (λ held. out.new ≡ slice_range held at (at + length out.old))) }
+        ensures keeps { HoldsTheSame (λ journal. E.byte_count journal.device) (λ _. 0) (λ journal. stable (E.contents journal.device)) (λ journal. journal.commits) self.old self.new }
+        ensures ready { OnOk result (self.new.is_ready ≡ true) }
+        ensures cause { HasCause (E.meter self.old.device) (E.meter self.new.device) result }
+        ensures off { (E.meter self.old.device).powered ≡ false →
+            (result ≡ Err StoreFault.PowerLost) × (E.meter self.new.device ≡ E.meter self.old.device)
+            × (self.new.is_ready ≡ self.old.is_ready) }
+        // After a fault a recovery is due.
+        ensures due { OnErr result (self.new.is_ready ≡ false) }
+        // Nothing is programmed.
+        ensures calls { self.new.programs ≡ self.old.programs }
+        ensures left { E.contents self.new.device ≡ E.contents self.old.device }
+    {
+        self.is_ready = false;
+        device::read(&mut self.counted, at, out)?;
+        self.is_ready = true;
+        Ok(())
     }
 
-    fn commit(&mut self, writes: &Writes) -> Result<(), StoreFault> {
-        steps::commit(&mut self.device, writes)?;
+    fn commit(&mut self, writes: &Writes) -> Result<(), StoreFault>
+        requires recovered { self.old.is_ready ≡ true }
+        requires some { 0 < length writes.now }
+        requires usable { All (IsUsablePiece (E.byte_count self.old.device)) writes.now }
+        ensures writes { CommitsPieces (λ journal. stable (E.contents journal.device)) (λ journal. journal.commits) writes.now self.old self.new result }
+        ensures keeps { StaysItself (λ journal. E.byte_count journal.device) (λ _. 0) (λ journal. stable (E.contents journal.device)) self.old self.new }
+        ensures ready { OnOk result (self.new.is_ready ≡ true) }
+        ensures cause { HasCause (E.meter self.old.device) (E.meter self.new.device) result }
+        ensures off { (E.meter self.old.device).powered ≡ false →
+            (result ≡ Err StoreFault.PowerLost) × (E.meter self.new.device ≡ E.meter self.old.device)
+            × (stable (E.contents self.new.device) ≡ stable (E.contents self.old.device)) × (self.new.is_ready ≡ self.old.is_ready) }
+        // After a fault a recovery is due.
+        ensures due { OnErr result (self.new.is_ready ≡ false) }
+        // A call for each page of the entries and of the pieces, and two for the gate.
+        ensures calls { MakesCalls (calls_to_commit writes.now) self.old.programs self.new.programs result }
+        // Each byte of the device, also of the journal's own.
+        ensures left { OnOk result (E.contents self.new.device ≡ option_map (committed writes.now) (E.contents self.old.device)) }
+    {
+        self.is_ready = false;
+        steps::commit(&mut self.counted, writes)?;
+        self.is_ready = true;
         self.commits = self.commits.saturating_add(1);
         Ok(())
     }
 
-    fn prepare(&mut self, at: usize, bytes: &[u8]) -> Result<(), StoreFault> {
-        steps::prepare(&mut self.device, at, bytes)
-    }
-
-    fn recover(&mut self) -> Result<(), StoreFault>
-        ensures untouched { IfSome (E.contents self.old.device)
-            (λ image. is_open image ≡ false → E.contents self.new.device ≡ Some image) }
-        ensures stable { stable (E.contents self.new.device) ≡ stable (E.contents self.old.device) }
-        ensures told { is_some (stable (E.contents self.new.device)) ≡ is_some (stable (E.contents self.old.device)) }
-        ensures ready { OnOk result (is_settled (E.contents self.new.device) ≡ true) }
-        ensures commits { self.new.commits ≡ self.old.commits }
-        ensures size { E.byte_count self.new.device ≡ E.byte_count self.old.device }
+    fn prepare(&mut self, at: usize, bytes: &[u8]) -> Result<(), StoreFault>
+        requires recovered { self.old.is_ready ≡ true }
+        requires usable { IsUsable (E.byte_count self.old.device) at (length bytes.now) }
+        ensures writes { PreparesBytes (λ journal. stable (E.contents journal.device)) (λ journal. journal.commits) at bytes.now self.old self.new result }
+        ensures keeps { StaysItself (λ journal. E.byte_count journal.device) (λ _. 0) (λ journal. stable (E.contents journal.device)) self.old self.new }
+        ensures ready { OnOk result (self.new.is_ready ≡ true) }
         ensures cause { HasCause (E.meter self.old.device) (E.meter self.new.device) result }
         ensures off { (E.meter self.old.device).powered ≡ false →
             (result ≡ Err StoreFault.PowerLost) × (E.meter self.new.device ≡ E.meter self.old.device)
-            × (is_settled (E.contents self.new.device) ≡ is_settled (E.contents self.old.device)) }
+            × (stable (E.contents self.new.device) ≡ stable (E.contents self.old.device)) × (self.new.is_ready ≡ self.old.is_ready) }
+        // After a fault a recovery is due.
+        ensures due { OnErr result (self.new.is_ready ≡ false) }
+        // A call for each page of the range.
+        ensures calls { MakesCalls (calls_at at (length bytes.now)) self.old.programs self.new.programs result }
+        // Each byte of the device, also of the journal's own.
+        ensures left { OnOk result (E.contents self.new.device ≡ option_map (patched at bytes.now) (E.contents self.old.device)) }
     {
-        steps::recover(&mut self.device)
+        self.is_ready = false;
+        steps::prepare(&mut self.counted, at, bytes)?;
+        self.is_ready = true;
+        Ok(())
     }
 
-    fn power_up(&mut self) {
-        self.device.power_up();
+    fn recover(&mut self) -> Result<(), StoreFault>
+        ensures keeps { HoldsTheSame (λ journal. E.byte_count journal.device) (λ _. 0) (λ journal. stable (E.contents journal.device)) (λ journal. journal.commits) self.old self.new }
+        ensures ready { OnOk result (self.new.is_ready ≡ true) }
+        ensures cause { HasCause (E.meter self.old.device) (E.meter self.new.device) result }
+        ensures off { (E.meter self.old.device).powered ≡ false →
+            (result ≡ Err StoreFault.PowerLost) × (E.meter self.new.device ≡ E.meter self.old.device)
+            × (self.new.is_ready ≡ self.old.is_ready) }
+        // Behind a gate that isn't open no byte changes, also where it fails.
+        ensures untouched { IfSome (E.contents self.old.device)
+            (λ image. is_open image ≡ false → E.contents self.new.device ≡ Some image) }
+        // After a fault a recovery is due still.
+        ensures due { OnErr result (self.new.is_ready ≡ false) }
+        // A call for each page of the pieces that are to be written, and one for the gate; none behind a gate that isn't open.
+        ensures calls { IfSome (E.contents self.old.device)
+            (λ image. MakesCalls (calls_to_recover image) self.old.programs self.new.programs result) }
+        // At most 18 calls, also where the device tells nothing.
+        ensures few_calls { CallsAtMost MOST_TO_RECOVER self.old.programs self.new.programs }
+        // Each byte of the device, also of the journal's own.
+        ensures left { OnOk result (E.contents self.new.device ≡ option_map recovered_image (E.contents self.old.device)) }
+    {
+        self.is_ready = false;
+        steps::recover(&mut self.counted)?;
+        self.is_ready = true;
+        Ok(())
     }
 
-    fn arm(&mut self, plan: Plan) {
-        self.device.arm(plan);
+    fn power_up(&mut self)
+        ensures power { E.meter self.new.device ≡ record (E.meter self.old.device) { powered = true } }
+        ensures keeps { HoldsTheSame (λ journal. E.byte_count journal.device) (λ _. 0) (λ journal. stable (E.contents journal.device)) (λ journal. journal.commits) self.old self.new }
+        ensures ready { self.new.is_ready ≡ self.old.is_ready }
+        // Nothing is programmed.
+        ensures calls { self.new.programs ≡ self.old.programs }
+        ensures left { E.contents self.new.device ≡ E.contents self.old.device }
+    {
+        self.counted.power_up();
+    }
+
+    fn arm(&mut self, plan: Plan)
+        ensures plan { E.meter self.new.device ≡ armed (E.meter self.old.device) plan }
+        ensures keeps { HoldsTheSame (λ journal. E.byte_count journal.device) (λ _. 0) (λ journal. stable (E.contents journal.device)) (λ journal. journal.commits) self.old self.new }
+        ensures ready { self.new.is_ready ≡ self.old.is_ready }
+        // Nothing is programmed.
+        ensures calls { self.new.programs ≡ self.old.programs }
+        ensures left { E.contents self.new.device ≡ E.contents self.old.device }
+    {
+        self.counted.arm(plan);
     }
 }

@@ -8,6 +8,6 @@ move_page-requires-clause-few g c = omega (arith, few_done c.args.writes.now c.a
 
 pub returns-then-not-is_touched-clause-moves : goal.returns-then-not-is_touched-clause-moves
 returns-then-not-is_touched-clause-moves g c = record {
-  ok = λ start told is moves. move_none c.args.writes.now c.args.page start c.args.table.now told (g.S.Store.stable c.args.store.now) c.requires.may.from c.requires.may.to (sym c.if-not-is_touched.ensures.value) moves;
+  ok = λ start told is moves. move_none c.args.writes.now c.args.page start c.args.table.now told (g.S.CountedStore.stable c.args.store.now) c.requires.may.from c.requires.may.to (sym c.if-not-is_touched.ensures.value) moves;
   same = search rules;
 }

@@ -6,4 +6,4 @@ use Rattle.page_store.proofs.paged.recover.Goals as goal
 pub returns-clause-known : goal.returns-clause-known
 returns-clause-known g c =
     let read : Option (List ℕ) → Type 0 = λ o. IfSome o (λ held. c.read.new.out ≡ slice_range held 832 2854) in
-    record { is_so = subst (λ k. IsKnown k (g.S.Store.stable c.read.new.self)) (sym c.known_of.ensures) (known_read (g.S.Store.stable c.read.new.self) c.read.new.out (subst read (sym c.in_ok-read.ensures.keeps.stable) c.in_ok-read.ensures.ok)); is_some = search rules }
+    record { is_so = subst (λ k. IsKnown k (g.S.CountedStore.stable c.read.new.self)) (sym c.known_of.ensures) (known_read (g.S.CountedStore.stable c.read.new.self) c.read.new.out (subst read (sym c.in_ok-read.ensures.keeps.stable) c.in_ok-read.ensures.ok)); is_some = search rules }

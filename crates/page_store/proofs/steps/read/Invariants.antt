@@ -10,10 +10,10 @@ abbrev pub invariant-loop-done : goal.invariant-loop-done
 invariant-loop-done g l = record {
   bound : l.done ≤ length l.out;
   long : length l.out ≡ length l.initial.out;
-  seen : IfSome (content (g.S.Store.stable l.initial.store)) (λ held. take l.done l.out ≡ slice_range held l.fn.at (l.fn.at + l.done));
-  stable : g.S.Store.stable l.store ≡ g.S.Store.stable l.initial.store;
-  recovered : g.S.Store.recovered l.store ≡ true;
-  size : g.S.Store.byte_count l.store ≡ g.S.Store.byte_count l.initial.store;
-  mark : g.S.Store.store_mark l.store ≡ g.S.Store.store_mark l.initial.store;
-  calm : IsCalm (g.S.Store.meter l.initial.store) (g.S.Store.meter l.store);
+  seen : IfSome (content (g.S.CountedStore.stable l.initial.store)) (λ held. take l.done l.out ≡ slice_range held l.fn.at (l.fn.at + l.done));
+  stable : g.S.CountedStore.stable l.store ≡ g.S.CountedStore.stable l.initial.store;
+  recovered : g.S.CountedStore.recovered l.store ≡ true;
+  size : g.S.CountedStore.byte_count l.store ≡ g.S.CountedStore.byte_count l.initial.store;
+  mark : g.S.CountedStore.store_mark l.store ≡ g.S.CountedStore.store_mark l.initial.store;
+  calm : IsCalm (g.S.CountedStore.meter l.initial.store) (g.S.CountedStore.meter l.store);
 }
