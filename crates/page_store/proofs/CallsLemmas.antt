@@ -1,5 +1,5 @@
 -- How many program calls the steps of a commit take: one for a page, and one for each page that is touched.
-use Rattle.std.proofs.Common.{◌≡◌, ℕ, ◌+◌, ◌-◌, ◌*◌, ◌%◌, ◌≤◌, ◌<◌, Bool, true, false, if◌then◌else◌, List, length, min, take, Result, Ok, Err, IsErr, refl, sym, ◌∙◌, ap, subst, arith}
+use Rattle.std.proofs.Common.{◌≡◌, ℕ, ◌+◌, ◌-◌, ◌*◌, ◌%◌, ◌≤◌, ◌<◌, Bool, true, false, if◌then◌else◌, List, min, take, Result, Ok, Err, IsErr, refl, sym, ◌∙◌, ap, subst, arith}
 use Rattle.std.specs.List.{count_by, range_with_len}
 use Rattle.std.proofs.lemmas.List.{take_all}
 use Rattle.std.proofs.lemmas.List.FromFn.{length-range_with_len}
@@ -49,15 +49,14 @@ part_next at done part count more is =
 
 -- ---- the pages that are touched
 
+count_up_to : (p : ℕ → Bool) (k a n : ℕ) → count_by p (take k (range_with_len a n)) ≤ count_by p (take n (range_with_len a n))
+count_up_to p k a n =
+    let all : count_by p (take n (range_with_len a n)) ≡ count_by p (range_with_len a n) = ap (λ (l : List ℕ). count_by p l) (take_all n (range_with_len a n) (omega (arith, length-range_with_len a n))) in
+    omega (arith, sum_by-take-le (λ page. ones (p page)) (range_with_len a n) k, all)
+
 pub done_up_to : (pieces : List Piece) (page : ℕ) → done_count pieces page ≤ done_count pieces 1024
 unfolding done_count
-done_up_to pieces page = front (page - 13)
-  where
-    all : count_by (is_touched pieces) (take 1011 (range_with_len 13 1011)) ≡ count_by (is_touched pieces) (range_with_len 13 1011)
-    all = ap (λ (l : List ℕ). count_by (is_touched pieces) l) (take_all 1011 (range_with_len 13 1011) (omega (arith, length-range_with_len 13 1011)))
-
-    front : (k : ℕ) → count_by (is_touched pieces) (take k (range_with_len 13 1011)) ≤ count_by (is_touched pieces) (take 1011 (range_with_len 13 1011))
-    front k = omega (arith, sum_by-take-le (λ page. ones (is_touched pieces page)) (range_with_len 13 1011) k, all)
+done_up_to pieces page = count_up_to (is_touched pieces) (page - 13) 13 1011
 
 pub done_next : (pieces : List Piece) (page : ℕ) → 13 ≤ page → page < 1024 → done_count pieces (page + 1) ≡ done_count pieces page + (if is_touched pieces page then 1 else 0)
 done_next pieces page low high = by_test (is_touched pieces page) refl
