@@ -1,5 +1,5 @@
 -- How many program calls the steps of a commit take: one for a page, and one for each page that is touched.
-use Rattle.std.proofs.Common.{◌≡◌, ℕ, ◌+◌, ◌-◌, ◌*◌, ◌%◌, ◌≤◌, ◌<◌, Bool, true, false, if◌then◌else◌, List, length, min, take, Result, Ok, Err, IsErr, refl, sym, ◌∙◌, ap, subst, arith}
+use Rattle.std.proofs.Common.{◌≡◌, ℕ, ◌+◌, ◌-◌, ◌*◌, ◌%◌, ◌≤◌, ◌<◌, Bool, true, false, if◌then◌else◌, List, min, take, Result, Ok, Err, IsErr, refl, sym, ◌∙◌, ap, subst, arith}
 use Rattle.std.specs.List.{count_by, range_with_len}
 use Rattle.std.proofs.lemmas.List.{take_all}
 use Rattle.std.proofs.lemmas.List.FromFn.{length-range_with_len}
@@ -8,8 +8,9 @@ use Rattle.store_form.specs.declared.store.StoreFault.{StoreFault}
 use Rattle.store_form.specs.Pieces.{Piece}
 use Rattle.uicc_types.specs.Counts.{raised_by}
 use Rattle.update_journal.specs.Calls.{calls_at, CallsAtMost, MakesCalls}
-use Rattle.update_journal.proofs.CallsLemmas.{CallsLeft, all_left, after_some, none_left, fault_in, then_all, then_at_most, next_part, one_call}
+use Rattle.update_journal.proofs.CallsLemmas.{CallsLeft, all_left, after_some, none_left, fault_in, fewer, then_all, then_at_most, next_part, one_call}
 use Rattle.page_store.specs.Below.{InPage}
+use Rattle.page_store.specs.Calls.{calls_to_blank, calls_to_fill}
 use Rattle.page_store.specs.Commits.{is_touched, done_count}
 use Rattle.page_store.specs.Pages.{place_of}
 use Rattle.page_store.proofs.DoneCountLemmas.{ones}
@@ -48,15 +49,14 @@ part_next at done part count more is =
 
 -- ---- the pages that are touched
 
+count_up_to : (p : ℕ → Bool) (k a n : ℕ) → count_by p (take k (range_with_len a n)) ≤ count_by p (take n (range_with_len a n))
+count_up_to p k a n =
+    let all : count_by p (take n (range_with_len a n)) ≡ count_by p (range_with_len a n) = ap (λ (l : List ℕ). count_by p l) (take_all n (range_with_len a n) (omega (arith, length-range_with_len a n))) in
+    omega (arith, sum_by-take-le (λ page. ones (p page)) (range_with_len a n) k, all)
+
 pub done_up_to : (pieces : List Piece) (page : ℕ) → done_count pieces page ≤ done_count pieces 1024
 unfolding done_count
-done_up_to pieces page = front (page - 13)
-  where
-    all : count_by (is_touched pieces) (take 1011 (range_with_len 13 1011)) ≡ count_by (is_touched pieces) (range_with_len 13 1011)
-    all = ap (λ (l : List ℕ). count_by (is_touched pieces) l) (take_all 1011 (range_with_len 13 1011) (omega (arith, length-range_with_len 13 1011)))
-
-    front : (k : ℕ) → count_by (is_touched pieces) (take k (range_with_len 13 1011)) ≤ count_by (is_touched pieces) (take 1011 (range_with_len 13 1011))
-    front k = omega (arith, sum_by-take-le (λ page. ones (is_touched pieces page)) (range_with_len 13 1011) k, all)
+done_up_to pieces page = count_up_to (is_touched pieces) (page - 13) 13 1011
 
 pub done_next : (pieces : List Piece) (page : ℕ) → 13 ≤ page → page < 1024 → done_count pieces (page + 1) ≡ done_count pieces page + (if is_touched pieces page then 1 else 0)
 done_next pieces page low high = by_test (is_touched pieces page) refl
@@ -97,9 +97,31 @@ pub blank_done : (page count before mid now : ℕ) → page < 1120 → count ≡
 blank_done page count before mid now high whole calls made = after_some (calls_at (64 * page) count) _ (1120 - (page + 1)) 1075 before mid now calls (omega (arith, page_call page count whole)) made
 
 -- the first page, and then some of the pool's
-pub blank_fault : (page count start before mid now : ℕ) → page < 1120 → count ≡ 64 → before ≡ raised_by 1 start → BlanksLeft page before mid → CallsAtMost (calls_at (64 * page) count) mid now → CallsAtMost 1076 start now
+pub blank_fault : (page count start before mid now : ℕ) → page < 1120 → count ≡ 64 → before ≡ raised_by 1 start → BlanksLeft page before mid → CallsAtMost (calls_at (64 * page) count) mid now → CallsAtMost calls_to_blank start now
+unfolding calls_to_blank
 blank_fault page count start before mid now high whole first calls made =
     then_at_most 1 1075 start before now first (fault_in (calls_at (64 * page) count) (1120 - page) 1075 before mid now calls (omega (arith, page_call page count whole)) made)
 
-pub blanks_done : (page start before now : ℕ) → 1120 ≤ page → before ≡ raised_by 1 start → BlanksLeft page before now → now ≡ raised_by 1076 start
+pub blanks_done : (page start before now : ℕ) → 1120 ≤ page → before ≡ raised_by 1 start → BlanksLeft page before now → now ≡ raised_by calls_to_blank start
+unfolding calls_to_blank
 blanks_done page start before now at_end first calls = then_all 1 1075 start before now first (none_left (1120 - page) 1075 before now calls (omega arith))
+
+pub first_blank : (start now : ℕ) → CallsAtMost (calls_at 0 64) start now → CallsAtMost calls_to_blank start now
+unfolding calls_to_blank
+first_blank start now made = fewer (calls_at 0 64) 1076 start now (omega (arith, page_call 0 64 refl)) made
+
+-- the pages, and then the map over them
+pub fill_parts : calls_to_fill ≡ calls_to_blank + calls_at 832 2022
+unfolding calls_to_fill
+fill_parts = refl
+
+pub fill_fault : (count start before now : ℕ) → count ≡ 2022 → before ≡ raised_by calls_to_blank start → CallsAtMost (calls_at 832 count) before now → CallsAtMost calls_to_fill start now
+fill_fault count start before now long blank made =
+    subst (λ n. CallsAtMost n start now) (sym fill_parts) (then_at_most calls_to_blank (calls_at 832 2022) start before now blank (subst (λ n. CallsAtMost (calls_at 832 n) before now) long made))
+
+pub fill_done : (count start before now : ℕ) → count ≡ 2022 → before ≡ raised_by calls_to_blank start → now ≡ raised_by (calls_at 832 count) before → now ≡ raised_by calls_to_fill start
+fill_done count start before now long blank made =
+    subst (λ n. now ≡ raised_by n start) (sym fill_parts) (then_all calls_to_blank (calls_at 832 2022) start before now blank (made ∙ ap (λ n. raised_by (calls_at 832 n) before) long))
+
+pub fill_begun : (start now : ℕ) → CallsAtMost calls_to_blank start now → CallsAtMost calls_to_fill start now
+fill_begun start now made = fewer calls_to_blank calls_to_fill start now (omega (arith, fill_parts)) made

@@ -10,11 +10,11 @@ use Rattle.page_store.specs.Paged.{table_of}
 use Rattle.page_store.specs.Tables.{Kept}
 
 -- the first page and each page of the pool
-abbrev pub calls_to_blank : ℕ
+unfoldable pub calls_to_blank : ℕ
 calls_to_blank = 1 + (PAGE_COUNT - POOL)
 
 -- a device that holds no map gets one: blank pages, and the map over its pages
-abbrev pub calls_to_fill : ℕ
+unfoldable pub calls_to_fill : ℕ
 calls_to_fill = calls_to_blank + calls_at MAP (MAP_END - MAP)
 
 -- what is done first, where no map is known

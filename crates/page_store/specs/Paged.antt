@@ -1,5 +1,6 @@
 -- A store whose pages move: its device, and what it knows of the map.
 use Rattle.std.specs.Prelude.{◌≡◌, ℕ, Bool, true, false, ◌&&◌, List, Option, IfSome, if◌then◌else◌}
+use Rattle.update_journal.specs.Journal.{is_recovered as is_below_recovered}
 use Rattle.page_store.specs.declared.paged.Known.{Known}
 use Rattle.page_store.specs.declared.paged.Known.TheVariants.{Nothing, Blank, Mapped}
 use Rattle.page_store.specs.declared.places.TheConstants.{DEVICE_SIZE}
@@ -29,7 +30,7 @@ table_of Blank = loaded first_entries
 table_of (Mapped kept) = kept
 
 -- the device, what is known of the map, how many program calls were made of the device, how many commits were answered with Ok, and
--- whether the store below needs no recovery
+-- whether the journal below takes no recovery to be due
 pub record Paged (E : Type 0) : Type 0 where
   pub device : E
   pub known : Known
@@ -37,9 +38,9 @@ pub record Paged (E : Type 0) : Type 0 where
   pub commits : ℕ
   pub is_ready : Bool
 
--- no recovery is due
-abbrev pub is_recovered : {E : Type 0} → Paged E → Bool
-is_recovered store = is_known store.known && store.is_ready
+-- no recovery is due: the map is known, and none of the store below is due
+abbrev pub is_recovered : Known → Bool → Option (List ℕ) → Bool
+is_recovered known is_ready told = is_known known && is_below_recovered is_ready told
 
 -- what holds of every store of a device of so many bytes
 pub record IsPaged (size : ℕ) (known : Known) (told : Option (List ℕ)) : Type 0 where

@@ -1,11 +1,11 @@
 //! What is asked of the store below.
-ghost use Rattle.std.specs.Prelude.{◌≡◌, ◌+◌, ◌≤◌, ◌<◌, ℕ, Bool, List, Option, true, false, length, slice_index, slice_range, All, IfSome, OnOk, OnErr, option_map};
+ghost use Rattle.std.specs.Prelude.{◌≡◌, ◌+◌, ◌≤◌, ◌<◌, ℕ, Bool, List, Option, true, false, length, slice_index, slice_range, All, IfSome, OnOk, OnErr};
 ghost use Rattle.uicc_types.specs.Counts.{Meter};
 ghost use Rattle.store_form.specs.Faults.{HasCause};
 ghost use Rattle.store_form.specs.Pieces.{IsUsable, IsUsablePiece};
 ghost use Rattle.store_form.specs.StoreCalls.{CommitsPieces, HoldsTheSame, PreparesBytes, StaysItself};
 ghost use Rattle.update_journal.specs.Calls.{calls_at, calls_to_commit, calls_to_recover, CallsAtMost, MakesCalls};
-ghost use Rattle.update_journal.specs.Journal.{stable};
+ghost use Rattle.update_journal.specs.Journal.{is_recovered, stable};
 ghost use Rattle.update_journal.specs.Laws.{told_stable, told_own};
 
 use eeprom_model::Eeprom;
@@ -38,8 +38,8 @@ pub trait CountedStore {
     /// How many program calls it made, in 64 bits; at its end the count stands still.
     ghost programs: { Self → ℕ };
 
-    /// How many program calls a recovery takes, where its device tells that.
-    ghost calls_due: { Self → Option ℕ };
+    /// The bytes of its device, where that tells them.
+    ghost image: { Self → Option (List ℕ) };
 
     /// Reads the stable bytes from `at` on into the whole of `out`.
     fn read(&mut self, at: usize, out: &mut [u8]) -> Result<(), StoreFault>
@@ -54,7 +54,7 @@ pub trait CountedStore {
         ensures cause { HasCause (meter self.old) (meter self.new) result }
         ensures off { (meter self.old).powered ≡ false →
             (result ≡ Err StoreFault.PowerLost) × (meter self.new ≡ meter self.old)
-            × (recovered self.new ≡ recovered self.old) };
+            × (recovered self.new ≡ recovered self.old) × (image self.new ≡ image self.old) };
 
     /// Writes all pieces, in order, or none.
     fn commit(&mut self, writes: &Writes) -> Result<(), StoreFault>
@@ -69,7 +69,7 @@ pub trait CountedStore {
         ensures cause { HasCause (meter self.old) (meter self.new) result }
         ensures off { (meter self.old).powered ≡ false →
             (result ≡ Err StoreFault.PowerLost) × (meter self.new ≡ meter self.old)
-            × (stable self.new ≡ stable self.old) × (recovered self.new ≡ recovered self.old) };
+            × (stable self.new ≡ stable self.old) × (recovered self.new ≡ recovered self.old) × (image self.new ≡ image self.old) };
 
     /// Writes a range that a fault may leave torn.
     fn prepare(&mut self, at: usize, bytes: &[u8]) -> Result<(), StoreFault>
@@ -83,20 +83,20 @@ pub trait CountedStore {
         ensures cause { HasCause (meter self.old) (meter self.new) result }
         ensures off { (meter self.old).powered ≡ false →
             (result ≡ Err StoreFault.PowerLost) × (meter self.new ≡ meter self.old)
-            × (stable self.new ≡ stable self.old) × (recovered self.new ≡ recovered self.old) };
+            × (stable self.new ≡ stable self.old) × (recovered self.new ≡ recovered self.old) × (image self.new ≡ image self.old) };
 
     /// Ends a commit that a fault interrupted, if there is one.
     fn recover(&mut self) -> Result<(), StoreFault>
         ensures keeps { HoldsTheSame byte_count store_mark stable commits self.old self.new }
         ensures ready { OnOk result (recovered self.new ≡ true) }
         ensures due { OnErr result (recovered self.new ≡ false) }
-        ensures calls { IfSome (calls_due self.old)
-            (λ times. MakesCalls times (programs self.old) (programs self.new) result) }
+        ensures calls { IfSome (image self.old)
+            (λ bytes. MakesCalls (calls_to_recover bytes) (programs self.old) (programs self.new) result) }
         ensures few_calls { CallsAtMost MOST_TO_RECOVER (programs self.old) (programs self.new) }
         ensures cause { HasCause (meter self.old) (meter self.new) result }
         ensures off { (meter self.old).powered ≡ false →
             (result ≡ Err StoreFault.PowerLost) × (meter self.new ≡ meter self.old)
-            × (recovered self.new ≡ recovered self.old) };
+            × (recovered self.new ≡ recovered self.old) × (image self.new ≡ image self.old) };
 
     /// What it tells are all its bytes.
     ghost told_length: { (store : Self) →
@@ -118,11 +118,11 @@ impl<E: Eeprom> CountedStore for Journal<E> {
 
     ghost commits = { λ journal. journal.commits };
 
-    ghost recovered = { λ journal. journal.is_ready };
+    ghost recovered = { λ journal. is_recovered journal.is_ready (E.contents journal.device) };
 
     ghost programs = { λ journal. journal.programs };
 
-    ghost calls_due = { λ journal. option_map calls_to_recover (E.contents journal.device) };
+    ghost image = { λ journal. E.contents journal.device };
 
     ghost told_length = { λ journal.
         told_stable (E.contents journal.device) (E.byte_count journal.device) (E.told_length journal.device) };

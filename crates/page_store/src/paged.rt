@@ -6,7 +6,7 @@ ghost use Rattle.page_store.specs.Commits.{moved_below};
 ghost use Rattle.page_store.specs.Pages.{entries_of, map_of, content};
 ghost use Rattle.page_store.specs.Paged.{IsKnown, known_of, table_of};
 ghost use Rattle.page_store.specs.Tables.{IsKept};
-ghost use Rattle.update_journal.specs.Calls.{calls_at, CallsAtMost, MakesCalls};
+ghost use Rattle.update_journal.specs.Calls.{calls_at, calls_to_recover, CallsAtMost, MakesCalls};
 ghost use Rattle.update_journal.specs.declared.steps.TheConstants.{MOST_TO_RECOVER};
 ghost use Rattle.page_store.specs.Calls.{calls_to_begin, calls_to_write};
 
@@ -49,9 +49,9 @@ pub fn recover<S: CountedStore>(store: &mut S, known: &mut Known) -> Result<(), 
     ensures keeps { KeepsBelow S.CountedStore store.old store.new result }
     ensures off { (S.meter store.old).powered ≡ false →
         (result ≡ Err StoreFault.PowerLost) × (S.meter store.new ≡ S.meter store.old)
-        × (S.recovered store.new ≡ S.recovered store.old) × (known.new ≡ known.old) }
-    ensures calls { IfSome (S.calls_due store.old)
-        (λ times. MakesCalls times (S.programs store.old) (S.programs store.new) result) }
+        × (S.recovered store.new ≡ S.recovered store.old) × (known.new ≡ known.old) × (S.image store.new ≡ S.image store.old) }
+    ensures calls { IfSome (S.image store.old)
+        (λ bytes. MakesCalls (calls_to_recover bytes) (S.programs store.old) (S.programs store.new) result) }
     ensures few_calls { CallsAtMost MOST_TO_RECOVER (S.programs store.old) (S.programs store.new) }
 {
     store.recover()?;
@@ -77,7 +77,7 @@ pub fn read<S: CountedStore>(
     ensures keeps { KeepsBelow S.CountedStore store.old store.new result }
     ensures off { (S.meter store.old).powered ≡ false →
         (result ≡ Err StoreFault.PowerLost) × (S.meter store.new ≡ S.meter store.old)
-        × (S.recovered store.new ≡ S.recovered store.old) }
+        × (S.recovered store.new ≡ S.recovered store.old) × (S.image store.new ≡ S.image store.old) }
     ensures calls { S.programs store.new ≡ S.programs store.old }
 {
     store.read(0, &mut [])?;
@@ -126,7 +126,7 @@ pub fn commit<S: CountedStore>(
     ensures off { (S.meter store.old).powered ≡ false →
         (result ≡ Err StoreFault.PowerLost) × (S.meter store.new ≡ S.meter store.old)
         × (S.stable store.new ≡ S.stable store.old) × (S.recovered store.new ≡ S.recovered store.old)
-        × (known.new ≡ known.old) }
+        × (known.new ≡ known.old) × (S.image store.new ≡ S.image store.old) }
     ensures calls { MakesCalls (calls_to_write known.old writes.now) (S.programs store.old) (S.programs store.new) result }
 {
     store.read(0, &mut [])?;
@@ -153,7 +153,7 @@ pub fn prepare<S: CountedStore>(
     ensures off { (S.meter store.old).powered ≡ false →
         (result ≡ Err StoreFault.PowerLost) × (S.meter store.new ≡ S.meter store.old)
         × (S.stable store.new ≡ S.stable store.old) × (S.recovered store.new ≡ S.recovered store.old)
-        × (known.new ≡ known.old) }
+        × (known.new ≡ known.old) × (S.image store.new ≡ S.image store.old) }
     ensures calls { MakesCalls (calls_to_begin known.old + calls_at at (length bytes.now)) (S.programs store.old) (S.programs store.new) result }
 {
     store.read(0, &mut [])?;

@@ -1,5 +1,5 @@
 //! The store of pages that move.
-ghost use Rattle.std.specs.Prelude.{◌≡◌, ◌+◌, ◌<◌, true, false, length, option_map, slice_range, All, IfSome, OnOk, OnErr};
+ghost use Rattle.std.specs.Prelude.{◌≡◌, ◌+◌, ◌<◌, true, false, length, slice_range, All, IfSome, OnOk, OnErr};
 ghost use Rattle.uicc_types.specs.Counts.{armed};
 ghost use Rattle.store_form.specs.Faults.{HasCause};
 ghost use Rattle.store_form.specs.Pieces.{IsUsable, IsUsablePiece};
@@ -23,8 +23,8 @@ use uicc_types::Plan;
 use update_journal::Journal;
 
 /// A store of 65,536 bytes on a device of 71,680, over a journal in its first pages. What a contract sees of it is its
-/// device, what it knows of the map, the counts of the program calls that it made and of its commits, and whether the journal needs no
-/// recovery.
+/// device, what it knows of the map, the counts of the program calls that it made and of its commits, and whether the journal takes no recovery to be
+/// due.
 #[derive(Debug, Drop)]
 pub struct PageStore<E: Eeprom> {
     journal: Journal<E>,
@@ -85,7 +85,7 @@ impl<E: Eeprom> Store for PageStore<E> {
 
     ghost commits = { λ store. store.commits };
 
-    ghost recovered = { is_recovered };
+    ghost recovered = { λ store. is_recovered store.known store.is_ready (E.contents store.device) };
 
     ghost told_length = { λ store. told_content (stable (E.contents store.device)) };
 
@@ -100,18 +100,19 @@ impl<E: Eeprom> Store for PageStore<E> {
     }
 
     fn read(&mut self, at: usize, out: &mut [u8]) -> Result<(), StoreFault>
-        requires recovered { is_recovered self.old ≡ true }
+        requires recovered { is_recovered self.old.known self.old.is_ready (E.contents self.old.device) ≡ true }
         requires usable { IsUsable CONTENT_SIZE at (length out.old) }
         ensures ok { OnOk result (IfSome (content (stable (E.contents self.old.device)))
             (λ held. out.new ≡ slice_range held at (at + length out.old))) }
         ensures keeps { HoldsTheSame (λ _. CONTENT_SIZE) (λ _. 1) (λ store. content (stable (E.contents store.device))) (λ store. store.commits) self.old self.new }
-        ensures ready { OnOk result (is_recovered self.new ≡ true) }
+        ensures ready { OnOk result (is_recovered self.new.known self.new.is_ready (E.contents self.new.device) ≡ true) }
         ensures cause { HasCause (E.meter self.old.device) (E.meter self.new.device) result }
         ensures off { (E.meter self.old.device).powered ≡ false →
             (result ≡ Err StoreFault.PowerLost) × (E.meter self.new.device ≡ E.meter self.old.device)
-            × (is_recovered self.new ≡ is_recovered self.old) }
+            × (is_recovered self.new.known self.new.is_ready (E.contents self.new.device) ≡ is_recovered self.old.known self.old.is_ready (E.contents self.old.device))
+            × (E.contents self.new.device ≡ E.contents self.old.device) }
         // After a fault a recovery is due.
-        ensures due { OnErr result (is_recovered self.new ≡ false) }
+        ensures due { OnErr result (is_recovered self.new.known self.new.is_ready (E.contents self.new.device) ≡ false) }
         // Nothing is programmed, and no page moves.
         ensures calls { self.new.programs ≡ self.old.programs }
         ensures pages { self.new.known ≡ self.old.known }
@@ -120,18 +121,19 @@ impl<E: Eeprom> Store for PageStore<E> {
     }
 
     fn commit(&mut self, writes: &Writes) -> Result<(), StoreFault>
-        requires recovered { is_recovered self.old ≡ true }
+        requires recovered { is_recovered self.old.known self.old.is_ready (E.contents self.old.device) ≡ true }
         requires some { 0 < length writes.now }
         requires usable { All (IsUsablePiece CONTENT_SIZE) writes.now }
         ensures writes { CommitsPieces (λ store. content (stable (E.contents store.device))) (λ store. store.commits) writes.now self.old self.new result }
         ensures keeps { StaysItself (λ _. CONTENT_SIZE) (λ _. 1) (λ store. content (stable (E.contents store.device))) self.old self.new }
-        ensures ready { OnOk result (is_recovered self.new ≡ true) }
+        ensures ready { OnOk result (is_recovered self.new.known self.new.is_ready (E.contents self.new.device) ≡ true) }
         ensures cause { HasCause (E.meter self.old.device) (E.meter self.new.device) result }
         ensures off { (E.meter self.old.device).powered ≡ false →
             (result ≡ Err StoreFault.PowerLost) × (E.meter self.new.device ≡ E.meter self.old.device)
-            × (content (stable (E.contents self.new.device)) ≡ content (stable (E.contents self.old.device))) × (is_recovered self.new ≡ is_recovered self.old) }
+            × (content (stable (E.contents self.new.device)) ≡ content (stable (E.contents self.old.device))) × (is_recovered self.new.known self.new.is_ready (E.contents self.new.device) ≡ is_recovered self.old.known self.old.is_ready (E.contents self.old.device))
+            × (E.contents self.new.device ≡ E.contents self.old.device) }
         // After a fault a recovery is due.
-        ensures due { OnErr result (is_recovered self.new ≡ false) }
+        ensures due { OnErr result (is_recovered self.new.known self.new.is_ready (E.contents self.new.device) ≡ false) }
         // A call for each page that is touched, and those of one commit below; where there was no map, those that make one before.
         ensures calls { MakesCalls (calls_to_write self.old.known writes.now) self.old.programs self.new.programs result }
         // Each page that is touched lies where it has been free longest, the lowest first. The one that it lay in has been free
@@ -147,17 +149,18 @@ impl<E: Eeprom> Store for PageStore<E> {
     }
 
     fn prepare(&mut self, at: usize, bytes: &[u8]) -> Result<(), StoreFault>
-        requires recovered { is_recovered self.old ≡ true }
+        requires recovered { is_recovered self.old.known self.old.is_ready (E.contents self.old.device) ≡ true }
         requires usable { IsUsable CONTENT_SIZE at (length bytes.now) }
         ensures writes { PreparesBytes (λ store. content (stable (E.contents store.device))) (λ store. store.commits) at bytes.now self.old self.new result }
         ensures keeps { StaysItself (λ _. CONTENT_SIZE) (λ _. 1) (λ store. content (stable (E.contents store.device))) self.old self.new }
-        ensures ready { OnOk result (is_recovered self.new ≡ true) }
+        ensures ready { OnOk result (is_recovered self.new.known self.new.is_ready (E.contents self.new.device) ≡ true) }
         ensures cause { HasCause (E.meter self.old.device) (E.meter self.new.device) result }
         ensures off { (E.meter self.old.device).powered ≡ false →
             (result ≡ Err StoreFault.PowerLost) × (E.meter self.new.device ≡ E.meter self.old.device)
-            × (content (stable (E.contents self.new.device)) ≡ content (stable (E.contents self.old.device))) × (is_recovered self.new ≡ is_recovered self.old) }
+            × (content (stable (E.contents self.new.device)) ≡ content (stable (E.contents self.old.device))) × (is_recovered self.new.known self.new.is_ready (E.contents self.new.device) ≡ is_recovered self.old.known self.old.is_ready (E.contents self.old.device))
+            × (E.contents self.new.device ≡ E.contents self.old.device) }
         // After a fault a recovery is due.
-        ensures due { OnErr result (is_recovered self.new ≡ false) }
+        ensures due { OnErr result (is_recovered self.new.known self.new.is_ready (E.contents self.new.device) ≡ false) }
         // A call for each page of the range; where there was no map, those that make one before.
         ensures calls { MakesCalls (calls_to_begin self.old.known + calls_at at (length bytes.now)) self.old.programs self.new.programs result }
         // No page moves.
@@ -168,16 +171,17 @@ impl<E: Eeprom> Store for PageStore<E> {
 
     fn recover(&mut self) -> Result<(), StoreFault>
         ensures keeps { HoldsTheSame (λ _. CONTENT_SIZE) (λ _. 1) (λ store. content (stable (E.contents store.device))) (λ store. store.commits) self.old self.new }
-        ensures ready { OnOk result (is_recovered self.new ≡ true) }
+        ensures ready { OnOk result (is_recovered self.new.known self.new.is_ready (E.contents self.new.device) ≡ true) }
         ensures cause { HasCause (E.meter self.old.device) (E.meter self.new.device) result }
         ensures off { (E.meter self.old.device).powered ≡ false →
             (result ≡ Err StoreFault.PowerLost) × (E.meter self.new.device ≡ E.meter self.old.device)
-            × (is_recovered self.new ≡ is_recovered self.old) }
+            × (is_recovered self.new.known self.new.is_ready (E.contents self.new.device) ≡ is_recovered self.old.known self.old.is_ready (E.contents self.old.device))
+            × (E.contents self.new.device ≡ E.contents self.old.device) }
         // After a fault a recovery is due still.
-        ensures due { OnErr result (is_recovered self.new ≡ false) }
+        ensures due { OnErr result (is_recovered self.new.known self.new.is_ready (E.contents self.new.device) ≡ false) }
         // Those of a recovery of the journal, at most 18, also where the device tells nothing.
-        ensures calls { IfSome (option_map calls_to_recover (E.contents self.old.device))
-            (λ times. MakesCalls times self.old.programs self.new.programs result) }
+        ensures calls { IfSome (E.contents self.old.device)
+            (λ image. MakesCalls (calls_to_recover image) self.old.programs self.new.programs result) }
         ensures few_calls { CallsAtMost MOST_TO_RECOVER self.old.programs self.new.programs }
         // The map that is known is that of the device, and the free pages stand in ascending order.
         ensures pages { OnOk result (IfSome (stable (E.contents self.new.device)) (λ image. self.new.known ≡ known_of (map_of image))) }
@@ -188,7 +192,7 @@ impl<E: Eeprom> Store for PageStore<E> {
     fn power_up(&mut self)
         ensures power { E.meter self.new.device ≡ record (E.meter self.old.device) { powered = true } }
         ensures keeps { HoldsTheSame (λ _. CONTENT_SIZE) (λ _. 1) (λ store. content (stable (E.contents store.device))) (λ store. store.commits) self.old self.new }
-        ensures ready { is_recovered self.new ≡ is_recovered self.old }
+        ensures ready { is_recovered self.new.known self.new.is_ready (E.contents self.new.device) ≡ is_recovered self.old.known self.old.is_ready (E.contents self.old.device) }
         // Nothing is programmed, and no page moves.
         ensures calls { self.new.programs ≡ self.old.programs }
         ensures pages { self.new.known ≡ self.old.known }
@@ -199,7 +203,7 @@ impl<E: Eeprom> Store for PageStore<E> {
     fn arm(&mut self, plan: Plan)
         ensures plan { E.meter self.new.device ≡ armed (E.meter self.old.device) plan }
         ensures keeps { HoldsTheSame (λ _. CONTENT_SIZE) (λ _. 1) (λ store. content (stable (E.contents store.device))) (λ store. store.commits) self.old self.new }
-        ensures ready { is_recovered self.new ≡ is_recovered self.old }
+        ensures ready { is_recovered self.new.known self.new.is_ready (E.contents self.new.device) ≡ is_recovered self.old.known self.old.is_ready (E.contents self.old.device) }
         // Nothing is programmed, and no page moves.
         ensures calls { self.new.programs ≡ self.old.programs }
         ensures pages { self.new.known ≡ self.old.known }

@@ -1,6 +1,6 @@
 -- What a memory with a journal stands for. Byte 64 is its gate, which is open where it is 5A; the entries of the last
 -- commit stand from byte 128 on, at most up to 831.
-use Rattle.std.specs.Prelude.{◌≡◌, ℕ, ◌≤◌, Bool, true, not, ◌==◌, if◌then◌else◌, List, [], ◌∷◌, ◌++◌, length, take, drop, slice_index, slice_range, replicate, Option, Some, None, option_map, unwrap_or, ◌⊎◌}
+use Rattle.std.specs.Prelude.{◌≡◌, ℕ, ◌≤◌, Bool, true, not, ◌&&◌, ◌==◌, if◌then◌else◌, List, [], ◌∷◌, ◌++◌, length, take, drop, slice_index, slice_range, replicate, Option, Some, None, option_map, unwrap_or, ◌⊎◌}
 use Rattle.list_laws.specs.Patches.{patched}
 use Rattle.uicc_types.specs.Counts.{Meter}
 use Rattle.store_form.specs.declared.store.TheConstants.{OWN_START, OWN_END}
@@ -8,8 +8,8 @@ use Rattle.store_form.specs.Pieces.{Piece, applied}
 use Rattle.update_journal.specs.declared.steps.TheConstants.{GATE, ENTRIES, OPEN, CLOSED}
 use Rattle.update_journal.specs.Entries.{entries, pieces_in}
 
--- a store over a journal: its device, how many program calls it made of that, how many commits it answered with Ok, and whether no
--- recovery is due
+-- a store over a journal: its device, how many program calls it made of that, how many commits it answered with Ok, and whether it
+-- takes no recovery to be due
 pub record Journaled (E : Type 0) : Type 0 where
   pub device : E
   pub programs : ℕ
@@ -60,11 +60,14 @@ recovered_image image = if is_open image then ended (pending image) image else i
 
 -- ---- a store over it
 
--- What holds of every journal. Where no recovery is due its device has power, and its gate isn't open, where that is told.
-pub record IsJournaled (size : ℕ) (meter : Meter) (told : Option (List ℕ)) (is_ready : Bool) : Type 0 where
+-- What holds of every journal. Where it takes no recovery to be due its device has power.
+pub record IsJournaled (size : ℕ) (meter : Meter) (is_ready : Bool) : Type 0 where
   pub roomy : OWN_END ≤ size
   pub powered : is_ready ≡ true → meter.powered ≡ true
-  pub settled : is_ready ≡ true → is_settled told ≡ true
+
+-- no recovery is due: the last one was answered with Ok and no fault came since, and no commit is to be ended
+abbrev pub is_recovered : Bool → Option (List ℕ) → Bool
+is_recovered is_ready told = is_ready && is_settled told
 
 -- a commit of these pieces is to be ended in the image
 pub record IsUnderWay (pieces : List Piece) (image : List ℕ) : Type 0 where

@@ -6,7 +6,7 @@ ghost use Rattle.store_form.specs.Faults.{HasCause};
 ghost use Rattle.store_form.specs.Pieces.{IsUsable, IsUsablePiece};
 ghost use Rattle.store_form.specs.StoreCalls.{CommitsPieces, HoldsTheSame, PreparesBytes, StaysItself};
 ghost use Rattle.update_journal.specs.Calls.{calls_at, calls_to_commit, calls_to_recover, CallsAtMost, MakesCalls};
-ghost use Rattle.update_journal.specs.Journal.{is_open, stable, committed, recovered_image};
+ghost use Rattle.update_journal.specs.Journal.{is_open, is_recovered, stable, committed, recovered_image};
 ghost use Rattle.update_journal.specs.Laws.{told_stable, told_own};
 
 use crate::device::CountedDevice;
@@ -18,7 +18,7 @@ use store_form::{OWN_END, Store, StoreFault, Writes};
 use uicc_types::Plan;
 
 /// A store on a device of at least 832 bytes. What a contract sees of it is its device, the counts of the program calls that it made of
-/// that and of its commits, and whether no recovery is due.
+/// that and of its commits, and whether it takes no recovery to be due.
 #[derive(Debug, Drop)]
 pub struct Journal<E: Eeprom> {
     counted: CountedDevice<E>,
@@ -39,7 +39,7 @@ impl<E: Eeprom> Model for Journal<E> {
     } };
 
     ghost invariant = { λ journal.
-        IsJournaled (E.byte_count journal.counted.eeprom) (E.meter journal.counted.eeprom) (E.contents journal.counted.eeprom) journal.is_ready };
+        IsJournaled (E.byte_count journal.counted.eeprom) (E.meter journal.counted.eeprom) journal.is_ready };
 }
 
 impl<E: Eeprom> Journal<E> {
@@ -75,7 +75,7 @@ impl<E: Eeprom> Store for Journal<E> {
 
     ghost commits = { λ journal. journal.commits };
 
-    ghost recovered = { λ journal. journal.is_ready };
+    ghost recovered = { λ journal. is_recovered journal.is_ready (E.contents journal.device) };
 
     ghost told_length = { λ journal.
         told_stable (E.contents journal.device) (E.byte_count journal.device) (E.told_length journal.device) };
@@ -91,18 +91,19 @@ impl<E: Eeprom> Store for Journal<E> {
     }
 
     fn read(&mut self, at: usize, out: &mut [u8]) -> Result<(), StoreFault>
-        requires recovered { self.old.is_ready ≡ true }
+        requires recovered { is_recovered self.old.is_ready (E.contents self.old.device) ≡ true }
         requires usable { IsUsable (E.byte_count self.old.device) at (length out.old) }
         ensures ok { OnOk result (IfSome (stable (E.contents self.old.device))
             (λ held. out.new ≡ slice_range held at (at + length out.old))) }
         ensures keeps { HoldsTheSame (λ journal. E.byte_count journal.device) (λ _. 0) (λ journal. stable (E.contents journal.device)) (λ journal. journal.commits) self.old self.new }
-        ensures ready { OnOk result (self.new.is_ready ≡ true) }
+        ensures ready { OnOk result (is_recovered self.new.is_ready (E.contents self.new.device) ≡ true) }
         ensures cause { HasCause (E.meter self.old.device) (E.meter self.new.device) result }
         ensures off { (E.meter self.old.device).powered ≡ false →
             (result ≡ Err StoreFault.PowerLost) × (E.meter self.new.device ≡ E.meter self.old.device)
-            × (self.new.is_ready ≡ self.old.is_ready) }
+            × (is_recovered self.new.is_ready (E.contents self.new.device) ≡ is_recovered self.old.is_ready (E.contents self.old.device))
+            × (E.contents self.new.device ≡ E.contents self.old.device) }
         // After a fault a recovery is due.
-        ensures due { OnErr result (self.new.is_ready ≡ false) }
+        ensures due { OnErr result (is_recovered self.new.is_ready (E.contents self.new.device) ≡ false) }
         // Nothing is programmed.
         ensures calls { self.new.programs ≡ self.old.programs }
         ensures left { E.contents self.new.device ≡ E.contents self.old.device }
@@ -114,18 +115,19 @@ impl<E: Eeprom> Store for Journal<E> {
     }
 
     fn commit(&mut self, writes: &Writes) -> Result<(), StoreFault>
-        requires recovered { self.old.is_ready ≡ true }
+        requires recovered { is_recovered self.old.is_ready (E.contents self.old.device) ≡ true }
         requires some { 0 < length writes.now }
         requires usable { All (IsUsablePiece (E.byte_count self.old.device)) writes.now }
         ensures writes { CommitsPieces (λ journal. stable (E.contents journal.device)) (λ journal. journal.commits) writes.now self.old self.new result }
         ensures keeps { StaysItself (λ journal. E.byte_count journal.device) (λ _. 0) (λ journal. stable (E.contents journal.device)) self.old self.new }
-        ensures ready { OnOk result (self.new.is_ready ≡ true) }
+        ensures ready { OnOk result (is_recovered self.new.is_ready (E.contents self.new.device) ≡ true) }
         ensures cause { HasCause (E.meter self.old.device) (E.meter self.new.device) result }
         ensures off { (E.meter self.old.device).powered ≡ false →
             (result ≡ Err StoreFault.PowerLost) × (E.meter self.new.device ≡ E.meter self.old.device)
-            × (stable (E.contents self.new.device) ≡ stable (E.contents self.old.device)) × (self.new.is_ready ≡ self.old.is_ready) }
+            × (stable (E.contents self.new.device) ≡ stable (E.contents self.old.device)) × (is_recovered self.new.is_ready (E.contents self.new.device) ≡ is_recovered self.old.is_ready (E.contents self.old.device))
+            × (E.contents self.new.device ≡ E.contents self.old.device) }
         // After a fault a recovery is due.
-        ensures due { OnErr result (self.new.is_ready ≡ false) }
+        ensures due { OnErr result (is_recovered self.new.is_ready (E.contents self.new.device) ≡ false) }
         // A call for each page of the entries and of the pieces, and two for the gate.
         ensures calls { MakesCalls (calls_to_commit writes.now) self.old.programs self.new.programs result }
         // Each byte of the device, also of the journal's own.
@@ -139,17 +141,18 @@ impl<E: Eeprom> Store for Journal<E> {
     }
 
     fn prepare(&mut self, at: usize, bytes: &[u8]) -> Result<(), StoreFault>
-        requires recovered { self.old.is_ready ≡ true }
+        requires recovered { is_recovered self.old.is_ready (E.contents self.old.device) ≡ true }
         requires usable { IsUsable (E.byte_count self.old.device) at (length bytes.now) }
         ensures writes { PreparesBytes (λ journal. stable (E.contents journal.device)) (λ journal. journal.commits) at bytes.now self.old self.new result }
         ensures keeps { StaysItself (λ journal. E.byte_count journal.device) (λ _. 0) (λ journal. stable (E.contents journal.device)) self.old self.new }
-        ensures ready { OnOk result (self.new.is_ready ≡ true) }
+        ensures ready { OnOk result (is_recovered self.new.is_ready (E.contents self.new.device) ≡ true) }
         ensures cause { HasCause (E.meter self.old.device) (E.meter self.new.device) result }
         ensures off { (E.meter self.old.device).powered ≡ false →
             (result ≡ Err StoreFault.PowerLost) × (E.meter self.new.device ≡ E.meter self.old.device)
-            × (stable (E.contents self.new.device) ≡ stable (E.contents self.old.device)) × (self.new.is_ready ≡ self.old.is_ready) }
+            × (stable (E.contents self.new.device) ≡ stable (E.contents self.old.device)) × (is_recovered self.new.is_ready (E.contents self.new.device) ≡ is_recovered self.old.is_ready (E.contents self.old.device))
+            × (E.contents self.new.device ≡ E.contents self.old.device) }
         // After a fault a recovery is due.
-        ensures due { OnErr result (self.new.is_ready ≡ false) }
+        ensures due { OnErr result (is_recovered self.new.is_ready (E.contents self.new.device) ≡ false) }
         // A call for each page of the range.
         ensures calls { MakesCalls (calls_at at (length bytes.now)) self.old.programs self.new.programs result }
         // Each byte of the device, also of the journal's own.
@@ -163,16 +166,17 @@ impl<E: Eeprom> Store for Journal<E> {
 
     fn recover(&mut self) -> Result<(), StoreFault>
         ensures keeps { HoldsTheSame (λ journal. E.byte_count journal.device) (λ _. 0) (λ journal. stable (E.contents journal.device)) (λ journal. journal.commits) self.old self.new }
-        ensures ready { OnOk result (self.new.is_ready ≡ true) }
+        ensures ready { OnOk result (is_recovered self.new.is_ready (E.contents self.new.device) ≡ true) }
         ensures cause { HasCause (E.meter self.old.device) (E.meter self.new.device) result }
         ensures off { (E.meter self.old.device).powered ≡ false →
             (result ≡ Err StoreFault.PowerLost) × (E.meter self.new.device ≡ E.meter self.old.device)
-            × (self.new.is_ready ≡ self.old.is_ready) }
+            × (is_recovered self.new.is_ready (E.contents self.new.device) ≡ is_recovered self.old.is_ready (E.contents self.old.device))
+            × (E.contents self.new.device ≡ E.contents self.old.device) }
         // Behind a gate that isn't open no byte changes, also where it fails.
         ensures untouched { IfSome (E.contents self.old.device)
             (λ image. is_open image ≡ false → E.contents self.new.device ≡ Some image) }
         // After a fault a recovery is due still.
-        ensures due { OnErr result (self.new.is_ready ≡ false) }
+        ensures due { OnErr result (is_recovered self.new.is_ready (E.contents self.new.device) ≡ false) }
         // A call for each page of the pieces that are to be written, and one for the gate; none behind a gate that isn't open.
         ensures calls { IfSome (E.contents self.old.device)
             (λ image. MakesCalls (calls_to_recover image) self.old.programs self.new.programs result) }
@@ -190,7 +194,7 @@ impl<E: Eeprom> Store for Journal<E> {
     fn power_up(&mut self)
         ensures power { E.meter self.new.device ≡ record (E.meter self.old.device) { powered = true } }
         ensures keeps { HoldsTheSame (λ journal. E.byte_count journal.device) (λ _. 0) (λ journal. stable (E.contents journal.device)) (λ journal. journal.commits) self.old self.new }
-        ensures ready { self.new.is_ready ≡ self.old.is_ready }
+        ensures ready { is_recovered self.new.is_ready (E.contents self.new.device) ≡ is_recovered self.old.is_ready (E.contents self.old.device) }
         // Nothing is programmed.
         ensures calls { self.new.programs ≡ self.old.programs }
         ensures left { E.contents self.new.device ≡ E.contents self.old.device }
@@ -201,7 +205,7 @@ impl<E: Eeprom> Store for Journal<E> {
     fn arm(&mut self, plan: Plan)
         ensures plan { E.meter self.new.device ≡ armed (E.meter self.old.device) plan }
         ensures keeps { HoldsTheSame (λ journal. E.byte_count journal.device) (λ _. 0) (λ journal. stable (E.contents journal.device)) (λ journal. journal.commits) self.old self.new }
-        ensures ready { self.new.is_ready ≡ self.old.is_ready }
+        ensures ready { is_recovered self.new.is_ready (E.contents self.new.device) ≡ is_recovered self.old.is_ready (E.contents self.old.device) }
         // Nothing is programmed.
         ensures calls { self.new.programs ≡ self.old.programs }
         ensures left { E.contents self.new.device ≡ E.contents self.old.device }

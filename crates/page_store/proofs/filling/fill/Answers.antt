@@ -1,12 +1,9 @@
 -- Over pages of FF the content is FF through any map, so the map's write, torn or whole, leaves it; the first map is well formed.
-use Rattle.std.proofs.Common.{◌≡◌, ◌∙◌, length, ap, subst, arith, rules}
+use Rattle.std.proofs.Common.{◌≡◌, ◌∙◌, length, subst, arith}
 use Rattle.list_laws.specs.Patches.{Torn}
-use Rattle.uicc_types.specs.Counts.{raised_by}
 use Rattle.uicc_types.specs.Told.{Becomes}
-use Rattle.update_journal.specs.Calls.{calls_at, CallsAtMost}
-use Rattle.update_journal.proofs.CallsLemmas.{fewer, then_all, then_at_most}
 use Rattle.page_store.specs.Calls.{calls_to_fill}
-use Rattle.page_store.proofs.CallsLemmas.{faulted}
+use Rattle.page_store.proofs.CallsLemmas.{faulted, fill_begun, fill_fault, fill_done}
 use Rattle.page_store.proofs.InPageLemmas.{HasLength}
 use Rattle.page_store.proofs.BlanksLemmas.{HasOwn, map_torn, map_put, kept_first, first_formed}
 use Rattle.page_store.proofs.filling.fill.Goals as goal
@@ -53,17 +50,15 @@ returns-clause-kept g c =
 pub returns-in_err-fill_pages-clause-calls : goal.returns-in_err-fill_pages-clause-calls
 returns-in_err-fill_pages-clause-calls g c =
     faulted calls_to_fill (g.S.CountedStore.programs c.args.store.now) (g.S.CountedStore.programs c.fill_pages.new.store) c.from_residual.result c.from_residual.ensures.0
-    (fewer 1076 calls_to_fill (g.S.CountedStore.programs c.args.store.now) (g.S.CountedStore.programs c.fill_pages.new.store) (omega arith) c.in_err-fill_pages.ensures.calls.no_more)
+    (fill_begun (g.S.CountedStore.programs c.args.store.now) (g.S.CountedStore.programs c.fill_pages.new.store) c.in_err-fill_pages.ensures.calls.no_more)
 
 pub returns-in_err-prepare-clause-calls : goal.returns-in_err-prepare-clause-calls
 returns-in_err-prepare-clause-calls g c =
     faulted calls_to_fill (g.S.CountedStore.programs c.args.store.now) (g.S.CountedStore.programs c.prepare.new.self) c.from_residual-in_err-prepare.result c.from_residual-in_err-prepare.ensures.0
-    (then_at_most 1076 (calls_at 832 2022) (g.S.CountedStore.programs c.args.store.now) (g.S.CountedStore.programs c.fill_pages.new.store) (g.S.CountedStore.programs c.prepare.new.self)
-    c.in_ok-fill_pages.ensures.calls.all (subst (λ n. CallsAtMost (calls_at 832 n) (g.S.CountedStore.programs c.fill_pages.new.store) (g.S.CountedStore.programs c.prepare.new.self)) c.first_map-bytes.ensures.long c.in_err-prepare.ensures.calls.no_more))
+    (fill_fault _ (g.S.CountedStore.programs c.args.store.now) (g.S.CountedStore.programs c.fill_pages.new.store) (g.S.CountedStore.programs c.prepare.new.self) c.first_map-bytes.ensures.long c.in_ok-fill_pages.ensures.calls.all c.in_err-prepare.ensures.calls.no_more)
 
 pub returns-clause-calls : goal.returns-clause-calls
 returns-clause-calls g c = record {
-  all = then_all 1076 (calls_at 832 2022) (g.S.CountedStore.programs c.args.store.now) (g.S.CountedStore.programs c.fill_pages.new.store) (g.S.CountedStore.programs c.prepare.new.self)
-      c.in_ok-fill_pages.ensures.calls.all (c.in_ok-prepare.ensures.calls.all ∙ ap (λ n. raised_by (calls_at 832 n) (g.S.CountedStore.programs c.fill_pages.new.store)) c.first_map-bytes.ensures.long);
-  no_more = search rules;
+  all = fill_done _ (g.S.CountedStore.programs c.args.store.now) (g.S.CountedStore.programs c.fill_pages.new.store) (g.S.CountedStore.programs c.prepare.new.self) c.first_map-bytes.ensures.long c.in_ok-fill_pages.ensures.calls.all c.in_ok-prepare.ensures.calls.all;
+  no_more = tt;
 }

@@ -2,9 +2,8 @@
 use Rattle.std.proofs.Common.{◌≡◌, ◌*◌, ◌∙◌, refl, ap, subst, arith, rules}
 use Rattle.uicc_types.specs.Counts.{raised_by}
 use Rattle.uicc_types.proofs.IsCalmLemmas.{calm_same, caused_then, calm_ok}
-use Rattle.update_journal.specs.Calls.{calls_at}
-use Rattle.update_journal.proofs.CallsLemmas.{fewer}
-use Rattle.page_store.proofs.CallsLemmas.{page_call, all_blanks_left, blank_done, blank_fault, blanks_done, faulted}
+use Rattle.page_store.specs.Calls.{calls_to_blank}
+use Rattle.page_store.proofs.CallsLemmas.{page_call, all_blanks_left, blank_done, blank_fault, blanks_done, first_blank, faulted}
 use Rattle.page_store.proofs.InPageLemmas.{HasLength}
 use Rattle.page_store.proofs.BlanksLemmas.{first_torn, first_filled, page_filled, page_torn_told, all_filled}
 use Rattle.page_store.proofs.filling.fill_pages.Goals as goal
@@ -65,13 +64,13 @@ returns-clause-blank g c =
 
 pub returns-in_err-prepare-clause-calls : goal.returns-in_err-prepare-clause-calls
 returns-in_err-prepare-clause-calls g c =
-    faulted 1076 (g.S.CountedStore.programs c.args.store.now) (g.S.CountedStore.programs c.prepare.new.self) c.from_residual.result c.from_residual.ensures.0
-    (fewer (calls_at 0 64) 1076 (g.S.CountedStore.programs c.args.store.now) (g.S.CountedStore.programs c.prepare.new.self) (omega (arith, page_call 0 64 refl)) c.in_err-prepare.ensures.calls.no_more)
+    faulted calls_to_blank (g.S.CountedStore.programs c.args.store.now) (g.S.CountedStore.programs c.prepare.new.self) c.from_residual.result c.from_residual.ensures.0
+    (first_blank (g.S.CountedStore.programs c.args.store.now) (g.S.CountedStore.programs c.prepare.new.self) c.in_err-prepare.ensures.calls.no_more)
 
 pub returns-in_err-prepare-2-clause-calls : goal.returns-in_err-prepare-2-clause-calls
 returns-in_err-prepare-2-clause-calls g c =
     let first : g.S.CountedStore.programs c.prepare.new.self ≡ raised_by 1 (g.S.CountedStore.programs c.args.store.now) = c.in_ok-prepare.ensures.calls.all ∙ ap (λ n. raised_by n (g.S.CountedStore.programs c.args.store.now)) (page_call 0 64 refl) in
-    faulted 1076 (g.S.CountedStore.programs c.args.store.now) (g.S.CountedStore.programs c.prepare-in-loop-page.new.self) c.from_residual-in_err-prepare-2.result c.from_residual-in_err-prepare-2.ensures.0
+    faulted calls_to_blank (g.S.CountedStore.programs c.args.store.now) (g.S.CountedStore.programs c.prepare-in-loop-page.new.self) c.from_residual-in_err-prepare-2.result c.from_residual-in_err-prepare-2.ensures.0
     (blank_fault c.loop-page.page 64 (g.S.CountedStore.programs c.args.store.now) (g.S.CountedStore.programs c.prepare.new.self) (g.S.CountedStore.programs c.loop-page.store) (g.S.CountedStore.programs c.prepare-in-loop-page.new.self)
     c.loop-page-test.true refl first c.loop-page.invariant.calls c.in_err-prepare-2.ensures.calls.no_more)
 

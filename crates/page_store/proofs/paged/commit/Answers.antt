@@ -1,5 +1,5 @@
 -- A read of nothing programs nothing; the first map takes its calls, where there is none; and then come those of the pages, and of the commit below.
-use Rattle.std.proofs.Common.{◌≡◌, ◌+◌, ◌∙◌, ap, subst, arith, rules}
+use Rattle.std.proofs.Common.{◌≡◌, ◌∙◌, ap, subst, arith, rules}
 use Rattle.list_laws.proofs.IfSomeLemmas.{on_err}
 use Rattle.uicc_types.specs.Counts.{raised_by}
 use Rattle.update_journal.specs.Calls.{CallsAtMost}
@@ -15,8 +15,8 @@ pub returns-in_err-table-clause-calls : goal.returns-in_err-table-clause-calls
 returns-in_err-table-clause-calls g c = record {
   all = search rules;
   no_more =
-      on_err c.from_residual-in_err-table.result (fewer (calls_to_begin c.args.known.now) (calls_to_write c.args.known.now c.args.writes.now) (g.S.CountedStore.programs c.args.store.now) (g.S.CountedStore.programs c.take_table-table.new.store) (omega arith)
-      (subst (λ n. CallsAtMost (calls_to_begin c.args.known.now) n (g.S.CountedStore.programs c.take_table-table.new.store)) c.in_ok-read.ensures.calls c.in_err-table.ensures.calls.no_more));
+      on_err c.from_residual-in_err-table.result (fewer (calls_to_begin c.args.known.now) (calls_to_write c.args.known.now c.args.writes.now) (g.S.CountedStore.programs c.args.store.now) (g.S.CountedStore.programs c.take_table.new.store) (omega arith)
+      (subst (λ n. CallsAtMost (calls_to_begin c.args.known.now) n (g.S.CountedStore.programs c.take_table.new.store)) c.in_ok-read.ensures.calls c.in_err-table.ensures.calls.no_more));
 }
 
 pub returns-in_err-commit-clause-calls : goal.returns-in_err-commit-clause-calls
@@ -25,15 +25,15 @@ returns-in_err-commit-clause-calls g c =
     record {
       all = search rules;
       no_more =
-          on_err c.from_residual-in_err-commit.result (then_at_most (calls_to_begin c.args.known.now) (calls_to_move c.args.writes.now (table_of c.args.known.now)) (g.S.CountedStore.programs c.args.store.now) (g.S.CountedStore.programs c.take_table-table.new.store) (g.S.CountedStore.programs c.commit.new.store) begun
-          (subst (λ t. CallsAtMost (calls_to_move c.args.writes.now t) (g.S.CountedStore.programs c.take_table-table.new.store) (g.S.CountedStore.programs c.commit.new.store)) c.in_ok-table.ensures.table c.in_err-commit.ensures.calls.no_more));
+          on_err c.from_residual-in_err-commit.result (then_at_most (calls_to_begin c.args.known.now) (calls_to_move c.args.writes.now (table_of c.args.known.now)) (g.S.CountedStore.programs c.args.store.now) (g.S.CountedStore.programs c.take_table.new.store) (g.S.CountedStore.programs c.commit.new.store) begun
+          (subst (λ t. CallsAtMost (calls_to_move c.args.writes.now t) (g.S.CountedStore.programs c.take_table.new.store) (g.S.CountedStore.programs c.commit.new.store)) c.in_ok-table.ensures.table c.in_err-commit.ensures.calls.no_more));
     }
 
 pub returns-clause-calls : goal.returns-clause-calls
 returns-clause-calls g c =
     let begun = c.in_ok-table.ensures.calls.all ∙ ap (λ n. raised_by (calls_to_begin c.args.known.now) n) c.in_ok-read.ensures.calls in
     record {
-      all = then_all (calls_to_begin c.args.known.now) (calls_to_move c.args.writes.now (table_of c.args.known.now)) (g.S.CountedStore.programs c.args.store.now) (g.S.CountedStore.programs c.take_table-table.new.store) (g.S.CountedStore.programs c.commit.new.store) begun
-          (subst (λ t. g.S.CountedStore.programs c.commit.new.store ≡ raised_by (calls_to_move c.args.writes.now t) (g.S.CountedStore.programs c.take_table-table.new.store)) c.in_ok-table.ensures.table c.in_ok-commit.ensures.calls.all);
+      all = then_all (calls_to_begin c.args.known.now) (calls_to_move c.args.writes.now (table_of c.args.known.now)) (g.S.CountedStore.programs c.args.store.now) (g.S.CountedStore.programs c.take_table.new.store) (g.S.CountedStore.programs c.commit.new.store) begun
+          (subst (λ t. g.S.CountedStore.programs c.commit.new.store ≡ raised_by (calls_to_move c.args.writes.now t) (g.S.CountedStore.programs c.take_table.new.store)) c.in_ok-table.ensures.table c.in_ok-commit.ensures.calls.all);
       no_more = search rules;
     }

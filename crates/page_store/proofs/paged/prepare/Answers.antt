@@ -1,5 +1,5 @@
 -- A read of nothing programs nothing; the first map takes its calls, where there is none; and then come those of the range.
-use Rattle.std.proofs.Common.{◌≡◌, ◌+◌, ◌∙◌, length, ap, subst, arith, rules}
+use Rattle.std.proofs.Common.{◌+◌, ◌∙◌, length, ap, subst, arith, rules}
 use Rattle.list_laws.proofs.IfSomeLemmas.{on_err}
 use Rattle.uicc_types.specs.Counts.{raised_by}
 use Rattle.update_journal.specs.Calls.{calls_at, CallsAtMost}
@@ -14,8 +14,8 @@ pub returns-in_err-table-clause-calls : goal.returns-in_err-table-clause-calls
 returns-in_err-table-clause-calls g c = record {
   all = search rules;
   no_more =
-      on_err c.from_residual-in_err-table.result (fewer (calls_to_begin c.args.known.now) (calls_to_begin c.args.known.now + calls_at c.args.at (length c.args.bytes.now)) (g.S.CountedStore.programs c.args.store.now) (g.S.CountedStore.programs c.take_table-table.new.store) (omega arith)
-      (subst (λ n. CallsAtMost (calls_to_begin c.args.known.now) n (g.S.CountedStore.programs c.take_table-table.new.store)) c.in_ok-read.ensures.calls c.in_err-table.ensures.calls.no_more));
+      on_err c.from_residual-in_err-table.result (fewer (calls_to_begin c.args.known.now) (calls_to_begin c.args.known.now + calls_at c.args.at (length c.args.bytes.now)) (g.S.CountedStore.programs c.args.store.now) (g.S.CountedStore.programs c.take_table.new.store) (omega arith)
+      (subst (λ n. CallsAtMost (calls_to_begin c.args.known.now) n (g.S.CountedStore.programs c.take_table.new.store)) c.in_ok-read.ensures.calls c.in_err-table.ensures.calls.no_more));
 }
 
 pub returns-in_err-prepare-clause-calls : goal.returns-in_err-prepare-clause-calls
@@ -24,7 +24,7 @@ returns-in_err-prepare-clause-calls g c =
     record {
       all = search rules;
       no_more =
-          on_err c.from_residual-in_err-prepare.result (then_at_most (calls_to_begin c.args.known.now) (calls_at c.args.at (length c.args.bytes.now)) (g.S.CountedStore.programs c.args.store.now) (g.S.CountedStore.programs c.take_table-table.new.store) (g.S.CountedStore.programs c.prepare.new.store) begun
+          on_err c.from_residual-in_err-prepare.result (then_at_most (calls_to_begin c.args.known.now) (calls_at c.args.at (length c.args.bytes.now)) (g.S.CountedStore.programs c.args.store.now) (g.S.CountedStore.programs c.take_table.new.store) (g.S.CountedStore.programs c.prepare.new.store) begun
           c.in_err-prepare.ensures.calls.no_more);
     }
 
@@ -32,7 +32,7 @@ pub returns-clause-calls : goal.returns-clause-calls
 returns-clause-calls g c =
     let begun = c.in_ok-table.ensures.calls.all ∙ ap (λ n. raised_by (calls_to_begin c.args.known.now) n) c.in_ok-read.ensures.calls in
     record {
-      all = then_all (calls_to_begin c.args.known.now) (calls_at c.args.at (length c.args.bytes.now)) (g.S.CountedStore.programs c.args.store.now) (g.S.CountedStore.programs c.take_table-table.new.store) (g.S.CountedStore.programs c.prepare.new.store) begun
+      all = then_all (calls_to_begin c.args.known.now) (calls_at c.args.at (length c.args.bytes.now)) (g.S.CountedStore.programs c.args.store.now) (g.S.CountedStore.programs c.take_table.new.store) (g.S.CountedStore.programs c.prepare.new.store) begun
           c.in_ok-prepare.ensures.calls.all;
       no_more = search rules;
     }

@@ -21,5 +21,6 @@ loop-done-preserved g c =
       recovered = c.in_ok-read_part.ensures.keeps.ready;
       size = c.in_ok-read_part.ensures.keeps.size ∙ now.size;
       mark = c.in_ok-read_part.ensures.keeps.mark ∙ now.mark;
+      calls = c.in_ok-read_part.ensures.calls ∙ now.calls;
       calm = caused_then _ (g.S.CountedStore.meter c.loop-done.store) _ now.calm (calm_ok _ _ (λ e. cc) (λ e. cc) c.in_ok-read_part.ensures.keeps.cause);
     }
