@@ -58,9 +58,10 @@ impl Notes {
 
     fn add(&self, mark: u8) {
         let mut marks = self.marks.get();
-        if let Some(place) = marks.bytes.get_mut(marks.count) {
+        let count = marks.count;
+        if let Some(place) = marks.bytes.get_mut(count) {
             *place = mark;
-            marks.count = marks.count.saturating_add(1);
+            marks.count = count.saturating_add(1);
             self.marks.set(marks);
         }
     }

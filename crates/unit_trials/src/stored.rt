@@ -149,8 +149,16 @@ impl<S: Store> Stored<S> {
             return None;
         }
         self.is_ready = false;
-        let outcome = mount(&mut self.store, loaded);
-        self.is_ready = matches!(outcome, Ok(()) | Err(MountFault::NotACard(_)));
-        Some(outcome)
+        match mount(&mut self.store, loaded) {
+            Ok(()) => {
+                self.is_ready = true;
+                Some(Ok(()))
+            }
+            Err(MountFault::NotACard(at)) => {
+                self.is_ready = true;
+                Some(Err(MountFault::NotACard(at)))
+            }
+            Err(fault) => Some(Err(fault)),
+        }
     }
 }
