@@ -209,12 +209,78 @@ class Words(Copy):
         self.assertEqual((status, shown), (0, ["328 rows, 0 differ"]))
         self.change("parrot mind _ = done mind", "parrot mind _ = turn mind TakeTimer 1", "applet_trait", "specs", "Tables.antt")
         status, shown, _ = self.told("rows")
-        self.assertEqual((status, shown[-1]), (1, "297 rows, 5 differ"))
+        self.assertEqual((status, shown[-1]), (1, "328 rows, 5 differ"))
         self.assertEqual(shown[1], "    by the definitions take timer")
         status, _, said = self.told("new", "parrot")
         self.assertEqual((status, said), (2, "applet: `parrot` is a name of the sources already\n"))
         status, shown, _ = self.told("text", "GREETING", "Moin")
         self.assertEqual((status, shown[0]), (0, "the text GREETING is `Moin`, and was `Hi`"))
+
+    # what stands in the table of a new kind, and what `rows` says of it beside the rows; {at} is its first line
+    TOLD = [
+        ("parrot mind _ = turn mind (show (SAID.now ++ mind.kept)) 1", [
+            "crates/applet_trait/specs/Tables.antt:{at}: parrot uses `++`, which the file neither defines nor imports",
+            "crates/applet_trait/specs/Tables.antt:{at}: parrot uses `SAID`, which the file neither defines nor imports"]),
+        ("parrot mind _ =\n    turn mind (Send (GetInput GREETING.now true 0)) 1",
+         ["crates/applet_trait/specs/Tables.antt:{next}: parrot: GetInput stands with 3 of its 4 parts"]),
+        ("parrot mind _ = turn mind (show mind.kept 1",
+         ["crates/applet_trait/specs/Tables.antt:{at}: the definition of parrot isn't read: it ends too early"]),
+        ("parrot mind _ = turn mind (show (mind.kept ++ 3)) 1",
+         ["crates/applet_trait/specs/Tables.antt:{at}: parrot uses `++`, which the file neither defines nor imports"]),
+    ]
+
+    def test_what_the_prover_would_not_take(self):
+        """A name that isn't there, an act that lacks a part and a bracket that is missing are told once, with their line, and the rows go on."""
+        self.told("new", "parrot")
+        old, place = "parrot mind _ = done mind", ("applet_trait", "specs", "Tables.antt")
+        at = self.text_of(*place).split(old)[0].count("\n") + 1
+        for new, wanted in self.TOLD:
+            self.change(old, new, *place)
+            with self.subTest(new=new):
+                status, shown, said = self.told("rows")
+                self.assertEqual((status, said), (1, ""))
+                self.assertEqual([line for line in shown if line.startswith("crates/applet_trait")], [line.format(at=at, next=at + 1) for line in wanted])
+                unknown = [line for line in shown if "not known: " in line]
+                self.assertEqual(len(unknown), 1)
+                self.assertRegex(shown[-1], r"^328 rows, [1-5] differ$")
+            self.change(new, old, *place)
+        self.assertEqual(self.told("rows")[:2], (0, ["328 rows, 0 differ"]))
+
+    def test_phases_without_a_number(self):
+        """A phase of the code that has no number, and one whose name isn't imported, are told; the rows know nothing of them."""
+        self.told("new", "parrot")
+        self.change("    Ready,\n", "    Ready,\n    /// It asked.\n    Asking,\n", "boxed_applets", "src", "parrots.rt")
+        place = "crates/boxed_applets/specs/Parrots.antt:10: "
+        shown = [place + "phase_of has no number for Asking, a phase of boxed_applets/src/parrots.rt", "328 rows, 0 differ"]
+        self.assertEqual(self.told("rows")[:2], (1, shown))
+        self.change("phase_of Ready = 0\n", "phase_of Ready = 0\nphase_of Asking = 1\n", "boxed_applets", "specs", "Parrots.antt")
+        shown[0] = place + "phase_of uses `Asking`, which the file neither defines nor imports"
+        self.assertEqual(self.told("rows")[:2], (1, shown))
+        self.change("TheVariants.{Ready}", "TheVariants.{Ready, Asking}", "boxed_applets", "specs", "Parrots.antt")
+        self.assertEqual(self.told("rows")[:2], (0, shown[1:]))
+
+    def test_texts_in_digits(self):
+        """A row that differs by the spelling of a text alone is told why."""
+        table = ("unit_trials", "data", "applets.table")
+        self.told("text", "GREETING", "How much?")
+        self.change('shelf 0 400300 event 40 - => kind 1, send display text "Hi"', 'shelf 0 400300 event 40 - => kind 1, send display text "How much?"', *table)
+        _, shown, _ = self.told("rows")
+        at = next(number for number, line in enumerate(shown) if "shelf 0 400300 event 40" in line)
+        self.assertEqual(shown[at + 1], "    by the definitions kind 1, send display text 486F77206D7563683F")
+        self.assertIn("none is a space, and otherwise in hexadecimal digits", shown[at + 2])
+        self.assertEqual(len([line for line in shown if "hexadecimal" in line]), 1)
+
+    def test_text_counts(self):
+        _, shown, _ = self.told("text", "TICK", "Tock")
+        places = [re.fullmatch(r"yours to look at: .*, where `Tick` is in (\d+) lines?", line) for line in shown]
+        counts = [int(found[1]) for found in places if found]
+        self.assertRegex(shown[-1], rf"^yours to look at: {sum(counts)} lines in {len(counts)} files?$")
+
+    def test_help_names_the_call(self):
+        for words, name in (([os.path.join(common.TOOLS, "applet")], "tools/applet"), ([os.path.join(process.TOP, "uicc"), "applet"], "uicc applet")):
+            with self.subTest(name=name):
+                done = subprocess.run([sys.executable, "-B", *words, "--help"], capture_output=True, text=True, check=True)
+                self.assertTrue(done.stdout.startswith(f"usage: {name} "), done.stdout[:60])
 
     def test_list(self):
         path = os.path.join(common.TOOLS, "applet")

@@ -265,6 +265,13 @@ class Explain(unittest.TestCase):
         self.assertEqual(done.returncode, 1)
         self.assertRegex(done.stderr, r"usim\.script: it is none of this trace, which shows [0-9A-F]+ where line \d+ is `apdu ")
 
+    def test_script_played_otherwise(self):
+        """Where a handset's script plays to another trace, the program that it was played by is named."""
+        day = os.path.join(EXAMPLES, "day")
+        done = self.explain(os.path.join(EXAMPLES, "pins.trace"), "--script", day + ".script", "--phone")
+        self.assertEqual(done.returncode, 1)
+        self.assertIn(f"day.script: it is none of this trace: played, it shows another one (by {process.told_of_program()})\n", done.stderr)
+
 
 if __name__ == "__main__":
     unittest.main()

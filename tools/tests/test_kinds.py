@@ -170,6 +170,26 @@ class Sources(unittest.TestCase):
             with mock.patch.dict(os.environ, UICC_RUN=named), mock.patch.object(process, "BUILT", built if is_built else built + "-none"), self.subTest(named=named):
                 self.assertEqual(kinds.are_of_sources(), are_of_sources)
 
+    def test_not_released(self):
+        """A kind that the released program doesn't have is named, where that program runs, in what is told of a card too."""
+        crates, data = copy_of_sources(self.folder), kinds.of_file()
+        data["kinds"].append({"name": "tipper", "does": "tips"})
+        os.mkdir(os.path.join(self.folder, "dist"))
+        with open(os.path.join(self.folder, "dist", "release.txt"), "w", encoding="utf-8") as text:
+            text.writelines(f"{'0' * 64}  crates/boxed_applets/src/{kind['name']}s.rt\n" for kind in data["kinds"][:-1])
+        place = os.path.join(self.folder, "kinds.json")
+        with open(place, "w", encoding="utf-8") as text:
+            text.write(kinds.written(data))
+        self.assertTrue(os.path.isdir(crates))
+        for named, lacking in (("", ("tipper",)), ("/bin/true", ())):
+            with mock.patch.dict(os.environ, UICC_RUN=named), mock.patch.object(process, "TOP", self.folder), mock.patch.object(kinds, "PLACE", place), \
+                    mock.patch.object(process, "BUILT", "/none"), mock.patch.object(process, "RELEASED", os.path.join(self.folder, "dist", "uicc_program")), \
+                    mock.patch.object(kinds, "told", kinds.told.__wrapped__), self.subTest(named=named):
+                known = kinds.of_program()
+                self.assertEqual(known.lacking, lacking)
+                if lacking:
+                    self.assertRegex(toolkit.Toolkit({}, known).doubt, "^the released program runs, which has no tipper: .*UICC_RUN=draft")
+
     def test_unread_sources(self):
         """Where the sources can't be read the kinds are those of the file, and what is told of a card says so."""
         crates = copy_of_sources(self.folder)

@@ -20,7 +20,9 @@ ENDS = (")", "}", "]", ",", ";", "=", "then", "else", "in", None)
 
 
 class Unreadable(Exception):
-    """A definition is in another form than those that are read here."""
+    """A definition is in another form than those that are read here; `line` is that of the clause in its file, where it is known."""
+
+    line = None
 
 
 class Reader:
@@ -220,24 +222,39 @@ class File:
                      for place, names in USE.findall(self.text) for name in names.split(",")}
         self.heads = {found[1]: found.end() for found in HEAD.finditer(self.text)}
 
-    def clauses(self, name):
-        """What is defined under a name, clause by clause."""
+    def line_of(self, name):
+        """The number of the line on which the head of a definition stands."""
+        return self.text.count("\n", 0, self.heads[name]) + 1
+
+    def texts(self, name):
+        """The clauses under a name as they stand, each with the number of its first line."""
         lines = self.text[self.heads[name]:].split("\n")[1:]
         found = []
-        for line in lines:
+        for number, line in enumerate(lines, self.line_of(name) + 1):
             if line.startswith("--") or not line.strip():
                 if found:
                     break
                 continue
             if re.match(rf"{re.escape(name)}(?=\s)", line):
-                found.append(line)
+                found.append((number, line))
             elif line.startswith((" ", "\t")) and found:
-                found[-1] += "\n" + line
+                found[-1] = found[-1][0], found[-1][1] + "\n" + line
             elif found or not line.startswith("unfolding"):
                 break
+        return found
+
+    def clauses(self, name):
+        """What is defined under a name, clause by clause."""
+        found = []
+        for number, text in self.texts(name):
+            try:
+                found.append(clause(text))
+            except Unreadable as fault:
+                fault.line = number
+                raise
         if not found:
             raise Unreadable(f"`{name}` has no clauses in {os.path.basename(self.path)}")
-        return [clause(text) for text in found]
+        return found
 
 
 def names_in(body):
@@ -249,6 +266,60 @@ def names_in(body):
     if body[:1] == ["record"]:
         return names_in(body[1]) | set().union(*map(names_in, body[2].values()))
     return set().union(*map(names_in, body))
+
+
+# the signs of a body, by the names under which a file imports them
+SIGNS = {"∷": "◌∷◌", "++": "◌++◌", "+": "◌+◌", "-": "◌-◌", "*": "◌*◌", "/": "◌/◌", "%": "◌%◌", "&&": "◌&&◌", "||": "◌||◌", "==": "◌==◌", "if": "if◌then◌else◌"}
+
+
+def used_in(patterns, body):
+    """What a clause uses that its file has to define or import: names, and signs as `◌++◌`."""
+    found, bound = set(), set()
+    for pattern in patterns:
+        part, names = used_in_pattern(pattern)
+        found |= part
+        bound |= names
+    return found | used_in_body(body, bound)
+
+
+def used_in_pattern(pattern):
+    """What a pattern uses, and what it binds."""
+    kind = pattern[0]
+    found, bound = {"empty": {"[]"}, "head": {"◌∷◌"}, "made": {pattern[-2]} if kind == "made" else set()}.get(kind, set()), set()
+    if kind == "truth":
+        found = {"true" if pattern[1] else "false"}
+    if kind == "bound":
+        bound = {pattern[1]}
+    parts = pattern[2] if kind == "made" else pattern[1:] if kind in ("head", "pair") else []
+    for part in parts:
+        of_part, names = used_in_pattern(part)
+        found, bound = found | of_part, bound | names
+    return found, bound
+
+
+def used_in_body(body, bound):
+    kind, *parts = body
+    if kind == "name":
+        return {parts[0]} - bound
+    if kind == "truth":
+        return {"true" if parts[0] else "false"}
+    if kind == "number":
+        return set()
+    if kind == "lambda":
+        return used_in_body(parts[1], bound | set(parts[0]))
+    if kind == "let":
+        return used_in_body(parts[1], bound) | used_in_body(parts[2], bound | {parts[0]})
+    if kind == "record":
+        return set().union(*(used_in_body(part, bound) for part in [*filter(None, parts[:1]), *parts[1].values()]))
+    if kind == "field":
+        return used_in_body(parts[0], bound)
+    if kind == "call":
+        return set().union(*(used_in_body(part, bound) for part in [parts[0], *parts[1]]))
+    if kind == "list":
+        # a text is a list of numbers, which needs no import
+        return set() if parts else {"[]"}
+    own = {SIGNS[kind]} if kind in SIGNS else set()
+    return own.union(*(used_in_body(part, bound) for part in parts))
 
 
 def constants_of(path):

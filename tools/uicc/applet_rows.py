@@ -3,6 +3,7 @@ that the code is tried with. docs/CASES.md has their words."""
 import dataclasses
 import itertools
 import os
+import re
 
 from . import process
 from .evaluation import Made, Unknown
@@ -10,6 +11,8 @@ from .evaluation import Made, Unknown
 TABLE = os.path.join("crates", "unit_trials", "data", "applets.table")
 LONG_RUN = 8
 LONGEST_TEXT = 20
+# what stands before why a definition says nothing
+UNKNOWN = "not known: "
 
 
 class NotARow(Exception):
@@ -95,7 +98,19 @@ ACTS = {
 
 
 def act_shown(act):
-    return ACTS[act.name](*act.parts)
+    try:
+        return ACTS[act.name](*act.parts)
+    except (AttributeError, KeyError, TypeError) as fault:
+        raise Unknown(f"what is to be done is no act with all its parts ({fault})") from None
+
+
+def spelling(row, shown):
+    """Why a row differs that has the text which is shown, but in quotes; None where it differs otherwise."""
+    def in_bytes(found):
+        return bytes_shown(found[0][1:-1].encode())
+    if row.differs or re.sub(r'"[^"]*"', in_bytes, row.wanted) != re.sub(r'"[^"]*"', in_bytes, shown):
+        return None
+    return f"a text stands in quotes where it has at most {LONGEST_TEXT} letters and none is a space, and otherwise in hexadecimal digits"
 
 
 # rows
@@ -163,7 +178,7 @@ def differing(known, text):
         except (NotARow, ValueError) as fault:
             shown = f"no row: {fault}"
         except Unknown as fault:
-            shown = f"not known: {fault}"
+            shown = f"{UNKNOWN}{fault}"
         if (shown == row.wanted) == row.differs:
             found.append((row, shown))
     return found, count

@@ -12,7 +12,7 @@ source changed, and wants a clone. Each other word is a tool:
 
 {tools}
 
-    page      opens the page that runs the program in a browser; --path writes where it lies
+{page}
 
 Ends as the program or the tool does, and with 2 where there is no such word, or what is to be run isn't there."""
 import difflib
@@ -45,8 +45,9 @@ def summary_of(tool):
 
 
 def help_page():
-    listed = "\n".join(f"    {tool:<9} {summary_of(tool)}" for tool in tools())
-    return __doc__.format(tools=listed)
+    width = max(map(len, [*tools(), *OWN_WORDS]))
+    listed = "\n".join(f"    {tool:<{width}}  {summary_of(tool)}" for tool in tools())
+    return __doc__.format(tools=listed, page=f"    {'page':<{width}}  opens the page that runs the program in a browser; --path writes where it lies")
 
 
 def version_page():
@@ -66,7 +67,8 @@ def run_program(words):
 
 
 def run_tool(tool, words):
-    sys.argv = [f"uicc {tool}", *words]
+    terminal.CALLED = f"uicc {tool}"
+    sys.argv = [terminal.CALLED, *words]
     path = os.path.join(TOOLS, tool)
     sys.path.insert(0, TOOLS)
     runpy.run_path(path, run_name="__main__")

@@ -107,6 +107,9 @@ class Definitions:
             return self._called(name, values)
         except RecursionError:
             raise Unknown(f"{name} has no end that is reached") from None
+        except (AttributeError, IndexError, KeyError, TypeError, ValueError) as fault:
+            # what the prover takes has each part where it is looked for
+            raise Unknown(f"{name} is made of parts that don't fit ({fault})") from None
 
     def _called(self, name, values):
         for patterns, body in self.definitions[name]:
@@ -165,6 +168,8 @@ class Definitions:
         value, field = self._value(body[1], names), body[2]
         if isinstance(value, dict):
             return value[field]
+        if isinstance(value, Made):
+            raise Unknown(f"{value.name}.{field} isn't known")
         # a constant of Rust that is a slice, or a part of a pair
         return value if field == "now" else value[int(field)]
 

@@ -2,10 +2,14 @@
 code is proved to follow.
 
 `data/kinds.json` has them for where no sources are; `tools/applet write` writes it, and a test compares it with the sources. Of a program
-that is built here, or of a draft, the sources themselves are asked. What a kind is called in a sentence (`does`) stands in that file alone."""
+that is built here, or of a draft, the sources themselves are asked. What a kind is called in a sentence (`does`) stands in that file alone.
+
+`findings` tells what the prover or the compiler would not take, as far as that is seen here: names that a file doesn't import, acts and
+commands with another number of parts, phases of the code that have no number."""
 import functools
 import json
 import os
+import re
 
 from . import antt, evaluation, names, process
 
@@ -14,6 +18,7 @@ TABLE = "table"
 # where the sources say it
 TURNS, MINDS = ("applet_trait", "specs", "Turns.antt"), ("applet_trait", "specs", "Minds.antt")
 SHELVES, SIZES = ("boxed_applets", "specs", "Casts.antt"), ("card_state", "src", "sizes.rt")
+PHASES = ("boxed_applets", "specs")
 HOW_MANY = 32
 # what isn't read from a definition, but is here once for all
 PRIMITIVES = ("value_in",)
@@ -24,10 +29,10 @@ class Faulty(Exception):
 
 
 class Kinds:
-    """The kinds of applets. `fault` says why they may be others than those of the program."""
+    """The kinds of applets. `fault` says why they may be others than those of the program, `lacking` names those that it doesn't have."""
 
-    def __init__(self, data, fault=None):
-        self.data, self.fault = data, fault
+    def __init__(self, data, fault=None, lacking=()):
+        self.data, self.fault, self.lacking = data, fault, tuple(lacking)
         self.names = [kind["name"] for kind in data["kinds"]]
         self._meaning = evaluation.Definitions(data["definitions"], data["constants"])
 
@@ -73,6 +78,8 @@ class Collected:
 
     def __init__(self, crates):
         self.crates, self.files, self.definitions, self.constants, self.unreadable = crates, {}, {}, {}, {}
+        # the file of each definition, and the line where one begins to be unreadable
+        self.places, self.lines = {}, {}
 
     def file(self, path):
         if path not in self.files:
@@ -83,10 +90,12 @@ class Collected:
         """A definition of a file, and all that it names."""
         if name in self.definitions or name in self.unreadable:
             return
+        self.places[name] = path
         try:
             self.definitions[name] = found = self.file(path).clauses(name)
         except (antt.Unreadable, KeyError, OSError) as fault:
             self.unreadable[name] = str(fault)
+            self.lines[name] = getattr(fault, "line", None)
             return
         for used in sorted(set().union(*(antt.names_in(body) for _, body in found))):
             self._use(path, used)
@@ -113,6 +122,19 @@ class Collected:
         else:
             self.unreadable[name] = f"{own} is no constant that is read here"
 
+    def findings(self):
+        """What is wrong with the definitions: a file, a line and why, each."""
+        found = [(self.places[name], self.lines[name] or 1, f"the definition of {name} isn't read: {why}")
+                 for name, why in self.unreadable.items() if name in self.places]
+        for name, clauses in self.definitions.items():
+            file = self.file(self.places[name])
+            for (line, text), (patterns, body) in zip(file.texts(name), clauses):
+                found += [(file.path, line + offset_of(text, word), f"{name} uses `{shown_word(word)}`, which the file neither defines nor imports")
+                          for word in sorted(antt.used_in(patterns, body) - {*file.heads, *file.uses})]
+                found += [(file.path, line + offset_of(text, word), f"{name}: {word} stands with {count} of its {wanted} parts")
+                          for word, count, wanted in wrong_counts(body)]
+        return sorted(set(found))
+
     def made_of(self, name, seen=()):
         """What a definition lacks that is made of some which can't be read, or None."""
         if name in self.unreadable:
@@ -121,6 +143,39 @@ class Collected:
             return None
         used = set().union(*(antt.names_in(body) for _, body in self.definitions[name]))
         return next(filter(None, (self.made_of(each, (*seen, name)) for each in sorted(used))), None)
+
+
+def shown_word(word):
+    """A name as a file imports it, as it stands in a text: `++` for `◌++◌`."""
+    return "if" if word.startswith("if◌") else word.strip("◌")
+
+
+def offset_of(text, word):
+    """On which line of a clause a word stands first, from 0 on."""
+    word = shown_word(word)
+    found = re.search(rf"(?<![\w'+]){re.escape(word)}(?![\w'+])", text)
+    return text.count("\n", 0, found.start()) if found else 0
+
+
+# how many parts an act or a command has
+PARTS = {
+    "Refresh": 1, "PollInterval": 1, "SetUpEventList": 1, "PlayTone": 1, "DisplayText": 1, "GetInkey": 1, "GetInput": 4, "SelectItem": 2, "SetUpMenu": 2,
+    "LocalInformation": 1, "TimerManagement": 3, "IdleText": 1, "Send": 1, "Keep": 1, "Register": 1, "Deregister": 1, "FreeTimer": 1, "Answer": 1,
+}
+
+
+def wrong_counts(body, given=0):
+    """The acts and commands of a body that stand with another number of parts than they have: each with that number and the right one."""
+    if isinstance(body, dict):
+        return [each for part in body.values() for each in wrong_counts(part)]
+    if not isinstance(body, list) or not body:
+        return []
+    if body[0] == "name":
+        wanted = PARTS.get(body[1], given)
+        return [(body[1], given, wanted)] if given != wanted else []
+    if body[0] == "call":
+        return wrong_counts(body[1], len(body[2])) + [each for part in body[2] for each in wrong_counts(part)]
+    return [each for part in body[1:] for each in wrong_counts(part)]
 
 
 def collected_from(crates, path, name, *needed):
@@ -145,11 +200,41 @@ def kinds_in(by_kind):
     return found
 
 
+def collected_turns(crates):
+    """What applets do, with all that it is made of."""
+    collected = collected_from(crates, source(crates, *TURNS), "act", "by_kind")
+    collected.add(source(crates, *MINDS), "fresh")
+    return collected
+
+
+def findings(crates):
+    """What the prover would not take in the kinds of the sources, as far as that is seen here: a file, a line and why, each."""
+    return collected_turns(crates).findings() + unnumbered(crates)
+
+
+def unnumbered(crates):
+    """The phases of the code that have no number in the definition of its mind, or aren't imported there."""
+    folder, found = source(crates, *PHASES), []
+    for path in (os.path.join(folder, name) for name in sorted(os.listdir(folder)) if name.endswith(".antt")):
+        file = antt.File(path)
+        module = next((place.split(".")[4] for place, _ in file.uses.values() if place.endswith(".Phase")), None)
+        if not module or "phase_of" not in file.heads:
+            continue
+        with open(source(crates, "boxed_applets", "src", module + ".rt"), encoding="utf-8") as text:
+            declared = re.search(r"^enum Phase \{\n(.*?)^\}", text.read(), re.MULTILINE | re.DOTALL)
+        numbered = {pattern for _, clause in file.texts("phase_of") for pattern in re.findall(r"^phase_of (\w+) =", clause)}
+        line = file.line_of("phase_of")
+        for phase in re.findall(r"^    (\w+)", declared[1], re.MULTILINE) if declared else ():
+            if phase not in numbered and "_" not in numbered:
+                found.append((path, line, f"phase_of has no number for {phase}, a phase of boxed_applets/src/{module}.rt"))
+        found += [(path, line, f"phase_of uses `{phase}`, which the file neither defines nor imports") for phase in sorted(numbered - {*file.uses, "_"})]
+    return found
+
+
 def of_sources(crates, known=()):
     """The kinds as the sources have them; `known` are those whose words stand in data/kinds.json."""
     placed = collected_from(crates, source(crates, *SHELVES), "applet_on", "fresh")
-    collected = collected_from(crates, source(crates, *TURNS), "act", "by_kind")
-    collected.add(source(crates, *MINDS), "fresh")
+    collected = collected_turns(crates)
     found = kinds_in(collected.definitions["by_kind"])
     last = antt.constants_of(source(crates, *SIZES)).get("LAST_KIND")
     if last != len(found):
@@ -199,4 +284,22 @@ def told(by_sources):
 
 def of_program():
     """The kinds of the program that runs."""
-    return told(are_of_sources())
+    known = told(are_of_sources())
+    lacking = [] if are_of_sources() else not_released(known.names)
+    if not lacking:
+        return known
+    return Kinds(known.data, f"the released program runs, which has no {' and no '.join(lacking)}: with UICC_RUN=draft in the environment that of the sources does",
+                 lacking)
+
+
+def not_released(found):
+    """Those of some kinds that the released program doesn't have, where that is the one which runs: the list of what it was made from names no code
+    of theirs."""
+    if os.environ.get("UICC_RUN") or os.access(process.BUILT, os.X_OK) or not os.path.isdir(os.path.join(process.TOP, "crates")):
+        return []
+    try:
+        with open(os.path.join(os.path.dirname(process.RELEASED), "release.txt"), encoding="utf-8") as text:
+            listed = set(re.findall(r"  crates/boxed_applets/src/(\w+)\.rt$", text.read(), re.MULTILINE))
+    except OSError:
+        return []
+    return [name for name in found if name + "s" not in listed] if listed else []

@@ -26,6 +26,16 @@ def plain():
     return painter
 
 
+# the words with which a tool was called, where it is a word of the command `uicc`
+CALLED = None
+
+
+def called():
+    """How a tool was called, for its page of help: as `tools/lint`, or as `uicc lint`."""
+    folder, name = os.path.split(sys.argv[0])
+    return CALLED or (f"tools/{name}" if os.path.basename(folder) == "tools" else name)
+
+
 # the status of a tool whose output nobody reads on
 NOT_READ_ON = 2
 
