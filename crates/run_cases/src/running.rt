@@ -107,7 +107,14 @@ fn played<E: Eeprom + Drop>(
     device: E,
     notes: &Notes,
 ) -> Result<(Left, E), AllocError> {
-    let cast = cast_of(alloc, &one.setup.boxes, notes)?;
+    // No function may hand such boxes out, so they are made here.
+    let mut cast = Vec::new(alloc);
+    for (shelf, like) in (0..u8::MAX).zip(shelves_of(alloc, &one.setup.boxes)?) {
+        cast.push(match like {
+            Some(like) => Some(Noting::new(boxed_applet!(alloc, like), shelf, notes)),
+            None => None,
+        })?;
+    }
     let mut source = SliceSource::new(script, one.setup.source_fails.as_slice());
     let fails = one.setup.sink_fails.as_slice();
     let mut sink = NotingSink {
@@ -136,22 +143,6 @@ fn played<E: Eeprom + Drop>(
         left: marks_of(alloc, cast.as_slice())?,
     };
     Ok((left, after))
-}
-
-/// The boxes on the shelves.
-fn cast_of<'a>(
-    alloc: Global,
-    boxes: &Boxes,
-    notes: &'a Notes,
-) -> Result<Vec<Option<Noting<'a>>>, AllocError> {
-    let mut cast = Vec::new(alloc);
-    for (shelf, like) in (0..u8::MAX).zip(shelves_of(alloc, boxes)?) {
-        cast.push(match like {
-            Some(like) => Some(Noting::new(boxed_applet!(alloc, like), shelf, notes)),
-            None => None,
-        })?;
-    }
-    Ok(cast)
 }
 
 /// Of which of the program's shelves the applets are, from shelf 0 on.
