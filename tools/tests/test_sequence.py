@@ -872,7 +872,8 @@ class OverApplets(unittest.TestCase):
                 return answer
 
         outcome = self.played("row 1 1 00044D656E75", undertest.InPython(Twice), ("command MORE TIME", "response result 00"))
-        self.assertEqual((outcome.verdict, outcome.why), (verdict.FAILED, "a TERMINAL RESPONSE comes for a command that wasn't fetched"))
+        self.assertEqual((outcome.verdict, outcome.why),
+                         (verdict.FAILED, "a TERMINAL RESPONSE comes for a command that wasn't fetched, or was answered already, MORE TIME"))
 
     def test_those_in_the_box(self):
         """Over a card that greets, watches and has a menu the able terminal passes all that it passes over one without applets."""
