@@ -242,7 +242,10 @@ class Reader:
         name = None
         kind = int(words.take(""), 16) if words and is_code(words.left[0]) else None
         if kind is None:
-            kind = words.take_name(COMMANDS, "command, and one that has no name here is written by its type, as `command 35`")
+            try:
+                kind = words.take_name(COMMANDS, "command, nor a type of two digits")
+            except Wrong as fault:
+                raise Wrong(f"{fault}; one that has no name here is written by its type, as `command 35`") from None
         name = decode.details_name(kind)
         number, qualifier, source, destination = len(self.sequence().commands()) + 1, 0, CARD, DESTINATIONS.get(name, TERMINAL)
         without, found = set(), []
