@@ -128,7 +128,7 @@ macro_rules! made {
     # a definition, and some of those that cite it: by its own module, by another name, and handed on by a module
     CITED = [
         (("card_model", "Runs", "IsRun"), ("crates/run_steps/specs/Views.antt", "IsRunOf", "")),
-        (("script_reader", "Behind", "LinesReadTo"), ("crates/uicc_run/src/running.rt", "carry_on", "reads")),
+        (("script_reader", "Behind", "LinesReadTo"), ("crates/script_reader/specs/Behind.antt", "GivesRead", "")),
         (("uicc_run", "Endings", "status_for"), ("crates/uicc_run/src/running.rt", "close", "status")),
         (("card_state", "Persistent", "Pin"), ("crates/card_model/specs/Answers.antt", "with_pins", "")),
         (("uicc_run", "Playing", "Reaches"), ("crates/uicc_run/specs/Playing.antt", "BreaksSo", "")),
