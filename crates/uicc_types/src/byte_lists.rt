@@ -1,5 +1,5 @@
 //! Lists of bytes of a bounded length, kept in place: they never take memory.
-ghost use Rattle.std.specs.Prelude.{◌≡◌, ◌+◌, ◌≤◌, ◌<◌, ◌↔◌, List, ℕ, [], ◌∷◌, ◌++◌, length, take, IsOk, OnOk, OnErr};
+ghost use Rattle.std.specs.Prelude.{◌≡◌, ◌+◌, ◌≤◌, ◌<◌, ◌↔◌, List, ℕ, [], ◌∷◌, ◌++◌, length, IsOk, OnOk, OnErr};
 
 use crate::limits::Full;
 use arrayvec::ArrayVec;
@@ -9,9 +9,7 @@ use std::marker::Model;
 /// A list of at most `N` bytes.
 #[derive(Debug, Drop)]
 pub struct ByteList<const N: usize> {
-    // All its places are in use, so that a list is emptied and filled anew without a byte more than it gets.
-    places: ArrayVec<u8, N>,
-    count: usize,
+    bytes: ArrayVec<u8, N>,
 }
 
 /// The bytes of one object, proactive command or envelope.
@@ -35,9 +33,7 @@ pub type Kept = ByteList<64>;
 impl<const N: usize> Model for ByteList<N> {
     ghost Value = { List ℕ };
 
-    ghost view = { λ list. take list.count list.places.items };
-
-    ghost invariant = { λ list. (list.count ≤ N) × (length list.places.items ≡ N) };
+    ghost view = { λ list. list.bytes.items };
 }
 
 impl<const N: usize> ByteList<N> {
@@ -46,8 +42,7 @@ impl<const N: usize> ByteList<N> {
         ensures { result ≡ [] }
     {
         ByteList {
-            places: ArrayVec::from([0; N]),
-            count: 0,
+            bytes: ArrayVec::new(),
         }
     }
 
@@ -69,12 +64,10 @@ impl<const N: usize> ByteList<N> {
         ensures ok { OnOk result (self.new ≡ self.old ++ byte ∷ []) }
         ensures err { OnErr result (self.new ≡ self.old) }
     {
-        if self.count == N {
-            return Err(Full);
+        match self.bytes.try_push(byte) {
+            Ok(()) => Ok(()),
+            Err(_) => Err(Full),
         }
-        self.places.as_mut_slice()[self.count] = byte;
-        self.count += 1;
-        Ok(())
     }
 
     /// Adds all of `part` at the end. `Full`, and no change, exactly where the result would have more than `N` bytes.
@@ -83,13 +76,10 @@ impl<const N: usize> ByteList<N> {
         ensures ok { OnOk result (self.new ≡ self.old ++ part.now) }
         ensures err { OnErr result (self.new ≡ self.old) }
     {
-        if part.len() > N - self.count {
-            return Err(Full);
+        match self.bytes.try_extend_from_slice(part) {
+            Ok(()) => Ok(()),
+            Err(_) => Err(Full),
         }
-        let end = self.count + part.len();
-        self.places.as_mut_slice()[self.count..end].copy_from_slice(part);
-        self.count = end;
-        Ok(())
     }
 
     /// The bytes, at most `N`.
@@ -97,7 +87,7 @@ impl<const N: usize> ByteList<N> {
         ensures value { result.now ≡ self.now }
         ensures fits { length result.now ≤ N }
     {
-        &self.places.as_slice()[..self.count]
+        self.bytes.as_slice()
     }
 
     /// A second list of the same bytes.
@@ -111,7 +101,7 @@ impl<const N: usize> ByteList<N> {
     pub fn clear(&mut self)
         ensures { self.new ≡ [] }
     {
-        self.count = 0;
+        self.bytes.clear();
     }
 }
 
