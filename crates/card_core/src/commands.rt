@@ -46,6 +46,7 @@ use store_form::{Store, StoreFault};
 use uicc_types::{Answer, AnswerData, StatusWord};
 
 // A command on what a file holds, which its access rule may forbid, over what is selected on its channel.
+#[inline(always)]
 #[tactic(auto, using(binary_commands::proofs::GivesLemmas::stays_still), unfolding(file_model::specs::Commands::contents_outcome, file_model::specs::Commands::file_addressed))]
 fn on_contents<S: Store>(
     command: ContentsCommand,
@@ -84,6 +85,7 @@ fn on_contents<S: Store>(
 }
 
 // A command on files, over what is selected on its channel. The keys are looked at where access is tested.
+#[inline(always)]
 #[tactic(auto, using(binary_commands::proofs::GivesLemmas::stays_still), unfolding(file_model::specs::Commands::file_outcome))]
 fn on_files<S: Store>(
     command: FileCommand,
@@ -180,7 +182,9 @@ impl<S: Store, B: Applet> CardOver<S, B> {
     ghost use Rattle.card_core.specs.Moves.{IsAnswered, polled_on};
     ghost use Rattle.card_core.specs.Underway.{IsUnderway, IsOnChannel, GoesOn};
 
-    // A command on files, over what is selected on its channel. The other channels stay as they are.
+    // A command on files, over what is selected on its channel. The other channels stay as they are. Inlined, since the command is known
+    // where it is called.
+    #[inline(always)]
     fn carry_out_on_files(
         &mut self,
         command: FileCommand,
