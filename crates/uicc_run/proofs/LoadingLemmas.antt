@@ -45,13 +45,11 @@ use Rattle.phone_runs.specs.Logs.{heard, trace}
 use Rattle.phone_runs.specs.Playing.{Begins}
 use Rattle.uicc_run.proofs.HasBoxLemmas.{have_boxes}
 use Rattle.uicc_run.proofs.OpeningLemmas.{caused_counted, caused_kept, refusal_keeps, stands_found, still}
-use Rattle.uicc_run.specs.Endings.{KeepsBytes, status_for}
+use Rattle.uicc_run.specs.Endings.{KeepsBytes, status_for, IsUnplanned}
 use Rattle.uicc_run.specs.Headline.{IsMigratedAtMost}
-use Rattle.uicc_run.specs.Loading.{ComesToLoad, FailsToOpenFixed, IsFixedCard, IsLeft, ending_for_load, load_beginning}
-use Rattle.uicc_run.specs.Opening.{ending_for as ending_for_fault}
-use Rattle.uicc_run.specs.Playing.{Given, Leaves}
-use Rattle.uicc_run.specs.Runs.{first_machine}
-use Rattle.uicc_run.specs.Unplanned.{IsUnplanned}
+use Rattle.uicc_run.specs.Loading.{ComesToLoad, FailsToOpenFixed, IsFixedCard, IsLeft, load_beginning}
+use Rattle.uicc_run.specs.Making.{ending_for_load, ending_for as ending_for_fault}
+use Rattle.uicc_run.specs.Playing.{Given, Leaves, first_machine}
 use Rattle.uicc_run.specs.declared.endings.Ending.{Ending}
 use Rattle.uicc_run.specs.declared.endings.Ending.TheVariants.{Usage, NoMemory, Section, FormatFailed, EepromFailed, NotACard, NoApplet, Played, Counted, LoadFailed}
 
