@@ -16,9 +16,9 @@ use Rattle.card_core.specs.Openings.{with_all_shelves}
 use Rattle.card_core.specs.Parts.{CardParts}
 use Rattle.card_core.proofs.RestartLemmas.{had_box}
 use Rattle.run_steps.specs.Ends.{End, moment_at}
-use Rattle.run_steps.specs.Runs.{machine_of}
-use Rattle.run_steps.specs.Stepping.{moment, Moment}
+use Rattle.run_steps.specs.Taking.{machine_of, moment}
 use Rattle.run_steps.proofs.StandingLemmas.{machine_is}
+use Rattle.run_steps.specs.Stepping.{Moment}
 use Rattle.uicc_run.specs.Playing.{HasKindsOf, first_machine}
 
 -- waking keeps the kinds of the boxes

@@ -32,13 +32,15 @@ use Rattle.section_lines.proofs.RowsHaveBoxesLemmas.{rows_have_boxes}
 use Rattle.section_lines.specs.Script.{then_on, with_lines}
 use Rattle.section_lines.proofs.WithLinesLemmas.{splits, with_lines-append}
 use Rattle.run_steps.proofs.StandingLemmas.{is_machine}
-use Rattle.run_steps.specs.Stepping.{Moment, moment}
+use Rattle.run_steps.specs.Stepping.{Moment}
+use Rattle.run_steps.specs.Taking.{moment}
 use Rattle.long_runs.specs.LoadLines.{made_lines}
 use Rattle.long_runs.specs.FixedRows.{fixed_rows}
 use Rattle.long_runs.specs.Rows.{IsFirstRefused}
 use Rattle.long_runs.specs.declared.counts.Counts.{Counts}
 use Rattle.run_steps.specs.Views.{TheCard}
-use Rattle.phone_runs.specs.LoadRuns.{GivesLoad, all_heard}
+use Rattle.phone_runs.specs.LoadingLines.{GivesLoad}
+use Rattle.phone_runs.specs.LoadRuns.{all_heard}
 use Rattle.phone_runs.specs.declared.counting.MemoryFailed.{MemoryFailed}
 use Rattle.phone_runs.specs.Laws.{RunsAreLegal, RunsAreOfTheCard}
 use Rattle.phone_runs.specs.Logs.{heard, trace}

@@ -30,7 +30,7 @@ use Rattle.card_core.specs.declared.opening_faults.OpenFault.{OpenFault}
 use Rattle.card_core.specs.declared.opening_faults.OpenFault.TheVariants as fault
 use Rattle.section_lines.specs.SectionReading.{AtStart, InSection}
 use Rattle.section_lines.specs.Script.{described, then_on, with_lines}
-use Rattle.run_steps.specs.Stepping.{moment}
+use Rattle.run_steps.specs.Taking.{moment}
 use Rattle.run_steps.specs.Views.{CardView, ItsPower, TheCard}
 use Rattle.uicc_run.specs.Playing.{first_machine, Given, IsOpened, Leaves}
 use Rattle.run_steps.proofs.StandingLemmas.{is_machine}

@@ -7,7 +7,8 @@ use Rattle.script_reader.specs.declared.behind.PlayEnd.{PlayEnd}
 use Rattle.script_reader.specs.declared.reader.ScriptReader.{ScriptReader}
 use Rattle.run_steps.specs.Stepping.{Moment}
 use Rattle.run_steps.specs.Views.{CardView}
-use Rattle.phone_runs.specs.Lines.{PhoneComesTo, StandsAtStart}
+use Rattle.phone_runs.specs.Lines.{PhoneComesTo}
+use Rattle.phone_runs.specs.BetweenLines.{StandsAtStart}
 use Rattle.uicc_run.specs.Accounts.{nothing}
 use Rattle.uicc_run.specs.BetweenLines.{IsStarted, IsPlaying}
 use Rattle.uicc_run.specs.Playing.{Given, left_at, ServedComesTo, beginning}

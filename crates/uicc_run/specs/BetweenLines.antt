@@ -15,7 +15,8 @@ use Rattle.command_line.specs.declared.requests.Transport.{Transport}
 use Rattle.command_line.specs.declared.requests.Transport.TheVariants as transport
 use Rattle.run_steps.specs.Moves.{IsShort, step_of}
 use Rattle.run_steps.specs.Runs.{text_of}
-use Rattle.run_steps.specs.Stepping.{Moment, IsSeen, Rests}
+use Rattle.run_steps.specs.Stepping.{Moment, IsSeen}
+use Rattle.run_steps.specs.Taking.{Rests}
 use Rattle.run_steps.specs.Views.{CardView}
 use Rattle.run_steps.specs.declared.carriers.Carrier.{Carrier}
 use Rattle.run_steps.specs.declared.carriers.Carrier.TheVariants as carrier

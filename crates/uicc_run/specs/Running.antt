@@ -7,7 +7,7 @@ use Rattle.byte_streams.specs.Reading.{IsTaken}
 use Rattle.byte_streams.specs.declared.limits.TheConstants.{MOST_BYTES}
 use Rattle.card_state.specs.Persistent.{Persistent}
 use Rattle.command_line.specs.Model.{AskForRun}
-use Rattle.bip_runs.specs.Scripts.{IsFirstBadBip, IsGoodBip}
+use Rattle.bip_runs.specs.Serving.{IsFirstBadBip, IsGoodBip}
 use Rattle.uicc_run.specs.Causes.{IsCaused, IsLoadCaused}
 use Rattle.uicc_run.specs.Endings.{HasFailed}
 use Rattle.uicc_run.specs.Headline.{Closes, Traces, last_text}

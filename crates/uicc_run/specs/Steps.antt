@@ -5,7 +5,7 @@ use Rattle.uicc_types.specs.declared.plans.TheConstants.Plan.{NONE}
 use Rattle.uicc_types.specs.declared.runs.Step.TheVariants as step
 use Rattle.script_form.specs.declared.lines.ScriptLine.{ScriptLine}
 use Rattle.script_form.specs.declared.lines.ScriptLine.TheVariants.{Passed, Reset, Apdu, Tpdu, Cut, Fail, ReadFail}
-use Rattle.phone_runs.specs.Effects.{may_be_heard}
+use Rattle.phone_runs.specs.Lines.{may_be_heard}
 use Rattle.uicc_run.specs.Accounts.{Deed, Takes, Transfers}
 
 -- whether a line may stand after `start`

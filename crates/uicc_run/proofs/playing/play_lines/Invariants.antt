@@ -5,7 +5,7 @@ use Rattle.script_form.specs.declared.lines.ScriptLine.{ScriptLine}
 use Rattle.script_reader.specs.Behind.{IsReading}
 use Rattle.run_steps.specs.Ends.{moment_at}
 use Rattle.run_steps.specs.Views.{CardView}
-use Rattle.phone_runs.specs.Lines.{IsBetweenLines, IsServing}
+use Rattle.phone_runs.specs.BetweenLines.{IsBetweenLines, IsServing}
 use Rattle.phone_runs.specs.Runs.{Beginning}
 use Rattle.uicc_run.specs.Opening.{is_handset}
 use Rattle.uicc_run.specs.Playing.{Given}
