@@ -1,5 +1,8 @@
 """What tools/check makes of what other programs print."""
+import contextlib
+import io
 import os
+import re
 import tempfile
 import unittest
 import unittest.mock
@@ -89,6 +92,30 @@ reset
         for answers in ([], ["AB9000"]):
             with self.assertRaises(check.Wrong):
                 check.compare(["00B0000001"], answers, ["AA9000"])
+
+    # packages that are on each Debian, and those of what is a daemon
+    EVERYWHERE = {"dpkg", "util-linux"}
+    OF_DAEMONS = {"ofono": ["ofono", "dbus", "python3-dbus"], "modemmanager": ["modemmanager", "dbus", "python3-dbus"]}
+
+    def test_what_each_part_wants(self):
+        """The help has a row for each part, with the packages of what it looks for."""
+        check = load("check")
+        of = {**{name: [package] for name, (_, package) in check.places().items()}, **self.OF_DAEMONS}
+        rows = {row[1]: row[2] for row in re.finditer(r"(?m)^    (\w+) +\d+ s    (.*)$", check.__doc__)}
+        self.assertEqual((list(rows), list(check.NEEDS)), (list(check.PARTS),) * 2)
+        for part, names in check.NEEDS.items():
+            packages = {package for name in names for package in of[name]} - self.EVERYWHERE
+            self.assertEqual(set(rows[part].partition(";")[0].split()) - {"none"} if names else set(), packages, part)
+
+    def test_only_what_is_wanted_can_be_missing(self):
+        """A part that does without a program is whole where that isn't here."""
+        check = load("check")
+        gone = {name: (None, "a-package") for name in check.places()}
+        for part, missing in (("examples", 0), ("captures", 1), ("page", 2)):
+            with self.subTest(part=part), unittest.mock.patch.object(check, "places", return_value=gone), contextlib.redirect_stdout(io.StringIO()):
+                tally = check.Tally()
+                check.needed(tally, [part])
+                self.assertEqual(tally.untried, missing)
 
     # what a terminal made of sequences, and whether the page tells the same
     TOLD = "And so it is:\n\n    $ tools/sequence examples/sequences --on ofono | grep FAILED\n    FAILED  a.sequence:3: B, twice\n" \

@@ -242,5 +242,24 @@ class Trials(unittest.TestCase):
             self.assertEqual(not re.search("lines", said.getvalue()), fits)
 
 
+class Words(unittest.TestCase):
+    # what is meant by `after`, but for a module of definitions and a variable
+    NAMES = ("`Behind`", "Behind.antt", '"Behind"', '"behind"')
+
+    def test_after(self):
+        """What comes later is said to be after, in all pages and in all of tools/."""
+        paths = [os.path.join(process.TOP, page) for page in documents.all_pages()] + [os.path.join(process.TOP, "CHANGELOG.md")]
+        for folder in ("tools", "bench"):
+            for place, folders, names in os.walk(os.path.join(process.TOP, folder)):
+                folders[:] = [name for name in folders if name not in ("out", "__pycache__")]
+                paths += [os.path.join(place, name) for name in names]
+        for path in paths:
+            with open(path, encoding="utf-8", errors="replace") as content:
+                for number, line in enumerate(content, 1):
+                    for name in self.NAMES:
+                        line = line.replace(name, "")
+                    self.assertNotRegex(line, r"(?i)\bbehind\b", f"{path}:{number}")
+
+
 if __name__ == "__main__":
     unittest.main()

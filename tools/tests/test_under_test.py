@@ -243,7 +243,7 @@ class AtCommands(unittest.TestCase):
 
 
 class Pcsc(threading.Thread):
-    """Stands in for the virtual reader, with a program behind it that is the handset and polls."""
+    """Stands in for the virtual reader, with a program at it that is the handset and polls."""
 
     def __init__(self):
         super().__init__(daemon=True)

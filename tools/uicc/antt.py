@@ -198,7 +198,7 @@ def as_body(text):
     reader = Reader(text)
     found = reader.expression()
     if reader.peek() is not None:
-        raise Unreadable(f"`{reader.peek()}` stands behind it")
+        raise Unreadable(f"`{reader.peek()}` stands after it")
     return found
 
 
