@@ -175,6 +175,30 @@ class Cards(unittest.TestCase):
             with self.assertRaisesRegex(CardError, "line 1: SIZE is 1 to 32767"):
                 Card(path)
 
+    def test_a_profile_in_any_letters(self):
+        """The comments of a script that a profile becomes may have letters which are no bytes."""
+        with Card({"like": "usim", "EF_ADN": {"entries": [{"name": "Ελλάδα", "number": "+30210"}], "read": "always"}}) as card:
+            self.assertEqual(card.say("EF.ADN"), {"entries": {"name": "Ελλάδα", "number": "+30210"}})
+
+    def test_pins_and_numbers_in_words(self):
+        """A PIN by its name, a value of eight bytes in digits; what is none is said before anything is sent."""
+        with Card({"like": "usim", "pins": {"adm": {"value": "A1B2C3D4E5F60718"}}}) as card:
+            self.assertEqual(card.verify("adm", "A1B2C3D4E5F60718").status, "9000")
+            self.assertEqual((card.verify("PIN1", "1234").status, card.tries("pin2")), ("9000", 3))
+            sent = len(card.trace)
+            for act, kind, why in ((lambda: card.verify(1, "12"), ValueError, "four to eight digits, or eight bytes as 16 hexadecimal digits, and not `12`"),
+                                   (lambda: card.verify(1, 0), TypeError, "a PIN is text or bytes, and not 0"),
+                                   (lambda: card.verify("pin3", "1234"), ValueError, "no PIN is called `pin3`: pin1, pin2, adm"),
+                                   (lambda: card.read_record(300), ValueError, "the number of a record is one byte, 1 to 255, and not 300"),
+                                   (lambda: card.transmit("zz"), ValueError, "`zz` is no bytes"),
+                                   (lambda: card.write("EF.SPN"), ValueError, 'card.write("EF.SPN", spn="Example")')):
+                with self.assertRaises(kind) as caught:
+                    act()
+                self.assertIn(why, str(caught.exception))
+            self.assertEqual(len(card.trace), sent)
+            with self.assertRaisesRegex(StatusError, r"6A88: .*: the keys of PINs are 01, 81 \(PIN 2\) and 0A"):
+                card.verify(2, "9876")
+
     def test_files_made_resized_and_deleted(self):
         with Card(USIM) as card:
             card.verify(0x0A, "88888888")

@@ -194,6 +194,14 @@ class Explain(unittest.TestCase):
                     self.assertIn(f"  identifier: {name}\n", self.explain(text=text).stdout)
         self.assertEqual(decode.fcp(bytes.fromhex("620483026F07"))[1].text, "6F07 EF.IST or EF.IMSI")
 
+    def test_an_update_that_is_refused(self):
+        """What wasn't written isn't told as what the file holds."""
+        update = "> 00D6820009080910101032547698\n< {}\n"
+        select = "> 00A40804047F206F07\n< 9000\n"
+        for status, is_told in (("9000", True), ("6982", False)):
+            text = select + update.format(status).replace("D682", "D600")
+            self.assertEqual("EF.IMSI: 001010123456789" in self.explain(text=text).stdout, is_told, status)
+
     def test_terminal(self):
         done = self.explain(os.path.join(EXAMPLES, "bip.trace"), "--full")
         for part in ("> D00C810304420082028121B70102              RECEIVE DATA\n", "channel data length: 2 bytes\n",

@@ -41,6 +41,12 @@ class Export(unittest.TestCase):
         for kind in ("usim", "sim"):
             self.again(made(f'like = "{kind}"\n'))
 
+    def test_a_file_that_is_added_is_the_administrators(self):
+        """The [default] of an exported profile lets nobody else change a file that is added to it."""
+        text = self.again(made('like = "usim"\n[default]\nread = "pin1"\nupdate = "adm"\n'))
+        self.assertIn('[default]\nread = "', text)
+        self.assertIn('update = "adm"', text.partition("[pins]")[0])
+
     def test_a_profile_with_all_kinds_of_content(self):
         text = self.again(made(fuzz_profile.GOOD))
         for part in ('imsi = "262019876543210"', 'spn = "Nordlicht"', "acc = [0, 9]", '"262-01 by UTRAN+GSM"', "minutes = 60", 'rule = "2F06:1"', "folder = true",
@@ -311,6 +317,14 @@ class Batch(unittest.TestCase):
         files = card_of(card.made.text).files
         self.assertEqual(contents.decode("dialling", files[("7F10", "6F40")].record(1)), ": +491701234567")
         self.assertEqual(files[("7F20", "6F78")].content.hex().upper(), "0808")
+
+    def test_a_number_keeps_its_name(self):
+        """What the list doesn't say of EF_MSISDN stays: the name of its entry, and the other entries."""
+        rows = batch.rows_in(f"iccid,msisdn\n{self.ONE},+491701234567\n".encode(), "list.csv")
+        base = b'like = "usim"\n[EF_MSISDN]\nentries = [{ name = "Own", number = "+491110" }, { name = "Fax", number = "+491112" }]\n'
+        card, = batch.cards(base, "card.toml", rows, "list.csv", lambda: None)
+        file = card_of(card.made.text).files[("7F10", "6F40")]
+        self.assertEqual([contents.decode("dialling", file.record(number)) for number in (1, 2)], ["Own: +491701234567", "Fax: +491112"])
 
     def test_an_imsi_of_few_digits_is_a_warning(self):
         rows = [(2, {"imsi": "0010100000"}), (3, {"imsi": "001010123456789"}), (4, {})]

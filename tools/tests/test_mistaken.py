@@ -28,6 +28,9 @@ class Kinds(unittest.TestCase):
         (["explain", "card.img"], "card.img is the image of a card: "), (["explain", "card.script"], "card.script is a script: "),
         (["explain", "card.trace", "--script", "card.img"], "card.img is the image of a card: "),
         (["profile", "build", "none.toml"], "none.toml: no file is there"), (["lint", "none.script"], "none.script: no file is there"),
+        (["capture", "card.toml", "out.pcapng"], "card.toml is a profile: "), (["expect", "card.toml"], "card.toml is a profile: "),
+        (["sequence", "card.script"], "card.script is a script: "), (["sequence", "none.sequence"], "none.sequence: no file is there"),
+        (["reader", "list.csv"], "list.csv is a list of cards: "), (["reader", "card.img"], "card.img is the image of a card: "),
         (["cuts", "card.script", "--again"], "card.script has no line after `start` that sends a command or resets the card"),
     ]
     FILES = {"card.script": b"df 7F10\nstart\n", "card.toml": b'like = "usim"\n', "card.img": b"UICC" + bytes(image.JOURNAL_SIZE - 4),

@@ -6,7 +6,7 @@ import unittest
 
 import fuzz_profile
 from common import in_process
-from uicc import access, checking, lint, located, process, profile, rules
+from uicc import access, checking, lint, located, names, process, profile, rules
 
 EXAMPLES = os.path.join(process.TOP, "examples")
 
@@ -133,6 +133,31 @@ class Doubts(unittest.TestCase):
                           "PIN 1: its PUK has 4 digits, and should have 8"])
 
 
+    # the tables of a profile over a usim, and the warnings of build
+    TABLE = [
+        ('[EF_IMSI]\nimsi = "26242000000001"\n', ["line 2: [EF_IMSI]: nearly every IMSI has 15 digits, and 26242000000001 14"]),
+        ('[EF_ADN]\nread = "always or pin1"\nupdate = "never and pin1"\n',
+         ["line 3: [EF_ADN] read: `always or pin1` comes to `always`", "line 4: [EF_ADN] update: `never and pin1` comes to `never`"]),
+        ('[EF_ADN]\nupdate = "pin1 and (adm or pin2)"\n', []),
+        ('[EF_ADN]\nincrease = "pin1"\n', ["line 3: [EF_ADN] increase: no file is increased but a cyclic one, and this is linear fixed"]),
+        # what the standard has otherwise, of files that the profile names
+        ('[EF_ADN]\nlength = 10\n', ["line 2: [EF_ADN] has 10 bytes a record, and should have at least 14"]),
+        ('[EF_ICCID]\niccid = "8999901000000123450"\nread = "pin1"\n',
+         ["line 2: [EF_ICCID]: everybody must be able to read it, and its rule says `pin1`"]),
+        ('["7F66/5F40/6F01"]\nsize = 100\n', []),
+    ]
+
+    def test_warnings_of_build(self):
+        for text, warnings in self.TABLE:
+            with self.subTest(text=text):
+                made = profile.made_in(('like = "usim"\n' + text).encode(), "card.toml")
+                self.assertEqual(made.warnings, ["card.toml, " + warning for warning in warnings])
+
+    def test_files_of_ones_own(self):
+        """In a folder that is no standard one an identifier says nothing."""
+        self.assertEqual([names.name_of(path) for path in (("7F66", "5F40", "6F01"), ("7F77", "6F50"), ("7F20", "6F07"))], ["6F01", "6F50", "EF.IMSI"])
+
+
 class Quotes(unittest.TestCase):
     def test_quotes(self):
         """Of a line that is no TOML for its quotes these are named."""
@@ -181,6 +206,21 @@ class Mistakes(unittest.TestCase):
                                   "names any other"]),
         ('[EF_SPN]\nspn = "A"\nread = "adm1"', ["line 4: [EF_SPN] read: `adm1` is no condition, but `adm` is: always, never, pin1, pin2, adm, "
                                             "joined by `or` or `and`"]),
+        ('["ADF.USIM/EF.IMSI"]\nhex = "00"', ["line 2: [ADF.USIM/EF.IMSI] ADF.USIM: a card here has no ADF: the files of a USIM lie in the folder 7F20"]),
+        ('["7F10.6F99"]\nhex = "00"', ['line 2: [7F10.6F99]: a path is written with slashes, ["7F10/6F99"]']),
+        ('[EF_FOO]\nhex = "00"', ["line 2: [EF_FOO] EF_FOO: no standard file is called so; an identifier of four digits"]),
+        ('[EF_ISMI]\nhex = "00"', ["line 2: [EF_ISMI] EF_ISMI: no standard file is called so, but EF_IMSI is"]),
+        ('[EF_AD]\nmode = "normal"', ['line 3: [EF_AD] mode isn\'t known: `ad = { mode = "normal"']),
+        ('[EF_AD]\nwrite = "adm"', ["line 3: [EF_AD] write isn't known: it is called `update`"]),
+        ('[EF_AD]\nresize = "adm"', ["line 3: [EF_AD] resize isn't known: RESIZE FILE asks for the administrator's PIN"]),
+        ('["7F10/6F99"]\nsize = 1\nsfi = 1', ['line 4: ["7F10/6F99"] sfi isn\'t known: it is called `short`']),
+        ('["7F10/6F99"]\nsize = 1\nzz = 1', ['line 4: ["7F10/6F99"] zz isn\'t known: what a file holds is said by `hex` or `records`']),
+        ('[EF_AD]\nrule = "3"', ['line 2: [EF_AD]: `rule` is an EF_ARR and the number of a record in it, as "2F06:3", or "none"']),
+        ('[EF_AD]\nread = "PIN1"', ["line 3: [EF_AD] read: `PIN1` is no condition, but `pin1` is: always"]),
+        ('[EF_AD]\nread = "pin1 and (adm"', ["line 3: [EF_AD] read: a bracket isn't closed in a condition"]),
+        ('[EF_AD]\nread = "adm)"', ["line 3: [EF_AD] read: `adm)` is no condition: a bracket is closed that isn't open"]),
+        ('[EF_PL]\nlanguages = ["DE"]', ["line 3: [EF_PL] languages: a language is two small letters (ISO 639), as `de`, and not `DE`"]),
+        ('[EF_DIR]\napplications = [{ aid = "A000" }]', ["line 3: [EF_DIR] applications: an AID has 5 to 16 bytes, and A000 2"]),
         ('[EF_SPN]\nspn = "A"\nshort = 7', ["line 2: [EF_SPN]: the short identifier 7 is taken by 7F20/6F07"]),
         ('[EF_SPN]\nspn = "A"\nsize = 100000', ["line 4: [EF_SPN] size is 100000, and has to be a number from 1 to 32767: size = 17"]),
         ('["7F10/6F99"]\nsize = 5\ncyclic = true', ['line 2: ["7F10/6F99"]: `cyclic` is of files with records, and `size` of those without']),

@@ -11,7 +11,7 @@ import unittest
 import unittest.mock
 import xml.etree.ElementTree
 
-from common import TOOLS, in_process
+from common import TOOLS, in_process, load
 import able_terminal
 from uicc import Answer, Card, PowerLost, decode, handset, process, sequence, tlv, undertest, verdict
 from uicc.player import BOTH, CARD, PLAYER, Player
@@ -87,6 +87,17 @@ class Files(unittest.TestCase):
             self.assertEqual(read("command " + text)[0].needs, [needed])
         self.assertEqual(read("needs UCS2 display", "command MORE TIME")[0].needs, ["UCS2 display", "MORE TIME"])
         self.assertEqual(read("command FE")[0].needs, [])
+        # a command without a name here, and a bit of the profile
+        self.assertEqual(read("command 35 language de")[0].needs, ["byte 9 bit 6"])
+        self.assertEqual(read("needs byte 9 bit 6", "command MORE TIME")[0].needs, ["byte 9 bit 6", "MORE TIME"])
+        profile = bytes(8) + b"\x20"
+        self.assertEqual([sequence.has(profile, need) for need in ("byte 9 bit 6", "byte 9 bit 5", "byte 10 bit 1", "DISPLAY TEXT")],
+                         [True, False, False, False])
+
+    def test_commands_without_a_response(self):
+        """They are told: whatever the terminal answers, such a sequence passes."""
+        lines = ("command MORE TIME", "command MORE TIME", "response result 00", "command REFRESH qualifier 04", "restart")
+        self.assertEqual([step.line for step in read(*lines)[0].unanswered()], [2])
 
     # what a line is, and why it is bad
     BAD = [
@@ -122,7 +133,11 @@ class Files(unittest.TestCase):
         ("response result 00", "no command stands before this response"),
         ("needs PAY", "a terminal profile has no `PAY`: CLOSE CHANNEL"),
         ("section", "the section of 3GPP TS 31.124 is missing"),
-        ("shown", "what is shown is missing"),
+        ("shown", "what is shown is missing"), ("shown foo", "no terminal shows `foo`: shown text T, ask T"),
+        ("user dance", "and in a sequence help and refuse"),
+        ("command DISPLAY TXT", "one that has no name here is written by its type, as `command 35`"),
+        ("command SET UP CALL alpha \"A\"", "`alpha` is no object: the alpha identifier of a command is its `title`"),
+        ("needs PAY", "or a bit of it, as `byte 9 bit 6`"), ("command GET INPUT length 1", "the greatest length is missing"),
         ("user dance", "a user does no `dance`"),
         ("net echo 1 1", "this is for `bip`"),
         ("time", "N is missing"),
@@ -872,7 +887,8 @@ class OverApplets(unittest.TestCase):
                 return answer
 
         outcome = self.played("row 1 1 00044D656E75", undertest.InPython(Twice), ("command MORE TIME", "response result 00"))
-        self.assertEqual((outcome.verdict, outcome.why), (verdict.FAILED, "a TERMINAL RESPONSE comes for a command that wasn't fetched"))
+        self.assertEqual((outcome.verdict, outcome.why),
+                         (verdict.FAILED, "a TERMINAL RESPONSE comes for a command that wasn't fetched, or was answered already, MORE TIME"))
 
     def test_those_in_the_box(self):
         """Over a card that greets, watches and has a menu the able terminal passes all that it passes over one without applets."""
@@ -923,12 +939,51 @@ class Tool(unittest.TestCase):
             self.assertEqual(subprocess.run([sys.executable, "-B", os.path.join(TOOLS, "explain"), "-"], input="\n".join(lines) + "\n", text=True,
                                             capture_output=True, check=False).returncode, 0)
 
+    def test_what_is_known(self):
+        """A run is compared with an earlier one, whose verdicts are in its TAP."""
+        with tempfile.TemporaryDirectory() as folder:
+            path, known = self.put(folder, *self.PASSES, *self.FAILS, *self.NOT_FOR_IT), os.path.join(folder, "known.tap")
+            with open(known, "w", encoding="utf-8") as out:
+                out.write(tool(path, "--tap").stdout)
+            same = tool(path, "--known", known)
+            with open(known, encoding="utf-8") as text:
+                told = text.read()
+            with open(known, "w", encoding="utf-8") as out:
+                out.write(told.replace("not ok 2", "ok 2"))
+            other = tool(path, "--known", known)
+            nothing = tool(path, "--known", path)
+        self.assertEqual((same.returncode, same.stdout.splitlines()[-1]), (0, "all verdicts as before"))
+        self.assertEqual((other.returncode, other.stdout.splitlines()[-2:]),
+                         (1, [f"{path}:6: it fails: failed, and passed before", "1 verdict other than before"]))
+        self.assertEqual((nothing.returncode, nothing.stderr), (2, f"sequence: {path} has no verdict of a sequence: --tap prints them\n"))
+
+    def test_words(self):
+        """All words of a file, a list each."""
+        done = tool("--words")
+        self.assertEqual((done.returncode, done.stderr), (0, ""))
+        for part in ("commands (others are written by their type, as `command 35`):\n    REFRESH,", "objects:\n    details,", "needs (or a bit"):
+            self.assertIn(part, done.stdout)
+
+    def test_long_texts(self):
+        """Of two long texts what stands around the place from which they differ is shown."""
+        command = load("sequence")
+        one, other = (command.beside("text: " + "a" * 100 + end + "b" * 100, "text: " + "a" * 100 + "b" * 100) for end in ("", "c"))
+        self.assertEqual(one[0], one[1])
+        self.assertEqual(other, [".." + "a" * 16 + "c" + "b" * 31 + "..", ".." + "a" * 16 + "b" * 32 + ".."])
+
+    def test_a_command_without_a_response_is_told(self):
+        with tempfile.TemporaryDirectory() as folder:
+            path = self.put(folder, "sequence it forgets", "command MORE TIME")
+            done = tool(path)
+        self.assertEqual((done.returncode, done.stderr),
+                         (1, f"sequence: {path}:2: no `response` stands after this command, so that any is taken\n"))
+
     def test_as_a_program(self):
         with tempfile.TemporaryDirectory() as folder:
             words = [sys.executable, "-B", os.path.join(TOOLS, "sequence"), self.put(folder, *self.PASSES)]
             done = subprocess.run(words, capture_output=True, text=True, timeout=300, check=False)
         self.assertEqual((done.returncode, done.stdout, done.stderr),
-                         (0, "1 sequences on the handset in Python: 1 passed, 0 failed, 0 inconclusive, 0 not supported\n", ""))
+                         (0, "1 sequence on the handset in Python: 1 passed, 0 failed, 0 inconclusive, 0 not supported\n", ""))
 
     def test_the_protocol(self):
         with tempfile.TemporaryDirectory() as folder:

@@ -52,6 +52,8 @@ class Shell(unittest.TestCase):
         ("respond zz\n", 1, ["RESULT is a number, and not `zz`"]), ("cut 0\n", 1, ["K is 1 to"]), ("apdu 0\n", 1, ["`0` is no HEX"]),
         ("read EF.IMSI\n", 1, ["rule 2F06:2 asks for PIN 1 to read; PIN 1 isn't verified"]),
         ("apdu 00A4080C047F206F07\napdu 00B0000009\n", 0, ["6982  the access rule isn't satisfied: rule 2F06:2 asks for PIN 1 to read"]),
+        (ADM + "deactivate EF.SPN\nread EF.SPN\nactivate EF.SPN\nread EF.SPN\n", 1, ["9000", "Example Mobile"]),
+        ("increase EF.LND x\n", 1, ["AMOUNT is a number, and not `x`"]), ("increase\n", 1, ["increase [FILE] AMOUNT"]),
         (ADM + "create ef 6F50 t 4 - -\nselect MF\ndelete 6F50\ntree\n", 0, ["9000"]),
     ]
 

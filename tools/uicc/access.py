@@ -46,14 +46,21 @@ def keys_of(tree):
 
 def effective(card, tree):
     """What is left of a condition: a key whose PIN is off counts as verified, and one that the card hasn't got never does."""
+    def of_key(tree):
+        pin = card.pins.get(tree[1])
+        return NOBODY if pin is None else tree if pin.enabled else EVERYBODY
+    return left_of(tree, of_key)
+
+
+def left_of(tree, of_key=lambda tree: tree):
+    """A condition without what makes no difference in it, where `of_key` says what one by a key comes to."""
     tag, *inner = tree
     if tag == BY_KEY:
-        pin = card.pins.get(inner[0])
-        return NOBODY if pin is None else tree if pin.enabled else EVERYBODY
+        return of_key(tree)
     if tag not in (ONE_OF, ALL_OF):
         return tree
     decides, other = (EVERYBODY, NOBODY) if tag == ONE_OF else (NOBODY, EVERYBODY)
-    left = [one for one in (effective(card, each) for each in inner) if one != other]
+    left = [one for one in (left_of(each, of_key) for each in inner) if one != other]
     if decides in left or not left:
         return decides if decides in left else other
     return joined(tag, left)

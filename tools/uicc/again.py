@@ -8,10 +8,10 @@ import concurrent.futures
 from . import cutting, kept, trace
 from . import process as simulator
 
-# How a script ended that was stopped in this way and run again: which entries of the card aren't as they would have been, and the first
-# line that was answered otherwise than at first, if possible with another status: (line, what it showed at first, what it shows now), or
-# None.
-Ended = collections.namedtuple("Ended", "way otherwise other_answer")
+# How a script ended that was stopped in this way and run again: which entries of the card aren't as they would have been, and the lines
+# that were answered with another status than at first, or else the first that was answered otherwise: (line, what it showed at first,
+# what it shows now) each.
+Ended = collections.namedtuple("Ended", "way otherwise other_answers")
 
 
 class Whole:
@@ -37,8 +37,8 @@ class Whole:
         """How a run of it ended, after what stopped it."""
         shown = played.trace[-len(self.once.trace):]
         differing = [(number, first, now) for number, first, now in zip(self.places, self.once.trace, shown) if first != now]
-        by_status = (one for one in differing if one[1][-4:] != one[2][-4:])
-        return Ended(way, cutting.changes(self.once.entries, played.entries), next(by_status, differing[0] if differing else None))
+        by_status = tuple(one for one in differing if one[1][-4:] != one[2][-4:])
+        return Ended(way, cutting.changes(self.once.entries, played.entries), by_status or tuple(differing[:1]))
 
 
 class Repeated:

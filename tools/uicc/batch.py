@@ -20,7 +20,7 @@ SLIPS = {"puk": "puk1", "pin": "pin1", "adm1": "adm", "number": "msisdn", "chv1"
 # what two cards may not have alike, and what they should not
 ALIKE, HARDLY_ALIKE = ("iccid", "imsi"), ("puk1", "puk2", "adm")
 # how what a cell says is written in a profile, where that isn't text
-CODED = {"acc": lambda cell: [int(word) for word in cell.split()], "msisdn": lambda cell: [{"name": "", "number": cell}]}
+CODED = {"acc": lambda cell: [int(word) for word in cell.split()]}
 REPORT = "report.csv"
 # the ending of a file that isn't whole yet
 NEW = ".new"
@@ -154,16 +154,23 @@ def alike_by_profile(made, column, name):
                    f"says: a column `{column}` gives each its own")
 
 
-def keys_of(values):
-    """The profile that a row says."""
+def keys_of(values, base):
+    """The profile that a row says, to be laid over another one."""
     found = {}
     for column, value in values.items():
         *above, last = COLUMNS[column]
         table = found
         for key in above:
             table = table.setdefault(key, {})
-        table[last] = CODED[column](value) if column in CODED else value
+        table[last] = with_number(base, value) if column == "msisdn" else CODED[column](value) if column in CODED else value
     return found
+
+
+def with_number(base, number):
+    """The entries of EF_MSISDN in a profile, the first of them with this number: its name and the other entries stay."""
+    told = base.get(profile.same_file(base, "EF_MSISDN"), {}).get("entries")
+    first, *others = told or [{"name": ""}]
+    return [{**first, "number": number}, *others]
 
 
 def cards(content, name, rows, list_name, step):
@@ -172,7 +179,7 @@ def cards(content, name, rows, list_name, step):
     found, faults = [], []
     for line, values in rows:
         try:
-            lines, warnings = profile.made(profile.merged(base, keys_of(values)))
+            lines, warnings = profile.made(profile.merged(base, keys_of(values, base)))
             found.append(Card(line, values, profile.Made(lines, [fault.reason for fault in warnings])))
         except profile.BadProfile as bad:
             faults += [f"{list_name}, line {line}: {fault.reason}" for fault in bad.faults]

@@ -1,7 +1,7 @@
 """Makes the lines of a script of a profile."""
 import contextlib
 
-from . import coding, contents, dump, fields, forms, grammar, kinds, layout, names, rules, structured, tree
+from . import access, coding, contents, dump, fields, forms, grammar, kinds, layout, names, rules, structured, tree
 from .coding import BadContent
 from .profile_names import ARR, OPERATIONS, PIN_KEYS, Fault, is_arr_in_folder, is_file_table, path_of, told_origin
 
@@ -148,10 +148,21 @@ class Builder:
     def _rule_of(self, name, given):
         """The rule of a file: the identifier of an EF_ARR and the number of a record; None where it has none."""
         if "rule" in given:
-            return None if given["rule"] in ("none", "-") else grammar.read_rule(given["rule"])
-        wrong = [operation for operation in OPERATIONS
-                 if operation in given and not self._is_condition(operation, given[operation], name)]
-        return None if wrong else self._rule({**self.default, **given}, path_of(name))
+            return named_rule(given["rule"])
+        said = [operation for operation in OPERATIONS if operation in given]
+        wrong = [operation for operation in said if not self._is_condition(operation, given[operation], name)]
+        if wrong:
+            return None
+        for operation in said:
+            self._doubt_condition(name, operation, given[operation])
+        return self._rule({**self.default, **given}, path_of(name))
+
+    def _doubt_condition(self, name, operation, who):
+        """Notes a condition of which a part makes no difference."""
+        (_, _, tree), = rules.pairs(rules.written({operation: who}))
+        left = access.left_of(tree)
+        if left != tree:
+            self.doubts.append(Fault((name, operation), f"{told_origin((name,))} {operation}: `{who}` comes to `{rules.in_words(left)}`"))
 
     def _kept_rules(self, name, given):
         """The records of EF_ARR that the profile has as they are: they keep their numbers."""
@@ -187,6 +198,9 @@ class Builder:
         try:
             made = described(path, given, self.usim)
             self._doubt_number(name, path, made[1])
+            if "increase" in given and made[0].structure != "c":
+                self.doubts.append(Fault((name, "increase"), f"{told_origin((name,))} increase: no file is increased but a cyclic one, and this is "
+                                         + tree.STRUCTURES[made[0].structure]))
             return name, path, made, rule
         except ValueError as fault:
             keys = [key for key in given if key in fields.KEYS]
@@ -196,12 +210,17 @@ class Builder:
         return None
 
     def _doubt_number(self, name, path, content):
-        """Notes a card's number whose check digit is wrong."""
-        if (names.file(path, self.usim) or {}).get("content") == "iccid" and isinstance(content, bytes) and not coding.is_blank(content):
-            try:
+        """Notes a card's number whose check digit is wrong, and an IMSI of other than 15 digits."""
+        kind = (names.file(path, self.usim) or {}).get("content")
+        if kind not in ("iccid", "imsi") or not isinstance(content, bytes) or coding.is_blank(content):
+            return
+        try:
+            if kind == "iccid":
                 contents.check_iccid(content)
-            except BadContent as fault:
-                self.doubts.append(Fault((name,), f"{told_origin((name,))}: {fault}"))
+            else:
+                contents.check_imsi(content)
+        except BadContent as fault:
+            self.doubts.append(Fault((name,), f"{told_origin((name,))}: {fault}"))
 
     # lines
 
@@ -300,6 +319,15 @@ class Builder:
         for event, actions in applet.get("on", {}).items():
             self.say(f"on {event}: {', '.join(actions)}")
         self._emit(f"row {shelf} {applet.get('priority', 1)} {content.hex().upper()}", "")
+
+
+def named_rule(word):
+    """The rule that a profile names: the identifier of an EF_ARR and the number of a record; None where everybody may do all."""
+    try:
+        return None if word == "none" else grammar.read_rule(word)
+    except grammar.Wrong:
+        raise BadContent(f"`rule` is an EF_ARR and the number of a record in it, as \"2F06:3\", or \"none\", by which everybody may do all, "
+                         f"and not \"{word}\"") from None
 
 
 def nearest_arr(arrs, path):

@@ -11,7 +11,7 @@ A command that isn't answered 9000, 91XX or a warning raises StatusError, which 
 import dataclasses
 import os
 
-from . import decode, described, fields, image, kept, layout, lint, names, process, profile, refusals, tlv
+from . import coding, decode, described, fields, image, kept, layout, lint, names, process, profile, refusals, tlv
 from .follow import Follower
 from .status import Status
 from .toolkit import MEMORY_PROBLEM, Toolkit, ToolkitNow
@@ -20,6 +20,8 @@ PROFILE = bytes.fromhex("2900BF6171000013")
 WARNINGS = ("6282", "6283")
 MOST = 256
 PIN_LENGTH = 8
+PIN_NAMES = {**profile.PIN_KEYS, "adm1": profile.PIN_KEYS["adm"]}
+PIN_COMMANDS = (0x20, 0x24, 0x26, 0x28, 0x2C)
 
 
 class CardError(Exception):
@@ -105,12 +107,40 @@ class Proactive:
 
 def as_bytes(content):
     """Bytes, or hexadecimal digits with or without spaces between them."""
-    return bytes.fromhex(content) if isinstance(content, str) else bytes(content)
+    if not isinstance(content, str):
+        return bytes(content)
+    try:
+        return bytes.fromhex(content)
+    except ValueError:
+        raise ValueError(f"`{content}` is no bytes: these are an even number of hexadecimal digits") from None
 
 
 def pin_bytes(value):
-    """A PIN of digits, filled up with FF; or its eight bytes."""
-    return value.encode().ljust(PIN_LENGTH, b"\xFF") if isinstance(value, str) else bytes(value)
+    """A PIN of four to eight digits, filled up with FF, or its eight bytes as 16 hexadecimal digits; bytes are sent as they are."""
+    if isinstance(value, (bytes, bytearray)):
+        return bytes(value)
+    if not isinstance(value, str):
+        raise TypeError(f"a PIN is text or bytes, and not {value!r}")
+    if coding.is_digits(value) and 4 <= len(value) <= PIN_LENGTH:
+        return value.encode().ljust(PIN_LENGTH, b"\xFF")
+    if len(value) == 2 * PIN_LENGTH:
+        return as_bytes(value)
+    raise ValueError(f"a PIN is four to eight digits, or eight bytes as 16 hexadecimal digits, and not `{value}`: bytes are sent as they are")
+
+
+def pin_key(key):
+    """The key of a PIN by its name; any number is one that may be tried."""
+    if isinstance(key, int):
+        return key
+    if str(key).lower() not in PIN_NAMES:
+        raise ValueError(f"no PIN is called `{key}`: {', '.join(PIN_NAMES)} are, and their keys 0x01, 0x81 and 0x0A")
+    return PIN_NAMES[str(key).lower()]
+
+
+def record_number(number):
+    if not isinstance(number, int) or not 0 <= number <= 0xFF:
+        raise ValueError(f"the number of a record is one byte, 1 to 255, and not {number!r}")
+    return number
 
 
 class Card:
@@ -255,7 +285,10 @@ class Card:
         return StatusError(command, answer.data, answer.status, self.why(command, answer.status))
 
     def why(self, command: bytes, status: Status) -> str | None:
-        """Why a command was refused with 6982, 6985 or 6A84, before any other one is sent; None where that isn't known."""
+        """Why a command was refused with 6982, 6985 or 6A84, before any other one is sent, or with 6A88 for the key of a PIN; None where
+        that isn't known."""
+        if status == "6A88" and command[1:2] and command[1] in PIN_COMMANDS and command[3] not in PIN_NAMES.values():
+            return "the keys of PINs are 01, 81 (PIN 2) and 0A (ADM1)"
         return refusals.reason(self._follower, decode.Apdu(command), status, self.now) if status in refusals.STATUSES else None
 
     def _command(self, ins, p1, p2, data=b"", le=None, toolkit=False, channel=0):
@@ -334,11 +367,11 @@ class Card:
 
     def read_record(self, number: int) -> bytes:
         """A record of the current EF; the first one is 1."""
-        return self._command(decode.READ_RECORD, number, 4, le=MOST).data
+        return self._command(decode.READ_RECORD, record_number(number), 4, le=MOST).data
 
     def update_record(self, number: int, content: bytes | str) -> Answer:
         """Writes a whole record of the current EF."""
-        return self._command(decode.UPDATE_RECORD, number, 4, as_bytes(content))
+        return self._command(decode.UPDATE_RECORD, record_number(number), 4, as_bytes(content))
 
     def add_record(self, content: bytes | str) -> Answer:
         """Writes over the oldest record of a cyclic EF, which becomes record 1."""
@@ -367,7 +400,9 @@ class Card:
         """Selects a file and writes what one key says of it: card.write("EF.SPN", spn="Example"). A list of entries is written from record 1
         on; with `record` one entry is: card.write("EF.ADN", 3, entries={"name": "Anna", "number": "110"})."""
         if len(said) != 1:
-            raise ValueError("one key says what a file holds")
+            raise ValueError("one key says what a file holds: card.write(\"EF.SPN\", spn=\"Example\")")
+        if record is not None:
+            record_number(record)
         (key, value), = said.items()
         file = self._selected(name)
         content = fields.written(key, value, self._entry(file), file.length, record)
@@ -427,13 +462,14 @@ class Card:
 
     # PINs
 
-    def verify(self, key: int, value: str | bytes) -> Answer:
-        """Presents the value of a PIN: keys 0x01 and 0x81 are PIN 1 and 2, 0x0A is ADM1."""
-        return self._command(0x20, 0, key, pin_bytes(value))
+    def verify(self, key: int | str, value: str | bytes) -> Answer:
+        """Presents the value of a PIN: keys 0x01 and 0x81 are PIN 1 and 2, 0x0A is ADM1; or "pin1", "pin2", "adm". A value is four to eight
+        digits, or eight bytes as 16 hexadecimal digits; bytes are sent as they are."""
+        return self._command(0x20, 0, pin_key(key), pin_bytes(value))
 
-    def tries(self, key: int) -> int:
+    def tries(self, key: int | str) -> int:
         """How many tries of a PIN are left."""
-        command = bytes((0, 0x20, 0, key))
+        command = bytes((0, 0x20, 0, pin_key(key)))
         answer = self.transmit(command)
         if answer.status == "6983":
             return 0
@@ -441,21 +477,21 @@ class Card:
             raise self._refusal(command, answer)
         return answer.status.sw2 & 0x0F
 
-    def change_pin(self, key: int, value: str | bytes, new: str | bytes) -> Answer:
+    def change_pin(self, key: int | str, value: str | bytes, new: str | bytes) -> Answer:
         """CHANGE PIN, from a value to a new one."""
-        return self._command(0x24, 0, key, pin_bytes(value) + pin_bytes(new))
+        return self._command(0x24, 0, pin_key(key), pin_bytes(value) + pin_bytes(new))
 
-    def disable_pin(self, key: int, value: str | bytes) -> Answer:
+    def disable_pin(self, key: int | str, value: str | bytes) -> Answer:
         """DISABLE PIN: what asks for it is free."""
-        return self._command(0x26, 0, key, pin_bytes(value))
+        return self._command(0x26, 0, pin_key(key), pin_bytes(value))
 
-    def enable_pin(self, key: int, value: str | bytes) -> Answer:
+    def enable_pin(self, key: int | str, value: str | bytes) -> Answer:
         """ENABLE PIN, which takes DISABLE PIN back."""
-        return self._command(0x28, 0, key, pin_bytes(value))
+        return self._command(0x28, 0, pin_key(key), pin_bytes(value))
 
-    def unblock_pin(self, key: int, unblock: str | bytes, new: str | bytes) -> Answer:
-        """UNBLOCK PIN: presents the unblock value, and gives the PIN a new one."""
-        return self._command(0x2C, 0, key, pin_bytes(unblock) + pin_bytes(new))
+    def unblock_pin(self, key: int | str, unblock: str | bytes, new: str | bytes) -> Answer:
+        """UNBLOCK PIN: presents the unblock value (the PUK), and gives the PIN a new one."""
+        return self._command(0x2C, 0, pin_key(key), pin_bytes(unblock) + pin_bytes(new))
 
     # toolkit
 

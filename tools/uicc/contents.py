@@ -9,6 +9,10 @@ from .coding import (
     packed, text_of)
 from .names import table
 
+IMSI_DIGITS = 15
+# the services of an emergency call, by the bits of its category (3GPP TS 24.008, 10.5.4.33)
+EMERGENCIES = ("police", "ambulance", "fire brigade", "marine guard", "mountain rescue", "manual eCall", "automatic eCall", "spare")
+
 
 def decode_iccid(content):
     digits = digits_of(content)
@@ -24,6 +28,13 @@ def check_iccid(content):
         raise BadContent("the card has no number")
     if len(digits) > 18 and luhn(digits[:-1]) != digits[-1]:
         raise BadContent(f"the check digit of {digits} is {digits[-1]}, and should be {luhn(digits[:-1])}")
+
+
+def check_imsi(content):
+    """BadContent, where an IMSI hasn't the digits that nearly every one has."""
+    digits = decode_imsi(content)
+    if len(digits) != IMSI_DIGITS:
+        raise BadContent(f"nearly every IMSI has {IMSI_DIGITS} digits, and {digits} {len(digits)}")
 
 
 def luhn(digits):
@@ -321,8 +332,9 @@ def decode_languages(content):
 
 
 def encode_languages(languages):
-    if any(len(word) != 2 or not word.isalpha() or not word.isascii() for word in languages):
-        raise BadContent("a language is two letters")
+    wrong = next((word for word in languages if len(word) != 2 or not word.isalpha() or not word.isascii() or not word.islower()), None)
+    if wrong is not None:
+        raise BadContent(f"a language is two small letters (ISO 639), as `de`, and not `{wrong}`")
     return "".join(languages).encode()
 
 
@@ -346,7 +358,9 @@ def decode_rule(record):
 def decode_ecc(record):
     if is_blank(record):
         return None
-    return digits_of(record[:3]) + (f" ({text_of(record[3:-1])})" if len(record) > 4 and not is_blank(record[3:-1]) else "")
+    services = [name for bit, name in enumerate(EMERGENCIES) if record[-1] >> bit & 1]
+    category = f", category {record[-1]}: {', '.join(services)}" if len(record) > 3 and record[-1] not in (0x00, 0xFF) else ""
+    return digits_of(record[:3]) + (f" ({text_of(record[3:-1])})" if len(record) > 4 and not is_blank(record[3:-1]) else "") + category
 
 
 def decode_sms(record):
@@ -362,7 +376,13 @@ def decode_smsp(record):
     name, rest = record[:-28], record[-28:]
     centre = rest[13:25]
     has = not rest[0] & 0x02 and 1 <= centre[0] <= 11
-    return f"{text_of(name) or 'no name'}, centre {dialled_digits(centre[2:1 + centre[0]], centre[1]) if has else 'none'}"
+    parts = [text_of(name) or "no name", f"centre {dialled_digits(centre[2:1 + centre[0]], centre[1]) if has else 'none'}"]
+    if not rest[0] & 0x01:
+        parts.append(f"destination {structured.address_of(rest[1:13], True)}")
+    parts += [f"{what} {rest[place]}" for bit, place, what in ((0x04, 25, "protocol"), (0x08, 26, "coding")) if not rest[0] & bit]
+    if not rest[0] & 0x10:
+        parts.append(f"validity {structured.minutes_of(rest[27])} minutes")
+    return ", ".join(parts)
 
 
 def decode_number(content):

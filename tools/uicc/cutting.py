@@ -311,6 +311,9 @@ class Trial:
 
     def told(self, answers):
         """What tells one state from the other: the answers that aren't the same before and after, or each answer once."""
+        if bytes_of(self.command)[1] in PINS and len(self.old) == len(self.new) > 1:
+            # a VERIFY that reads back takes a try itself, so that each answer is told, in the order of what reads back
+            return ", ".join(map(spaced, answers))
         if self.old == self.new or not len(answers) == len(self.old) == len(self.new):
             return ", ".join(map(spaced, dict.fromkeys(answers)))
         differing = [n for n in range(len(answers)) if self.old[n] != self.new[n] or answers[n] != self.old[n]]

@@ -34,6 +34,8 @@ def texts_of(shown):
 
 def encode_application(given, length):
     aid, label = structured.hexadecimal(given["aid"]), contents.coded_text(given.get("label", ""))
+    if not 5 <= len(aid) <= 16:
+        raise BadContent(f"an AID has 5 to 16 bytes, and {given['aid']} {len(aid)}")
     content = rules.spelled(0x4F, aid) + (rules.spelled(0x50, label) if label else b"")
     return rules.spelled(0x61, content).ljust(length or 0, b"\xFF")
 
@@ -214,9 +216,10 @@ def about_unknown(key, entry):
     """What is said of a key that no file is told by."""
     own = KINDS.get(entry.get("content")) if entry else None
     meant = forms.near(key, KEYS)
-    if own and meant in (own.key, None):
+    if own and (meant in (own.key, None) or key in getattr(own.form, "keys", ())):
         return f"isn't known: `{own.key} = {own.example}` is"
-    return f"isn't known: `{meant}` is" if meant else f"isn't known: a file is told by one of {', '.join(KEYS)}"
+    return f"isn't known: `{meant}` is" if meant else (f"isn't known: what a file holds is said by `{HEX}` or `{RECORDS}`, "
+                                                       "and its shape by `size`, or `length` and `count`")
 
 
 def written(key, value, entry, size, record=None):

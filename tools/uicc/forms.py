@@ -22,7 +22,7 @@ def called(value):
 
 def near(word, known):
     """Of which known word another one is a slip; None where it is of none."""
-    found = difflib.get_close_matches(str(word).lower(), known, 1, 0.6)
+    found = difflib.get_close_matches(str(word).lower(), known, 1, 0.65)
     return found[0] if found else None
 
 

@@ -83,7 +83,7 @@ def in_folder(found, folder, usim=True):
 @functools.cache
 def file(path, usim=True):
     """The standard file at a path from the MF; None where there is none. In 7F20 it is that of a USIM where `usim` is so, else
-    that of GSM. In a folder that no standard has it there it is the one file that goes by its identifier."""
+    that of GSM. In a standard folder that no standard has it in it is the one file that goes by its identifier."""
     if not path:
         return files_of("3F00")[0]
     found = files_of(path[-1])
@@ -91,7 +91,7 @@ def file(path, usim=True):
         for entry in found:
             if place in entry["in"]:
                 return entry
-    return found[0] if len(found) == 1 and len(path) > 1 and found[0]["in"][0] in FOLDERS else None
+    return found[0] if len(found) == 1 and len(path) > 1 and places(path[:-1], usim) and found[0]["in"][0] in FOLDERS else None
 
 
 # what the folders hold whose files are found by their standard short identifiers
@@ -139,6 +139,7 @@ def known():
 
 def near(word):
     """Of which standard name a word is a slip, in the form of a profile's table; None where it is of none."""
-    by_normal = {normal(name): name for name in known()}
-    found = difflib.get_close_matches(normal(word), by_normal, 1)
+    prefix, _, name = normal(word).rpartition(".")
+    by_normal = {normal(each).partition(".")[2]: each for each in known() if normal(each).startswith(prefix)}
+    found = difflib.get_close_matches(name, by_normal, 1)
     return by_normal[found[0]] if found else None

@@ -24,7 +24,7 @@ CUT = "! cut"
 OFF = "! off"
 RESET = "! reset"
 LONGEST_COMMAND = 261
-# the comments of a script may be in any encoding, so each byte is a letter
+# the comments of a script may be in any encoding, so each byte is a letter; a letter that is no byte becomes `?`
 ENCODING = "latin-1"
 
 # what each status of the program says
@@ -122,7 +122,7 @@ class Simulator:
 
     def __init__(self, words, section=()):
         self.process = subprocess.Popen([program(), *words], stdin=subprocess.PIPE, stdout=subprocess.PIPE, stderr=subprocess.PIPE,
-                                        encoding=ENCODING, bufsize=1, start_new_session=True)
+                                        encoding=ENCODING, errors="replace", bufsize=1, start_new_session=True)
         self._last, self._said = "", []
         self._listener = threading.Thread(target=self._listen, daemon=True)
         self._listener.start()
@@ -223,7 +223,7 @@ def played(words, text):
     """The trace of a script's text, as lines, the exit status, and what was said on standard error. They go through files and not
     through pipes, so that nothing is woken but when the run has ended."""
     with file_in_memory() as script, file_in_memory() as shown, file_in_memory() as said:
-        script.write(text.encode(ENCODING))
+        script.write(text.encode(ENCODING, "replace"))
         script.seek(0)
         status = subprocess.run([program(), *words], stdin=script, stdout=shown, stderr=said, check=False).returncode
         shown.seek(0)

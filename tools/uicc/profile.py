@@ -6,7 +6,7 @@ import re
 import tomllib
 import typing
 
-from . import dump, fields, forms, lint, located, names
+from . import checking, dump, fields, forms, lint, located, names
 from .building import Builder, described, nearest_arr
 from .profile_faults import OF_FILE, faults_at_top, faults_of_file
 from .profile_names import (
@@ -44,7 +44,7 @@ def made_in(content, name):
     """What a profile's bytes become, which are called so. BadProfile, with all that is wrong."""
     given, text, unread = read(content, name)
     tables, faults = laid_over_template(given)
-    lines, warnings, more = judged(tables, bool(faults or unread))
+    lines, warnings, more = judged(tables, bool(faults or unread), given)
     if unread or faults or more:
         raise BadProfile(with_lines(faults + more, name, text, unread))
     return Made(lines, [fault.reason for fault in with_lines(warnings, name, text)])
@@ -180,9 +180,10 @@ def made(profile):
     return lines, doubtful
 
 
-def judged(profile, is_part=False):
+def judged(profile, is_part=False, own=()):
     """The lines of the script of a profile, what is doubtful in it and what is wrong with it: a fault each. A key with a fault is left out
-    for what is found after it; what may come of that is no fault, and neither is what may be missing in the part of a profile."""
+    for what is found after it; what may come of that is no fault, and neither is what may be missing in the part of a profile. Of the
+    files that are named in `own`, it is doubtful too what the standard has otherwise."""
     faults = list(faults_at_top(profile))
     tables = [(name, value) for name, value in profile.items() if is_file_table(name, value)]
     usim = is_usim(path for name, _ in tables if (path := path_or_none(name)))
@@ -192,9 +193,27 @@ def judged(profile, is_part=False):
     builder = Builder(without(profile, [fault.path for fault in faults]), usim)
     builder.build()
     faults += [fault for fault in builder.faults if is_own(fault, faults, is_part)]
-    bad, doubtful = findings_in(builder)
+    script = lint.read("".join(line + "\n" for line in builder.lines))
+    bad, doubtful = findings_in(script, builder.origins)
     spoilt = {part_of(fault.path) for fault in faults}
-    return builder.lines, builder.doubts + doubtful, faults + [fault for fault in bad if not is_part and part_of(fault.path) not in spoilt]
+    faults += [fault for fault in bad if not is_part and part_of(fault.path) not in spoilt]
+    doubtful += [] if faults else faults_by_standard(script.card, own, usim)
+    return builder.lines, builder.doubts + doubtful, faults
+
+
+def faults_by_standard(card, own, usim):
+    """What the standard has otherwise of files of a card, by the tables of a profile that name them: a fault each."""
+    found, unreadable = [], list(checking.unreadable(card, usim))
+    for name in own:
+        path = path_or_none(name) if is_file_table(name, own[name]) else None
+        file = card.files.get(path)
+        if file and not file.is_df:
+            shown = names.shown(path, usim)
+            # that a rule allows nothing is said by lint
+            told = [text for text in checking.wrong_file(card, file, usim) if not text.startswith(f"{shown}: its rule")]
+            told += [text for text in unreadable if text.startswith(f"{shown}:")]
+            found += [Fault((name,), told_origin((name,)) + text.removeprefix(shown)) for text in told]
+    return found
 
 
 def faults_beside(name, given, faults, usim):
@@ -214,11 +233,11 @@ def faults_beside(name, given, faults, usim):
                 yield Fault((name, key), dump.printable(f"{shown_name(name)} {key}: entry {place}: {fault}"))
 
 
-def findings_in(builder):
-    """What lint finds bad in the lines that were made, and what doubtful: a fault each."""
+def findings_in(script, origins):
+    """What lint finds bad in the lines that were made, and what doubtful: a fault each. `origins` are the keys that say each line."""
     bad, doubtful = [], []
-    for finding in lint.read("".join(line + "\n" for line in builder.lines)).findings:
-        origin = builder.origins[min(finding.line, len(builder.lines)) - 1]
+    for finding in script.findings:
+        origin = origins[min(finding.line, len(origins)) - 1]
         fault = Fault(origin, f"{told_origin(origin)}: {OF_SCRIPT.sub('', finding.reason)}")
         (bad if finding.kind in lint.STATUSES else doubtful).append(fault)
     return bad, doubtful

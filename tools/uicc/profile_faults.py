@@ -14,6 +14,15 @@ OF_FILE = {
     "folder": (forms.TRUTH, "true"),
     **{operation: (forms.TEXT, '"pin1 or adm"') for operation in OPERATIONS},
 }
+SHAPE = "`size` makes a file transparent, `length` and `count` one with records, and `cyclic = true` a cyclic one"
+BY_ADM = "{} asks for the administrator's PIN, and no rule of a file says otherwise"
+# what is meant by other words for those
+SLIPS = {
+    "write": "it is called `update`", "search": "who may read may search too: `read`", "invalidate": "it is called `deactivate`",
+    "rehabilitate": "it is called `activate`", "delete": BY_ADM.format("DELETE FILE"), "create": BY_ADM.format("CREATE FILE"),
+    "resize": BY_ADM.format("RESIZE FILE"), "sfi": "it is called `short`", "structure": SHAPE, "type": SHAPE, "record_length": "it is called `length`",
+    "record_count": "it is called `count`", "content": "it is called `hex`, or `records`", "data": "it is called `hex`, or `records`",
+}
 PIN = forms.TableOf({"value": forms.NUMBER_OR_TEXT, "unblock": forms.NUMBER_OR_TEXT, "on": forms.TRUTH},
                     slips={"puk": "it is called `unblock`", "pin": "it is called `value`", "off": "`on = false` is"})
 PUK = 'the PUK of a PIN stands with it: pin1 = { value = "1234", unblock = "12345678" }'
@@ -133,5 +142,7 @@ def faults_of_content(key, value, entry):
 def about_key(key, value, entry):
     if isinstance(value, dict):
         return "is a table in it: a file in a folder is called [\"7F20/EF_IMSI\"], in quotes and with a slash"
+    if key.lower() in SLIPS:
+        return f"isn't known: {SLIPS[key.lower()]}"
     meant = forms.near(key, list(OF_FILE))
     return f"isn't known: `{meant}` is" if meant else fields.about_unknown(key, entry)

@@ -1,4 +1,5 @@
 """How profiles name files, and how what is wrong with one is told."""
+import re
 import typing
 
 from . import dump, names, rules
@@ -6,6 +7,8 @@ from . import dump, names, rules
 OPERATIONS = (*rules.OPERATIONS, "increase")
 PIN_KEYS = {"pin1": 0x01, "pin2": 0x81, "adm": 0x0A}
 ARR = ("2F06",)
+# a path whose identifiers stand together, or with something else than a slash between them
+PATH_OTHERWISE = re.compile(r"[0-9A-Fa-f]{4}([.\\:_ -]?[0-9A-Fa-f]{4})+")
 # the keys at the top of a profile that name no file
 TOP = ("like", "pins", "default", "applet")
 
@@ -45,10 +48,16 @@ def parts_of(name):
 
 def identifier_of(part, folder, whole):
     """The identifier of a file by itself or by its standard name, in a folder where one is told."""
+    if names.normal(part).startswith("ADF") or part.upper() == "7FFF":
+        raise BadProfile(f"[{dump.printable(whole)}] {dump.printable(part)}: a card here has no ADF: the files of a USIM lie in the folder 7F20, as "
+                         "[\"7F20/EF_IMSI\"], and those of an ISIM in 7FF2", whole)
     if dump.is_identifier(part):
         return part.upper()
     found = names.by_name(part)
     if not found:
+        several = PATH_OTHERWISE.fullmatch(part)
+        if several:
+            raise BadProfile(f"[{dump.printable(whole)}]: a path is written with slashes, [\"{'/'.join(re.findall('[0-9A-Fa-f]{4}', part))}\"]", whole)
         meant = names.near(part)
         raise BadProfile(f"[{dump.printable(whole)}] {dump.printable(part)}: no standard file is called so"
                          + (f", but {meant} is" if meant else "") + "; an identifier of four digits names any other", whole)

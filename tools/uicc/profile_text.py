@@ -229,10 +229,12 @@ def of_card(card):
 
 
 def common_words(card):
-    """The words of the rule that most files name; none where no file has words."""
+    """The words of the rule that most files name of those by which nobody but the administrator changes anything: they hold for files that
+    are added later. Where no file names such a rule, those of the rule that most files name; none where no file has words."""
     found = [words for file in card.files.values() if file.rule and not card.about_rule(file)
              if (words := words_of(card.rule_file(file).record(file.rule[1])))]
-    return max(found, key=found.count) if len(found) > 1 else {}
+    closed = [words for words in found if all(who in ("adm", "never") for operation, who in words.items() if operation != "read")]
+    return max(closed or found, key=found.count) if len(found) > 1 else {}
 
 
 def card_of(text):

@@ -21,16 +21,18 @@ def cell(card, file, operation):
         return ""
     tree = access.condition(card, file, operation)
     left = access.effective(card, tree)
-    words = rules.in_words(left)
-    return words if left == tree else f"{words} (not {rules.in_words(tree)}: {about(card, tree)})"
+    words, why = rules.in_words(left), about(card, tree)
+    if left == tree:
+        return words
+    return f"{words} (not {rules.in_words(tree)}: {why})" if why else f"{words} (its rule says {rules.in_words(tree)})"
 
 
 def about(card, tree):
-    """Why less is left of a condition than its rule says."""
+    """Which PINs are why less is left of a condition than its rule says; nothing where none is."""
     absent = [key for key in access.keys_of(tree) if key not in card.pins]
     off = [key for key in access.keys_of(tree) if key in card.pins and not card.pins[key].enabled]
     parts = [f"{names.key(key)} is off" for key in sorted(off)] + [f"{names.key(key)} isn't there" for key in sorted(absent)]
-    return ", ".join(parts) or "it can be said in fewer words"
+    return ", ".join(parts)
 
 
 def outcomes(card, wanted):

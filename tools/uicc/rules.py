@@ -2,7 +2,8 @@
 
 In words a rule is a mapping of operations to conditions: `{"read": "always", "update": "pin1 or adm"}`. An operation is read,
 update, deactivate, activate or increase; a condition is always, never, pin1, pin2, adm, or several of these joined by `or` or
-`and`."""
+`and`, of which `and` binds first, with brackets where it is to be otherwise."""
+import re
 
 OPERATIONS = {"read": 0x01, "update": 0x02, "deactivate": 0x08, "activate": 0x10}
 INCREASE = 0x32
@@ -107,16 +108,47 @@ def spelled(tag, value):
 
 
 def condition_of(words):
-    """The bytes of a condition in words."""
-    words = words.strip()
-    for word, tag in ((" or ", ONE_OF), (" and ", ALL_OF)):
-        if word in words:
-            return spelled(tag, b"".join(condition_of(part) for part in words.split(word)))
+    """The bytes of a condition in words. `and` binds before `or`, and brackets before both."""
+    parts = re.findall(r"[()]|[^\s()]+", words)
+    content = one_of(parts, 1)
+    if parts:
+        raise NoRule(f"`{words.strip()}` is no condition: a bracket is closed that isn't open")
+    return content
+
+
+def one_of(parts, levels):
+    return several_of(parts, "or", ONE_OF, lambda rest: several_of(rest, "and", ALL_OF, lambda last: single(last, levels)))
+
+
+def several_of(parts, word, tag, one):
+    """The bytes of conditions that are joined by a word; those of the condition itself where it is alone. What was read is taken away."""
+    found = [one(parts)]
+    while parts and parts[0] == word:
+        del parts[0]
+        found.append(one(parts))
+    return spelled(tag, b"".join(found)) if len(found) > 1 else found[0]
+
+
+def single(parts, levels):
+    """The bytes of a condition without `or` and `and`, or of one in brackets."""
+    if parts[:1] == ["("]:
+        if levels > DEEPEST:
+            raise NoRule(f"brackets stand more than {DEEPEST} deep")
+        del parts[0]
+        content = one_of(parts, levels + 1)
+        if parts[:1] != [")"]:
+            raise NoRule("a bracket isn't closed in a condition")
+        del parts[0]
+        return content
+    end = next((place for place, part in enumerate(parts) if part in ("or", "and", "(", ")")), len(parts))
+    words = " ".join(parts[:end])
+    del parts[:end]
     if words in ("always", "never"):
         return bytes((ALWAYS if words == "always" else NEVER, 0))
     if words in KEYS:
         return bytes((BY_KEY, 6, 0x83, 1, KEYS[words], 0x95, 1, 8))
-    meant = f", but `{SLIPS[words.lower()]}` is" if words.lower() in SLIPS else ""
+    meant = SLIPS.get(words.lower(), words.lower())
+    meant = f", but `{meant}` is" if meant in (*KEYS, "always", "never") else ""
     raise NoRule(f"`{words}` is no condition{meant}: always, never, {', '.join(KEYS)}, joined by `or` or `and`")
 
 

@@ -2,6 +2,8 @@
 
 A file has sequences, each a line `sequence NAME` and the lines of its steps. `read` reads a file, and tells its bad lines."""
 import dataclasses
+import itertools
+import re
 
 from . import decode, grammar, names, tlv
 from .handset import details_of
@@ -21,11 +23,17 @@ ENVELOPES = {"menu selection": (0xD3, 0x01), "call control": (0xD4, TERMINAL), "
 DESTINATIONS = {
     "PLAY TONE": 0x03, "DISPLAY TEXT": 0x02, "SET UP CALL": 0x83, "SEND SS": 0x83, "SEND USSD": 0x83, "SEND SHORT MESSAGE": 0x83,
     "SEND DTMF": 0x83, "CLOSE CHANNEL": 0x21, "RECEIVE DATA": 0x21, "SEND DATA": 0x21}
+# the bits of a terminal's profile for commands that are written by their types (ETSI TS 102 223, 5.2): byte and bit
+OF_TYPES = {0x30: (7, 3), 0x31: (7, 1), 0x32: (7, 2), 0x33: (7, 4), 0x34: (8, 6), 0x35: (9, 6)}
+BIT = re.compile(r"byte ([0-9]{1,3}) bit ([1-8])")
 # what a terminal's profile says of a command whose bit has another name
 OF_TIMERS = {0x00: "TIMER MANAGEMENT start and stop", 0x01: "TIMER MANAGEMENT start and stop", 0x02: "TIMER MANAGEMENT get"}
 LOCAL_INFORMATION = {0x02: "network measurement results", 0x03: "date and time", 0x04: "language", 0x05: "timing advance", 0x06: "access technology"}
 # a command that the card has ready when the one before it is answered
 THEN = "then"
+# what a terminal notes of what it shows, and how that is written
+NOTES = ("text", "ask", "default", "choose", "menu", "tone", "idle", "call", "barred", "busy")
+SHOWN = "text T, ask T, default T, choose N, menu N, tone HH or idle T"
 # what a user does at a terminal that may be another one than the handset
 MORE_ACTS = ("help", "refuse")
 
@@ -111,6 +119,13 @@ class Sequence:
     def commands(self):
         return [step for step in self.steps if isinstance(step, Give)]
 
+    def unanswered(self):
+        """The commands after which no response is asked for, and no reset."""
+        for place, step in enumerate(self.steps):
+            after = itertools.takewhile(lambda other: not isinstance(other, Give), self.steps[place + 1:])
+            if isinstance(step, Give) and not any(isinstance(other, (Respond, Restart)) for other in after):
+                yield step
+
 
 class Orphan(Wrong):
     """Nothing stands above a line that it belongs to."""
@@ -142,8 +157,19 @@ def known_profile():
     return set(names.table("toolkit")["profile"].values())
 
 
-def needs_of(name, qualifier):
+def has(profile, need):
+    """Whether the bytes of a terminal's profile say that it has something: by its name, or as `byte 9 bit 6`."""
+    place = BIT.fullmatch(need)
+    if not place:
+        return need in decode.profile(profile)
+    byte, bit = map(int, place.groups())
+    return 0 < byte <= len(profile) and bool(profile[byte - 1] >> bit - 1 & 1)
+
+
+def needs_of(name, qualifier, kind=None):
     """What a terminal's profile must have for a command; None where the profile tells nothing of it."""
+    if kind in OF_TYPES:
+        return "byte {} bit {}".format(*OF_TYPES[kind])
     if name == "TIMER MANAGEMENT":
         return OF_TIMERS.get(qualifier)
     if name == "PROVIDE LOCAL INFORMATION" and qualifier in LOCAL_INFORMATION:
@@ -192,8 +218,8 @@ class Reader:
 
     def needs(self, _, __, rest):
         for name in (part.strip() for part in rest.split(",")):
-            if name not in known_profile():
-                raise Wrong(f"a terminal profile has no `{name}`: {', '.join(sorted(known_profile()))}")
+            if name not in known_profile() and not BIT.fullmatch(name):
+                raise Wrong(f"a terminal profile has no `{name}`: {', '.join(sorted(known_profile()))}, or a bit of it, as `byte 9 bit 6`")
             self.sequence().needs.append(name)
 
     def command(self, number, text, rest):
@@ -206,7 +232,7 @@ class Reader:
         step = Give(number, text, raw, text.startswith(THEN))
         if step.follows and not self.sequence().commands():
             raise Orphan("no command stands before this one")
-        needed = needs_of(step.name, step.details[2])
+        needed = needs_of(step.name, step.details[2], step.details[1])
         if needed and needed not in self.sequence().needs:
             self.sequence().needs.append(needed)
         self.add(step)
@@ -216,7 +242,10 @@ class Reader:
         name = None
         kind = int(words.take(""), 16) if words and is_code(words.left[0]) else None
         if kind is None:
-            kind = words.take_name(COMMANDS, "command, nor a type of two digits")
+            try:
+                kind = words.take_name(COMMANDS, "command, nor a type of two digits")
+            except Wrong as fault:
+                raise Wrong(f"{fault}; one that has no name here is written by its type, as `command 35`") from None
         name = decode.details_name(kind)
         number, qualifier, source, destination = len(self.sequence().commands()) + 1, 0, CARD, DESTINATIONS.get(name, TERMINAL)
         without, found = set(), []
@@ -241,7 +270,9 @@ class Reader:
 
     def shown(self, number, text, rest):
         if not rest:
-            raise Wrong("what is shown is missing: shown text T, ask T, default T, choose N, menu N, tone HH or idle T")
+            raise Wrong(f"what is shown is missing: shown {SHOWN}")
+        if rest.split()[0] not in NOTES:
+            raise Wrong(f"no terminal shows `{rest.split()[0]}`: shown {SHOWN}")
         self.add(Shown(number, text, rest))
 
     def act(self, number, text, _):
@@ -329,7 +360,7 @@ def act_in(text):
         # no space stands at the end of a line here, so nothing is typed by `user type`
         said = grammar.read_line("user type " if text == "user type" else text)
     except grammar.Wrong as fault:
-        raise Wrong(str(fault)) from None
+        raise Wrong(str(fault) + (f"; and in a sequence {' and '.join(MORE_ACTS)}" if text.startswith("user ") else "")) from None
     if not isinstance(said, grammar.Handset):
         raise Wrong("this is for `bip`, and not for a terminal over a card")
     return said

@@ -9,8 +9,8 @@ import signal
 import threading
 import traceback
 
-from . import grammar, process, sending
-from .handset import Terminal
+from . import decode, grammar, process, sending
+from .handset import Terminal, details_of
 from .sequence import MORE_ACTS
 
 
@@ -56,7 +56,9 @@ def limited(seconds):
 
 
 def is_ones_own(path):
-    """Whether a file is neither of this package and its tools nor of Python's library."""
+    """Whether a file is neither of this package and its tools nor of Python's library, and a file at all: code that Python makes has none."""
+    if path.startswith("<"):
+        return False
     folder = os.path.dirname(os.path.realpath(path))
     ours = [os.path.realpath(place) for place in (process.PACKAGE, os.path.join(process.TOP, "tools"))]
     return folder not in ours and not (folder.startswith(LIBRARY) and not any(part in folder for part in INSTALLED))
@@ -195,7 +197,8 @@ class OfPhone(UnderTest):
         commands = [step.raw for step in sequence.commands()]
         self.section = sending.rows_for(commands)
         if self.section is None:
-            raise Unsupported("no applet of the card sends these commands")
+            raise Unsupported("no applet of the card sends these commands: " + ", ".join(
+                f"{decode.title_proactive(raw)} with the qualifier {details_of(raw)[2]:02X}" for raw in commands))
         self.wanted = {sending.body(raw) for raw in commands}
 
     def begin(self, player):

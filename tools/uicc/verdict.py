@@ -7,7 +7,7 @@ from . import decode, grammar, handset, names, tlv
 from .handset import DETAILS, details_of
 from .player import ASKED, FETCHED, MISFETCHED, PROFILED, RESET, RESPONDED, STRAY, TOLD, UNANNOUNCED, Player
 from .process import Ended, NotBuilt
-from .sequence import Act, Give, Poll, Quiet, Respond, Restart, Shown, Step, Tell
+from .sequence import Act, Give, Poll, Quiet, Respond, Restart, Shown, Step, Tell, has
 from .undertest import Lost, NotBack, Unable, Unsupported, limited, place_of, told, wrong_value
 from .wording import label_of
 
@@ -169,7 +169,7 @@ class Run:
         if told is None:
             self.step = Step(self.sequence.line, f"sequence {self.sequence.name}")
             raise Differs("no TERMINAL PROFILE comes")
-        lacking = [name for name in self.sequence.needs if name not in decode.profile(told.data)]
+        lacking = [name for name in self.sequence.needs if not has(told.data, name)]
         if lacking:
             raise Unsupported("its terminal profile doesn't have " + ", ".join(lacking))
         self._let_card_begin()
@@ -246,7 +246,7 @@ class Run:
         asked, self.is_user_asked = self.is_user_asked, False
         if heard is None:
             if self._find(STRAY) is not None:
-                raise Differs("a TERMINAL RESPONSE comes for a command that wasn't fetched")
+                raise Differs(self._stray())
             if asked and self.terminal.has_person:
                 raise Undecided(f"the terminal's user did nothing {self._told_seconds(step)}")
             raise Differs(f"no TERMINAL RESPONSE comes {self._told_seconds(step)}")
@@ -333,14 +333,24 @@ class Run:
         except Unable as why:
             raise Undecided(str(why)) from None
 
+    def _stray(self):
+        """What is said of a response to no command that waits for one: it names the command that it is for."""
+        try:
+            details = tlv.first(self.player.heard[self._find(STRAY)].data, DETAILS)
+        except tlv.BadTlv:
+            details = None
+        named = f", {decode.details_name(details[1])}" if details and len(details) > 1 else ""
+        return f"a TERMINAL RESPONSE comes for a command that wasn't fetched, or was answered already{named}"
+
     def _end(self):
         """Nothing came that no step asks for."""
-        for kind, what in ((STRAY, "a TERMINAL RESPONSE comes for a command that wasn't fetched"),
+        for kind, what in ((STRAY, ""),
                            (RESPONDED, "a TERMINAL RESPONSE comes that no step asks for"),
                            (UNANNOUNCED, "a FETCH comes where no command is announced"),
                            (RESET, "the card is reset, and no step asks for it"), (TOLD, "an ENVELOPE comes that no step asks for")):
             place = self._find(kind)
             if place is not None:
+                what = what or self._stray()
                 raise Differs(what, envelope_rows(self.player.heard[place].data) if kind == TOLD else ())
 
 

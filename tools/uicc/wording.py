@@ -7,6 +7,7 @@ import re
 import shlex
 
 from . import alphabet, decode, names, tlv
+from .coding import DIALLED
 
 DEVICES = {"keypad": 0x01, "display": 0x02, "earpiece": 0x03, "card": 0x81, "terminal": 0x82, "network": 0x83,
            **{f"channel{number}": 0x20 + number for number in range(1, 8)}}
@@ -184,7 +185,7 @@ def duration_value(words):
     if words.take_if("any"):
         return "????"
     count = words.number("a duration", 0, 255)
-    unit = words.take("minutes, seconds or tenths")
+    unit = words.take("the unit of a duration: minutes, seconds or tenths")
     if unit not in UNITS:
         raise Wrong(f"a duration is in minutes, seconds or tenths, not in {unit}")
     return f"{UNITS[unit]:02X}{count:02X}"
@@ -205,9 +206,9 @@ def events_value(words):
 def address_value(words):
     """A number as it is dialled, with + before an international one."""
     word = words.take("a number that is dialled")
-    if not re.fullmatch(r"\+?[0-9*#]{1,40}", word):
-        raise Wrong(f"a number that is dialled is + and digits, * and #, and not {word}")
-    digits = word.lstrip("+").replace("*", "A").replace("#", "B")
+    if not re.fullmatch(r"\+?[0-9*#pw]{1,40}", word):
+        raise Wrong(f"a number that is dialled is + and digits, *, #, p (a pause) and w (a wild value), and not {word}")
+    digits = "".join(f"{DIALLED.index(letter):X}" for letter in word.lstrip("+"))
     digits += "F" * (len(digits) % 2)
     return ("91" if word[0] == "+" else "81") + "".join(digits[n + 1] + digits[n] for n in range(0, len(digits), 2))
 
@@ -220,7 +221,7 @@ def time_value(words):
 
 
 def length_value(words):
-    return f"{words.number('the least length', 0, 255):02X}{words.number('the most', 0, 255):02X}"
+    return f"{words.number('the least length', 0, 255):02X}{words.number('the greatest length', 0, 255):02X}"
 
 
 def size_value(words):
@@ -270,6 +271,18 @@ OBJECTS = {
 }
 
 
+# the standard's terms for objects that have another word here
+SLIPS = {
+    **dict.fromkeys(("alpha", "alpha-identifier", "alphaid"), "the alpha identifier of a command is its `title`"),
+    **dict.fromkeys(("default-text", "defaulttext"), "the default text is `default`"),
+    **dict.fromkeys(("channel-data", "channeldata"), "channel data is `data`"),
+    **dict.fromkeys(("channel-data-length", "data-length"), "the channel data length is `count`"),
+    **dict.fromkeys(("buffer-size", "buffersize"), "the buffer size is `size`"),
+    **dict.fromkeys(("response-length", "responselength"), "the response length is `length`"),
+    **dict.fromkeys(("event-list", "eventlist"), "the event list is `events`"), "command-details": "the command details are `details`",
+}
+
+
 def raw_object(words):
     """An object by its tag, whose highest bit is the flag, and its value."""
     tag = words.byte("a tag")
@@ -283,6 +296,8 @@ def read_object(words):
     word = words.take("an object")
     if word == "object":
         return dataclasses.replace(raw_object(words), optional=optional)
+    if word.lower() in SLIPS:
+        raise Wrong(f"`{word}` is no object: {SLIPS[word.lower()]}")
     if word not in OBJECTS:
         raise Wrong(f"`{word}` is no object: {', '.join(OBJECTS)}, or object TAG VALUE")
     tag, value = OBJECTS[word]
