@@ -112,7 +112,7 @@ class Rules(unittest.TestCase):
         ({"update": "pin1 or adm"}, "800102A010A406830101950108A40683010A950108", "update: pin1 or adm"),
         ({"update": "pin1 and pin2"}, "800102AF10A406830101950108A406830181950108", "update: pin1 and pin2"),
         ({"read": "never", "increase": "always"}, "80010197008401329000", "read: never; increase: always"),
-        ({"read": "pin1 and adm or pin2"}, "800101A01CAF10A406830101950108A40683010A950108A406830181950108", "read: (pin1 and adm) or pin2"),
+        ({"read": "pin1 and adm or pin2"}, "800101A01AAF10A406830101950108A40683010A950108A406830181950108", "read: (pin1 and adm) or pin2"),
         ({"read": "pin1 and (adm or pin2)"}, "800101AF1AA406830101950108A010A40683010A950108A406830181950108", "read: pin1 and (adm or pin2)"),
     ]
     NONE = ["FFFF", "800101", "8001019100", "80010190008001", "800101A406830101950100", "8501019000", "800101A000",

@@ -321,7 +321,7 @@ class Batch(unittest.TestCase):
     def test_a_number_keeps_its_name(self):
         """What the list doesn't say of EF_MSISDN stays: the name of its entry, and the other entries."""
         rows = batch.rows_in(f"iccid,msisdn\n{self.ONE},+491701234567\n".encode(), "list.csv")
-        base = b'like = "usim"\n[EF_MSISDN]\nentries = [{ name = "Own", number = "+491110" }, { name = "Fax", number = "+491112" }]\n'
+        base = b'like = "usim"\n[EF_MSISDN]\ncount = 2\nentries = [{ name = "Own", number = "+491110" }, { name = "Fax", number = "+491112" }]\n'
         card, = batch.cards(base, "card.toml", rows, "list.csv", lambda: None)
         file = card_of(card.made.text).files[("7F10", "6F40")]
         self.assertEqual([contents.decode("dialling", file.record(number)) for number in (1, 2)], ["Own: +491701234567", "Fax: +491112"])

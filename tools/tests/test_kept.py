@@ -151,9 +151,9 @@ class Kept(unittest.TestCase):
                 self.assertEqual(image.settled(again), image.settled(held))
 
     def test_images_are_in_memory(self):
-        with kept.folder() as place:
-            self.assertEqual(place.startswith(kept.IN_MEMORY), os.access(kept.IN_MEMORY, os.W_OK))
-        with unittest.mock.patch.object(kept, "IN_MEMORY", "/no/such/folder"), kept.folder() as place:
+        with process.folder_in_memory() as place:
+            self.assertEqual(place.startswith(process.IN_MEMORY), os.access(process.IN_MEMORY, os.W_OK))
+        with unittest.mock.patch.object(process, "IN_MEMORY", "/no/such/folder"), process.folder_in_memory() as place:
             self.assertTrue(os.path.isdir(place))
 
 

@@ -888,7 +888,7 @@ class OverApplets(unittest.TestCase):
 
         outcome = self.played("row 1 1 00044D656E75", undertest.InPython(Twice), ("command MORE TIME", "response result 00"))
         self.assertEqual((outcome.verdict, outcome.why),
-                         (verdict.FAILED, "a TERMINAL RESPONSE comes for a command that wasn't fetched, or was answered already, MORE TIME"))
+                         (verdict.FAILED, "a TERMINAL RESPONSE comes for a command that wasn't fetched, or was answered already, SET UP MENU"))
 
     def test_those_in_the_box(self):
         """Over a card that greets, watches and has a menu the able terminal passes all that it passes over one without applets."""
@@ -1112,9 +1112,9 @@ class Tool(unittest.TestCase):
             with open(os.path.join(folder, "bytes.sequence"), "wb") as out:
                 out.write(b"sequence \xFF\n")
             for words, why in (
-                    ((os.path.join(folder, "none"),), "No such file"), ((folder + "/own.py",), "own.py:1: no line begins with `class`"),
+                    ((os.path.join(folder, "none"),), "no file is there"), ((folder + "/own.py",), "own.py:1: no line begins with `class`"),
                     ((os.path.join(folder, "bytes.sequence"),), "is text in UTF-8"),
-                    ((os.path.join(folder, "no.d"),), "No such file"), ((good, "--only", "never"), "no sequence has `never` in its name"),
+                    ((os.path.join(folder, "no.d"),), "no file is there"), ((good, "--only", "never"), "no sequence has `never` in its name"),
                     ((good, "--on", "telephone"), "no terminal is called telephone: python, phone, ofono, modem, reader, or FILE.py:CLASS"),
                     ((good, "--on", "modem:70000"), "a port is 0 to 65535, and not 70000"), ((good, "--on", "reader:x"), "a port is 0 to 65535, and not x"),
                     ((good, "--on", own + ":No"), "has no class No that is an UnderTest"),
@@ -1123,7 +1123,7 @@ class Tool(unittest.TestCase):
                     ((good, "--on", folder + "/broken.py:Y"), "broken.py:1\n"), ((good, "--on", folder + "/made.py:Made"), "can't be made: TypeError"),
                     ((good, "--on", folder + "/made.py:Made"), "made.py:3\n"),
                     ((good, "--on", folder + "/ends.py:Ends"), "the terminal can't be closed: ZeroDivisionError: division by zero, at "),
-                    ((good, "--card", os.path.join(folder, "none")), "No such file"), ((good, "--card", good), "line 1: no line begins with"),
+                    ((good, "--card", os.path.join(folder, "none")), "no file is there"), ((good, "--card", good), "line 1: no line begins with"),
                     ((good, "--seconds", "x"), "invalid"), ((good, "--seconds", "-1"), "invalid"), ((good, "--seconds", "0"), "invalid")):
                 with self.subTest(words=words):
                     done = tool(*words)

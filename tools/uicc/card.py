@@ -11,7 +11,7 @@ A command that isn't answered 9000, 91XX or a warning raises StatusError, which 
 import dataclasses
 import os
 
-from . import coding, decode, described, fields, image, kept, layout, lint, names, process, profile, refusals, tlv
+from . import coding, decode, described, fields, image, layout, lint, names, process, profile, refusals, tlv
 from .follow import Follower
 from .status import Status
 from .toolkit import MEMORY_PROBLEM, Toolkit, ToolkitNow
@@ -165,7 +165,7 @@ class Card:
         else:
             section = self._described()
         self._words = ["--store", store] if store else []
-        self._folder = None if image else kept.folder()
+        self._folder = None if image else process.folder_in_memory()
         self._image = os.path.abspath(image) if image else os.path.join(self._folder.name, "image")
         self._words += ["--image", self._image]
         self.trace, self.pending = [], None

@@ -1,7 +1,6 @@
 """Carries out cases by the program: each run in a process of its own, over one image that the runs of a case share."""
 import dataclasses
 import os
-import tempfile
 
 from . import cases, process
 
@@ -112,7 +111,7 @@ def script_of(run, plan):
 def carried_out(case, in_pages, plan):
     """What each of the case's runs leaves."""
     lefts = []
-    with tempfile.TemporaryDirectory(prefix="uicc-case-") as folder:
+    with process.folder_in_memory() as folder:
         device = Device(folder, needs_image(case))
         for run in case.runs:
             words = words_of(run, in_pages)

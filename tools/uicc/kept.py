@@ -9,13 +9,11 @@ resets of its script, over a card that is described as it stood there."""
 import functools
 import itertools
 import os
-import tempfile
 
 from . import decode, follow, image, section, trace
 from . import process as simulator
 from .grammar import Apdu, Plan, Reset, Tpdu
 
-IN_MEMORY = "/dev/shm"
 # so many steps of a script from one place at which the image is kept to the next
 STEPS_BETWEEN = 25
 READ_BINARY, UPDATE_BINARY, READ_RECORD, UPDATE_RECORD = (
@@ -24,17 +22,12 @@ READ_BINARY, UPDATE_BINARY, READ_RECORD, UPDATE_RECORD = (
 BY_NUMBER = 4
 
 
-def folder():
-    """A folder for images that are gone with the run: in memory, where the system has such a place."""
-    return tempfile.TemporaryDirectory(prefix="uicc-image-", dir=IN_MEMORY if os.access(IN_MEMORY, os.W_OK) else None)
-
-
 class Played:
     """What a run over an image of its own leaves: its trace, its status, and what the card holds, entry by entry. `begun` is the
     image that it continues from; without one the memory is blank."""
 
     def __init__(self, words, lines, begun=None):
-        with folder() as place:
+        with simulator.folder_in_memory() as place:
             path = os.path.join(place, "image")
             if begun is not None:
                 with open(path, "wb") as content:

@@ -24,6 +24,7 @@ CUT = "! cut"
 OFF = "! off"
 RESET = "! reset"
 LONGEST_COMMAND = 261
+IN_MEMORY = "/dev/shm"
 # the comments of a script may be in any encoding, so each byte is a letter; a letter that is no byte becomes `?`
 ENCODING = "latin-1"
 
@@ -217,6 +218,12 @@ def card_section(lines):
 
 def file_in_memory():
     return open(os.memfd_create("uicc_run"), "w+b") if hasattr(os, "memfd_create") else tempfile.TemporaryFile()
+
+
+def folder_in_memory():
+    """A folder for images that are gone with the run: in memory, where the system has such a place. On a disk each write of the card's
+    memory is synced, for minutes in all."""
+    return tempfile.TemporaryDirectory(prefix="uicc-image-", dir=IN_MEMORY if os.access(IN_MEMORY, os.W_OK) else None)
 
 
 def played(words, text):

@@ -1,7 +1,6 @@
 """The scripts that are stored: the examples, and the runs of the stored cases; and what a program leaves of one."""
 import os
 import subprocess
-import tempfile
 
 from . import cases, process
 
@@ -49,7 +48,7 @@ def runs(begun_by=RUNS):
 
 def left_by(program, words, script, image=b""):
     """The trace, the status and the image that a program leaves of a script."""
-    with tempfile.TemporaryDirectory(prefix="uicc-stored-") as folder:
+    with process.folder_in_memory() as folder:
         path = os.path.join(folder, "card.img")
         with open(path, "wb") as content:
             content.write(image)

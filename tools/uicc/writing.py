@@ -1,6 +1,5 @@
 """Writes into a script with expectations what its lines show."""
 import os
-import tempfile
 
 from . import carrying, cases, lint, process, trace
 
@@ -27,7 +26,7 @@ def places_of(run, words, left, before):
 def prefix_places(script, words, shown, before):
     """The script is played up to each of its lines, over the memory as it was: it shows the more, the further it goes."""
     found = []
-    with tempfile.TemporaryDirectory(prefix="uicc-case-") as folder:
+    with process.folder_in_memory() as folder:
         for number in [trace.start_of(script)] + [number for number, _ in script.steps]:
             text = "".join(line + "\n" for line in script.lines[:number])
             part = part_played(folder, words, text, before)[:len(shown)]
@@ -133,7 +132,7 @@ def filled(text, name, words, number):
 
 def one_written(text, case):
     """The text with the first run written anew that differs; None where none does."""
-    with tempfile.TemporaryDirectory(prefix="uicc-case-") as folder:
+    with process.folder_in_memory() as folder:
         device = carrying.Device(folder, carrying.needs_image(case))
         for run in case.runs:
             device.prepare(run.setup, carrying.size_for(run.words, len(device.content)))
