@@ -127,7 +127,7 @@ macro_rules! made {
 
     # a definition, and some of those that cite it: by its own module, by another name, and handed on by a module
     CITED = [
-        (("card_model", "Runs", "IsRun"), ("crates/uicc_run/specs/Playing.antt", "EndsSo", "")),
+        (("card_model", "Runs", "IsRun"), ("crates/run_steps/specs/Views.antt", "IsRunOf", "")),
         (("script_reader", "Behind", "LinesReadTo"), ("crates/uicc_run/src/running.rt", "carry_on", "reads")),
         (("uicc_run", "Endings", "status_for"), ("crates/uicc_run/src/running.rt", "close", "status")),
         (("card_state", "Persistent", "Pin"), ("crates/card_model/specs/Answers.antt", "with_pins", "")),

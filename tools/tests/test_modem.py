@@ -449,7 +449,7 @@ class Tool(unittest.TestCase):
     # words, and what is said of them
     REFUSED = [
         ((), "a SCRIPT or an --image is wanted"), ((USIM, "--listen", "here"), "ADDRESS:PORT is wanted"),
-        ((USIM, "--listen", "127.0.0.1:99999"), "ADDRESS:PORT is wanted"), ((USIM, "--profile", "0g"), "hexadecimal digits are wanted"),
+        ((USIM, "--listen", "127.0.0.1:99999"), "a port is 0 to 65535, and not 99999"), ((USIM, "--listen", "127.0.0.1"), "ADDRESS:PORT is wanted"), ((USIM, "--profile", "0g"), "hexadecimal digits are wanted"),
         ((USIM, "--profile", ""), "1 to 255 bytes, and not 0"), ((USIM, "--cut", "0"), "numbers from 1 on, and not 0"), ((USIM, "--cut", "x:1"), "numbers from 1 on"), ((USIM, "--poll", "-1"), "SECONDS are a number"),
         ((USIM, "--listen", "127.0.0.1:0", "--pty"), "not allowed with"), ((USIM, "--unix", "/nowhere/modem"), "modem: "),
         (("nowhere.script",), "nowhere.script"),

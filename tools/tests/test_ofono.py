@@ -119,11 +119,11 @@ class Telephone(unittest.TestCase):
                              capture_output=True, text=True, timeout=300, check=False)
         self.assertEqual((ran.returncode, ran.stderr), (1, ""))
         said = [line.strip() for line in ran.stdout.splitlines()]
-        for part in ("PinRequired: pin", "org.ofono.Error.Failed: Operation failed", "asks: Note? (0 to 20 characters)", "SET UP MENU: 00 done",
+        for part in ("PinRequired: pin", "line 2: org.ofono.Error.Failed: Operation failed", "asks: Note? (0 to 20 characters)", "SET UP MENU: 00 done",
                      "asks: ? (a key)", "shows: K", "GET INKEY: 00 done", "DISPLAY TEXT: 00 done",
-                     "the menu has no entry `None`: Menu, Note, Key, Local, Again, Reset", "the form of the line is: pick ENTRY",
-                     "the form of the line is: unblock VALUE NEW", "No closing quotation: answer ANSWER..",
-                     "no word `hello` is known: sim, pin, unblock, online, menu, pick, answer, events, power, cut"):
+                     "line 8: the menu has no entry `None`: Menu, Note, Key, Local, Again, Reset", "line 9: the form of the line is: pick ENTRY",
+                     "line 10: the form of the line is: unblock VALUE NEW", "line 11: No closing quotation: answer ANSWER..",
+                     "line 12: no word `hello` is known: sim, pin, unblock, online, menu, pick, answer, events, power, cut"):
             self.assertIn(part, said)
         self.explained(path)
 
