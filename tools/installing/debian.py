@@ -7,6 +7,8 @@ import shutil
 import subprocess
 import tempfile
 
+from uicc import command
+
 from . import changes, manual, staging
 
 PACKAGE = "uicc-run"
@@ -95,10 +97,8 @@ def manual_pages(tools, version):
     """The pages of man by their names; `tools` are the texts of the tools."""
     day = version.day.strftime("%Y-%m-%d")
     pages = {f"uicc-{name}": manual.page_of(f"uicc-{name}", text, version.number, day) for name, text in tools.items()}
-    summaries = "\n".join(f"    {name:<9} {text.partition(chr(10))[0]}" for name, text in sorted(tools.items()))
-    command = manual.text_in(staging.read("tools/uicc/command.py").decode()).format(tools=summaries)
-    command = re.sub("^The command `uicc`: ", "", command)
-    pages["uicc"] = manual.page_of("uicc", command, version.number, day)
+    text = command.page_of({name: text.partition("\n")[0] for name, text in sorted(tools.items())})
+    pages["uicc"] = manual.page_of("uicc", text.removeprefix("The command `uicc`: "), version.number, day)
     pages["uicc_run"] = manual.program_page(program_help(), staging.read("docs/CARDS.md").decode(), version.number, day)
     return pages
 
@@ -136,8 +136,7 @@ def files(version):
 
 
 def completion(texts):
-    from uicc.command import PROGRAM_WORDS
-    return manual.completion(texts, PROGRAM_WORDS)
+    return manual.completion(texts, command.PROGRAM_WORDS)
 
 
 def libc_of(program):

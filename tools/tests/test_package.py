@@ -25,7 +25,7 @@ for line in sys.stdin:
     print(json.dumps([status or 0, out.getvalue(), err.getvalue()]))
 """
 USIM = os.path.join(process.TOP, "examples", "usim.script")
-SECONDS = 120
+SECONDS = 600
 NEEDS = ("dpkg-deb", "dpkg")
 
 
@@ -129,6 +129,9 @@ class Packages(unittest.TestCase):
         self.assertEqual(set(os.listdir(folder)), {name + ".1.gz" for name in names})
         with gzip.open(os.path.join(folder, "uicc-lint.1.gz"), "rt") as page:
             self.assertIn("uicc\\-lint \\- What is wrong with a script?", page.read())
+        with gzip.open(os.path.join(folder, "uicc.1.gz"), "rt") as page:
+            named = re.findall(r"^(\S+)  +\S", page.read(), re.MULTILINE)
+        self.assertLessEqual({*staging.WORDS, "check", "page"}, set(named))
         script = os.path.join(self.root, "usr/share/bash-completion/completions/uicc")
         typed = f'. {script}; COMP_WORDS=(uicc "$1" "$2"); COMP_CWORD=$3; _uicc; echo "${{COMPREPLY[@]}}"'
         for words, completed in ((("li", "", "1"), "lint"), (("lint", "--ph", "2"), "--phone"), (("play", "--st", "2"), "--store")):

@@ -44,10 +44,15 @@ def summary_of(tool):
         return next((line.removeprefix(SUMMARY).strip() for line in text if line.startswith(SUMMARY)), "")
 
 
-def help_page():
-    width = max(map(len, [*tools(), *OWN_WORDS]))
-    listed = "\n".join(f"    {tool:<{width}}  {summary_of(tool)}" for tool in tools())
+def page_of(summaries):
+    """The page of help with these tools, each with what it does in a line."""
+    width = max(map(len, [*summaries, *OWN_WORDS]))
+    listed = "\n".join(f"    {tool:<{width}}  {summary}" for tool, summary in summaries.items())
     return __doc__.format(tools=listed, page=f"    {'page':<{width}}  opens the page that runs the program in a browser; --path writes where it lies")
+
+
+def help_page():
+    return page_of({tool: summary_of(tool) for tool in tools()})
 
 
 def version_page():

@@ -6,7 +6,7 @@ use crate::commands::Command;
 impl Command<'_> {
     ghost use Rattle.apdu_form.specs.Classes.{asks_secure_messaging, channel_of, family, is_class, names_channel};
 
-    /// The class without its lower half, in which `0X` and `8X` name a channel: `00`, `80` or `F0` if the class is known.
+    /// The class without its lower half, in which `0X` and `8X` name a channel: `00`, `80` or `F0` of each class that is known, and of others too (`FF` has `F0`).
     pub fn family(&self) -> u8
         ensures { result ≡ family self.now.class }
     {

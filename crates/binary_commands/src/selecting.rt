@@ -145,6 +145,7 @@ fn status_of_file(file: &Descriptor) -> StatusWord
 }
 
 // Selects the file that the command names, and has the answer in `out`, which is empty before.
+#[inline(always)]
 fn try_select(
     loaded: &Loaded,
     selection: &Selection,

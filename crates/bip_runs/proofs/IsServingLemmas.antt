@@ -22,10 +22,10 @@ use Rattle.script_reader.specs.declared.reader.ScriptReader.{ScriptReader}
 use Rattle.bip_channels.specs.Channels.{none_open}
 use Rattle.bip_channels.specs.Kept.{Held, IsKept}
 use Rattle.bip_channels.specs.Traffic.{Occurrence, channels_after}
-use Rattle.bip_runs.specs.Parts.{Part, Blank, Begins, Does, Foreign, occurrences, occurrences_of, part_of}
-use Rattle.bip_runs.specs.Places.{moved, step}
+use Rattle.bip_runs.specs.Parts.{Part, Blank, Begins, Does, Foreign, occurrences, occurrences_of, part_of, moved, step}
 use Rattle.bip_runs.proofs.ScriptsLemmas.{moved_by-more}
-use Rattle.bip_runs.specs.Serving.{AreInOrder, AreReadInPlace, BipComesTo, EndsServing, IsBadAt, IsServing, Stops, StopsServing}
+use Rattle.bip_runs.specs.Serving.{AreInOrder, AreReadInPlace, BipComesTo, EndsServing, IsBadAt, Stops, StopsServing}
+use Rattle.bip_runs.specs.BetweenLines.{IsServing}
 use Rattle.bip_runs.specs.Traces.{history, lines_of, shown, text_of}
 use Rattle.bip_runs.specs.declared.effects.Place.{Place}
 use Rattle.bip_runs.specs.declared.effects.Place.TheVariants.{Before, Behind}

@@ -6,9 +6,8 @@ use Rattle.script_form.specs.declared.lines.ScriptLine.{ScriptLine}
 use Rattle.script_reader.proofs.AreReadLemmas.{Say-from_read}
 use Rattle.script_reader.specs.Said.{Each}
 use Rattle.script_reader.specs.declared.behind.PlayEnd.TheVariants.{Finished, BadLine}
-use Rattle.bip_runs.specs.Places.{moved, moved_by}
-use Rattle.bip_runs.specs.Scripts.{IsFirstBadBip, IsGoodBip}
-use Rattle.bip_runs.specs.Serving.{EndsServing, IsBadAt, IsUnstarted}
+use Rattle.bip_runs.specs.Parts.{moved, moved_by}
+use Rattle.bip_runs.specs.Serving.{IsFirstBadBip, IsGoodBip, EndsServing, IsBadAt, IsUnstarted}
 use Rattle.bip_runs.specs.declared.effects.Place.{Place}
 use Rattle.bip_runs.specs.declared.effects.Place.TheVariants.{Before, Behind}
 use Rattle.bip_runs.proofs.IsLineLemmas.{Only, Says, Agree, only_first, only_last, only_says, says_itself}

@@ -1,5 +1,4 @@
+pub mod BetweenLines
 pub mod Parts
-pub mod Places
-pub mod Scripts
 pub mod Serving
 pub mod Traces

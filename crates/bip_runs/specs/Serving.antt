@@ -1,22 +1,20 @@
--- Where the run of a terminal stands between two lines of its script, and how it ends.
+-- Why and how the run of a terminal ends, and which scripts are carried out to their end.
 use Rattle.std.specs.Io.KnownBytes.{append_known}
-use Rattle.std.specs.Prelude.{◌≡◌, ℕ, List, [], ◌∷◌, ◌++◌, Option, Some, None, Result, Ok, Err}
+use Rattle.std.specs.Prelude.{◌≡◌, ℕ, List, [], ◌∷◌, ◌++◌, Option, Some, None}
 use Rattle.uicc_types.specs.Told.{Becomes}
 use Rattle.byte_streams.specs.Lines.{LineList, lines}
 use Rattle.byte_streams.specs.Reading.{IsTextCutShort, IsReadOut}
 use Rattle.byte_streams.specs.Streams.{TakesFront}
 use Rattle.script_form.specs.Forms.{IsLine}
 use Rattle.script_form.specs.declared.lines.ScriptLine.{ScriptLine}
-use Rattle.script_reader.specs.Reading.{Finds, Follows, GoesOn}
-use Rattle.script_reader.specs.Said.{AreRead}
+use Rattle.script_reader.specs.Reading.{GoesOn}
+use Rattle.script_reader.specs.Said.{AreRead, Say}
 use Rattle.script_reader.specs.declared.behind.PlayEnd.{PlayEnd}
 use Rattle.script_reader.specs.declared.behind.PlayEnd.TheVariants.{Finished, BadLine, ReadFailed, SinkFailed, ResetFailed}
-use Rattle.script_reader.specs.declared.reader.ScriptReader.{ScriptReader}
 use Rattle.bip_channels.specs.Channels.{BipChannel}
 use Rattle.bip_channels.specs.History.{Tells}
-use Rattle.bip_channels.specs.Kept.{Held, IsKept}
 use Rattle.bip_channels.specs.Traffic.{Occurrence, channel_at, channels_after, given_to, got_from}
-use Rattle.bip_runs.specs.Places.{moved, moved_by}
+use Rattle.bip_runs.specs.Parts.{moved, moved_by}
 use Rattle.bip_runs.specs.Traces.{history, lines_of, shown, text_of, trace_of}
 use Rattle.bip_runs.specs.declared.effects.Place.{Place}
 use Rattle.bip_runs.specs.declared.effects.Place.TheVariants.{Before, Behind}
@@ -25,15 +23,6 @@ use Rattle.bip_runs.specs.declared.effects.Place.TheVariants.{Before, Behind}
 pub record AreReadInPlace (found : LineList) (said : List ScriptLine) (place : Place) : Type 0 where
   pub read : AreRead found said
   pub in_place : moved_by Before said ≡ Some place
-
--- The lines that were read have been carried out: the terminal keeps what comes of them, and the sink has taken their trace.
-pub record IsServing (text : List ℕ) (before : Option (List ℕ)) (place : Place) (script : ScriptReader) (left taken : Option (List ℕ)) (held : List Held) : Type 0 where
-  pub found : LineList
-  pub said : List ScriptLine
-  pub lines_are : AreReadInPlace found said place
-  pub follows : Follows text found script left
-  pub kept : IsKept (channels_after (history said)) held
-  pub written : taken ≡ append_known before (trace_of said)
 
 -- ---- why it ends
 
@@ -54,11 +43,6 @@ Stops place text found left (BadLine number) = GoesOn text found left (IsBadAt p
 Stops place text found left ReadFailed = IsTextCutShort text found left
 Stops place text found left SinkFailed = ⊥
 Stops place text found left ResetFailed = ⊥
-
--- what a search for the next line comes to: it is there, or no more are read
-abbrev pub GivesLine : Place → List ℕ → LineList → ScriptReader → Option (List ℕ) → ScriptLine → Result (Unit {0}) PlayEnd → Type 0
-GivesLine place text found script left line (Ok done) = Finds text found script left line
-GivesLine place text found script left line (Err end) = Stops place text found left end
 
 -- ---- how it ends
 
@@ -95,13 +79,27 @@ pub record StopsServing (text : List ℕ) (before taken : Option (List ℕ)) : T
   pub in_order : AreInOrder (history said)
 
 abbrev pub BipComesTo : List ℕ → Option (List ℕ) → Option (List ℕ) → Option (List ℕ) → PlayEnd → Type 0
-BipComesTo text before left taken Finished = EndsServing text before left taken Finished
-BipComesTo text before left taken (BadLine number) = EndsServing text before left taken (BadLine number)
-BipComesTo text before left taken ReadFailed = EndsServing text before left taken ReadFailed
 BipComesTo text before left taken SinkFailed = StopsServing text before taken
 BipComesTo text before left taken ResetFailed = ⊥
+BipComesTo text before left taken end = EndsServing text before left taken end
 
--- what a line comes to: it was carried out, or the run ends
-abbrev pub GivesServed : List ℕ → Option (List ℕ) → Place → ScriptReader → Option (List ℕ) → Option (List ℕ) → List Held → Result (Unit {0}) PlayEnd → Type 0
-GivesServed text before place script left taken held (Ok done) = IsServing text before place script left taken held
-GivesServed text before place script left taken held (Err end) = BipComesTo text before left taken end
+-- ---- which scripts are carried out to their end
+
+-- these lines say this, each in its place, and the script goes on here
+pub record AreInPlace (found : LineList) (said : List ScriptLine) (place : Place) : Type 0 where
+  pub say : Say found said
+  pub in_place : moved_by Before said ≡ Some place
+
+-- each line of the text is in a form and in its place, and `start` is one of them
+pub record IsGoodBip (text : List ℕ) : Type 0 where
+  pub said : List ScriptLine
+  pub good : AreInPlace (lines text) said Behind
+
+-- The line behind these is the first of the text that is in no form or out of its place, or the text ends there and has no `start`.
+pub record IsFirstBadBip (text : List ℕ) (found : LineList) : Type 0 where
+  pub said : List ScriptLine
+  pub place : Place
+  pub next : LineList
+  pub parted : lines text ≡ found ++ next
+  pub good : AreInPlace found said place
+  pub is : IsBadAt place next

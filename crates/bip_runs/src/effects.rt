@@ -1,6 +1,7 @@
 //! What a line of the script is for the terminal.
 ghost use Rattle.std.specs.Prelude.{◌≡◌};
-ghost use Rattle.bip_runs.specs.Parts.{part_for, part_of};
+ghost use Rattle.bip_runs.specs.BetweenLines.{part_for};
+ghost use Rattle.bip_runs.specs.Parts.{part_of};
 
 use script_form::ScriptLine;
 use uicc_types::Octets;

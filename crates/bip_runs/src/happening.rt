@@ -5,7 +5,7 @@ ghost use Rattle.script_form.specs.Traces.{IsPut};
 ghost use Rattle.bip_channels.specs.Channels.{BipChannel, answered};
 ghost use Rattle.bip_channels.specs.Kept.{IsKept};
 ghost use Rattle.bip_channels.specs.Traffic.{Occurrence, channels_after};
-ghost use Rattle.bip_runs.specs.Parts.{occurrence_for};
+ghost use Rattle.bip_runs.specs.BetweenLines.{occurrence_for};
 ghost use Rattle.bip_runs.specs.Traces.{command_lines, event_lines, lines_of, text_of};
 
 use crate::effects::Happening;

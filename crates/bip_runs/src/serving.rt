@@ -7,7 +7,8 @@ ghost use Rattle.byte_streams.specs.declared.limits.TheConstants.{MOST_BYTES};
 ghost use Rattle.script_reader.specs.Reading.{Follows, reading, room_of};
 ghost use Rattle.bip_channels.specs.Channels.{none_open};
 ghost use Rattle.bip_channels.specs.Kept.{IsKept};
-ghost use Rattle.bip_runs.specs.Serving.{BipComesTo, GivesLine, GivesServed, IsServing};
+ghost use Rattle.bip_runs.specs.Serving.{BipComesTo};
+ghost use Rattle.bip_runs.specs.BetweenLines.{GivesLine, GivesServed, IsServing};
 
 use crate::effects::{Effect, Place, effect_of};
 use crate::happening::happen;

@@ -68,6 +68,7 @@ impl LineReader {
 
     /// Finds the next line. It takes from the source only while it holds no whole line, so a line is found as soon as its
     /// end was taken. After `Failed` all that was taken is held, and the next call goes on from there.
+    #[inline(always)]
     pub fn next<R: Source>(&mut self, source: &mut R) -> NextLine
         // The lines that are still to come lose the one that was found, and no other.
         ensures left { Leaves result self.new.line (lines_left self.old (R.left source.old))

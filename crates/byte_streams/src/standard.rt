@@ -1,7 +1,4 @@
 //! Standard input as a source and standard output as a sink: the edge to the outside, whose bytes no proof can see.
-ghost use Rattle.std.specs.Prelude.{OnOk};
-ghost use Rattle.std.specs.Io.KnownBytes.{Appends};
-
 use crate::streams::{Failed, Sink, Source};
 use std::io;
 use std::io::{Read, Write};
@@ -66,7 +63,9 @@ pub struct OutputSink<O> {
 }
 
 impl<O: Write> OutputSink<O> {
-    ghost use Rattle.std.specs.Prelude.{◌≡◌};
+    ghost use Rattle.std.specs.Prelude.{◌≡◌, ◌≤◌, if◌then◌else◌, is_err, IsErr, OnOk};
+    ghost use Rattle.std.specs.Io.KnownBytes.{Appends, Keeps};
+    ghost use Rattle.uicc_types.specs.Counts.{CountsFailure, Rose, raised};
     ghost use Rattle.byte_streams.specs.Standard.{sink_faults, writer_of};
 
     /// A sink that writes to `output`.
@@ -76,6 +75,52 @@ impl<O: Write> OutputSink<O> {
     {
         OutputSink { output, faults: 0 }
     }
+
+    // Writes a part in as many calls as it takes.
+    #[inline(never)]
+    fn put_whole(&mut self, part: &[u8]) -> Result<(), Failed>
+        ensures written { OnOk result (Appends (O.contents (writer_of self.old))
+            (O.contents (writer_of self.new)) part.now) }
+        ensures cause { CountsFailure (sink_faults self.old) (sink_faults self.new) (IsErr result) }
+        ensures faults { sink_faults self.new ≡ (if is_err result then raised
+            (sink_faults self.old) else sink_faults self.old) }
+    {
+        match self.output.write_all(part) {
+            Ok(()) => self.flush(),
+            Err(_) => Err(self.counted()),
+        }
+    }
+
+    // Has all that was written be seen at the other end.
+    #[inline(always)]
+    fn flush(&mut self) -> Result<(), Failed>
+        ensures kept { Keeps (O.contents (writer_of self.old)) (O.contents (writer_of self.new)) }
+        ensures cause { CountsFailure (sink_faults self.old) (sink_faults self.new) (IsErr result) }
+        ensures faults { sink_faults self.new ≡ (if is_err result then raised
+            (sink_faults self.old) else sink_faults self.old) }
+    {
+        match self.output.flush() {
+            Ok(()) => Ok(()),
+            Err(_) => Err(self.counted()),
+        }
+    }
+
+    // Counts a fault.
+    #[inline(never)]
+    fn counted(&mut self) -> Failed
+        ensures faults { sink_faults self.new ≡ raised (sink_faults self.old) }
+        ensures kept { sink_faults self.old ≤ sink_faults self.new }
+        ensures rose { Rose (sink_faults self.old) (sink_faults self.new) }
+        ensures writer { writer_of self.new ≡ writer_of self.old }
+    {
+        self.faults = self.faults.saturating_add(1);
+        Failed
+    }
+}
+
+#[inline(never)]
+fn is_interrupted(error: &io::Error) -> bool {
+    error.kind() == io::ErrorKind::Interrupted
 }
 
 impl<O: Write> Sink for OutputSink<O> {
@@ -88,6 +133,7 @@ impl<O: Write> Sink for OutputSink<O> {
 
     ghost taken = { λ _. None };
 
+    #[inline(always)]
     fn put(&mut self, part: &[u8]) -> Result<(), Failed>
         ensures cause { CountsFailure (sink_faults self.old) (sink_faults self.new) (IsErr result) }
 
@@ -97,25 +143,12 @@ impl<O: Write> Sink for OutputSink<O> {
         ensures faults { sink_faults self.new ≡ (if is_err result then raised
             (sink_faults self.old) else sink_faults self.old) }
     {
-        match write_out(&mut self.output, part) {
-            Ok(()) => Ok(()),
-            Err(_) => {
-                self.faults = self.faults.saturating_add(1);
-                Err(Failed)
-            }
+        // Mostly the first call takes all. Each line of a trace passes through it, so it is inlined, and what is seldom done is not.
+        match self.output.write(part) {
+            Ok(count) if count == part.len() => self.flush(),
+            Ok(count) => self.put_whole(&part[count..]),
+            Err(error) if is_interrupted(&error) => self.put_whole(part),
+            Err(_) => Err(self.counted()),
         }
     }
-}
-
-fn write_out<O: Write>(output: &mut O, part: &[u8]) -> io::Result<()>
-    ensures { OnOk result (Appends (O.contents output.old) (O.contents output.new) part.now) }
-{
-    // Mostly the first call takes all.
-    match output.write(part) {
-        Ok(count) if count == part.len() => {}
-        Ok(count) => output.write_all(&part[count..])?,
-        Err(error) if error.kind() == io::ErrorKind::Interrupted => output.write_all(part)?,
-        Err(error) => return Err(error),
-    }
-    output.flush()
 }

@@ -1,152 +1,123 @@
--- What a command does, from what it does by its level.
-use Rattle.std.proofs.Common.{◌≡◌, false, [], Result, refl, IsOk, OnOk, true}
-use Rattle.std.proofs.lemmas.Bool.{false≢true}
-use Rattle.list_laws.proofs.IfSomeLemmas.{on_ok}
+-- What a command does, as the public words have it.
+use Rattle.std.proofs.Common.{◌≡◌, false, true, [], List, ℕ, length, Some, Result, Ok, refl, sym, ◌∙◌, ap, subst, IsOk, OnOk}
+use Rattle.uicc_types.specs.Counts.{raised_by}
 use Rattle.uicc_types.specs.declared.answers.Answer.{Answer}
 use Rattle.uicc_types.specs.declared.answers.StatusWord.{StatusWord}
 use Rattle.apdu_form.specs.Model.{Apdu}
 use Rattle.store_form.specs.declared.store.StoreFault.{StoreFault}
 use Rattle.card_state.specs.Persistent.{Persistent}
-use Rattle.file_model.specs.declared.tree_commands.TreeCommand.{TreeCommand}
-use Rattle.file_model.specs.declared.commands.FileCommand.{FileCommand}
 use Rattle.file_model.specs.declared.commands.FileCommand.TheVariants.{Select, Status, Contents}
-use Rattle.file_model.specs.declared.commands.PinCommand.{PinCommand}
-use Rattle.apdu_form.specs.Classes.{channel_of}
-use Rattle.card_commits.specs.Laws.{IsTold}
-use Rattle.card_model.specs.Answers.{settled, carried_out, carried_with}
+use Rattle.card_commits.specs.Performing.{CommitsAtMost}
+use Rattle.card_model.specs.Answers.{Answered, settled, carried_out, answer}
+use Rattle.card_model.specs.Instructions.{is_of_tree}
 use Rattle.card_model.specs.States.{CardState}
+use Rattle.card_model.specs.declared.instructions.Instruction.{Instruction}
 use Rattle.card_model.specs.declared.instructions.Instruction.TheVariants.{File, Pin, ManageChannel, Toolkit, Tree}
-use Rattle.card_model.specs.declared.instructions.CatCommand.{CatCommand}
-use Rattle.card_model.specs.declared.instructions.CatCommand.TheVariants.{Fetch}
-use Rattle.card_core.specs.Acting.{ActsOn, ActsAlone, ChangesNothing, CommitsSo, settled_over}
-use Rattle.card_core.specs.AnyStore.{AnswersAs, AnswersStanding, IsOfMemory, IsDenied, LeavesMemory, ReachesApplets, NeedsNoContents, RefusesByTable, MovesFiles, MovesTree, MovesPins, MovesStatus, MovesChannels, MovesToolkit, MovesItsOwn}
-use Rattle.card_core.specs.Cards.{card_with}
+use Rattle.card_core.specs.Acting.{ActsOn, ActsAlone}
+use Rattle.card_core.specs.AnyStore.{MayBe, MayStand, AnswersAs, AnswersStanding, LeavesMemory, ReachesApplets, NeedsNoContents, CommitsByTable, RefusesByTable, IsDenied, MovesItsOwn}
+use Rattle.card_core.specs.Cards.{held_by, card_with}
+use Rattle.card_core.specs.Known.{KnownBy, ByStore, ByTable, ByMemory, IsKnown, IsAnsweredBy, IsCountedBy, IsCalmBy, CommitsSo, MayBeBy, SaysSo, IsLeftAt, StandsBy}
 use Rattle.card_core.specs.Parts.{CardParts}
-use Rattle.card_core.proofs.StopsAtLemmas.{none_so}
-use Rattle.card_core.proofs.MovesItsOwnLemmas.{status_kept}
-use Rattle.card_core.proofs.CommitsSoLemmas.{select_none, status_none, manage_none}
+use Rattle.card_core.proofs.KnownLemmas.{finished, stopped_by, both_ok, card_by, by_table, by_memory}
 
-module _ {X : Type 0} (result : Result X StoreFault) (apdu : Apdu) (old new : CardParts) (out : Answer) where
-  -- ---- on files
+answered_told : (answered : Answered) (out : Answer) (parts : CardParts) → SaysSo answered out → MayBeBy ByTable parts answered.state → AnswersAs answered out parts
+answered_told answered out parts says may = record {
+  body = says.body;
+  status = says.status;
+  left = record { table = may.known; channels = may.channels; verified = may.verified; session = may.session; boxes = may.boxes };
+}
 
-  files_none : (command : FileCommand) (card : CardState) → NeedsNoContents (File command) → (settled card (carried_out (File command) card apdu)).commits ≡ []
-  files_none Select card needs = select_none card apdu
-  files_none Status card needs = status_none card apdu
-  files_none (Contents command) card needs = absurd needs
+answered_stood : (answered : Answered) (out : Answer) (parts : CardParts) → SaysSo answered out → MayBeBy ByMemory parts answered.state → AnswersStanding answered out parts
+answered_stood answered out parts says may = record {
+  body = says.body;
+  status = says.status;
+  left = record { table = may.known; channels = may.channels; verified = may.verified; session = may.session; boxes = may.boxes };
+}
 
-  leaves_need : (command : FileCommand) → LeavesMemory (File command) → NeedsNoContents (File command)
-  leaves_need Select leaves = tt
-  leaves_need Status leaves = tt
-  leaves_need (Contents command) leaves = absurd leaves
+-- how often a command that applets are told of commits the table tells
+counted_reaching : (instruction : Instruction) → ReachesApplets instruction → CommitsByTable instruction
+counted_reaching (File Status) reaches = tt
+counted_reaching (File Select) reaches = absurd reaches
+counted_reaching (File (Contents command)) reaches = absurd reaches
+counted_reaching (Pin command) reaches = absurd reaches
+counted_reaching ManageChannel reaches = absurd reaches
+counted_reaching (Toolkit command) reaches = tt
+counted_reaching (Tree command) reaches = absurd reaches
 
-  reaches_need : (command : FileCommand) → ReachesApplets (File command) → NeedsNoContents (File command)
-  reaches_need Select reaches = tt
-  reaches_need Status reaches = tt
-  reaches_need (Contents command) reaches = absurd reaches
+-- ---- a whole command, to a card that this may be by its table, and over a memory with these entries
 
-  files_move : (command : FileCommand) → MovesFiles (channel_of apdu.class) old new → (command ≡ Status → ChangesNothing result old new) → MovesItsOwn (File command) apdu old new
-  files_move Select moves still = moves
-  files_move Status moves still = (let stays = still refl in status_kept old new stays.table stays.channels stays.verified stays.boxes)
-  files_move (Contents command) moves still = moves
+module _ {X : Type 0} (result : Result X StoreFault) (instruction : Instruction) (apdu : Apdu) (old new : CardParts) (bytes : List ℕ) (out : Answer) (told : StatusWord → StatusWord)
+    (does : ActsOn result instruction apdu old new out (λ card. answer card bytes) told) (card : CardState) where
+  module _ (may : MayBe old card) where
+    same_told : card_with false old card.persistent ≡ card
+    same_told = sym (card_by ByTable old card (by_table old card may))
 
-  pub files_act : (command : FileCommand) → (state : Persistent) × IsTold old.table state
-      → ((state : Persistent) → NeedsNoContents (File command) → IsTold old.table state → IsOk result × AnswersAs (settled_over old state (λ card. carried_out (File command) card apdu)) out new × (new.commits ≡ old.commits))
-      → ((status : StatusWord) → RefusesByTable (File command) old apdu status → IsOk result × IsDenied status out old new)
-      → MovesFiles (channel_of apdu.class) old new → (command ≡ Status → ChangesNothing result old new) → ActsAlone result (File command) apdu old new out
-  files_act command some gives denied moves still = record {
-    answers = λ state needs told. on_ok result (gives state needs told).1;
-    done = λ leaves. (gives some.0 (leaves_need command leaves) some.1).0;
-    trees = λ state of_tree. absurd (false≢true of_tree);
-    commits = λ state needs told. none_so result old.commits new.commits _ (files_none command (card_with false old state) needs) (gives state needs told).2;
-    commits_trees = λ state of_tree. absurd (false≢true of_tree);
-    calm = λ state reaches told none. (gives state (reaches_need command reaches) told).0;
-    calm_trees = λ state of_tree. absurd (false≢true of_tree);
-    denied = denied;
-    moves = files_move command moves still;
-  }
+    pub answers_told : NeedsNoContents instruction → OnOk result (AnswersAs (answer card bytes) out new)
+    answers_told needs =
+        subst (λ (each : CardState). OnOk result (AnswersAs (answer each bytes) out new)) same_told
+        (both_ok result _ _ _ (answered_told (answer (card_with false old card.persistent) bytes) out new) (does.says ByTable card.persistent may.table needs) ((does.yields ByTable card.persistent may.table).left needs))
 
-  -- STATUS, of which applets are told
-  pub status_acts : ((state : Persistent) → IsTold old.table state → OnOk result (AnswersAs (settled_over old state (λ card. carried_with true (File Status) card apdu)) out new))
-      → ((state : Persistent) → IsTold old.table state → CommitsSo result old.commits new.commits (settled_over old state (λ card. carried_with true (File Status) card apdu)).commits)
-      → ((state : Persistent) → IsTold old.table state → (settled_over old state (λ card. carried_with true (File Status) card apdu)).commits ≡ [] → IsOk result)
-      → MovesStatus old new → ActsOn result (File Status) apdu old new out (λ card. settled card (carried_with true (File Status) card apdu)) (λ status. status)
-  status_acts answers commits calm moves = record {
-    answers = λ state needs. answers state;
-    done = λ leaves. absurd leaves;
-    trees = λ state of_tree. absurd (false≢true of_tree);
-    commits = λ state needs. commits state;
-    commits_trees = λ state of_tree. absurd (false≢true of_tree);
-    calm = λ state reaches. calm state;
-    calm_trees = λ state of_tree. absurd (false≢true of_tree);
-    denied = λ status refused. absurd refused;
-    moves = moves;
-  }
+    pub commits_told : CommitsByTable instruction → CommitsSo result old.commits new.commits (answer card bytes).commits
+    commits_told by = subst (λ (each : CardState). CommitsSo result old.commits new.commits (answer each bytes).commits) same_told ((does.yields ByTable card.persistent may.table).commits_so by)
 
-  -- ---- that make, delete and resize files
+    pub calm_told : ReachesApplets instruction → (answer card bytes).commits ≡ [] → IsOk result
+    calm_told reaches none =
+        (does.yields ByTable card.persistent may.table).calm (counted_reaching instruction reaches) (ap (λ (each : CardState). (answer each bytes).commits) same_told ∙ none)
 
-  pub tree_acts : (command : TreeCommand) → ((state : Persistent) → IsOfMemory old.table state → OnOk result (AnswersStanding (settled_over old state (λ card. carried_out (Tree command) card apdu)) out new))
-      → ((state : Persistent) → IsOfMemory old.table state → CommitsSo result old.commits new.commits (settled_over old state (λ card. carried_out (Tree command) card apdu)).commits)
-      → ((state : Persistent) → IsOfMemory old.table state → (settled_over old state (λ card. carried_out (Tree command) card apdu)).commits ≡ [] → IsOk result)
-      → MovesTree old new → ActsAlone result (Tree command) apdu old new out
-  tree_acts command trees commits calm moves = record {
-    answers = λ state needs. absurd needs;
-    done = λ leaves. absurd leaves;
-    trees = λ state of_tree. trees state;
-    commits = λ state by. absurd by;
-    commits_trees = λ state of_tree. commits state;
-    calm = λ state reaches. absurd reaches;
-    calm_trees = λ state of_tree. calm state;
-    denied = λ status refused. absurd refused;
-    moves = moves;
-  }
+  module _ (may : MayStand old card) (of_tree : is_of_tree instruction ≡ true) where
+    same_stood : card_with false old card.persistent ≡ card
+    same_stood = sym (card_by ByMemory old card (by_memory old card may))
 
-  -- ---- on PINs
+    pub answers_stood : OnOk result (AnswersStanding (answer card bytes) out new)
+    answers_stood =
+        subst (λ (each : CardState). OnOk result (AnswersStanding (answer each bytes) out new)) same_stood
+        (both_ok result _ _ _ (answered_stood (answer (card_with false old card.persistent) bytes) out new) (does.says ByMemory card.persistent may.table of_tree) ((does.yields ByMemory card.persistent may.table).left of_tree))
 
-  pub pins_act : (command : PinCommand) → ((state : Persistent) → IsTold old.table state → OnOk result (AnswersAs (settled_over old state (λ card. carried_out (Pin command) card apdu)) out new))
-      → ((status : StatusWord) → RefusesByTable (Pin command) old apdu status → IsOk result × IsDenied status out old new) → MovesPins old new → ActsAlone result (Pin command) apdu old new out
-  pins_act command answers denied moves = record {
-    answers = λ state needs. answers state;
-    done = λ leaves. absurd leaves;
-    trees = λ state of_tree. absurd (false≢true of_tree);
-    commits = λ state by. absurd by;
-    commits_trees = λ state of_tree. absurd (false≢true of_tree);
-    calm = λ state reaches. absurd reaches;
-    calm_trees = λ state of_tree. absurd (false≢true of_tree);
-    denied = denied;
-    moves = moves;
-  }
+    pub commits_stood : CommitsSo result old.commits new.commits (answer card bytes).commits
+    commits_stood = subst (λ (each : CardState). CommitsSo result old.commits new.commits (answer each bytes).commits) same_stood ((does.yields ByMemory card.persistent may.table).commits_so of_tree)
 
-  -- ---- MANAGE CHANNEL
+    pub calm_stood : (answer card bytes).commits ≡ [] → IsOk result
+    calm_stood none = (does.yields ByMemory card.persistent may.table).calm of_tree (ap (λ (each : CardState). (answer each bytes).commits) same_stood ∙ none)
 
-  pub channels_act : IsOk result → ((state : Persistent) → IsTold old.table state → AnswersAs (settled_over old state (λ card. carried_out ManageChannel card apdu)) out new) → new.commits ≡ old.commits → MovesChannels old new
-      → ActsAlone result ManageChannel apdu old new out
-  channels_act ok answers same moves = record {
-    answers = λ state needs told. on_ok result (answers state told);
-    done = λ leaves. ok;
-    trees = λ state of_tree. absurd (false≢true of_tree);
-    commits = λ state by told. none_so result old.commits new.commits _ (manage_none (card_with false old state) apdu) same;
-    commits_trees = λ state of_tree. absurd (false≢true of_tree);
-    calm = λ state reaches. absurd reaches;
-    calm_trees = λ state of_tree. absurd (false≢true of_tree);
-    denied = λ status refused. absurd refused;
-    moves = moves;
-  }
+-- ---- a command, by what its level says
 
-  -- ---- of the toolkit
+module _ (instruction : Instruction) (apdu : Apdu) (old new : CardParts) (out : Answer) (moves : MovesItsOwn instruction apdu old new) where
+  abbrev came_on : Persistent → Answered
+  came_on state = settled (card_with false old state) (carried_out instruction (card_with false old state) apdu)
 
-  pub toolkit_acts : (command : CatCommand) → ((state : Persistent) → IsTold old.table state → OnOk result (AnswersAs (settled_over old state (λ card. carried_out (Toolkit command) card apdu)) out new))
-      → ((state : Persistent) → IsTold old.table state → CommitsSo result old.commits new.commits (settled_over old state (λ card. carried_out (Toolkit command) card apdu)).commits)
-      → (command ≡ Fetch → IsOk result)
-      → ((state : Persistent) → IsTold old.table state → (settled_over old state (λ card. carried_out (Toolkit command) card apdu)).commits ≡ [] → IsOk result)
-      → MovesToolkit command apdu old new → ActsAlone result (Toolkit command) apdu old new out
-  toolkit_acts command answers commits done calm moves = record {
-    answers = λ state needs. answers state;
-    done = done;
-    trees = λ state of_tree. absurd (false≢true of_tree);
-    commits = λ state by. commits state;
-    commits_trees = λ state of_tree. absurd (false≢true of_tree);
-    calm = λ state reaches. calm state;
-    calm_trees = λ state of_tree. absurd (false≢true of_tree);
-    denied = λ status refused. absurd refused;
-    moves = moves;
-  }
+  module _ (stays : (state : Persistent) → held_by old ≡ Some state → (came_on state).commits ≡ [] → new.told ≡ old.told) where
+    -- it was carried out
+    module _ (done : Unit {0}) where
+      stands_done : (by : KnownBy) (state : Persistent) → IsKnown by old state → StandsBy by (finished done) old new (card_with false old state) (came_on state).commits
+      stands_done ByStore state known = record { stopped = tt; stable = stays state known }
+      stands_done ByTable state known = tt
+      stands_done ByMemory state known = tt
+
+      pub acts_done : ((by : KnownBy) (state : Persistent) → IsKnown by old state → IsAnsweredBy by instruction → SaysSo (came_on state) out × MayBeBy by new (came_on state).state)
+          → ((by : KnownBy) (state : Persistent) → IsKnown by old state → IsCountedBy by instruction → new.commits ≡ raised_by (length (came_on state).commits) old.commits)
+          → ((status : StatusWord) → RefusesByTable instruction old apdu status → IsDenied status out old new) → ActsAlone (Ok done) instruction apdu old new out
+      acts_done answers counted denied = record {
+        says = λ by state known needs. (answers by state known needs).0;
+        yields = λ by state known. record { left = λ needs. (answers by state known needs).1; commits_so = counted by state known; calm = λ calm none. refl; stands = stands_done by state known };
+        done = λ leaves. refl;
+        denied = λ status refused. (refl, denied status refused);
+        moves = moves;
+      }
+
+    -- a fault stopped it
+    module _ (fault : StoreFault) (left : (state : Persistent) → held_by old ≡ Some state → IsLeftAt old new (card_with false old state) (came_on state).commits) where
+      stands_stopped : (by : KnownBy) (state : Persistent) → IsKnown by old state → StandsBy by (stopped_by fault) old new (card_with false old state) (came_on state).commits
+      stands_stopped ByStore state known = record { stopped = left state known; stable = stays state known }
+      stands_stopped ByTable state known = tt
+      stands_stopped ByMemory state known = tt
+
+      pub acts_stopped : ((by : KnownBy) (state : Persistent) → IsKnown by old state → IsCountedBy by instruction → CommitsAtMost (length (came_on state).commits) old.commits new.commits)
+          → ((by : KnownBy) (state : Persistent) → IsKnown by old state → IsCalmBy by instruction → (came_on state).commits ≡ [] → ⊥)
+          → (LeavesMemory instruction → ⊥) → ((status : StatusWord) → RefusesByTable instruction old apdu status → ⊥) → ActsAlone (stopped_by fault) instruction apdu old new out
+      acts_stopped counted calm done denied = record {
+        says = λ by state known needs. tt;
+        yields = λ by state known. record { left = λ needs. tt; commits_so = counted by state known; calm = λ is none. absurd (calm by state known is none); stands = stands_stopped by state known };
+        done = λ leaves. absurd (done leaves);
+        denied = λ status refused. absurd (denied status refused);
+        moves = moves;
+      }

@@ -29,6 +29,14 @@ pub same_status : (one other : StatusWord) → ◌≡◌ {A = Result Instruction
 unfolding status_or
 same_status one other is = ap (status_or one) is
 
+instruction_or : Instruction → Result Instruction StatusWord → Instruction
+instruction_or otherwise (Ok instruction) = instruction
+instruction_or otherwise (Err status) = otherwise
+
+pub same_instruction : (one other : Instruction) → ◌≡◌ {A = Result Instruction StatusWord} (Ok one) (Ok other) → one ≡ other
+unfolding instruction_or
+same_instruction one other is = ap (instruction_or one) is
+
 -- the form is known
 pub named_by : (channels : List (Option Selection)) (bytes : List ℕ) (apdu : Apdu) → Some apdu ≡ command_in bytes → instruction_tried is_known channels apdu.class apdu.ins ≡ command_named channels bytes
 unfolding command_named given

@@ -1,7 +1,7 @@
 -- What a fault leaves of a card where a command leaves the rows and the boxes alone.
-use Rattle.std.proofs.Common.{◌≡◌, ℕ, Bool, true, false, List, ◌∷◌, Option, Some, None, option_map, Result, Ok, Err, refl, sym, ◌∙◌, ap, subst, All, IfSome, IsSomeAnd, MatchResult, Contains, is_none, is_some, unwrap_or}
+use Rattle.std.proofs.Common.{◌≡◌, ℕ, ◌≤◌, Bool, true, false, List, ◌∷◌, length, Option, Some, None, option_map, Result, Ok, Err, refl, sym, ◌∙◌, ap, subst, All, IsSomeAnd, MatchResult, Contains, is_none}
 use Rattle.std.specs.Prelude.{⊤}
-use Rattle.std.proofs.lemmas.Bool.{false≢true, true≢false}
+use Rattle.std.proofs.lemmas.Bool.{true≢false}
 use Rattle.std.proofs.lemmas.List.Elements.{All-nil, All-cons, All-contains}
 use Rattle.list_laws.proofs.ContainsLemmas.{front_of}
 use Rattle.uicc_types.specs.declared.answers.StatusWord.{StatusWord}
@@ -21,10 +21,12 @@ use Rattle.card_model.specs.declared.instructions.Instruction.{Instruction}
 use Rattle.card_model.specs.declared.instructions.Instruction.TheVariants.{File, Pin as OnPins, ManageChannel, Toolkit, Tree}
 use Rattle.card_laws.specs.ToolkitLaws.{CommandsLeaveRows}
 use Rattle.card_laws.specs.Moving.{HaveFixed, HasOrder, LeavesRows, command_by, rows_after}
-use Rattle.card_core.specs.Cards.{held_by, boxes_kept, card_with, card_of, card_due}
+use Rattle.card_core.specs.Cards.{held_by, boxes_kept, card_with, card_due}
+use Rattle.card_core.specs.Known.{IsLeftAt}
 use Rattle.card_core.specs.Parts.{CardParts}
 use Rattle.card_core.proofs.BoxesKeptLemmas.{at, IsLeftSo, boxes_left_so}
 use Rattle.card_core.proofs.RowOnLemmas.{same_shelves}
+use Rattle.card_core.proofs.StopsAtLemmas.{stops_one}
 
 -- ---- the rows
 
@@ -77,29 +79,23 @@ still_left new card commits stays boxes fixed (Some now) one =
 
 -- ---- the card
 
-if_both : (before : Option CardState) (P Q R : CardState → Type 0) → ((card : CardState) → before ≡ Some card → P card → Q card → R card) → IfSome before P → IfSome before Q → IfSome before R
-if_both None P Q R each first second = tt
-if_both (Some card) P Q R each first second = each card refl first second
-
-pub fault_left : CommandsLeaveRows → (instruction : Instruction) (apdu : Apdu) → is_of_toolkit instruction ≡ false → (before : Option CardState) (new : CardParts) → new.leaving ≡ None
-    → ((card : CardState) → before ≡ Some card → new.boxes ≡ card.boxes) → IfSome before HasOrder
-    → IfSome before (λ card. IsSomeAnd (held_by new) (Contains (card.persistent ∷ (settled card (carried_out instruction card apdu)).commits)))
-    → IfSome before (λ card. IsSomeAnd (card_due new) (IsLeft card (card.persistent ∷ (settled card (carried_out instruction card apdu)).commits)))
+pub fault_left : CommandsLeaveRows → (instruction : Instruction) (apdu : Apdu) → is_of_toolkit instruction ≡ false → (card : CardState) (new : CardParts) → new.leaving ≡ None → new.boxes ≡ card.boxes → HasOrder card
+    → IsSomeAnd (held_by new) (Contains (card.persistent ∷ (settled card (carried_out instruction card apdu)).commits))
+    → IsSomeAnd (card_due new) (IsLeft card (card.persistent ∷ (settled card (carried_out instruction card apdu)).commits))
 unfolding card_due
-fault_left law instruction apdu beside before new stays boxes order one =
-    if_both before HasOrder (λ card. IsSomeAnd (held_by new) (Contains (card.persistent ∷ (settled card (carried_out instruction card apdu)).commits)))
-    (λ card. IsSomeAnd (option_map (card_with true new) (held_by new)) (IsLeft card (card.persistent ∷ (settled card (carried_out instruction card apdu)).commits)))
-    (λ card is ready holds.
-    still_left new card (settled card (carried_out instruction card apdu)).commits stays (boxes card is)
-    (settled_fixed card (command_by instruction card apdu) (is_status instruction) (carried_out instruction card apdu) (unchanged instruction card apdu beside) (law card instruction apdu ready)) (held_by new) holds)
-    order one
+fault_left law instruction apdu beside card new stays boxes ready holds =
+    still_left new card (settled card (carried_out instruction card apdu)).commits stays boxes
+    (settled_fixed card (command_by instruction card apdu) (is_status instruction) (carried_out instruction card apdu) (unchanged instruction card apdu beside) (law card instruction apdu ready)) (held_by new) holds
 
--- ---- the boxes of a card
+-- ---- a command that commits once at most
 
-boxes_mapped : (parts : CardParts) (held : Option Persistent) (card : CardState) → option_map (card_with false parts) held ≡ Some card → parts.boxes ≡ card.boxes
-boxes_mapped parts None card is = absurd (false≢true (ap is_some is))
-boxes_mapped parts (Some persistent) card is = ap (λ (found : Option CardState). (unwrap_or found (card_with false parts persistent)).boxes) is
-
-pub card_boxes : (parts : CardParts) → parts.is_due ≡ false → (card : CardState) → card_of parts ≡ Some card → parts.boxes ≡ card.boxes
-unfolding card_of
-card_boxes parts rests card is = boxes_mapped parts (held_by parts) card (sym (ap (λ (due : Bool). option_map (card_with due parts) (held_by parts)) rests) ∙ is)
+pub left_once : CommandsLeaveRows → (instruction : Instruction) (apdu : Apdu) → is_of_toolkit instruction ≡ false → (old new : CardParts) (state : Persistent) → new.leaving ≡ None → new.boxes ≡ old.boxes → HasOrder (card_with false old state)
+    → length (settled (card_with false old state) (carried_out instruction (card_with false old state) apdu)).commits ≤ 1 → new.commits ≡ old.commits
+    → IsSomeAnd (held_by new) (Contains (state ∷ (settled (card_with false old state) (carried_out instruction (card_with false old state) apdu)).commits))
+    → IsLeftAt old new (card_with false old state) (settled (card_with false old state) (carried_out instruction (card_with false old state) apdu)).commits
+left_once law instruction apdu beside old new state stays boxes order few same one =
+    let card : CardState = card_with false old state in
+    record {
+      left = fault_left law instruction apdu beside card new stays boxes order one;
+      stops = stops_one state (settled card (carried_out instruction card apdu)).commits old.commits new.commits (held_by new) few same one;
+    }

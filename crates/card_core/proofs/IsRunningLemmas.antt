@@ -1,22 +1,19 @@
 -- What stays of a card that serves its applets, whatever its store tells.
-use Rattle.std.proofs.Common.{◌≡◌, ◌≢◌, ⊎_elim, ℕ, ◌<◌, true, false, List, [], ◌∷◌, length, Option, Some, None, option_map, Result, Ok, Err, refl, sym, ◌∙◌, ap, subst, arith, All, IfSome, IsSomeAnd, is_some, slice_index_or, get_or-set_other}
+use Rattle.std.proofs.Common.{◌≡◌, ◌≢◌, ⊎_elim, ℕ, ◌<◌, false, List, [], ◌∷◌, length, Option, Some, None, Result, Ok, Err, refl, sym, ◌∙◌, ap, subst, arith, All, IsSomeAnd, is_some, slice_index_or, get_or-set_other}
 use Rattle.std.specs.Result.{result_ok}
 use Rattle.std.proofs.lemmas.Bool.{false≢true, true≢false}
 use Rattle.std.proofs.lemmas.Option.{same_Some}
 use Rattle.std.proofs.lemmas.List.Elements.{All-cons, All-head, All-tail}
 use Rattle.list_laws.proofs.MapLemmas.{all_unmapped}
-use Rattle.list_laws.proofs.IfSomeLemmas.{is_some-map}
 use Rattle.uicc_types.specs.declared.answers.Answer.{Answer}
 use Rattle.uicc_types.specs.declared.answers.StatusWord.{StatusWord}
 use Rattle.apdu_form.specs.Model.{Apdu}
 use Rattle.store_form.specs.declared.store.StoreFault.{StoreFault}
 use Rattle.card_state.specs.declared.entries.Loaded.{Loaded}
-use Rattle.card_state.specs.Persistent.{Registration, Persistent, Pin}
+use Rattle.card_state.specs.Persistent.{Registration, Persistent}
 use Rattle.card_state.specs.Standing.{standing, Agrees}
-use Rattle.card_state.specs.States.{rows_of, pins_of}
-use Rattle.access_rules.specs.declared.rules.Verified.{Verified}
+use Rattle.card_state.specs.States.{rows_of}
 use Rattle.file_model.specs.Outcomes.{last_of}
-use Rattle.file_model.specs.Access.{keys_seen}
 use Rattle.card_commits.specs.Laws.{IsTold, TablesTellStates}
 use Rattle.applet_trait.specs.Minds.{AppletState}
 use Rattle.toolkit_model.specs.Passing.{passed_rows}
@@ -28,18 +25,18 @@ use Rattle.card_model.specs.Toolkit.{ToolkitOutcome, states_passed, with_rows, t
 use Rattle.card_model.specs.declared.instructions.CatCommand.{CatCommand}
 use Rattle.card_model.specs.Answers.{seen_by}
 use Rattle.cat_commands.specs.Deleting.{HasNoRow}
-use Rattle.cat_commands.specs.Carrying.{Carries, HasCome, IsToolkitCutShort, HasToolkit}
+use Rattle.cat_commands.specs.Carrying.{Carries, HasCome, IsToolkitCutShort}
 use Rattle.card_laws.specs.Moving.{HasOrder}
 use Rattle.card_laws.specs.ToolkitLaws.{CommandsLeaveRows}
 use Rattle.card_core.specs.Starts.{HoldsCard}
-use Rattle.card_core.specs.Cards.{held_by, card_with, card_of, card_due, IsSet, IsRunning}
+use Rattle.card_core.specs.Cards.{held_by, card_with, IsSet, IsRunning}
 use Rattle.card_core.specs.Commands.{KindsKept}
 use Rattle.card_core.specs.Laws.{TablesHaveRows}
+use Rattle.card_core.specs.Moves.{StopsAt}
 use Rattle.card_core.specs.Parts.{CardParts}
 use Rattle.card_core.proofs.BoxesKeptLemmas.{at, kind_of}
 use Rattle.card_core.proofs.IsToolkitCutShortLemmas.{kind_at}
-use Rattle.card_core.proofs.CardOfLemmas.{card_told, if_card}
-use Rattle.card_core.proofs.HasToolkitLemmas.{scene_of, has_toolkit_of, rows_left}
+use Rattle.card_core.proofs.HasToolkitLemmas.{scene_of, rows_left}
 
 -- ---- the order
 
@@ -57,10 +54,6 @@ in_order law parts running state told =
       sequences = subst (λ (next : ℕ). All (λ row. row.sequence < next) state.rows) (sym told.next) (subst (All (λ row. row.sequence < parts.table.next)) (sym told.rows) sound.1);
     }
 
-pub cards_in_order : TablesTellStates → TablesHaveRows → (parts : CardParts) → IsRunning parts → parts.is_due ≡ false → IfSome (card_of parts) HasOrder
-cards_in_order tell law parts running rests =
-    if_card parts HasOrder rests (λ persistent held. in_order law parts running persistent (tell parts.store_mark parts.told parts.table persistent running.mounted.agrees held))
-
 -- ---- the boxes
 
 has_kind : (new old : Option AppletState) (kind : ℕ) → kind_of new ≡ kind_of old → IsSomeAnd old (λ mind. mind.kind ≡ kind) → IsSomeAnd new (λ mind. mind.kind ≡ kind)
@@ -73,7 +66,7 @@ last_all : {X : Type 0} (P : X → Type 0) (first : X) (xs : List X) → P first
 last_all P first [] here all = here
 last_all P first (x ∷ xs) here all = last_all P x xs (All-head P x xs all) (All-tail P x xs all)
 
-abbrev Boxed : CardParts → Persistent → Type 0
+abbrev pub Boxed : CardParts → Persistent → Type 0
 Boxed parts state = All (HasBox parts.boxes) state.rows
 
 module _ (command : CatCommand) (apdu : Apdu) (old new : CardParts) (kinds : KindsKept command apdu new.table old.boxes new.boxes) where
@@ -113,21 +106,18 @@ module _ (command : CatCommand) (apdu : Apdu) (old new : CardParts) (kinds : Kin
 
 -- ---- a card that is held
 
-any_some : {X : Type 0} (P : X → Type 0) (o : Option X) → IsSomeAnd o P → is_some o ≡ true
-any_some P None holds = absurd holds
-any_some P (Some x) holds = refl
-
-holds_due : (old new : CardParts) (P : CardState → CardState → Type 0) (before : Option CardState) → is_some before ≡ is_some old.told → is_some new.told ≡ is_some old.told → IfSome before (λ card. IsSomeAnd (card_due new) (P card))
-    → HoldsCard new.store_mark new.told
-unfolding card_due standing
-holds_due old new P None was same left = by_told new.told (same ∙ sym was) where
+holds_by : (old new : CardParts) (states : Persistent → List Persistent) (held : Option Persistent) → held_by old ≡ held → is_some held ≡ is_some old.told → is_some new.told ≡ is_some old.told
+    → ((state : Persistent) → held_by old ≡ Some state → StopsAt state (states state) old.commits new.commits (held_by new)) → HoldsCard new.store_mark new.told
+unfolding standing
+holds_by old new states None there was same stops = by_told new.told (same ∙ sym was) where
   by_told : (told : Option (List ℕ)) → is_some told ≡ false → HoldsCard new.store_mark told
   by_told None is = refl
   by_told (Some bytes) is = absurd (true≢false is)
-holds_due old new P (Some card) was same left = sym (is_some-map (card_with true new) (held_by new)) ∙ any_some (P card) (option_map (card_with true new) (held_by new)) left ∙ was ∙ sym same
+holds_by old new states (Some state) there was same stops = ap is_some (stops state there).stands ∙ was ∙ sym same
 
-pub holds_left : (old new : CardParts) (P : CardState → CardState → Type 0) → HoldsCard old.store_mark old.told → is_some new.told ≡ is_some old.told → IfSome (card_of old) (λ card. IsSomeAnd (card_due new) (P card)) → HoldsCard new.store_mark new.told
-holds_left old new P holds same left = holds_due old new P (card_of old) (card_told old holds) same left
+pub holds_left : (old new : CardParts) (states : Persistent → List Persistent) → HoldsCard old.store_mark old.told → is_some new.told ≡ is_some old.told
+    → ((state : Persistent) → held_by old ≡ Some state → StopsAt state (states state) old.commits new.commits (held_by new)) → HoldsCard new.store_mark new.told
+holds_left old new states holds same stops = holds_by old new states (held_by old) refl holds same stops
 
 pub silent_then : (before after : Option (List ℕ)) → is_some after ≡ is_some before → after ≡ None → before ≡ None
 silent_then None after same silent = refl
@@ -135,32 +125,22 @@ silent_then (Some bytes) after same silent = absurd (false≢true (sym (ap is_so
 
 -- ---- once a command of the toolkit came to its end, or a fault stopped it
 
-module _ (tell : TablesTellStates) (sound : TablesHaveRows) (law : CommandsLeaveRows) (command : CatCommand) (apdu : Apdu) (old new : CardParts) (running : IsRunning old) (set : IsSet old)
-    (kinds : KindsKept command apdu new.table old.boxes new.boxes) (seen : Verified) (seen_is : seen ≡ keys_seen (pins_of old.table) old.verified) where
-  commits_boxed : (state : Persistent) → IsTold old.table state → Boxed old state → (outcome : ToolkitOutcome) → toolkit_outcome command (card_with false old state) (seen_by (card_with false old state)) apdu ≡ Ok outcome
-      → All (Boxed old) (states_passed state outcome)
-  commits_boxed state told boxed outcome came = (rows_left law command (card_with false old state) apdu outcome (in_order sound old running state told) came).boxes boxed
-
-  pub silent_boxes : {X : Type 0} (out : Answer) (result : Result X StoreFault)
-      → ((card : CardState) → HasToolkit (scene_of old) card → Carries (toolkit_outcome command card seen apdu) out (scene_of old) (scene_of new) result)
-      → is_some new.told ≡ is_some old.told → new.told ≡ None → All (HasBox new.boxes) (rows_of new.table)
-  silent_boxes out result carries same silent =
-      let some = some_told tell old.store_mark old.told old.table running.mounted.agrees in
-      let state : Persistent = some.0 in
-      let told : IsTold old.table state = some.1 in
-      let card : CardState = card_with false old state in
-      let sees : seen ≡ seen_by card = seen_is ∙ ap (λ (pins : List Pin). keys_seen pins old.verified) (sym told.pins) in
-      let boxed : Boxed old state = subst (All (HasBox old.boxes)) (sym told.rows) (set.boxes (silent_then old.told new.told same silent)) in
-      boxes_after command apdu old new kinds state told boxed out (toolkit_outcome command card (seen_by card) apdu) result (commits_boxed state told boxed)
-      (subst (λ (keys : Verified). Carries (toolkit_outcome command card keys apdu) out (scene_of old) (scene_of new) result) sees (carries card (has_toolkit_of old state told)))
-
-  pub set_served : {X : Type 0} (out : Answer) (result : Result X StoreFault)
-      → ((card : CardState) → HasToolkit (scene_of old) card → Carries (toolkit_outcome command card seen apdu) out (scene_of old) (scene_of new) result)
+module _ (tell : TablesTellStates) (old new : CardParts) (running : IsRunning old) (set : IsSet old) where
+  pub set_served : {X : Type 0} (command : CatCommand) (apdu : Apdu) → KindsKept command apdu new.table old.boxes new.boxes → (tried : CardState → Result ToolkitOutcome StatusWord) (out : Answer) (result : Result X StoreFault)
+      → ((state : Persistent) → IsTold old.table state → Carries (tried (card_with false old state)) out (scene_of old) (scene_of new) result)
+      → ((state : Persistent) → IsTold old.table state → Boxed old state → (outcome : ToolkitOutcome) → tried (card_with false old state) ≡ Ok outcome → All (Boxed old) (states_passed state outcome))
       → new.byte_count ≡ old.byte_count → length new.boxes ≡ length old.boxes → HoldsCard new.store_mark new.told → (new.told ≡ None → Agrees new.store_mark None new.table) → is_some new.told ≡ is_some old.told → IsSet new
-  set_served out result carries size long card kept same = record {
+  set_served command apdu kinds tried out result carries leaves size long card kept same = record {
     size = size ∙ set.size;
     shelves = long ∙ set.shelves;
     card = card;
     kept = kept;
-    boxes = silent_boxes out result carries same;
+    boxes = λ silent.
+        let some = some_told tell old.store_mark old.told old.table running.mounted.agrees in
+        let boxed : Boxed old some.0 = subst (All (HasBox old.boxes)) (sym some.1.rows) (set.boxes (silent_then old.told new.told same silent)) in
+        boxes_after command apdu old new kinds some.0 some.1 boxed out (tried (card_with false old some.0)) result (leaves some.0 some.1 boxed) (carries some.0 some.1);
   }
+
+pub commits_boxed : TablesHaveRows → CommandsLeaveRows → (command : CatCommand) (apdu : Apdu) (old : CardParts) → IsRunning old → (state : Persistent) → IsTold old.table state → Boxed old state → (outcome : ToolkitOutcome)
+    → toolkit_outcome command (card_with false old state) (seen_by (card_with false old state)) apdu ≡ Ok outcome → All (Boxed old) (states_passed state outcome)
+commits_boxed sound law command apdu old running state told boxed outcome came = (rows_left law command (card_with false old state) apdu outcome (in_order sound old running state told) came).boxes boxed

@@ -1,5 +1,5 @@
 -- What a fault in a command of the toolkit leaves of the card.
-use Rattle.std.proofs.Common.{◌==◌, ◌≡◌, ◌≢◌, ◌⊎◌, inl, inr, ⊎_elim, ℕ, ◌<◌, ◌+◌, zero, suc, true, false, List, [], ◌∷◌, map, length, Option, Some, None, option_map, Result, Ok, Err, refl, sym, ◌∙◌, ap, subst, arith, All, IfSome, IsSomeAnd, is_none, slice_index_or}
+use Rattle.std.proofs.Common.{◌==◌, ◌≡◌, ◌≢◌, ◌⊎◌, inl, inr, ⊎_elim, ℕ, ◌<◌, ◌+◌, zero, suc, true, false, List, [], ◌∷◌, map, length, Option, Some, None, option_map, Result, Ok, Err, refl, sym, ◌∙◌, ap, subst, arith, All, IsSomeAnd, is_none, slice_index_or}
 use Rattle.std.proofs.lemmas.Bool.{false≢true, true≢false, eqb-true}
 use Rattle.std.proofs.lemmas.List.{length-map}
 use Rattle.std.proofs.lemmas.List.Elements.{Contains-get_or}
@@ -10,14 +10,11 @@ use Rattle.uicc_types.specs.declared.identifiers.Shelf.{Shelf}
 use Rattle.uicc_types.specs.declared.answers.Answer.{Answer}
 use Rattle.apdu_form.specs.Model.{Apdu}
 use Rattle.store_form.specs.declared.store.StoreFault.{StoreFault}
-use Rattle.card_state.specs.Persistent.{Registration, Persistent, Pin}
+use Rattle.card_state.specs.Persistent.{Registration, Persistent}
 use Rattle.card_state.specs.StateLaws.{RowsAreEntries}
-use Rattle.card_state.specs.States.{rows_of, pins_of}
-use Rattle.card_state.specs.Standing.{Agrees}
-use Rattle.access_rules.specs.declared.rules.Verified.{Verified}
-use Rattle.file_model.specs.Access.{keys_seen}
+use Rattle.card_state.specs.States.{rows_of}
 use Rattle.file_model.specs.Chains.{and_given}
-use Rattle.card_commits.specs.Laws.{IsTold, TablesTellStates}
+use Rattle.card_commits.specs.Laws.{IsTold}
 use Rattle.applet_trait.specs.Minds.{AppletState}
 use Rattle.toolkit_model.specs.Passing.{passed_rows}
 use Rattle.toolkit_model.specs.Registry.{row_on}
@@ -29,17 +26,16 @@ use Rattle.card_model.specs.Toolkit.{ToolkitOutcome, states_passed, with_rows, t
 use Rattle.card_model.specs.declared.instructions.Instruction.TheVariants.{Toolkit}
 use Rattle.card_model.specs.declared.instructions.CatCommand.{CatCommand}
 use Rattle.card_model.specs.declared.instructions.CatCommand.TheVariants.{DeleteApplet}
-use Rattle.card_model.specs.Answers.{Answered, settled, carried_out, on_toolkit, toolkit_tried, seen_by}
-use Rattle.cat_commands.specs.Carrying.{IsToolkitCutShort, state_at, HasToolkit, Carries}
+use Rattle.card_model.specs.Answers.{settled, on_toolkit, toolkit_tried, seen_by}
+use Rattle.cat_commands.specs.Carrying.{IsToolkitCutShort, state_at, Carries}
 use Rattle.cat_commands.specs.Deleting.{HasNoRow, LeavesUnregistered}
 use Rattle.card_laws.specs.Moving.{HaveFixed, command_by, rows_after, HasOrder, LeavesRows}
 use Rattle.card_laws.specs.ToolkitLaws.{CommandsLeaveRows}
-use Rattle.card_core.specs.Cards.{held_by, card_with, card_due, boxes_kept, card_of}
+use Rattle.card_core.specs.Cards.{held_by, card_with, card_due, boxes_kept}
 use Rattle.card_core.specs.Parts.{CardParts}
 use Rattle.card_core.proofs.BoxesKeptLemmas.{at, kind_of, box_kept, kept_at, kept_there, kept_beside, kept_gone, length-kept, IsLeftSo, boxes_left_so}
 use Rattle.card_core.proofs.RowOnLemmas.{same_shelves, Loses, lost, none_there, deleted_had}
-use Rattle.card_core.proofs.CardOfLemmas.{if_card}
-use Rattle.card_core.proofs.HasToolkitLemmas.{scene_of, is_delete, LeavesBy, by_toolkit, has_toolkit_of, rows_left}
+use Rattle.card_core.proofs.HasToolkitLemmas.{scene_of, is_delete, LeavesBy, rows_left}
 
 -- ---- the rows of a state on the way
 
@@ -197,27 +193,11 @@ module _ (entries : RowsAreEntries) (command : CatCommand) (apdu : Apdu) (old ne
       (behind ∙ ap (option_map (state_at outcome (short.count + 1))) held) long)
       short.stands
 
-  module _ (law : CommandsLeaveRows) (X : Type 0) (out : Answer) (fault : StoreFault) (seen : Verified) (seen_is : seen ≡ keys_seen (pins_of old.table) old.verified)
-      (carries : (card : CardState) → HasToolkit (scene_of old) card → Carries {X = X} (toolkit_outcome command card seen apdu) out (scene_of old) (scene_of new) (Err fault))
-      (ready : (state : Persistent) → IsTold old.table state → HasOrder (card_with false old state)) where
-    by_tried : (state : Persistent) → IsTold old.table state → held_by old ≡ Some state → (tried : Result ToolkitOutcome StatusWord) → toolkit_outcome command (card_with false old state) (seen_by (card_with false old state)) apdu ≡ tried
-        → Carries {X = X} tried out (scene_of old) (scene_of new) (Err fault)
-        → IsSomeAnd (card_due new) (IsLeft (card_with false old state) (state ∷ (settled (card_with false old state) (toolkit_tried (card_with false old state) tried)).commits))
-    unfolding and_given
-    by_tried state told held (Err status) came carried = absurd carried
-    by_tried state told held (Ok outcome) came short =
-        let card : CardState = card_with false old state in
-        short_left card outcome told refl held (all_fixed card command apdu outcome (rows_left law command card apdu outcome (ready state told) came)) (deletes_row command card apdu outcome came) short
-
-    pub toolkit_stopped : TablesTellStates → Agrees old.store_mark old.told old.table → old.is_due ≡ false
-        → IfSome (card_of old) (λ card. IsSomeAnd (card_due new) (IsLeft card (card.persistent ∷ (settled card (carried_out (Toolkit command) card apdu)).commits)))
-    toolkit_stopped tell agrees rests =
-        if_card old (λ card. IsSomeAnd (card_due new) (IsLeft card (card.persistent ∷ (settled card (carried_out (Toolkit command) card apdu)).commits))) rests
-        (λ persistent held.
-        let card : CardState = card_with false old persistent in
-        let told = tell old.store_mark old.told old.table persistent agrees held in
-        let sees : seen ≡ seen_by card = seen_is ∙ ap (λ (pins : List Pin). keys_seen pins old.verified) (sym told.pins) in
-        let came : Carries {X = X} (toolkit_outcome command card (seen_by card) apdu) out (scene_of old) (scene_of new) (Err fault) =
-        subst (λ (keys : Verified). Carries {X = X} (toolkit_outcome command card keys apdu) out (scene_of old) (scene_of new) (Err fault)) sees (carries card (has_toolkit_of old persistent told)) in
-        subst (λ (result : Result Answered StatusWord). IsSomeAnd (card_due new) (IsLeft card (persistent ∷ (settled card result).commits))) (sym (by_toolkit command card apdu))
-        (by_tried persistent told held (toolkit_outcome command card (seen_by card) apdu) refl came))
+  pub toolkit_left : CommandsLeaveRows → (X : Type 0) (out : Answer) (fault : StoreFault) (state : Persistent) → IsTold old.table state → held_by old ≡ Some state → HasOrder (card_with false old state)
+      → (tried : Result ToolkitOutcome StatusWord) → toolkit_outcome command (card_with false old state) (seen_by (card_with false old state)) apdu ≡ tried → Carries {X = X} tried out (scene_of old) (scene_of new) (Err fault)
+      → IsSomeAnd (card_due new) (IsLeft (card_with false old state) (state ∷ (settled (card_with false old state) (toolkit_tried (card_with false old state) tried)).commits))
+  unfolding and_given
+  toolkit_left law X out fault state told held ready (Err status) came carried = absurd carried
+  toolkit_left law X out fault state told held ready (Ok outcome) came short =
+      let card : CardState = card_with false old state in
+      short_left card outcome told refl held (all_fixed card command apdu outcome (rows_left law command card apdu outcome ready came)) (deletes_row command card apdu outcome came) short

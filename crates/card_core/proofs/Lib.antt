@@ -1,17 +1,14 @@
-mod ActingLemmas
 pub mod ActsAsLemmas
 mod ActsOnLemmas
-mod AnswersAsLemmas
 mod AreSelectedLemmas
 mod BoxesKeptLemmas
 mod CardOfLemmas
-mod CarriedWithLemmas
+mod ChannelYieldsLemmas
 mod CommandNamedLemmas
-mod CommitsSoLemmas
 mod CommitsStatesLemmas
 mod CountsMigrationLemmas
+mod FileYieldsLemmas
 mod HasNoRowLemmas
-mod HasRowsOfLemmas
 mod HasToolkitLemmas
 mod HoldsCardLemmas
 mod InstructionOfLemmas
@@ -23,19 +20,22 @@ mod IsSetLemmas
 mod IsToolkitCutShortLemmas
 mod KeepAllLemmas
 mod KeysSeenLemmas
+mod KnownLemmas
 mod LacksBoxLemmas
 mod MigratedLemmas
 mod MovesItsOwnLemmas
 mod OpensLemmas
+mod PinYieldsLemmas
 mod PolledOnLemmas
 mod PutBackLemmas
 mod RefusesByTableLemmas
 pub mod RestartLemmas
 mod RowOnLemmas
+mod ServedLemmas
 mod SettledFileLemmas
-mod SettlesLemmas
 mod StopsAtLemmas
 mod TellStatusLemmas
 mod ToldPendingLemmas
-mod TreeOutcomeLemmas
+mod ToolkitYieldsLemmas
+mod TreeYieldsLemmas
 mod WokenBesideLemmas

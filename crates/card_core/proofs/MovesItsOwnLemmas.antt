@@ -1,5 +1,5 @@
 -- What a command leaves as it was.
-use Rattle.std.proofs.Common.{◌≡◌, inl, inr, ℕ, Bool, true, false, List, Option, None, sym, ◌∙◌, ap, ◌≢◌, refl, subst, slice_set, Result, Ok, Err, OnOk, MatchResult, true≢false, get_or-set_other}
+use Rattle.std.proofs.Common.{◌≡◌, inl, inr, ℕ, Bool, true, false, List, Option, None, sym, ◌∙◌, ap, refl, subst, slice_set, Result, Ok, Err, OnOk, MatchResult, true≢false, get_or-set_other}
 use Rattle.uicc_types.specs.declared.answers.Answer.{Answer}
 use Rattle.uicc_types.specs.declared.answers.StatusWord.{StatusWord}
 use Rattle.apdu_form.specs.Model.{Apdu}
@@ -20,17 +20,13 @@ use Rattle.toolkit_model.specs.Running.{mind_on}
 use Rattle.proactive_handler.specs.Boxes.{kinds_of}
 use Rattle.card_model.specs.declared.instructions.Instruction.{Instruction}
 use Rattle.card_model.specs.declared.instructions.Instruction.TheVariants.{File, Pin, ManageChannel, Toolkit, Tree}
-use Rattle.card_model.specs.declared.instructions.CatCommand.{CatCommand}
-use Rattle.card_model.specs.declared.instructions.CatCommand.TheVariants.{InstallApplet, DeleteApplet}
 use Rattle.card_model.specs.Chained.{Any}
 use Rattle.card_model.proofs.ChainedLemmas.{past, past_given}
 use Rattle.cat_commands.specs.Deleting.{LeavesUnregistered}
-use Rattle.card_core.specs.AnyStore.{BeginsAnew, command_named, IsRefusedWith, MovesFiles, MovesStatus, MovesToolkit, MovesItsOwn, ActsAnew}
+use Rattle.card_core.specs.AnyStore.{BeginsAnew, command_named, IsRefusedWith, MovesFiles, MovesStatus, MovesItsOwn, ActsAnew}
 use Rattle.card_core.specs.Acting.{in_whole, ActsAs, LeavesCard}
-use Rattle.card_core.specs.Commands.{KindsKept}
 use Rattle.card_core.specs.Parts.{CardParts}
-use Rattle.card_core.proofs.AnswersAsLemmas.{answered_so, stood_so}
-use Rattle.card_core.proofs.HasToolkitLemmas.{lent}
+use Rattle.card_core.proofs.ActsOnLemmas.{answers_told, answers_stood}
 use Rattle.card_core.proofs.ActsAsLemmas.{acts_named}
 
 -- ---- a command on files
@@ -68,37 +64,7 @@ still_its_own ManageChannel apdu old new on due moves = record { table = moves.t
 still_its_own (Toolkit command) apdu old new on due moves = record { table = moves.table; next = moves.next; rows_stay = moves.rows_stay; channels = moves.channels; verified = moves.verified; kinds = moves.kinds; others = moves.others }
 still_its_own (Tree command) apdu old new on due moves = record { table = moves.table; verified = moves.verified; session = moves.session; boxes = moves.boxes }
 
--- ---- a command of the toolkit
-
--- over a table and boxes that were lent
-pub toolkit_moved : (command : CatCommand) (apdu : Apdu) (old new : CardParts) (table : Loaded) (minds now : List (Option AppletState)) → table ≡ old.table → minds ≡ old.boxes → now ≡ new.boxes
-    → new.channels ≡ old.channels → new.verified ≡ old.verified → new.table ≡ record table { rows = new.table.rows; next = new.table.next }
-    → ((command ≡ InstallApplet → ⊥) → new.table.next ≡ table.next) → ((other : ℕ) → (command ≡ DeleteApplet → other ≢ apdu.p2) → HasRowOn table other → HasRowOn new.table other)
-    → KindsKept command apdu new.table minds now → LeavesUnregistered table new.table minds now → MovesToolkit command apdu old new
-toolkit_moved command apdu old new table minds now same was is channels verified rest next stay kinds others = record {
-  table = rest ∙ ap (λ (each : Loaded). record each { rows = new.table.rows; next = new.table.next }) same;
-  next = λ other. next other ∙ ap (λ (each : Loaded). each.next) same;
-  rows_stay = λ other apart_from has. stay other apart_from (subst (λ (each : Loaded). HasRowOn each other) (sym same) has);
-  channels = channels;
-  verified = verified;
-  kinds = lent (λ (each : Loaded) (before after : List (Option AppletState)). KindsKept command apdu new.table before after) table old.table minds old.boxes now new.boxes same was is kinds;
-  others = λ shelf _. lent (λ (each : Loaded) (before after : List (Option AppletState)). LeavesUnregistered each new.table before after) table old.table minds old.boxes now new.boxes same was is others shelf;
-}
-
 -- ---- STATUS
-
--- over a table and boxes that were lent
-pub status_lent : (old new : CardParts) (table : Loaded) (minds now : List (Option AppletState)) → table ≡ old.table → minds ≡ old.boxes → now ≡ new.boxes
-    → new.channels ≡ old.channels → new.verified ≡ old.verified → new.table ≡ record table { rows = new.table.rows }
-    → ((other : ℕ) → HasRowOn table other → HasRowOn new.table other) → kinds_of now ≡ kinds_of minds → LeavesUnregistered table new.table minds now → MovesStatus old new
-status_lent old new table minds now same was is channels verified rest stay kinds others = record {
-  table = rest ∙ ap (λ (each : Loaded). record each { rows = new.table.rows }) same;
-  rows_stay = λ other has. stay other (subst (λ (each : Loaded). HasRowOn each other) (sym same) has);
-  channels = channels;
-  verified = verified;
-  kinds = lent (λ (each : Loaded) (before after : List (Option AppletState)). kinds_of after ≡ kinds_of before) table old.table minds old.boxes now new.boxes same was is kinds;
-  others = lent (λ (each : Loaded) (before after : List (Option AppletState)). LeavesUnregistered each new.table before after) table old.table minds old.boxes now new.boxes same was is others;
-}
 
 -- behind the command itself
 pub status_moved : (old mid new : CardParts) → mid.table ≡ old.table → mid.channels ≡ old.channels → mid.verified ≡ old.verified → mid.boxes ≡ old.boxes → MovesStatus mid new → MovesStatus old new
@@ -145,8 +111,8 @@ acts_anew {X} (Ok done) old begun new bytes out begins power does = record {
   power = power;
   acts = record {
     refused = λ status named. (let gives = does.refused status named in (gives.1, gives.2));
-    answers = λ card instruction may named needs. answered_so begun new card bytes out may ((acts_named {X = X} (Ok done) begun new bytes out does instruction named).answers card.persistent needs may.table);
-    trees = λ card instruction may named of_tree. stood_so begun new card bytes out may ((acts_named {X = X} (Ok done) begun new bytes out does instruction named).trees card.persistent of_tree may.table);
+    answers = λ card instruction may named needs. answers_told {X = X} (Ok done) instruction _ begun new bytes out _ (acts_named {X = X} (Ok done) begun new bytes out does instruction named) card may needs;
+    trees = λ card instruction may named of_tree. answers_stood {X = X} (Ok done) instruction _ begun new bytes out _ (acts_named {X = X} (Ok done) begun new bytes out does instruction named) card may of_tree;
     denied = λ instruction apdu status read named refused. ((does.acts instruction apdu read named).denied status refused).1;
     moves = λ instruction apdu read named. (does.acts instruction apdu read named).moves;
   };

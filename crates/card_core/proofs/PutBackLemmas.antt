@@ -1,25 +1,30 @@
 -- A card whose table is put back where a fault stopped a command.
-use Rattle.std.proofs.Common.{◌≡◌, ◌≢◌, inl, ℕ, Bool, true, false, List, [], ◌∷◌, map, Option, None, refl, sym, ◌∙◌, ap, subst, All, is_some, nat_lt, if◌then◌else◌, true≢false}
+use Rattle.std.proofs.Common.{◌≡◌, ◌≢◌, inl, ℕ, Bool, true, false, List, [], ◌∷◌, map, Option, None, Err, refl, sym, ◌∙◌, ap, subst, All, is_some, nat_lt, if◌then◌else◌, true≢false}
 use Rattle.std.specs.List.{range_with_len}
 use Rattle.std.proofs.lemmas.List.Elements.{All-nil, All-cons}
 use Rattle.apdu_form.specs.Model.{Apdu}
+use Rattle.store_form.specs.declared.store.StoreFault.{StoreFault}
 use Rattle.card_state.specs.declared.entries.Loaded.{Loaded}
 use Rattle.card_state.specs.declared.entries.Row.{Row}
 use Rattle.card_state.specs.declared.sizes.TheConstants.{ROW_COUNT}
 use Rattle.card_state.specs.Blank.{unused_row}
 use Rattle.card_state.specs.Decoding.{table_of, row_at, row_of, row_bytes, kept_bytes, is_wide}
+use Rattle.card_state.specs.Persistent.{Persistent}
 use Rattle.card_state.specs.Places.{row_count}
 use Rattle.card_state.specs.Standing.{Agrees}
 use Rattle.card_state.specs.States.{rows_of}
 use Rattle.card_commits.specs.Entries.{HasRowOn}
 use Rattle.proactive_handler.specs.Boxes.{kinds_of}
-use Rattle.card_model.specs.States.{HasBox}
+use Rattle.card_model.specs.States.{CardState, HasBox}
+use Rattle.card_model.specs.declared.instructions.Instruction.{Instruction}
 use Rattle.card_model.specs.declared.instructions.CatCommand.{CatCommand}
 use Rattle.card_model.specs.declared.instructions.CatCommand.TheVariants.{InstallApplet}
 use Rattle.card_core.specs.AnyStore.{MovesToolkit, MovesStatus}
 use Rattle.card_core.specs.Cards.{card_due, IsSet}
+use Rattle.card_core.specs.Known.{KnownBy, ByStore, ByTable, ByMemory, StandsBy, Yields}
 use Rattle.card_core.specs.Parts.{CardParts}
 use Rattle.card_core.specs.Registered.{IsUsedOrBlank}
+use Rattle.card_core.proofs.KnownLemmas.{stopped_by}
 use Rattle.card_core.proofs.IsRunningLemmas.{silent_then, still_boxed}
 
 -- ---- rows that are not used are the empty one
@@ -57,9 +62,15 @@ put_back_so old mid table rows next rest same last is =
 
 -- ---- the card
 
-pub due_same : (mid : CardParts) (table : Loaded) → card_due (record mid { table = table }) ≡ card_due mid
+-- what came of the command is the same
+pub yields_restored : (old mid : CardParts) (table : Loaded) (fault : StoreFault) (by : KnownBy) (instruction : Instruction) (card after : CardState) (commits : List Persistent)
+    → Yields {X = Unit {0}} (Err fault) by instruction old mid card after commits → Yields {X = Unit {0}} (Err fault) by instruction old (record mid { table = table }) card after commits
 unfolding card_due
-due_same mid table = refl
+yields_restored old mid table fault by instruction card after commits yields = record { left = λ needs. tt; commits_so = yields.commits_so; calm = yields.calm; stands = stood by yields.stands } where
+  stood : (each : KnownBy) → StandsBy each (stopped_by fault) old mid card commits → StandsBy each (stopped_by fault) old (record mid { table = table }) card commits
+  stood ByStore stands = record { stopped = record { left = stands.stopped.left; stops = stands.stopped.stops }; stable = stands.stable }
+  stood ByTable stands = tt
+  stood ByMemory stands = tt
 
 pub silent_agrees : (mark : ℕ) (told : Option (List ℕ)) (table : Loaded) → Agrees mark told table → Agrees mark None table
 silent_agrees mark told table agrees = record { content = agrees.content; state = agrees.state; told_is = tt; stands = agrees.stands }

@@ -30,10 +30,14 @@ use Rattle.card_model.specs.Laws.{RestartsAreGood}
 use Rattle.card_model.proofs.WokenLemmas.{length-woken_boxes, has_box_woken, woken_again, woken_at, fresh_is_orderly}
 use Rattle.card_laws.proofs.GoesOnLemmas.{box_there}
 use Rattle.card_core.specs.Starts.{HoldsCard, IsReadAgain}
+use Rattle.card_core.specs.AnyStore.{BeginsAnew}
+use Rattle.file_model.specs.Files.{descriptors_of}
+use Rattle.file_model.specs.LawfulTrees.{AreSelected}
+use Rattle.card_core.proofs.AreSelectedLemmas.{basic_selected}
 use Rattle.card_core.specs.Parts.{CardParts}
 use Rattle.card_core.specs.Cards.{memory_of, held_by, boxes_kept, card_with, card_of, card_due, RunsToolkit, IsSet, IsRunning, IsCardReady}
-use Rattle.card_core.specs.Laws.{TablesHaveRows}
-use Rattle.card_core.proofs.BoxesKeptLemmas.{at, box_kept, kept_at, kept_there}
+use Rattle.card_core.specs.Laws.{TablesHaveRows, TheMfIsThere}
+use Rattle.card_core.proofs.BoxesKeptLemmas.{at, box_kept, kept_at, kept_there, length-kept}
 use Rattle.card_core.proofs.RowOnLemmas.{at_it}
 
 -- ---- what was read
@@ -242,6 +246,31 @@ set_restarted old new set size mark told agrees kept long woke have = record {
   kept = λ silent. subst (λ (tells : Option (List ℕ)). Agrees new.store_mark tells new.table) silent agrees;
   boxes = λ silent. subst (λ (now : List (Option AppletState)). All (HasBox now) (rows_of new.table)) (sym woke) (all_have_woken (rows_of new.table) (rows_of new.table) kept have);
 }
+
+-- ---- a card that was started again
+
+-- It is the card that was due, and can take a command.
+pub record IsRestarted (old new : CardParts) : Type 0 where
+  pub card : card_of new ≡ card_due old
+  pub set : IsSet new
+  pub running : IsRunning new
+
+pub restarted_so : TablesTellStates → TheMfIsThere → TablesHaveRows → (old new : CardParts) → IsSet old → new.byte_count ≡ old.byte_count → new.store_mark ≡ old.store_mark → new.told ≡ old.told → IsMounted (memory_of new) → BeginsAnew old new
+    → StandsFor new.index (rows_of new.table) → All (HasBox old.boxes) (rows_of new.table) → IsRestarted old new
+restarted_so tell mf law old new set size mark told mounted begins indexed have =
+    let kept : List (Option AppletState) = boxes_kept old.leaving (rows_of new.table) old.boxes in
+    let there : All (HasBox kept) (rows_of new.table) = still_has old.leaving (rows_of new.table) old.boxes have in
+    record {
+      card = restart_is tell old new mounted.agrees begins.rests mark told begins.channels begins.verified begins.session begins.boxes;
+      set = set_restarted old new set size mark told mounted.agrees kept (length-kept old.leaving (rows_of new.table) old.boxes ∙ set.shelves) begins.boxes there;
+      running = record {
+        mounted = mounted;
+        selected =
+            subst (λ (channels : List (Option Selection)). AreSelected (descriptors_of new.table) channels) (sym begins.channels) (basic_selected (descriptors_of new.table) (mf new.store_mark new.told new.table mounted.agrees));
+        toolkit = toolkit_begun law new kept mounted.agrees indexed begins.session begins.boxes there;
+        stays = begins.leaving;
+      };
+    }
 
 -- ---- after a fault
 

@@ -5,7 +5,7 @@ use Rattle.uicc_types.specs.Counts.{raised_by}
 use Rattle.store_form.specs.declared.store.StoreFault.{StoreFault}
 use Rattle.card_state.specs.Persistent.{Persistent}
 use Rattle.card_commits.specs.Performing.{CommitsAtMost}
-use Rattle.card_core.specs.Acting.{CommitsSo}
+use Rattle.card_core.specs.Known.{CommitsSo}
 use Rattle.card_core.specs.Moves.{StopsAt}
 
 -- each of them was done

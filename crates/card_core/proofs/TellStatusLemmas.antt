@@ -1,7 +1,7 @@
 -- STATUS, of which the applets are told.
-use Rattle.std.proofs.Common.{◌≡◌, ◌⊎◌, inl, inr, ◌==◌, true, false, List, [], ◌∷◌, ◌++◌, Option, Some, None, Result, Ok, Err, refl, sym, ◌∙◌, ap, subst, IfSome, IsSomeAnd, MatchResult, OnOk}
+use Rattle.std.proofs.Common.{◌≡◌, ◌⊎◌, inl, inr, ◌==◌, ℕ, Contains, true, false, List, [], ◌∷◌, ◌++◌, Option, Some, None, Result, Ok, Err, refl, sym, ◌∙◌, ap, subst, IsSomeAnd, MatchResult, OnOk}
 use Rattle.std.proofs.lemmas.Bool.{false≢true, true≢false}
-use Rattle.std.proofs.lemmas.List.Elements.{Contains-append_left}
+use Rattle.std.proofs.lemmas.Result.{on_err_weaker}
 use Rattle.uicc_types.specs.declared.answers.Answer.{Answer}
 use Rattle.uicc_types.specs.declared.answers.StatusWord.{StatusWord}
 use Rattle.uicc_types.specs.declared.answers.TheConstants.StatusWord.{DONE}
@@ -16,16 +16,18 @@ use Rattle.apdu_form.specs.Classes.{channel_of}
 use Rattle.file_model.specs.Commands.{file_outcome}
 use Rattle.file_model.specs.declared.commands.FileCommand.TheVariants.{Status}
 use Rattle.file_model.proofs.ChainsLemmas.{unless_so, given_so}
-use Rattle.card_commits.specs.Laws.{IsTold}
 use Rattle.card_model.specs.Answers.{Answered, settled, carried_out, carried_with, file_tried, then_polled, selection_on}
 use Rattle.card_model.specs.Runs.{IsLeft, boxes_left}
 use Rattle.card_model.specs.States.{CardState, woken}
 use Rattle.card_model.specs.declared.instructions.Instruction.TheVariants.{File}
-use Rattle.card_core.specs.AnyStore.{MayBe, AnswersAs}
-use Rattle.card_core.specs.Cards.{card_with}
-use Rattle.card_core.specs.Moves.{Answers, Polls, Settles, polled_on}
+use Rattle.card_core.specs.Acting.{ActsOn, ActsAlone, ChangesNothing, TellsApplets}
+use Rattle.card_core.specs.Cards.{card_with, card_due, held_by}
+use Rattle.card_core.specs.Known.{KnownBy, ByStore, ByTable, ByMemory, IsKnown, IsAnsweredBy, SaysSo, IsLeftAt, StandsBy, Yields}
+use Rattle.card_core.specs.Moves.{StopsAt, polled_on}
 use Rattle.card_core.specs.Parts.{CardParts}
-use Rattle.card_core.proofs.AnswersAsLemmas.{card_told}
+use Rattle.card_core.proofs.KnownLemmas.{card_by, finished}
+use Rattle.card_core.proofs.MovesItsOwnLemmas.{status_moved}
+use Rattle.card_core.proofs.StopsAtLemmas.{so_from}
 
 -- ---- whether it was done
 
@@ -75,131 +77,115 @@ pub tells_or_not : (card : CardState) (apdu : Apdu) → IsTelling card apdu (set
 unfolding TellsOrNot carried_out file_outcome
 tells_or_not card apdu = by_outcome card apdu (status_told card.persistent (selection_on card (channel_of apdu.class)) apdu) refl (status_is card.persistent (selection_on card (channel_of apdu.class)) apdu)
 
--- ---- a card whose store tells its bytes
-
-is_done_or : (out : Answer) (answered : Answered) (P : Type 0) → out.status ≡ answered.status → (out.status.0 == DONE.0) ≡ true → (answered.status.0 == DONE.0) ≡ false → P
-is_done_or out answered P same done other = absurd (true≢false (sym done ∙ ap (λ (word : StatusWord). word.0 == DONE.0) same ∙ other))
-
-told_one : (card : CardState) (apdu : Apdu) (out : Answer) (mid new : Option CardState) → (out.status.0 == DONE.0) ≡ true
-    → Answers (settled card (carried_out (File Status) card apdu)) out mid → IfSome mid (λ each. new ≡ Some (polled_on each).state)
-    → IsTelling card apdu (settled card (carried_out (File Status) card apdu)) ⊎ IsNotTold card apdu (settled card (carried_out (File Status) card apdu)) → Answers (settled card (carried_with true (File Status) card apdu)) out new
-told_one card apdu out mid new done answers polls (inl telling) = subst (λ (answered : Answered). Answers answered out new) (sym telling.carried) (record {
-  body = answers.body;
-  status = answers.status;
-  moved = subst (λ (found : Option CardState). IfSome found (λ each. new ≡ Some (polled_on each).state)) answers.moved polls;
-})
-told_one card apdu out mid new done answers polls (inr silent) = is_done_or out (settled card (carried_out (File Status) card apdu)) _ answers.status done silent.other
-
-pub status_told_on : (before : Option CardState) (apdu : Apdu) (out : Answer) (mid new : Option CardState) → (out.status.0 == DONE.0) ≡ true
-    → IfSome before (λ card. Answers (settled card (carried_out (File Status) card apdu)) out mid) → IfSome mid (λ card. new ≡ Some (polled_on card).state)
-    → IfSome before (λ card. Answers (settled card (carried_with true (File Status) card apdu)) out new)
-status_told_on None apdu out mid new done answers polls = tt
-status_told_on (Some card) apdu out mid new done answers polls = told_one card apdu out mid new done answers polls (tells_or_not card apdu)
-
-silent_one : (card : CardState) (apdu : Apdu) (out : Answer) (new : Option CardState) → (out.status.0 == DONE.0) ≡ false → Answers (settled card (carried_out (File Status) card apdu)) out new
-    → IsTelling card apdu (settled card (carried_out (File Status) card apdu)) ⊎ IsNotTold card apdu (settled card (carried_out (File Status) card apdu)) → Answers (settled card (carried_with true (File Status) card apdu)) out new
-silent_one card apdu out new other answers (inl telling) = absurd (false≢true (sym other ∙ ap (λ (word : StatusWord). word.0 == DONE.0) (answers.status ∙ telling.status)))
-silent_one card apdu out new other answers (inr silent) = subst (λ (answered : Answered). Answers answered out new) (sym silent.carried) answers
-
-pub status_silent_on : (before : Option CardState) (apdu : Apdu) (out : Answer) (new : Option CardState) → (out.status.0 == DONE.0) ≡ false
-    → IfSome before (λ card. Answers (settled card (carried_out (File Status) card apdu)) out new) → IfSome before (λ card. Answers (settled card (carried_with true (File Status) card apdu)) out new)
-status_silent_on None apdu out new other answers = tt
-status_silent_on (Some card) apdu out new other answers = silent_one card apdu out new other answers (tells_or_not card apdu)
-
--- ---- after a fault
-
-left_more : (card left : CardState) (first more : List Persistent) → IsLeft card first left → IsLeft card (first ++ more) left
-left_more card left first more is = record { persistent = is.persistent; passed = Contains-append_left first more is.persistent is.passed; woke = is.woke }
+-- ---- what a fault left behind it
 
 any_weaker : {X : Type 0} (P Q : X → Type 0) (o : Option X) → ((x : X) → P x → Q x) → IsSomeAnd o P → IsSomeAnd o Q
 any_weaker P Q None each holds = holds
 any_weaker P Q (Some x) each holds = each x holds
 
-stopped_one : (card : CardState) (apdu : Apdu) (due : Option CardState) → IsSomeAnd due (IsLeft card (card.persistent ∷ (settled card (carried_out (File Status) card apdu)).commits))
-    → IsTelling card apdu (settled card (carried_out (File Status) card apdu)) ⊎ IsNotTold card apdu (settled card (carried_out (File Status) card apdu))
-    → IsSomeAnd due (IsLeft card (card.persistent ∷ (settled card (carried_with true (File Status) card apdu)).commits))
-stopped_one card apdu due left (inl telling) =
-    let answered : Answered = settled card (carried_out (File Status) card apdu) in
-    subst (λ (each : Answered). IsSomeAnd due (IsLeft card (card.persistent ∷ each.commits))) (sym telling.carried)
-    (any_weaker (IsLeft card (card.persistent ∷ answered.commits)) (IsLeft card (card.persistent ∷ (then_polled answered).commits)) due
-    (λ each is. left_more card each (card.persistent ∷ answered.commits) (polled_on answered.state).commits is) left)
-stopped_one card apdu due left (inr silent) = subst (λ (each : Answered). IsSomeAnd due (IsLeft card (card.persistent ∷ each.commits))) (sym silent.carried) left
-
-pub status_stopped : (before : Option CardState) (apdu : Apdu) (due : Option CardState) → IfSome before (λ card. IsSomeAnd due (IsLeft card (card.persistent ∷ (settled card (carried_out (File Status) card apdu)).commits)))
-    → IfSome before (λ card. IsSomeAnd due (IsLeft card (card.persistent ∷ (settled card (carried_with true (File Status) card apdu)).commits)))
-status_stopped None apdu due left = tt
-status_stopped (Some card) apdu due left = stopped_one card apdu due left (tells_or_not card apdu)
-
--- a card with the same boxes over the same
-left_as : (card other left : CardState) (states : List Persistent) → other.persistent ≡ card.persistent → other.boxes ≡ card.boxes → IsLeft other states left → IsLeft card states left
-left_as card other left states persistent boxes is = record {
+-- of a card with the same boxes over the same
+left_as : (card other left : CardState) (commits : List Persistent) → other.persistent ≡ card.persistent → other.boxes ≡ card.boxes → IsLeft other (other.persistent ∷ commits) left → IsLeft card (card.persistent ∷ commits) left
+left_as card other left commits persistent boxes is = record {
   persistent = is.persistent;
-  passed = is.passed;
+  passed = subst (λ (held : Persistent). Contains (held ∷ commits) is.persistent) persistent is.passed;
   woke = is.woke ∙ ap (λ (held : Persistent). woken is.persistent (boxes_left held.rows is.persistent.rows other.boxes)) persistent
       ∙ ap (λ list. woken is.persistent (boxes_left card.persistent.rows is.persistent.rows list)) boxes;
 }
 
-cut_one : (card : CardState) (apdu : Apdu) (out : Answer) (mid due : Option CardState) → (out.status.0 == DONE.0) ≡ true → Answers (settled card (carried_out (File Status) card apdu)) out mid
-    → IfSome mid (λ each. IsSomeAnd due (IsLeft each (each.persistent ∷ (polled_on each).commits)))
-    → IsTelling card apdu (settled card (carried_out (File Status) card apdu)) ⊎ IsNotTold card apdu (settled card (carried_out (File Status) card apdu))
-    → IsSomeAnd due (IsLeft card (card.persistent ∷ (settled card (carried_with true (File Status) card apdu)).commits))
-cut_one card apdu out mid due done answers left (inl telling) =
-    let answered : Answered = settled card (carried_out (File Status) card apdu) in
-    let later : IsSomeAnd due (IsLeft answered.state (answered.state.persistent ∷ (polled_on answered.state).commits)) =
-    subst (λ (found : Option CardState). IfSome found (λ each. IsSomeAnd due (IsLeft each (each.persistent ∷ (polled_on each).commits)))) answers.moved left in
-    let here : IsSomeAnd due (IsLeft card (card.persistent ∷ (polled_on answered.state).commits)) =
-    any_weaker (IsLeft answered.state (answered.state.persistent ∷ (polled_on answered.state).commits)) (IsLeft card (card.persistent ∷ (polled_on answered.state).commits)) due
-    (λ each is. left_as card answered.state each (card.persistent ∷ (polled_on answered.state).commits) telling.persistent telling.boxes
-    (subst (λ (held : Persistent). IsLeft answered.state (held ∷ (polled_on answered.state).commits) each) telling.persistent is)) later in
-    subst (λ (each : Answered). IsSomeAnd due (IsLeft card (card.persistent ∷ each.commits))) (sym telling.carried)
-    (subst (λ (commits : List Persistent). IsSomeAnd due (IsLeft card (card.persistent ∷ (commits ++ (polled_on answered.state).commits)))) (sym telling.commits) here)
-cut_one card apdu out mid due done answers left (inr silent) = is_done_or out (settled card (carried_out (File Status) card apdu)) _ answers.status done silent.other
+module _ (apdu : Apdu) where
+  abbrev first_of : CardState → Answered
+  first_of card = settled card (carried_out (File Status) card apdu)
 
-pub status_cut : (before : Option CardState) (apdu : Apdu) (out : Answer) (mid due : Option CardState) → (out.status.0 == DONE.0) ≡ true
-    → IfSome before (λ card. Answers (settled card (carried_out (File Status) card apdu)) out mid) → IfSome mid (λ card. IsSomeAnd due (IsLeft card (card.persistent ∷ (polled_on card).commits)))
-    → IfSome before (λ card. IsSomeAnd due (IsLeft card (card.persistent ∷ (settled card (carried_with true (File Status) card apdu)).commits)))
-status_cut None apdu out mid due done answers left = tt
-status_cut (Some card) apdu out mid due done answers left = cut_one card apdu out mid due done answers left (tells_or_not card apdu)
+  abbrev whole_of : CardState → Answered
+  whole_of card = settled card (carried_with true (File Status) card apdu)
 
--- ---- whatever the store tells
+  -- ---- the applets were told
 
-told_so : (card : CardState) (apdu : Apdu) (out : Answer) (new : CardParts) → (out.status.0 == DONE.0) ≡ true → (mid : CardParts) → AnswersAs (settled card (carried_out (File Status) card apdu)) out mid
-    → MayBe new (polled_on (settled card (carried_out (File Status) card apdu)).state).state
-    → IsTelling card apdu (settled card (carried_out (File Status) card apdu)) ⊎ IsNotTold card apdu (settled card (carried_out (File Status) card apdu)) → AnswersAs (settled card (carried_with true (File Status) card apdu)) out new
-told_so card apdu out new done mid answers may (inl telling) = subst (λ (answered : Answered). AnswersAs answered out new) (sym telling.carried) (record {
-  body = answers.body;
-  status = answers.status;
-  left = record { table = may.table; channels = may.channels; verified = may.verified; session = may.session; boxes = may.boxes };
-})
-told_so card apdu out new done mid answers may (inr silent) = is_done_or out (settled card (carried_out (File Status) card apdu)) _ answers.status done silent.other
+  module _ {X : Type 0} (done : Unit {0}) (result : Result X StoreFault) (old mid new : CardParts) (first out : Answer) (acts : ActsAlone (Ok done) (File Status) apdu old mid first) (still : ChangesNothing (Ok done) old mid)
+      (tells : TellsApplets result mid new) (is_done : (first.status.0 == DONE.0) ≡ true) (same : OnOk result (out ≡ first)) where
+    at_left : (card : CardState) (commits : List Persistent) → (first_of card).state.persistent ≡ card.persistent → (first_of card).state.boxes ≡ card.boxes → IsLeftAt mid new (first_of card).state commits → IsLeftAt old new card commits
+    at_left card commits persistent boxes is = record {
+      left = any_weaker (IsLeft (first_of card).state ((first_of card).state.persistent ∷ commits)) (IsLeft card (card.persistent ∷ commits)) (card_due new) (λ left. left_as card (first_of card).state left commits persistent boxes) is.left;
+      stops = subst (λ (count : ℕ). StopsAt card.persistent commits count new.commits (held_by new)) still.commits (subst (λ (state : Persistent). StopsAt state commits mid.commits new.commits (held_by new)) persistent is.stops);
+    }
 
-pub status_answers : (card : CardState) (apdu : Apdu) (out : Answer) (mid new : CardParts) → (out.status.0 == DONE.0) ≡ true → AnswersAs (settled card (carried_out (File Status) card apdu)) out mid
-    → MayBe new (polled_on (settled card (carried_out (File Status) card apdu)).state).state → AnswersAs (settled card (carried_with true (File Status) card apdu)) out new
-status_answers card apdu out mid new done answers may = told_so card apdu out new done mid answers may (tells_or_not card apdu)
+    then_stands : (by : KnownBy) (card : CardState) (commits : List Persistent) → (first_of card).state.persistent ≡ card.persistent → (first_of card).state.boxes ≡ card.boxes → (first_of card).commits ≡ []
+        → StandsBy by (finished done) old mid card (first_of card).commits → StandsBy by result mid new (first_of card).state commits → StandsBy by result old new card commits
+    then_stands ByStore card commits persistent boxes none before later = record {
+      stopped = on_err_weaker result (at_left card commits persistent boxes) later.stopped;
+      stable = λ is. later.stable is ∙ before.stable none;
+    }
+    then_stands ByTable card commits persistent boxes none before later = tt
+    then_stands ByMemory card commits persistent boxes none before later = tt
 
-not_told_so : (card : CardState) (apdu : Apdu) (out : Answer) (new : CardParts) → (out.status.0 == DONE.0) ≡ false → AnswersAs (settled card (carried_out (File Status) card apdu)) out new
-    → IsTelling card apdu (settled card (carried_out (File Status) card apdu)) ⊎ IsNotTold card apdu (settled card (carried_out (File Status) card apdu)) → AnswersAs (settled card (carried_with true (File Status) card apdu)) out new
-not_told_so card apdu out new other answers (inl telling) = absurd (false≢true (sym other ∙ ap (λ (word : StatusWord). word.0 == DONE.0) (answers.status ∙ telling.status)))
-not_told_so card apdu out new other answers (inr silent) = subst (λ (answered : Answered). AnswersAs answered out new) (sym silent.carried) answers
+    module _ (by : KnownBy) (needs : IsAnsweredBy by (File Status)) (state : Persistent) (known : IsKnown by old state) where
+      abbrev card : CardState
+      card = card_with false old state
 
-pub status_answers_other : (card : CardState) (apdu : Apdu) (out : Answer) (new : CardParts) → (out.status.0 == DONE.0) ≡ false → AnswersAs (settled card (carried_out (File Status) card apdu)) out new
-    → AnswersAs (settled card (carried_with true (File Status) card apdu)) out new
-status_answers_other card apdu out new other answers = not_told_so card apdu out new other answers (tells_or_not card apdu)
+      told_yields : IsTelling card apdu (first_of card) → Yields result by (File Status) old new card (whole_of card).state (whole_of card).commits
+      told_yields telling =
+          let answered : Answered = first_of card in
+          let before = acts.yields by state known in
+          let may = before.left needs in
+          let later : Yields result by (File Status) mid new answered.state (polled_on answered.state).state (polled_on answered.state).commits =
+          subst (λ (each : CardState). Yields result by (File Status) mid new each (polled_on each).state (polled_on each).commits) (sym (card_by by mid answered.state may)) (tells.yields by answered.state.persistent may.known) in
+          subst (λ (each : Answered). Yields result by (File Status) old new card each.state each.commits) (sym telling.carried)
+          (subst (λ (commits : List Persistent). Yields result by (File Status) old new card (polled_on answered.state).state (commits ++ (polled_on answered.state).commits)) (sym telling.commits) (record {
+            left = later.left;
+            commits_so = λ counted. so_from result old.commits mid.commits new.commits (polled_on answered.state).commits still.commits (later.commits_so counted);
+            calm = later.calm;
+            stands = then_stands by card (polled_on answered.state).commits telling.persistent telling.boxes telling.commits before.stands later.stands;
+          }))
 
--- ---- both together
+      told_says : {Y : Type 0} (outcome : Result Y StoreFault) → OnOk outcome (out ≡ first) → IsTelling card apdu (first_of card) → OnOk outcome (SaysSo (whole_of card) out)
+      told_says (Err fault) is telling = tt
+      told_says (Ok fine) is telling =
+          let says = acts.says by state known needs in
+          subst (λ (each : Answered). SaysSo each out) (sym telling.carried) (subst (SaysSo (then_polled (first_of card))) (sym is) (record { body = says.body; status = says.status }))
 
-pub status_both : {X : Type 0} (result : Result X StoreFault) (before : Option CardState) (apdu : Apdu) (first out : Answer) (mid after due : Option CardState) → (first.status.0 == DONE.0) ≡ true → OnOk result (out ≡ first)
-    → IfSome before (λ card. Answers (settled card (carried_out (File Status) card apdu)) first mid) → Polls result mid after due → Settles result before out after due (λ card. carried_with true (File Status) card apdu)
-status_both (Ok fine) before apdu first out mid after due done same answers polls =
-    subst (λ (each : Answer). IfSome before (λ card. Answers (settled card (carried_with true (File Status) card apdu)) each after)) (sym same) (status_told_on before apdu first mid after done answers polls)
-status_both (Err fault) before apdu first out mid after due done same answers polls = status_cut before apdu first mid due done answers polls
+      by_telling : IsTelling card apdu (first_of card) ⊎ IsNotTold card apdu (first_of card) → IsTelling card apdu (first_of card)
+      by_telling (inl telling) = telling
+      by_telling (inr silent) = absurd (true≢false (sym is_done ∙ ap (λ (word : StatusWord). word.0 == DONE.0) (acts.says by state known needs).status ∙ silent.other))
 
-pub status_so : {X : Type 0} (result : Result X StoreFault) (card : CardState) (apdu : Apdu) (first out : Answer) (mid new : CardParts) → (first.status.0 == DONE.0) ≡ true → OnOk result (out ≡ first)
-    → AnswersAs (settled card (carried_out (File Status) card apdu)) first mid
-    → ((state : Persistent) → IsTold mid.table state → OnOk result (MayBe new (polled_on (card_with false mid state)).state)) → OnOk result (AnswersAs (settled card (carried_with true (File Status) card apdu)) out new)
-status_so (Err fault) card apdu first out mid new done same answers may = tt
-status_so (Ok fine) card apdu first out mid new done same answers may =
-    let answered : Answered = settled card (carried_out (File Status) card apdu) in
-    let told : MayBe new (polled_on (card_with false mid answered.state.persistent)).state = may answered.state.persistent answers.left.table in
-    let here : MayBe new (polled_on answered.state).state = subst (λ (each : CardState). MayBe new (polled_on each).state) (sym (card_told mid answered.state answers.left)) told in
-    subst (λ (each : Answer). AnswersAs (settled card (carried_with true (File Status) card apdu)) each new) (sym same) (status_answers card apdu first mid new done answers here)
+    each_yields : (by : KnownBy) (state : Persistent) → IsKnown by old state → Yields result by (File Status) old new (card_with false old state) (whole_of (card_with false old state)).state (whole_of (card_with false old state)).commits
+    each_yields ByStore state known = told_yields ByStore tt state known (by_telling ByStore tt state known (tells_or_not (card_with false old state) apdu))
+    each_yields ByTable state known = told_yields ByTable tt state known (by_telling ByTable tt state known (tells_or_not (card_with false old state) apdu))
+    each_yields ByMemory state known = record { left = λ of_tree. absurd (false≢true of_tree); commits_so = λ of_tree. absurd (false≢true of_tree); calm = λ of_tree. absurd (false≢true of_tree); stands = tt }
+
+    pub status_told_acts : ActsOn result (File Status) apdu old new out whole_of (λ status. status)
+    status_told_acts = record {
+      says = λ by state known needs. told_says by needs state known result same (by_telling by needs state known (tells_or_not (card_with false old state) apdu));
+      yields = each_yields;
+      done = λ leaves. absurd leaves;
+      denied = λ status refused. absurd refused;
+      moves = status_moved old mid new still.table still.channels still.verified still.boxes tells.moves;
+    }
+
+  -- ---- they were not
+
+  module _ (done : Unit {0}) (old new : CardParts) (out : Answer) (acts : ActsAlone (Ok done) (File Status) apdu old new out) (other : (out.status.0 == DONE.0) ≡ false) where
+    module _ (by : KnownBy) (needs : IsAnsweredBy by (File Status)) (state : Persistent) (known : IsKnown by old state) where
+      same_whole : IsTelling (card_with false old state) apdu (first_of (card_with false old state)) ⊎ IsNotTold (card_with false old state) apdu (first_of (card_with false old state))
+          → first_of (card_with false old state) ≡ whole_of (card_with false old state)
+      same_whole (inl telling) = absurd (true≢false (sym (ap (λ (word : StatusWord). word.0 == DONE.0) ((acts.says by state known needs).status ∙ telling.status)) ∙ other))
+      same_whole (inr silent) = sym silent.carried
+
+      pub is_whole : first_of (card_with false old state) ≡ whole_of (card_with false old state)
+      is_whole = same_whole (tells_or_not (card_with false old state) apdu)
+
+    other_yields : (by : KnownBy) (state : Persistent) → IsKnown by old state
+        → Yields {X = Unit {0}} (Ok done) by (File Status) old new (card_with false old state) (whole_of (card_with false old state)).state (whole_of (card_with false old state)).commits
+    other_yields ByStore state known =
+        subst (λ (each : Answered). Yields {X = Unit {0}} (Ok done) ByStore (File Status) old new (card_with false old state) each.state each.commits) (is_whole ByStore tt state known) (acts.yields ByStore state known)
+    other_yields ByTable state known =
+        subst (λ (each : Answered). Yields {X = Unit {0}} (Ok done) ByTable (File Status) old new (card_with false old state) each.state each.commits) (is_whole ByTable tt state known) (acts.yields ByTable state known)
+    other_yields ByMemory state known = record { left = λ of_tree. absurd (false≢true of_tree); commits_so = λ of_tree. absurd (false≢true of_tree); calm = λ of_tree. absurd (false≢true of_tree); stands = tt }
+
+    pub status_other_acts : ActsOn (Ok done) (File Status) apdu old new out whole_of (λ status. status)
+    status_other_acts = record {
+      says = λ by state known needs. subst (λ (each : Answered). SaysSo each out) (is_whole by needs state known) (acts.says by state known needs);
+      yields = other_yields;
+      done = λ leaves. absurd leaves;
+      denied = λ status refused. absurd refused;
+      moves = acts.moves;
+    }

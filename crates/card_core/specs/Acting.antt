@@ -15,23 +15,18 @@ use Rattle.card_model.specs.Answers.{Answered, settled, carried_out, tried, answ
 use Rattle.card_model.specs.Instructions.{instruction_tried, is_known, is_of_tree}
 use Rattle.card_model.specs.States.{CardState}
 use Rattle.card_model.specs.declared.instructions.Instruction.{Instruction}
-use Rattle.card_core.specs.AnyStore.{BeginsAnew, command_named, IsRefusedWith, MayBe, AnswersAs, IsOfMemory, MayStand, AnswersStanding, LeavesMemory, NeedsNoContents, CommitsByTable, ReachesApplets, RefusesByTable, IsDenied, MovesStatus, MovesItsOwn, ActsAnew}
+use Rattle.card_model.specs.declared.instructions.Instruction.TheVariants.{File}
+use Rattle.file_model.specs.declared.commands.FileCommand.TheVariants.{Status}
+use Rattle.card_core.specs.AnyStore.{BeginsAnew, command_named, IsRefusedWith, MayBe, AnswersAs, MayStand, AnswersStanding, LeavesMemory, NeedsNoContents, CommitsByTable, ReachesApplets, RefusesByTable, IsDenied, MovesStatus, MovesItsOwn, ActsAnew}
 use Rattle.card_core.specs.Cards.{card_with}
 use Rattle.card_core.specs.Commands.{by_instruction}
+use Rattle.card_core.specs.Known.{KnownBy, IsKnown, IsAnsweredBy, SaysSo, Yields}
 use Rattle.card_core.specs.Moves.{polled_on, HasRowsOf, IsServed, OnServed}
 use Rattle.card_core.specs.Parts.{CardParts}
 use Rattle.card_core.specs.declared.faults.CardFault.{CardFault}
 
--- what a command that is tried so comes to, on the card with these parts that holds this for good
-abbrev pub settled_over : CardParts → Persistent → (CardState → Result Answered StatusWord) → Answered
-settled_over parts state tried = settled (card_with false parts state) (tried (card_with false parts state))
-
--- where each of these states was committed once, and no other; a fault leaves no more commits acknowledged than there are
-abbrev pub CommitsSo : {X : Type 0} → Result X StoreFault → ℕ → ℕ → List Persistent → Type 0
-CommitsSo (Ok done) before now states = now ≡ raised_by (length states) before
-CommitsSo (Err fault) before now states = CommitsAtMost (length states) before now
-
--- the same of a whole command: whatever comes of it, no more are acknowledged
+-- Each of these states was committed once, and no other, where the command was answered; whatever comes of it, no more are
+-- acknowledged.
 abbrev pub CommitsServed : {X : Type 0} → Result X CardFault → Answer → CardParts → CardParts → List Persistent → Type 0
 CommitsServed result out old new states =
     OnServed result out (new.commits ≡ raised_by (length states) old.commits)
@@ -42,26 +37,15 @@ CommitsServed result out old new states =
 -- What a command does that names this instruction, where nothing is due; what it comes to on a card, and how the status of a refusal
 -- is told, are given.
 pub record ActsOn {X : Type 0} (result : Result X StoreFault) (instruction : Instruction) (apdu : Apdu) (old new : CardParts) (out : Answer) (comes : CardState → Answered) (told : StatusWord → StatusWord) : Type 0 where
-  -- where it needs nothing of what files hold, it is answered as the table tells
-  pub answers : (state : Persistent) → NeedsNoContents instruction → IsTold old.table state
-      → OnOk result (AnswersAs (comes (card_with false old state)) out new)
+  -- it is answered as each card does that this one may be, by what its state is known by
+  pub says : (by : KnownBy) (state : Persistent) → IsKnown by old state → IsAnsweredBy by instruction
+      → OnOk result (SaysSo (comes (card_with false old state)) out)
+  -- and so the card is left, and as often it commits
+  pub yields : (by : KnownBy) (state : Persistent) → IsKnown by old state
+      → Yields result by instruction old new (card_with false old state) (comes (card_with false old state)).state (comes (card_with false old state)).commits
   -- SELECT, MANAGE CHANNEL and FETCH meet no fault
   pub done : LeavesMemory instruction → IsOk result
-  -- where it makes, deletes or resizes a file, it is answered as over each memory with these entries
-  pub trees : (state : Persistent) → is_of_tree instruction ≡ true → IsOfMemory old.table state
-      → OnOk result (AnswersStanding (comes (card_with false old state)) out new)
-  -- what the table tells, or a memory with these entries, it commits as often; a command on PINs aside
-  pub commits : (state : Persistent) → CommitsByTable instruction → IsTold old.table state
-      → CommitsSo result old.commits new.commits (comes (card_with false old state)).commits
-  pub commits_trees : (state : Persistent) → is_of_tree instruction ≡ true → IsOfMemory old.table state
-      → CommitsSo result old.commits new.commits (comes (card_with false old state)).commits
-  -- one that reaches applets and commits nothing meets no fault
-  pub calm : (state : Persistent) → ReachesApplets instruction → IsTold old.table state
-      → (comes (card_with false old state)).commits ≡ [] → IsOk result
-  -- nor does one that makes, deletes or resizes a file and changes nothing
-  pub calm_trees : (state : Persistent) → is_of_tree instruction ≡ true → IsOfMemory old.table state
-      → (comes (card_with false old state)).commits ≡ [] → IsOk result
-  -- nor one that the table refuses, which is answered so, and all stays
+  -- nor does one that the table refuses, which is answered so, and all stays
   pub denied : (status : StatusWord) → RefusesByTable instruction old apdu status
       → IsOk result × IsDenied (told status) out old new
   -- it leaves what isn't its own to move, also at a fault
@@ -84,15 +68,8 @@ pub record ChangesNothing {X : Type 0} (result : Result X StoreFault) (old new :
 
 -- The applets that are registered for STATUS are told of it.
 pub record TellsApplets {X : Type 0} (result : Result X StoreFault) (old new : CardParts) : Type 0 where
-  -- the card may be the one that the table tells
-  pub answers : (state : Persistent) → IsTold old.table state
-      → OnOk result (MayBe new (polled_on (card_with false old state)).state)
-  -- and commits as often as that tells
-  pub commits : (state : Persistent) → IsTold old.table state
-      → CommitsSo result old.commits new.commits (polled_on (card_with false old state)).commits
-  -- where nothing is committed it meets no fault
-  pub calm : (state : Persistent) → IsTold old.table state → (polled_on (card_with false old state)).commits ≡ []
-      → IsOk result
+  pub yields : (by : KnownBy) (state : Persistent) → IsKnown by old state
+      → Yields result by (File Status) old new (card_with false old state) (polled_on (card_with false old state)).state (polled_on (card_with false old state)).commits
   pub moves : MovesStatus old new
 
 -- A fault stopped the toolkit: the rows of the table are those before it, or of one of the states that were to be committed, and the

@@ -3,6 +3,7 @@ pub mod AnyStore
 pub mod Boxes
 pub mod Cards
 pub mod Commands
+pub mod Known
 pub mod Laws
 pub mod Migrations
 pub mod Moves

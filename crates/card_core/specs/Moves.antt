@@ -2,14 +2,13 @@
 use Rattle.std.specs.Prelude.{◌≡◌, ◌≢◌, ◌⊎◌, ◌↔◌, ℕ, ◌+◌, ◌≤◌, List, [], ◌∷◌, slice_index_or, true, false, length, map, Contains, Option, Some, is_some, IfSome, IsSomeAnd, Result, Ok, Err, IsOk, OnOk, OnErr, IsErrOf}
 use Rattle.uicc_types.specs.Counts.{Caused, raised_by}
 use Rattle.uicc_types.specs.declared.answers.Answer.{Answer}
-use Rattle.uicc_types.specs.declared.answers.StatusWord.{StatusWord}
 use Rattle.uicc_types.specs.declared.answers.TheConstants.StatusWord.{MEMORY_PROBLEM}
 use Rattle.store_form.specs.declared.store.StoreFault.{StoreFault}
 use Rattle.card_state.specs.Persistent.{Persistent}
 use Rattle.card_state.specs.States.{rows_of}
 use Rattle.toolkit_model.specs.Commands.{polled}
 use Rattle.card_model.specs.States.{CardState}
-use Rattle.card_model.specs.Answers.{Answered, settled, on_toolkit, answer, passed}
+use Rattle.card_model.specs.Answers.{Answered, on_toolkit, answer, passed}
 use Rattle.card_model.specs.Toolkit.{toolkit_of, coming_to}
 use Rattle.card_model.specs.Runs.{IsLeft}
 use Rattle.card_core.specs.Parts.{CardParts}
@@ -103,20 +102,11 @@ pub record KeepsCardStore {X : Type 0} (result : Result X CardFault) (old new : 
 
 -- ---- inside a command
 
--- what comes of a command that is tried so: it is settled, or after a fault the card is left as one that such a fault leaves
-abbrev pub Settles : {X : Type 0} → Result X StoreFault → Option CardState → Answer → Option CardState → Option CardState → (CardState → Result Answered StatusWord) → Type 0
-Settles (Ok _) before out after due tried = IfSome before (λ card. Answers (settled card (tried card)) out after)
-Settles (Err _) before out after due tried = IfSome before (λ card. IsSomeAnd due (IsLeft card (card.persistent ∷ (settled card (tried card)).commits)))
-
 -- what comes of telling the applets of STATUS
 abbrev pub polled_on : CardState → Answered
 polled_on card = on_toolkit card (coming_to card [] (polled (toolkit_of card)))
 
-abbrev pub Polls : {X : Type 0} → Result X StoreFault → Option CardState → Option CardState → Option CardState → Type 0
-Polls (Ok _) before after due = IfSome before (λ card. after ≡ Some (polled_on card).state)
-Polls (Err _) before after due = IfSome before (λ card. IsSomeAnd due (IsLeft card (card.persistent ∷ (polled_on card).commits)))
-
--- and of the whole command
+-- what comes of the whole command: it is answered, or after a fault the card is left as one that such a fault leaves
 abbrev pub Comes : {X : Type 0} → Result X StoreFault → Option CardState → List ℕ → Answer → Option CardState → Option CardState → Type 0
 Comes (Ok _) before apdu out after due = IfSome before (λ card. Answers (answer card apdu) out after)
 Comes (Err _) before apdu out after due = IfSome before (λ card. IsSomeAnd due (IsLeft card (passed card apdu)))
@@ -132,28 +122,6 @@ pub record CommitsStates {X : Type 0} (result : Result X StoreFault) (old new : 
 -- the rows of the table are those of one of these states
 abbrev pub HasRowsOf : List Persistent → CardParts → Type 0
 HasRowsOf states parts = Contains (map (λ state. state.rows) states) (rows_of parts.table)
-
--- ---- what comes of the parts of a command, as one
-
--- A command is tried so, and settled.
-pub record IsSettled {X : Type 0} (result : Result X StoreFault) (old new : CardParts) (out : Answer) (tried : CardState → Result Answered StatusWord) : Type 0 where
-  -- the card and the answer are those that it is settled to, or a fault left one of its states
-  pub settles : Settles result (card_of old) out (card_of new) (card_due new) tried
-  -- what it has to commit was committed
-  pub counts : CommitsStates result old new (λ card. (settled card (tried card)).commits)
-  -- no answer is 6581, and a fault leaves no data
-  pub usual : OnOk result (out.status.0 ≢ MEMORY_PROBLEM.0)
-  pub empty : OnErr result (out.body ≡ [])
-
--- The applets were told of STATUS, and the answer stays as it was before.
-pub record IsPolled {X : Type 0} (result : Result X StoreFault) (old new : CardParts) (before now : Answer) : Type 0 where
-  -- the card is the one that it leaves, or a fault left one of its states
-  pub settles : Polls result (card_of old) (card_of new) (card_due new)
-  -- what it has to commit was committed
-  pub counts : CommitsStates result old new (λ card. (polled_on card).commits)
-  pub out : OnOk result (now ≡ before)
-  -- a fault leaves no data
-  pub empty : OnErr result (now.body ≡ [])
 
 -- A whole command was answered.
 pub record IsAnswered {X : Type 0} (result : Result X StoreFault) (old new : CardParts) (bytes : List ℕ) (out : Answer) : Type 0 where

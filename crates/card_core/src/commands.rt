@@ -1,5 +1,5 @@
 //! How a command is carried out.
-ghost use Rattle.std.specs.Prelude.{◌≡◌, [], true, Some, Ok, Err, IsOk, OnErr};
+ghost use Rattle.std.specs.Prelude.{◌≡◌, ◌≢◌, [], true, Some, Ok, Err, IsOk, OnOk, OnErr};
 ghost use Rattle.apdu_form.specs.Model.{cut_to};
 ghost use Rattle.card_state.specs.States.{pins_of};
 ghost use Rattle.card_state.specs.Memory.{IsMounted, memory};
@@ -16,9 +16,9 @@ ghost use Rattle.binary_commands.specs.Ends.{EndsWell};
 ghost use Rattle.binary_commands.specs.Targets.{IsRefused};
 ghost use Rattle.record_commands.specs.Tables.{KeepsOtherFiles};
 ghost use Rattle.file_admin.specs.Outcomes.{PerformsTree, IfNothingPasses, EndsTree};
-ghost use Rattle.card_model.specs.Answers.{settled, carried_out, carried_with, tried, answer, passed, told_pending};
+ghost use Rattle.card_model.specs.Answers.{settled, carried_out, carried_with, told_pending};
 ghost use Rattle.card_model.specs.Instructions.{instruction_tried, is_known};
-ghost use Rattle.card_core.specs.Commands.{tree_by, by_instruction};
+ghost use Rattle.card_core.specs.Commands.{tree_by};
 ghost use Rattle.card_core.specs.Serving.{TellsOfFiles, TellsOfTree};
 
 use crate::cards::CardOver;
@@ -46,6 +46,7 @@ use store_form::{Store, StoreFault};
 use uicc_types::{Answer, AnswerData, StatusWord};
 
 // A command on what a file holds, which its access rule may forbid, over what is selected on its channel.
+#[inline(always)]
 #[tactic(auto, using(binary_commands::proofs::GivesLemmas::stays_still), unfolding(file_model::specs::Commands::contents_outcome, file_model::specs::Commands::file_addressed))]
 fn on_contents<S: Store>(
     command: ContentsCommand,
@@ -84,6 +85,7 @@ fn on_contents<S: Store>(
 }
 
 // A command on files, over what is selected on its channel. The keys are looked at where access is tested.
+#[inline(always)]
 #[tactic(auto, using(binary_commands::proofs::GivesLemmas::stays_still), unfolding(file_model::specs::Commands::file_outcome))]
 fn on_files<S: Store>(
     command: FileCommand,
@@ -177,10 +179,12 @@ impl<S: Store, B: Applet> CardOver<S, B> {
     ghost use Rattle.card_core.specs.Cards.{parts_of};
     ghost use Rattle.card_core.specs.AnyStore.{command_named};
     ghost use Rattle.card_core.specs.Acting.{ActsOn, ActsAlone, ChangesNothing, TellsApplets, StopsToolkit, in_form, in_bytes, in_whole, ActsAs};
-    ghost use Rattle.card_core.specs.Moves.{IsSettled, IsPolled, IsAnswered, polled_on};
+    ghost use Rattle.card_core.specs.Moves.{IsAnswered, polled_on};
     ghost use Rattle.card_core.specs.Underway.{IsUnderway, IsOnChannel, GoesOn};
 
-    // A command on files, over what is selected on its channel. The other channels stay as they are.
+    // A command on files, over what is selected on its channel. The other channels stay as they are. Inlined, since the command is known
+    // where it is called.
+    #[inline(always)]
     fn carry_out_on_files(
         &mut self,
         command: FileCommand,
@@ -189,8 +193,8 @@ impl<S: Store, B: Applet> CardOver<S, B> {
     ) -> Result<(), StoreFault>
         requires underway { IsUnderway (parts_of S.Store B.Applet self.old) }
         requires apdu { IsOnChannel (parts_of S.Store B.Applet self.old) apdu.now }
-        ensures settled { IsSettled result (parts_of S.Store B.Applet self.old) (parts_of S.Store B.Applet self.new)
-            out.new (λ card. carried_out (Instruction.File command) card apdu.now) }
+        ensures usual { OnOk result (out.new.status.0 ≢ StatusWord.MEMORY_PROBLEM.0) }
+        ensures empty { OnErr result (out.new.body ≡ []) }
         ensures acts { ActsAlone result (Instruction.File command) apdu.now (parts_of S.Store B.Applet self.old)
             (parts_of S.Store B.Applet self.new) out.new }
         ensures still { command ≡ FileCommand.Status → ChangesNothing result (parts_of S.Store B.Applet self.old)
@@ -233,8 +237,8 @@ impl<S: Store, B: Applet> CardOver<S, B> {
     ) -> Result<(), StoreFault>
         requires underway { IsUnderway (parts_of S.Store B.Applet self.old) }
         requires open { is_open self.old.channels (channel_of apdu.now.class) ≡ true }
-        ensures settled { IsSettled result (parts_of S.Store B.Applet self.old) (parts_of S.Store B.Applet self.new)
-            out.new (λ card. carried_out (Instruction.Tree command) card apdu.now) }
+        ensures usual { OnOk result (out.new.status.0 ≢ StatusWord.MEMORY_PROBLEM.0) }
+        ensures empty { OnErr result (out.new.body ≡ []) }
         ensures acts { ActsAlone result (Instruction.Tree command) apdu.now (parts_of S.Store B.Applet self.old)
             (parts_of S.Store B.Applet self.new) out.new }
         ensures table { OnErr result ((parts_of S.Store B.Applet self.new).table
@@ -268,8 +272,8 @@ impl<S: Store, B: Applet> CardOver<S, B> {
         out: &mut Answer,
     ) -> Result<(), StoreFault>
         requires underway { IsUnderway (parts_of S.Store B.Applet self.old) }
-        ensures settled { IsSettled result (parts_of S.Store B.Applet self.old) (parts_of S.Store B.Applet self.new)
-            out.new (λ card. carried_out (Instruction.Pin command) card apdu.now) }
+        ensures usual { OnOk result (out.new.status.0 ≢ StatusWord.MEMORY_PROBLEM.0) }
+        ensures empty { OnErr result (out.new.body ≡ []) }
         ensures acts { ActsAlone result (Instruction.Pin command) apdu.now (parts_of S.Store B.Applet self.old)
             (parts_of S.Store B.Applet self.new) out.new }
         ensures table { OnErr result ((parts_of S.Store B.Applet self.new).table
@@ -302,8 +306,8 @@ impl<S: Store, B: Applet> CardOver<S, B> {
         requires underway { IsUnderway (parts_of S.Store B.Applet self.old) }
         requires open { is_open self.old.channels (channel_of apdu.now.class) ≡ true }
         requires empty { out.old.body ≡ [] }
-        ensures settled { IsSettled result (parts_of S.Store B.Applet self.old) (parts_of S.Store B.Applet self.new)
-            out.new (λ card. carried_out Instruction.ManageChannel card apdu.now) }
+        ensures usual { OnOk result (out.new.status.0 ≢ StatusWord.MEMORY_PROBLEM.0) }
+        ensures empty { OnErr result (out.new.body ≡ []) }
         ensures acts { ActsAlone result Instruction.ManageChannel apdu.now (parts_of S.Store B.Applet self.old)
             (parts_of S.Store B.Applet self.new) out.new }
         ensures ok { IsOk result }
@@ -332,8 +336,8 @@ impl<S: Store, B: Applet> CardOver<S, B> {
     ) -> Result<(), StoreFault>
         requires underway { IsUnderway (parts_of S.Store B.Applet self.old) }
         requires apdu { IsSomeCommand apdu.now }
-        ensures settled { IsSettled result (parts_of S.Store B.Applet self.old) (parts_of S.Store B.Applet self.new)
-            out.new (λ card. carried_out (Instruction.Toolkit command) card apdu.now) }
+        ensures usual { OnOk result (out.new.status.0 ≢ StatusWord.MEMORY_PROBLEM.0) }
+        ensures empty { OnErr result (out.new.body ≡ []) }
         ensures acts { ActsAlone result (Instruction.Toolkit command) apdu.now (parts_of S.Store B.Applet self.old)
             (parts_of S.Store B.Applet self.new) out.new }
         ensures stopped { OnErr result (StopsToolkit (parts_of S.Store B.Applet self.old)
@@ -375,8 +379,8 @@ impl<S: Store, B: Applet> CardOver<S, B> {
     ) -> Result<(), StoreFault>
         requires underway { IsUnderway (parts_of S.Store B.Applet self.old) }
         requires apdu { IsSomeCommand apdu.now }
-        ensures settled { IsSettled result (parts_of S.Store B.Applet self.old) (parts_of S.Store B.Applet self.new)
-            out.new (λ card. carried_out (Instruction.Toolkit command) card apdu.now) }
+        ensures usual { OnOk result (out.new.status.0 ≢ StatusWord.MEMORY_PROBLEM.0) }
+        ensures empty { OnErr result (out.new.body ≡ []) }
         ensures acts { ActsAlone result (Instruction.Toolkit command) apdu.now (parts_of S.Store B.Applet self.old)
             (parts_of S.Store B.Applet self.new) out.new }
         ensures table { OnErr result ((parts_of S.Store B.Applet self.new).table
@@ -405,8 +409,8 @@ impl<S: Store, B: Applet> CardOver<S, B> {
     // The applets that are registered for STATUS are told of it. Where a fault stops that, the table has what was committed.
     fn serve_status(&mut self, out: &mut Answer) -> Result<(), StoreFault>
         requires underway { IsUnderway (parts_of S.Store B.Applet self.old) }
-        ensures polled { IsPolled result (parts_of S.Store B.Applet self.old)
-            (parts_of S.Store B.Applet self.new) out.old out.new }
+        ensures out { OnOk result (out.new ≡ out.old) }
+        ensures empty { OnErr result (out.new.body ≡ []) }
         ensures acts { TellsApplets result (parts_of S.Store B.Applet self.old) (parts_of S.Store B.Applet self.new) }
         ensures stopped { OnErr result (StopsToolkit (parts_of S.Store B.Applet self.old)
             (parts_of S.Store B.Applet self.new)
@@ -437,8 +441,8 @@ impl<S: Store, B: Applet> CardOver<S, B> {
     // The applets that are registered for STATUS are told of it. Where a fault stops that, the table is left as it was.
     fn tell_applets(&mut self, out: &mut Answer) -> Result<(), StoreFault>
         requires underway { IsUnderway (parts_of S.Store B.Applet self.old) }
-        ensures polled { IsPolled result (parts_of S.Store B.Applet self.old)
-            (parts_of S.Store B.Applet self.new) out.old out.new }
+        ensures out { OnOk result (out.new ≡ out.old) }
+        ensures empty { OnErr result (out.new.body ≡ []) }
         ensures acts { TellsApplets result (parts_of S.Store B.Applet self.old) (parts_of S.Store B.Applet self.new) }
         ensures table { OnErr result ((parts_of S.Store B.Applet self.new).table
             ≡ (parts_of S.Store B.Applet self.old).table) }
@@ -463,8 +467,8 @@ impl<S: Store, B: Applet> CardOver<S, B> {
     fn tell_status(&mut self, apdu: &Command<'_>, out: &mut Answer) -> Result<(), StoreFault>
         requires underway { IsUnderway (parts_of S.Store B.Applet self.old) }
         requires apdu { IsOnChannel (parts_of S.Store B.Applet self.old) apdu.now }
-        ensures settled { IsSettled result (parts_of S.Store B.Applet self.old) (parts_of S.Store B.Applet self.new)
-            out.new (λ card. carried_with true (Instruction.File FileCommand.Status) card apdu.now) }
+        ensures usual { OnOk result (out.new.status.0 ≢ StatusWord.MEMORY_PROBLEM.0) }
+        ensures empty { OnErr result (out.new.body ≡ []) }
         ensures acts { ActsOn result (Instruction.File FileCommand.Status) apdu.now
             (parts_of S.Store B.Applet self.old) (parts_of S.Store B.Applet self.new) out.new
             (λ card. settled card (carried_with true (Instruction.File FileCommand.Status) card apdu.now))
@@ -485,8 +489,8 @@ impl<S: Store, B: Applet> CardOver<S, B> {
         requires underway { IsUnderway (parts_of S.Store B.Applet self.old) }
         requires apdu { IsSomeCommand apdu.now }
         requires empty { out.old.body ≡ [] }
-        ensures settled { IsSettled result (parts_of S.Store B.Applet self.old) (parts_of S.Store B.Applet self.new)
-            out.new (λ card. by_instruction apdu.now card) }
+        ensures usual { OnOk result (out.new.status.0 ≢ StatusWord.MEMORY_PROBLEM.0) }
+        ensures empty { OnErr result (out.new.body ≡ []) }
         ensures untouched { (status : StatusWord)
             → instruction_tried is_known self.old.channels apdu.now.class apdu.now.ins ≡ Err status
             → self.new ≡ self.old }
@@ -517,8 +521,8 @@ impl<S: Store, B: Applet> CardOver<S, B> {
     fn attempt(&mut self, bytes: &[u8], out: &mut Answer) -> Result<(), StoreFault>
         requires underway { IsUnderway (parts_of S.Store B.Applet self.old) }
         requires empty { out.old.body ≡ [] }
-        ensures settled { IsSettled result (parts_of S.Store B.Applet self.old) (parts_of S.Store B.Applet self.new)
-            out.new (λ card. tried is_known card bytes.now) }
+        ensures usual { OnOk result (out.new.status.0 ≢ StatusWord.MEMORY_PROBLEM.0) }
+        ensures empty { OnErr result (out.new.body ≡ []) }
         ensures untouched { (status : StatusWord) → command_named self.old.channels bytes.now ≡ Err status → self.new
             ≡ self.old }
         ensures acts { ActsAs result (parts_of S.Store B.Applet self.old) (parts_of S.Store B.Applet self.new) out.new

@@ -121,7 +121,11 @@ pub fn instruction_of(channels: &Channels, command: &Command<'_>) -> Result<Inst
             return Ok(row.instruction);
         }
     }
-    instruction_tested(channels, command)
+    // Handed on in two cases, since a result that is handed on whole is kept in memory on each way.
+    match instruction_tested(channels, command) {
+        Ok(instruction) => Ok(instruction),
+        Err(status) => Err(status),
+    }
 }
 
 // The same, by one test after the other.

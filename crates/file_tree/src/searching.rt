@@ -130,7 +130,9 @@ pub fn first_with(loaded: &Loaded, id: FileId) -> u8
     NODE_COUNT as u8
 }
 
-/// The first file that is wanted among all, where only one with this identifier can be, and no entry before this one has it.
+/// The first file that is wanted among all, where only one with this identifier can be, and no entry before this one has it. Where it is
+/// called, what is wanted is known.
+#[inline(always)]
 pub fn first_by_id(loaded: &Loaded, wanted: Wanted, id: FileId, from: u8) -> Option<Descriptor>
     requires table { IsCardTable loaded.now }
     requires only { AsksForId wanted id.0 }
@@ -152,6 +154,7 @@ pub fn first_by_id(loaded: &Loaded, wanted: Wanted, id: FileId, from: u8) -> Opt
 }
 
 // The same with a short file identifier.
+#[inline(always)]
 fn first_by_short(loaded: &Loaded, wanted: Wanted, short: u8) -> Option<Descriptor>
     requires table { IsCardTable loaded.now }
     requires only { AsksForShort wanted short }
@@ -171,7 +174,8 @@ fn first_by_short(loaded: &Loaded, wanted: Wanted, short: u8) -> Option<Descript
     None
 }
 
-/// The first file that is wanted, by ascending numbers; none where there is no such file.
+/// The first file that is wanted, by ascending numbers; none where there is no such file. Where it is called, what is wanted is known.
+#[inline(always)]
 #[tactic(auto, using(crate::proofs::FirstFileLemmas::short_asks))]
 pub fn first_file(loaded: &Loaded, wanted: Wanted) -> Option<Descriptor>
     requires { IsCardTable loaded.now }

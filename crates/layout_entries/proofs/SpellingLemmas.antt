@@ -1,5 +1,5 @@
 -- Each entry is read back from the bytes that it is spelled in.
-use Rattle.std.proofs.Common.{◌≡◌, ℕ, ◌-◌, ◌≤◌, ◌==◌, Bool, true, false, List, [], ◌∷◌, ◌++◌, length, take, drop, replicate, slice_range, get_or, refl, ◌∙◌, ap, ⊎_elim, arith, length-append, append_assoc}
+use Rattle.std.proofs.Common.{◌≡◌, ℕ, ◌-◌, ◌≤◌, ◌==◌, Bool, true, false, List, [], ◌∷◌, ◌++◌, length, take, drop, replicate, slice_range, get_or, refl, ◌∙◌, ap, ⊎_elim, arith, length-append, append_assoc, rules}
 use Rattle.std.specs.Int.{from_bool}
 use Rattle.std.proofs.lemmas.Nat.{from_be_bytes-to_be_bytes_2}
 use Rattle.std.proofs.lemmas.Bool.{cases_lt}
@@ -10,11 +10,21 @@ use Rattle.card_state.specs.declared.entries.PinSlot.{PinSlot}
 use Rattle.card_state.specs.declared.entries.Row.{Row}
 use Rattle.card_state.specs.Decoding.{node_of, pin_of, row_of}
 use Rattle.card_state.specs.Ranges.{HasNodeRanges, HasPinRanges, HasRowRanges}
+use Rattle.card_state.specs.Numbers.{two_bytes}
 use Rattle.layout_entries.specs.Spelling.{node_spelled, pin_spelled, row_spelled, padded}
 
 pub length-padded : (width : ℕ) (bytes : List ℕ) → length (padded width bytes) ≡ width
 length-padded width bytes =
     omega (arith, length-take width (bytes ++ replicate width 0), length-append bytes (replicate width 0), length-replicate {A = ℕ} width 0)
+
+-- a row is spelled part by part, each after what stands before it
+pub row_by_parts : (row : Row) {used : ℕ} {sequence events text kept none first second third fourth last : List ℕ}
+    → used ≡ from_bool row.used → sequence ≡ two_bytes row.sequence → events ≡ two_bytes row.events → text ≡ row.text → kept ≡ row.kept
+    → none ≡ [] → first ≡ none ++ used ∷ row.kind ∷ row.priority ∷ [] → second ≡ first ++ sequence → third ≡ second ++ events
+    → fourth ≡ third ++ length text ∷ padded 10 text → last ≡ fourth ++ length kept ∷ padded 32 kept → last ≡ row_spelled row
+unfolding row_spelled
+row_by_parts row used sequence events text kept none first second third fourth last =
+    search (rules, used, sequence, events, text, kept, none, first, second, third, fourth, last, append_assoc)
 
 pub length-row_spelled : (row : Row) → length (row_spelled row) ≡ 51
 unfolding row_spelled

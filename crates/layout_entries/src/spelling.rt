@@ -1,5 +1,5 @@
 //! The bytes of each entry.
-ghost use Rattle.std.specs.Prelude.{◌≡◌, ◌+◌, ◌≤◌, ◌++◌, length};
+ghost use Rattle.std.specs.Prelude.{◌≡◌, ◌+◌, ◌≤◌, ◌++◌, ◌∷◌, length};
 ghost use Rattle.layout_entries.specs.Spelling.{node_spelled, pin_spelled, row_spelled, padded};
 
 use card_state::sizes::{KEPT_WIDTH, NODE_WIDTH, PIN_WIDTH, ROW_WIDTH, TEXT_LIMIT};
@@ -28,6 +28,17 @@ fn put_padded(bytes: &mut EntryBytes, part: &[u8], width: usize)
     let shown = part.len().min(width);
     put(bytes, &part[..shown]);
     put(bytes, &[0; KEPT_WIDTH][..width - shown]);
+}
+
+// Puts how many bytes these are, and the first `width` of them, filled up with 00.
+fn put_counted(bytes: &mut EntryBytes, part: &[u8], width: usize)
+    requires room { length bytes.old + 1 + width ≤ ROW_WIDTH }
+    requires short { width ≤ KEPT_WIDTH }
+    requires count { length part.now ≤ 255 }
+    ensures { bytes.new ≡ bytes.old ++ length part.now ∷ padded width part.now }
+{
+    put(bytes, &[part.len() as u8]);
+    put_padded(bytes, part, width);
 }
 
 /// The 16 bytes of a file's entry.
@@ -75,9 +86,7 @@ pub fn spell_row(row: &Row) -> EntryBytes
     put(&mut bytes, &[u8::from(row.used), row.kind, row.priority]);
     put(&mut bytes, &row.sequence.to_be_bytes());
     put(&mut bytes, &row.events.to_be_bytes());
-    put(&mut bytes, &[text.len() as u8]);
-    put_padded(&mut bytes, text, TEXT_LIMIT);
-    put(&mut bytes, &[kept.len() as u8]);
-    put_padded(&mut bytes, kept, KEPT_WIDTH);
+    put_counted(&mut bytes, text, TEXT_LIMIT);
+    put_counted(&mut bytes, kept, KEPT_WIDTH);
     bytes
 }

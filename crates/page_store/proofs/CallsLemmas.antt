@@ -7,7 +7,7 @@ use Rattle.std.proofs.lemmas.List.Sums.{sum_by-take-le}
 use Rattle.store_form.specs.declared.store.StoreFault.{StoreFault}
 use Rattle.store_form.specs.Pieces.{Piece}
 use Rattle.uicc_types.specs.Counts.{raised_by}
-use Rattle.update_journal.specs.Calls.{calls_at, CallsAtMost, MakesCalls}
+use Rattle.update_journal.specs.Calls.{calls_at, MadeAtMost, MakesCalls}
 use Rattle.update_journal.proofs.CallsLemmas.{CallsLeft, all_left, after_some, none_left, fault_in, fewer, then_all, then_at_most, next_part, one_call}
 use Rattle.page_store.specs.Below.{InPage}
 use Rattle.page_store.specs.Calls.{calls_to_blank, calls_to_fill}
@@ -18,7 +18,7 @@ use Rattle.page_store.proofs.MovesLemmas.{count_on, count_stays, none_counted}
 use Rattle.page_store.proofs.PlaceOfLemmas.{place_in}
 
 -- a call that answered a fault
-pub faulted : {T : Type 0} (times before now : ℕ) (result : Result T StoreFault) → IsErr result → CallsAtMost times before now → MakesCalls times before now result
+pub faulted : {T : Type 0} (times before now : ℕ) (result : Result T StoreFault) → IsErr result → MadeAtMost times before now → MakesCalls times before now result
 faulted times before now (Ok value) is some = absurd (cc)
 faulted times before now (Err fault) is some = record { all = tt; no_more = some }
 
@@ -77,7 +77,7 @@ pub page_done : (pieces : List Piece) (page before mid now : ℕ) → 13 ≤ pag
 page_done pieces page before mid now low high calls made =
     after_some (if is_touched pieces page then 1 else 0) _ (done_count pieces 1024 - done_count pieces (page + 1)) _ before mid now calls (omega (arith, done_next pieces page low high, done_up_to pieces (page + 1))) made
 
-pub page_fault : (pieces : List Piece) (page before mid now : ℕ) → 13 ≤ page → page < 1024 → PagesLeft pieces page before mid → CallsAtMost (if is_touched pieces page then 1 else 0) mid now → CallsAtMost (done_count pieces 1024) before now
+pub page_fault : (pieces : List Piece) (page before mid now : ℕ) → 13 ≤ page → page < 1024 → PagesLeft pieces page before mid → MadeAtMost (if is_touched pieces page then 1 else 0) mid now → MadeAtMost (done_count pieces 1024) before now
 page_fault pieces page before mid now low high calls made =
     fault_in (if is_touched pieces page then 1 else 0) (done_count pieces 1024 - done_count pieces page) (done_count pieces 1024) before mid now calls (omega (arith, done_next pieces page low high, done_up_to pieces (page + 1))) made
 
@@ -97,7 +97,7 @@ pub blank_done : (page count before mid now : ℕ) → page < 1120 → count ≡
 blank_done page count before mid now high whole calls made = after_some (calls_at (64 * page) count) _ (1120 - (page + 1)) 1075 before mid now calls (omega (arith, page_call page count whole)) made
 
 -- the first page, and then some of the pool's
-pub blank_fault : (page count start before mid now : ℕ) → page < 1120 → count ≡ 64 → before ≡ raised_by 1 start → BlanksLeft page before mid → CallsAtMost (calls_at (64 * page) count) mid now → CallsAtMost calls_to_blank start now
+pub blank_fault : (page count start before mid now : ℕ) → page < 1120 → count ≡ 64 → before ≡ raised_by 1 start → BlanksLeft page before mid → MadeAtMost (calls_at (64 * page) count) mid now → MadeAtMost calls_to_blank start now
 unfolding calls_to_blank
 blank_fault page count start before mid now high whole first calls made =
     then_at_most 1 1075 start before now first (fault_in (calls_at (64 * page) count) (1120 - page) 1075 before mid now calls (omega (arith, page_call page count whole)) made)
@@ -106,7 +106,7 @@ pub blanks_done : (page start before now : ℕ) → 1120 ≤ page → before ≡
 unfolding calls_to_blank
 blanks_done page start before now at_end first calls = then_all 1 1075 start before now first (none_left (1120 - page) 1075 before now calls (omega arith))
 
-pub first_blank : (start now : ℕ) → CallsAtMost (calls_at 0 64) start now → CallsAtMost calls_to_blank start now
+pub first_blank : (start now : ℕ) → MadeAtMost (calls_at 0 64) start now → MadeAtMost calls_to_blank start now
 unfolding calls_to_blank
 first_blank start now made = fewer (calls_at 0 64) 1076 start now (omega (arith, page_call 0 64 refl)) made
 
@@ -115,13 +115,13 @@ pub fill_parts : calls_to_fill ≡ calls_to_blank + calls_at 832 2022
 unfolding calls_to_fill
 fill_parts = refl
 
-pub fill_fault : (count start before now : ℕ) → count ≡ 2022 → before ≡ raised_by calls_to_blank start → CallsAtMost (calls_at 832 count) before now → CallsAtMost calls_to_fill start now
+pub fill_fault : (count start before now : ℕ) → count ≡ 2022 → before ≡ raised_by calls_to_blank start → MadeAtMost (calls_at 832 count) before now → MadeAtMost calls_to_fill start now
 fill_fault count start before now long blank made =
-    subst (λ n. CallsAtMost n start now) (sym fill_parts) (then_at_most calls_to_blank (calls_at 832 2022) start before now blank (subst (λ n. CallsAtMost (calls_at 832 n) before now) long made))
+    subst (λ n. MadeAtMost n start now) (sym fill_parts) (then_at_most calls_to_blank (calls_at 832 2022) start before now blank (subst (λ n. MadeAtMost (calls_at 832 n) before now) long made))
 
 pub fill_done : (count start before now : ℕ) → count ≡ 2022 → before ≡ raised_by calls_to_blank start → now ≡ raised_by (calls_at 832 count) before → now ≡ raised_by calls_to_fill start
 fill_done count start before now long blank made =
     subst (λ n. now ≡ raised_by n start) (sym fill_parts) (then_all calls_to_blank (calls_at 832 2022) start before now blank (made ∙ ap (λ n. raised_by (calls_at 832 n) before) long))
 
-pub fill_begun : (start now : ℕ) → CallsAtMost calls_to_blank start now → CallsAtMost calls_to_fill start now
+pub fill_begun : (start now : ℕ) → MadeAtMost calls_to_blank start now → MadeAtMost calls_to_fill start now
 fill_begun start now made = fewer calls_to_blank calls_to_fill start now (omega (arith, fill_parts)) made

@@ -4,7 +4,7 @@ ghost use Rattle.uicc_types.specs.Counts.{Meter};
 ghost use Rattle.store_form.specs.Faults.{HasCause};
 ghost use Rattle.store_form.specs.Pieces.{IsUsable, IsUsablePiece};
 ghost use Rattle.store_form.specs.StoreCalls.{CommitsPieces, HoldsTheSame, PreparesBytes, StaysItself};
-ghost use Rattle.update_journal.specs.Calls.{calls_at, calls_to_commit, calls_to_recover, CallsAtMost, MakesCalls};
+ghost use Rattle.update_journal.specs.Calls.{calls_at, calls_to_commit, calls_to_recover, MadeAtMost, MakesCalls};
 ghost use Rattle.update_journal.specs.Journal.{is_recovered, stable};
 ghost use Rattle.update_journal.specs.Laws.{told_stable, told_own};
 
@@ -92,7 +92,7 @@ pub trait CountedStore {
         ensures due { OnErr result (recovered self.new ≡ false) }
         ensures calls { IfSome (image self.old)
             (λ bytes. MakesCalls (calls_to_recover bytes) (programs self.old) (programs self.new) result) }
-        ensures few_calls { CallsAtMost MOST_TO_RECOVER (programs self.old) (programs self.new) }
+        ensures few_calls { MadeAtMost MOST_TO_RECOVER (programs self.old) (programs self.new) }
         ensures cause { HasCause (meter self.old) (meter self.new) result }
         ensures off { (meter self.old).powered ≡ false →
             (result ≡ Err StoreFault.PowerLost) × (meter self.new ≡ meter self.old)

@@ -6,7 +6,7 @@ ghost use Rattle.page_store.specs.Commits.{moved_below};
 ghost use Rattle.page_store.specs.Pages.{entries_of, map_of, content};
 ghost use Rattle.page_store.specs.Paged.{IsKnown, known_of, table_of};
 ghost use Rattle.page_store.specs.Tables.{IsKept};
-ghost use Rattle.update_journal.specs.Calls.{calls_at, calls_to_recover, CallsAtMost, MakesCalls};
+ghost use Rattle.update_journal.specs.Calls.{calls_at, calls_to_recover, MadeAtMost, MakesCalls};
 ghost use Rattle.update_journal.specs.declared.steps.TheConstants.{MOST_TO_RECOVER};
 ghost use Rattle.page_store.specs.Calls.{calls_to_begin, calls_to_write};
 
@@ -52,7 +52,7 @@ pub fn recover<S: CountedStore>(store: &mut S, known: &mut Known) -> Result<(), 
         × (S.recovered store.new ≡ S.recovered store.old) × (known.new ≡ known.old) × (S.image store.new ≡ S.image store.old) }
     ensures calls { IfSome (S.image store.old)
         (λ bytes. MakesCalls (calls_to_recover bytes) (S.programs store.old) (S.programs store.new) result) }
-    ensures few_calls { CallsAtMost MOST_TO_RECOVER (S.programs store.old) (S.programs store.new) }
+    ensures few_calls { MadeAtMost MOST_TO_RECOVER (S.programs store.old) (S.programs store.new) }
 {
     store.recover()?;
     let mut bytes = [0; MAP_END - MAP];

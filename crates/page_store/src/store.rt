@@ -4,7 +4,7 @@ ghost use Rattle.uicc_types.specs.Counts.{armed};
 ghost use Rattle.store_form.specs.Faults.{HasCause};
 ghost use Rattle.store_form.specs.Pieces.{IsUsable, IsUsablePiece};
 ghost use Rattle.store_form.specs.StoreCalls.{CommitsPieces, HoldsTheSame, PreparesBytes, StaysItself};
-ghost use Rattle.update_journal.specs.Calls.{calls_at, calls_to_recover, CallsAtMost, MakesCalls};
+ghost use Rattle.update_journal.specs.Calls.{calls_at, calls_to_recover, MadeAtMost, MakesCalls};
 ghost use Rattle.update_journal.specs.Journal.{stable};
 ghost use Rattle.update_journal.specs.declared.steps.TheConstants.{MOST_TO_RECOVER};
 ghost use Rattle.page_store.specs.Calls.{calls_to_begin, calls_to_write};
@@ -182,7 +182,7 @@ impl<E: Eeprom> Store for PageStore<E> {
         // Those of a recovery of the journal, at most 18, also where the device tells nothing.
         ensures calls { IfSome (E.contents self.old.device)
             (λ image. MakesCalls (calls_to_recover image) self.old.programs self.new.programs result) }
-        ensures few_calls { CallsAtMost MOST_TO_RECOVER self.old.programs self.new.programs }
+        ensures few_calls { MadeAtMost MOST_TO_RECOVER self.old.programs self.new.programs }
         // The map that is known is that of the device, and the free pages stand in ascending order.
         ensures pages { OnOk result (IfSome (stable (E.contents self.new.device)) (λ image. self.new.known ≡ known_of (map_of image))) }
     {

@@ -20,7 +20,8 @@ use Rattle.handset_model.specs.declared.known.Duty.{Duty}
 use Rattle.handset_model.specs.declared.known.Duty.TheVariants.{Rest, Transmit, Await, Show, ResetCard}
 use Rattle.run_steps.proofs.GoesOnLemmas.{text_of-append}
 use Rattle.run_steps.specs.Runs.{item_text, text_of}
-use Rattle.run_steps.specs.Stepping.{BreaksOff, IsCutOff, Moment, exchanged}
+use Rattle.run_steps.specs.Stepping.{BreaksOff, IsCutOff, Moment}
+use Rattle.run_steps.specs.Taking.{exchanged}
 use Rattle.run_steps.specs.Views.{CardView, IsReply, ItsPower, LastShows, StepShows, TheCard}
 use Rattle.run_steps.specs.declared.steps.Reply.{Reply}
 use Rattle.run_steps.specs.declared.steps.Reply.TheVariants as reply
@@ -28,10 +29,9 @@ use Rattle.run_steps.specs.declared.steps.Restarted.TheVariants as ended
 use Rattle.run_steps.specs.declared.steps.StepEnd.TheVariants.{SinkFailed, ResetFailed}
 use Rattle.phone_runs.proofs.RunsAreLegalLemmas.{is_of}
 use Rattle.phone_runs.proofs.RunsLemmas.{lines_reset, lines_sent, orderly_reset, orderly_sent, text-append, trace_noted, trace_reset, trace_sent, with_reply, with_reset}
-use Rattle.phone_runs.specs.Laws.{EndsAreBegun, ShowsBegun, ShowsTrace}
+use Rattle.phone_runs.specs.Laws.{EndsAreBegun}
+use Rattle.phone_runs.specs.Runs.{ShowsBegun, ShowsTrace, Beginning, BreaksIn, BreaksInNote, BreaksInStep, FailsSo, entries_text, note_line}
 use Rattle.phone_runs.specs.Logs.{Event, Happens, PhoneLine, heard, history, log_lines, lines_back, trace}
-use Rattle.phone_runs.specs.Runs.{Beginning, BreaksIn, BreaksInNote, BreaksInStep, FailsSo}
-use Rattle.phone_runs.specs.Traces.{entries_text, note_line}
 
 -- ---- texts
 

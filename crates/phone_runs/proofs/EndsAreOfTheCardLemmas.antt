@@ -17,9 +17,9 @@ use Rattle.run_steps.specs.Views.{CardView, IsRunOf, LastShows, StepShows}
 use Rattle.run_steps.specs.declared.steps.StepEnd.TheVariants.{SinkFailed, ResetFailed}
 use Rattle.phone_runs.proofs.EndsAreBegunLemmas.{command_begun, reset_begun, shows_failed, shows_note, shows_step}
 use Rattle.phone_runs.proofs.RunsLemmas.{seen-append}
-use Rattle.phone_runs.specs.Laws.{BreakIsOfTheCard, EndsAreOfTheCard, ShowsRun, ShowsTrace, ShowsUnsent, trace_with}
+use Rattle.phone_runs.specs.Runs.{BreakIsOfTheCard, ShowsRun, ShowsTrace, ShowsUnsent, trace_with, Beginning, BreaksIn, BreaksInNote, BreaksInStep, IsPhoneRun}
+use Rattle.phone_runs.specs.Laws.{EndsAreOfTheCard}
 use Rattle.phone_runs.specs.Logs.{Event, history, lines_back, shown, steps, trace}
-use Rattle.phone_runs.specs.Runs.{Beginning, BreaksIn, BreaksInNote, BreaksInStep, IsPhoneRun}
 
 -- ---- what is seen
 

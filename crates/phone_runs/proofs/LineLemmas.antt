@@ -18,16 +18,18 @@ use Rattle.script_reader.specs.declared.reader.ScriptReader.{ScriptReader}
 use Rattle.card_core.specs.Parts.{CardParts}
 use Rattle.terminal_side.specs.Kept.{Kept}
 use Rattle.run_steps.proofs.SteppingLemmas.{stands_seen}
-use Rattle.run_steps.specs.Stepping.{Moment, moment}
+use Rattle.run_steps.specs.Stepping.{Moment}
+use Rattle.run_steps.specs.Taking.{moment}
 use Rattle.run_steps.specs.declared.steps.StepEnd.{StepEnd}
 use Rattle.run_steps.specs.declared.steps.StepEnd.TheVariants as step_end
-use Rattle.phone_runs.specs.Effects.{may_be_heard, phone_lines, phone_lines_of}
+use Rattle.phone_runs.specs.Lines.{may_be_heard, phone_lines, phone_lines_of, AreServed, PhoneComesTo, PhoneEnds, StopsAmid, told_back}
 use Rattle.phone_runs.specs.Logs.{PhoneLine, lines_back, shown}
 use Rattle.phone_runs.proofs.RunsAreLegalLemmas.{legal, of_the_card}
 use Rattle.phone_runs.proofs.EndsAreBegunLemmas.{ended_begun}
 use Rattle.phone_runs.proofs.EndsAreOfTheCardLemmas.{ended_of_card}
-use Rattle.phone_runs.specs.Runs.{Beginning, Rests, RunEnds}
-use Rattle.phone_runs.specs.Lines.{AreServed, PhoneComesTo, EndsAmid, PhoneEnds, IsServing, StandsAtStart, StopsAmid, told_back}
+use Rattle.phone_runs.specs.Runs.{Beginning, RunEnds}
+use Rattle.phone_runs.specs.Settling.{Rests}
+use Rattle.phone_runs.specs.BetweenLines.{EndsAmid, IsServing, StandsAtStart}
 
 -- ---- what the lines tell the handset
 

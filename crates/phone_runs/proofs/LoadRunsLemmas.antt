@@ -17,15 +17,17 @@ use Rattle.handset_model.specs.declared.known.Duty.{Duty}
 use Rattle.handset_model.specs.declared.known.Duty.TheVariants.{Rest, Transmit, Await, Show, ResetCard}
 use Rattle.terminal_side.specs.Kept.{Kept}
 use Rattle.run_steps.proofs.SteppingLemmas.{stands_seen}
-use Rattle.run_steps.specs.Stepping.{Moment, moment}
+use Rattle.run_steps.specs.Stepping.{Moment}
+use Rattle.run_steps.specs.Taking.{moment}
 use Rattle.run_steps.specs.declared.steps.StepEnd.TheVariants.{ResetFailed}
 use Rattle.long_runs.specs.CountLaws.{CountsAreThoseOfTheLines}
 use Rattle.long_runs.specs.Walks.{counted_in}
 use Rattle.long_runs.specs.declared.counts.Counts.{Counts}
-use Rattle.phone_runs.specs.LoadRuns.{FailsAmid, IsCountedRun, IsLoading, all_heard, entry_line}
+use Rattle.phone_runs.specs.LoadRuns.{FailsAmid, IsCountedRun, all_heard, entry_line}
+use Rattle.phone_runs.specs.LoadingLines.{IsLoading}
 use Rattle.phone_runs.specs.Logs.{Arms, Event, Happens, Hears, PhoneLine, Plans, cut_steps, history, log_lines, lines_back, shown, steps, steps_back, trace}
-use Rattle.phone_runs.specs.Runs.{Beginning, RunEnds, Rests}
-use Rattle.phone_runs.specs.Traces.{entries_text, entry_text}
+use Rattle.phone_runs.specs.Runs.{Beginning, RunEnds, entries_text, entry_text}
+use Rattle.phone_runs.specs.Settling.{Rests}
 
 -- ---- where the run goes on
 

@@ -26,7 +26,8 @@ use Rattle.run_steps.specs.Ends.{End, moment_at}
 use Rattle.run_steps.proofs.SteppingLemmas.{no_last_command, still_shows}
 use Rattle.run_steps.proofs.ViewLemmas.{rests_then, steps_nowhere, steps_one, steps_then}
 use Rattle.run_steps.specs.Runs.{text_of}
-use Rattle.run_steps.specs.Stepping.{BreaksOff, BreaksStep, EndsStep, GivesStep, Holds, IsSeen, Moment, Rests, TakesShowing, exchanged, restarted_by, seen as seen_of}
+use Rattle.run_steps.specs.Stepping.{BreaksOff, Holds, IsSeen, Moment}
+use Rattle.run_steps.specs.Taking.{BreaksStep, EndsStep, GivesStep, Rests, TakesShowing, exchanged, restarted_by, seen as seen_of}
 use Rattle.run_steps.specs.Views.{CardView, StepsShow}
 use Rattle.run_steps.specs.declared.steps.Reply.{Reply}
 use Rattle.run_steps.specs.declared.steps.Reply.TheVariants as reply
@@ -36,9 +37,9 @@ use Rattle.run_steps.specs.declared.steps.StepEnd.{StepEnd}
 use Rattle.run_steps.specs.declared.steps.StepEnd.TheVariants.{SinkFailed, ResetFailed}
 use Rattle.phone_runs.specs.Logs.{Event, Happens, Plans, AreInTurn, cut_steps, history, lines_back, shown, steps, steps_back, trace}
 use Rattle.phone_runs.specs.Playing.{Begins}
-use Rattle.phone_runs.specs.Runs.{Beginning, BreaksIn, BreaksInStep, BreaksSo, RunEnds, FailsSo, IsAt, IsPhoneRun, Reaches}
+use Rattle.phone_runs.specs.Runs.{Beginning, BreaksIn, BreaksInStep, BreaksSo, RunEnds, FailsSo, IsPhoneRun, entries_text, entry_text, note_line}
+use Rattle.phone_runs.specs.Settling.{IsAt, Reaches}
 use Rattle.phone_runs.specs.Serving.{replied, reset_by}
-use Rattle.phone_runs.specs.Traces.{entries_text, entry_text, note_line}
 
 -- ---- traces behind traces
 

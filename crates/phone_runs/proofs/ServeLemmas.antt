@@ -19,7 +19,8 @@ use Rattle.terminal_side.specs.Kept.{Kept, kept, with_next}
 use Rattle.terminal_side.specs.Stages.{step_of}
 use Rattle.terminal_side.specs.declared.phone.Next.{Next}
 use Rattle.terminal_side.specs.declared.phone.Next.TheVariants as next
-use Rattle.run_steps.specs.Stepping.{GivesStep, Holds, IsSeen, Moment, TakesShowing, exchanged, restarted_by}
+use Rattle.run_steps.specs.Taking.{GivesStep, TakesShowing, exchanged, restarted_by}
+use Rattle.run_steps.specs.Stepping.{Holds, IsSeen, Moment}
 use Rattle.run_steps.specs.Views.{CardView}
 use Rattle.run_steps.specs.declared.steps.Reply.{Reply}
 use Rattle.run_steps.specs.declared.steps.Restarted.{Restarted as AReset}
@@ -28,9 +29,9 @@ use Rattle.run_steps.proofs.SteppingLemmas.{told_more}
 use Rattle.phone_runs.proofs.IsServedMoreLemmas.{LinesEnd, asked_kept, is_none_asked, is_note, is_reset, is_send, next_is, noted_next, reset_next, sent_next, served_more}
 use Rattle.phone_runs.proofs.RunsLemmas.{IsFrontTaken, ends_noted, ends_reset, ends_sent, keeps_same, reaches_noted, reaches_reset, reaches_sent}
 use Rattle.phone_runs.specs.Logs.{Event, PhoneLine, history, lines_back}
-use Rattle.phone_runs.specs.Runs.{Beginning, BreaksSo, RunEnds, IsAt, Reaches, Rests}
+use Rattle.phone_runs.specs.Runs.{Beginning, BreaksSo, RunEnds, note_line}
+use Rattle.phone_runs.specs.Settling.{IsAt, Reaches, Rests}
 use Rattle.phone_runs.specs.Serving.{IsPhoneServed, IsServedMore, replied, reset_by}
-use Rattle.phone_runs.specs.Traces.{note_line}
 
 -- the handset was asked what it wants
 pub record IsAskedOf (old mid : Kept) (found : Option PhoneStep) : Type 0 where

@@ -1,4 +1,4 @@
-pub mod Effects
+pub mod BetweenLines
 pub mod Exchanges
 pub mod HandsetServing
 pub mod Laws
@@ -6,8 +6,9 @@ pub mod LineTallies
 pub mod Lines
 pub mod LoadLaws
 pub mod LoadRuns
+pub mod LoadingLines
 pub mod Logs
 pub mod Playing
 pub mod Runs
 pub mod Serving
-pub mod Traces
+pub mod Settling

@@ -1,32 +1,51 @@
--- Where the run of a handset stands between two lines of a script, and how it ends.
-use Rattle.std.specs.List.{AllPass}
-use Rattle.std.specs.Prelude.{◌≡◌, ◌≤◌, ◌<◌, ◌*◌, ℕ, true, List, ◌++◌, reverse, Option, Some, Result, Ok, Err}
+-- What the lines of a script are for a handset, and how its run over them ends.
+use Rattle.std.specs.List.{AllPass, flat_map}
+use Rattle.std.specs.Prelude.{◌≡◌, ℕ, List, ◌++◌, reverse, Option, Some, Bool, true, is_some, [], ◌∷◌, None}
+use Rattle.uicc_types.specs.declared.plans.TheConstants.Plan.{NONE}
 use Rattle.byte_streams.specs.Lines.{LineList, lines}
+use Rattle.script_form.specs.Handset.{handset_line}
+use Rattle.script_form.specs.declared.handset.HandsetLine.{HandsetLine}
 use Rattle.script_form.specs.declared.lines.ScriptLine.{ScriptLine}
+use Rattle.script_form.specs.declared.lines.ScriptLine.TheVariants.{Passed, Cut, Fail, ReadFail}
 use Rattle.script_reader.specs.Behind.{StopsReading}
-use Rattle.script_reader.specs.Reading.{Follows, line_count, room_of}
 use Rattle.script_reader.specs.Said.{AreRead}
 use Rattle.script_reader.specs.declared.behind.PlayEnd.{PlayEnd}
-use Rattle.script_reader.specs.declared.behind.PlayEnd.TheVariants.{Finished, BadLine, ReadFailed, SinkFailed, ResetFailed}
-use Rattle.script_reader.specs.declared.reader.ScriptReader.{ScriptReader}
+use Rattle.script_reader.specs.declared.behind.PlayEnd.TheVariants.{SinkFailed, ResetFailed}
 use Rattle.card_model.specs.Counts.{IsCounted}
 use Rattle.card_model.specs.Runs.{plan_given}
 use Rattle.handset_model.specs.Legal.{IsLegal}
 use Rattle.handset_model.specs.Rules.{asked}
 use Rattle.handset_model.specs.declared.known.Duty.TheVariants.{Rest}
-use Rattle.terminal_side.specs.Kept.{Kept}
 use Rattle.run_steps.specs.Stepping.{IsSeen, Moment, Stands}
 use Rattle.run_steps.specs.Views.{CardView, RunShows}
 use Rattle.run_steps.specs.declared.steps.StepEnd.{StepEnd}
 use Rattle.run_steps.specs.declared.steps.StepEnd.TheVariants as step_end
-use Rattle.phone_runs.specs.Effects.{may_be_heard, phone_lines}
-use Rattle.phone_runs.specs.Laws.{EndIsOfTheCard, ShowsBegun}
-use Rattle.phone_runs.specs.Logs.{Event, PhoneLine, heard, history, lines_back, log_lines, shown, steps, trace}
-use Rattle.phone_runs.specs.Playing.{Begins}
-use Rattle.phone_runs.specs.Runs.{Beginning, IsAt, IsPhoneRun, RunEnds}
-use Rattle.phone_runs.specs.Serving.{IsAtRest}
-use Rattle.phone_runs.specs.Traces.{entries_text}
-use Rattle.phone_runs.specs.declared.effects.TheConstants.{LONGEST_SPAN}
+use Rattle.phone_runs.specs.Logs.{Event, PhoneLine, heard, history, lines_back, log_lines, shown, steps, trace, Hears, Arms}
+use Rattle.phone_runs.specs.Runs.{EndIsOfTheCard, ShowsBegun, Beginning, IsPhoneRun, RunEnds, entries_text}
+
+-- whether a line may stand after `start`
+abbrev pub may_be_heard : ScriptLine → Bool
+may_be_heard Passed = true
+may_be_heard (Cut cut) = true
+may_be_heard (Fail fail) = true
+may_be_heard (ReadFail call) = true
+may_be_heard line = is_some (handset_line line)
+
+-- what is said to the handset
+abbrev pub said_to_phone : Option HandsetLine → List PhoneLine
+said_to_phone (Some said) = Hears said ∷ []
+said_to_phone None = []
+
+-- what it is for the handset
+abbrev pub phone_lines_of : ScriptLine → List PhoneLine
+phone_lines_of (Cut cut) = Arms (record NONE { cut = Some cut }) ∷ []
+phone_lines_of (Fail fail) = Arms (record NONE { fail = Some fail }) ∷ []
+phone_lines_of (ReadFail call) = Arms (record NONE { read_fail = Some call }) ∷ []
+phone_lines_of line = said_to_phone (handset_line line)
+
+-- the lines of a script for the handset
+abbrev pub phone_lines : List ScriptLine → List PhoneLine
+phone_lines played = flat_map phone_lines_of played
 
 -- lines of a text say what stands up to `start`, and after it what may be there where a handset is used
 pub record AreServed (opening : List ScriptLine) (found : LineList) (played : List ScriptLine) : Type 0 where
@@ -36,34 +55,6 @@ pub record AreServed (opening : List ScriptLine) (found : LineList) (played : Li
 -- what the handset is told by these lines, the last line first
 abbrev pub told_back : List ScriptLine → List PhoneLine
 told_back played = reverse (phone_lines played)
-
--- the lines up to `start` were read, and nothing has happened since the card was opened
-pub record StandsAtStart (text : List ℕ) (opening : List ScriptLine) (given : Beginning) (script : ScriptReader) (left : Option (List ℕ)) (now : Moment) : Type 0 where
-  pub found : LineList
-  pub read : AreRead found opening
-  pub follows : Follows text found script left
-  pub begins : Begins given now
-
--- lines after `start` have been carried out, all that happened was taken by the sink, and the handset rests
-pub record IsServing (text : List ℕ) (opening : List ScriptLine) (given : Beginning) (script : ScriptReader) (left : Option (List ℕ)) (phone : Kept) (now : Moment) : Type 0 where
-  pub found : LineList
-  pub played : List ScriptLine
-  pub log : List Event
-  pub are_served : AreServed opening found played
-  pub follows : Follows text found script left
-  pub told : lines_back log ≡ told_back played
-  pub at : IsAt given log phone now
-  pub rests : asked (history log) ≡ Rest
-
--- The handset rests before the next line, and the lines before it let no more time pass together than so many may.
-pub record IsBetweenLines (script : ScriptReader) (phone : Kept) : Type 0 where
-  pub rest : IsAtRest phone
-  pub clock : phone.known.clock ≤ line_count script * LONGEST_SPAN
-
--- so it is again after a line, and less is left of the script
-pub record IsLineFurther (old new : ScriptReader) (phone : Kept) : Type 0 where
-  pub between : IsBetweenLines new phone
-  pub nearer : room_of new < room_of old
 
 -- ---- how it ends
 
@@ -101,18 +92,6 @@ pub record StopsAmid (text : List ℕ) (opening : List ScriptLine) (given : Begi
 
 -- what lines for a handset have come to, by why no more of them are carried out
 abbrev pub PhoneComesTo : List ℕ → List ScriptLine → Beginning → Option (List ℕ) → PlayEnd → Moment → Type 0
-PhoneComesTo text opening given left Finished now = PhoneEnds text opening given left Finished now
-PhoneComesTo text opening given left (BadLine number) now = PhoneEnds text opening given left (BadLine number) now
-PhoneComesTo text opening given left ReadFailed now = PhoneEnds text opening given left ReadFailed now
 PhoneComesTo text opening given left SinkFailed now = StopsAmid text opening given step_end.SinkFailed now
 PhoneComesTo text opening given left ResetFailed now = StopsAmid text opening given step_end.ResetFailed now
-
--- what a line comes to: it was carried out, or the run ends
-abbrev pub GivesServed : List ℕ → List ScriptLine → Beginning → ScriptReader → Option (List ℕ) → Kept → Moment → Result (Unit {0}) PlayEnd → Type 0
-GivesServed text opening given script left phone now (Ok done) = IsServing text opening given script left phone now
-GivesServed text opening given script left phone now (Err end) = PhoneComesTo text opening given left end now
-
--- a step that was the last ends the lines so
-abbrev pub EndsAmid : StepEnd → PlayEnd → Type 0
-EndsAmid step_end.SinkFailed end = end ≡ SinkFailed
-EndsAmid step_end.ResetFailed end = end ≡ ResetFailed
+PhoneComesTo text opening given left end now = PhoneEnds text opening given left end now

@@ -1,24 +1,20 @@
 -- A long run of a handset, and what is counted in its trace.
-use Rattle.std.specs.Prelude.{◌≡◌, ℕ, Bool, true, false, List, [], ◌++◌, map, reverse, Option, Some, Result, Ok, Err}
-use Rattle.uicc_types.specs.declared.plans.Plan.{Plan}
+use Rattle.std.specs.Prelude.{◌≡◌, List, [], ◌++◌, map, reverse}
 use Rattle.script_form.specs.declared.handset.HandsetLine.{HandsetLine}
 use Rattle.script_form.specs.declared.trace.TraceLine.{TraceLine}
 use Rattle.script_form.specs.declared.trace.TraceLine.TheVariants.{Note}
 use Rattle.card_model.specs.Counts.{IsCounted}
-use Rattle.card_core.specs.Parts.{CardParts}
 use Rattle.handset_model.specs.Legal.{TraceEntry, Seen, Shown}
 use Rattle.handset_model.specs.Rules.{asked}
 use Rattle.handset_model.specs.declared.known.Duty.TheVariants.{Rest}
-use Rattle.terminal_side.specs.Kept.{Kept}
 use Rattle.run_steps.specs.Runs.{line_of}
-use Rattle.run_steps.specs.Stepping.{Moment, Stands, moment}
+use Rattle.run_steps.specs.Stepping.{Moment, Stands}
 use Rattle.run_steps.specs.Views.{CardView}
 use Rattle.run_steps.specs.declared.steps.StepEnd.TheVariants.{ResetFailed}
 use Rattle.long_runs.specs.Counts.{counts_of}
 use Rattle.long_runs.specs.declared.counts.Counts.{Counts}
-use Rattle.phone_runs.specs.declared.counting.MemoryFailed.{MemoryFailed}
 use Rattle.phone_runs.specs.Logs.{Event, Hears, PhoneLine, history, log_lines, shown, trace}
-use Rattle.phone_runs.specs.Runs.{Beginning, RunEnds, IsAt, IsPhoneRun}
+use Rattle.phone_runs.specs.Runs.{Beginning, RunEnds, IsPhoneRun}
 
 -- the line of a trace that shows an entry
 abbrev pub entry_line : TraceEntry → TraceLine
@@ -46,32 +42,3 @@ pub record FailsAmid (made : List HandsetLine) (given : Beginning) (now : Moment
   pub others : List HandsetLine
   pub parted : reverse told ++ all_heard others ≡ all_heard made
   pub ended : RunEnds given told now ResetFailed
-
--- these lines are still to come, and the others were carried out
-pub record IsLoading (made : List HandsetLine) (given : Beginning) (others : List HandsetLine) (phone : Kept) (now : Moment) : Type 0 where
-  pub log : List Event
-  pub parted : log_lines log ++ all_heard others ≡ all_heard made
-  pub at : IsAt given log phone now
-  pub rests : asked (history log) ≡ Rest
-
--- what the next line comes to, if there is one
-abbrev pub GivesServed : List HandsetLine → Beginning → List HandsetLine → Kept → Moment → Result Bool MemoryFailed → Type 0
-GivesServed made given others phone now (Ok true) = IsLoading made given others phone now
-GivesServed made given others phone now (Ok false) = (others ≡ []) × IsLoading made given others phone now
-GivesServed made given others phone now (Err failed) = FailsAmid made given now
-
--- what all of them come to
-abbrev pub GivesAll : List HandsetLine → Beginning → Kept → Moment → Result (Unit {0}) MemoryFailed → Type 0
-GivesAll made given phone now (Ok done) = IsLoading made given [] phone now
-GivesAll made given phone now (Err failed) = FailsAmid made given now
-
--- what the run comes to
-abbrev pub GivesLoad : List HandsetLine → Beginning → Moment → Result Counts MemoryFailed → Type 0
-GivesLoad made given now (Ok counts) = IsCountedRun made given counts now
-GivesLoad made given now (Err failed) = FailsAmid made given now
-
--- the same, whatever was put into the sink, and whatever plan waits then
-pub record Gives (made : List HandsetLine) (given : Beginning) (parts : CardParts) (result : Result Counts MemoryFailed) : Type 0 where
-  pub taken : Option (List ℕ)
-  pub waiting : Plan
-  pub gives : GivesLoad made given (moment parts taken waiting) result

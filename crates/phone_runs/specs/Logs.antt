@@ -5,12 +5,12 @@ use Rattle.uicc_types.specs.declared.runs.Step.{Step}
 use Rattle.uicc_types.specs.declared.runs.Step.TheVariants as step
 use Rattle.uicc_types.specs.declared.runs.TraceItem.{TraceItem}
 use Rattle.script_form.specs.declared.handset.HandsetLine.{HandsetLine}
-use Rattle.handset_model.specs.History.{Happened, Said, Sent, Answered, Noted, Restarted, PowerCut, FoundOff}
+use Rattle.handset_model.specs.History.{Happened, Said, Sent, Restarted, PowerCut}
 use Rattle.handset_model.specs.Legal.{TraceEntry, entries_of, items_seen}
 use Rattle.handset_model.specs.Rules.{asked}
 use Rattle.handset_model.specs.Sending.{apdu_of}
 use Rattle.handset_model.specs.declared.known.Duty.{Duty}
-use Rattle.handset_model.specs.declared.known.Duty.TheVariants.{Rest, Transmit, Await, Show, ResetCard}
+use Rattle.handset_model.specs.declared.known.Duty.TheVariants.{Rest, ResetCard}
 
 pub data Event : Type 0 where
   -- something happened at the handset
@@ -39,21 +39,15 @@ lines_back (Plans plan ∷ log) = Arms plan ∷ lines_back log
 -- a loss of power belongs to the command before it, and is a step of its own in a reset
 abbrev pub cut_steps : Duty → List Step
 cut_steps ResetCard = step.Reset ∷ []
-cut_steps Rest = []
-cut_steps (Transmit command) = []
-cut_steps Await = []
-cut_steps (Show note) = []
+cut_steps duty = []
 
 -- the steps of the card, newest first: the commands that the handset sent, the resets, and the plans in their places among them
 abbrev pub steps_back : List Event → List Step
 steps_back [] = []
-steps_back (Happens (Said line) ∷ log) = steps_back log
 steps_back (Happens (Sent command) ∷ log) = step.Apdu (apdu_of command) ∷ steps_back log
-steps_back (Happens (Answered answer) ∷ log) = steps_back log
-steps_back (Happens (Noted note) ∷ log) = steps_back log
 steps_back (Happens Restarted ∷ log) = step.Reset ∷ steps_back log
 steps_back (Happens PowerCut ∷ log) = cut_steps (asked (history log)) ++ steps_back log
-steps_back (Happens FoundOff ∷ log) = steps_back log
+steps_back (Happens _ ∷ log) = steps_back log
 steps_back (Plans plan ∷ log) = step.Plan plan ∷ steps_back log
 
 -- a plan's line stands between two lines of the handset: nothing is asked for there

@@ -1,12 +1,17 @@
 -- The lines of a script, carried out by a handset.
-use Rattle.std.specs.Prelude.{◌≡◌, ℕ, ◌+◌, ◌<◌, ◌^◌, [], Some}
+use Rattle.std.specs.Prelude.{◌≡◌, ℕ, ◌+◌, ◌<◌, ◌^◌, [], Some, true, false, ◌∷◌}
 use Rattle.uicc_types.specs.declared.plans.TheConstants.Plan.{NONE}
+use Rattle.script_form.specs.declared.lines.ScriptLine.{ScriptLine}
 use Rattle.card_model.specs.Counts.{IsCounted}
 use Rattle.handset_model.specs.History.{span_of}
 use Rattle.handset_model.specs.Legal.{IsBounded}
-use Rattle.run_steps.specs.Stepping.{IsSeen, Moment, Rests}
+use Rattle.run_steps.specs.Stepping.{IsSeen, Moment}
+use Rattle.run_steps.specs.Taking.{Rests}
+use Rattle.phone_runs.specs.Lines.{may_be_heard, phone_lines_of}
 use Rattle.phone_runs.specs.Logs.{PhoneLine, Hears, Arms}
 use Rattle.phone_runs.specs.Runs.{Beginning}
+use Rattle.phone_runs.specs.declared.effects.PhoneEffect.{PhoneEffect}
+use Rattle.phone_runs.specs.declared.effects.PhoneEffect.TheVariants.{Nothing, Takes, OutOfPlace}
 use Rattle.phone_runs.specs.declared.playing.PhoneMove.{PhoneMove}
 use Rattle.phone_runs.specs.declared.playing.PhoneMove.TheVariants as move
 
@@ -32,3 +37,20 @@ pub record Begins (given : Beginning) (now : Moment) : Type 0 where
   pub counted : IsCounted given.meter now.meter [] []
   pub waits : now.waiting ≡ NONE
   pub rests : Rests given.first [] now.is_due
+
+abbrev pub IsEffect : ScriptLine → PhoneEffect → Type 0
+IsEffect line Nothing = (may_be_heard line ≡ true) × (phone_lines_of line ≡ [])
+IsEffect line (Takes move) = (may_be_heard line ≡ true) × (phone_lines_of line ≡ line_of move ∷ [])
+IsEffect line OutOfPlace = may_be_heard line ≡ false
+
+-- it may be carried out at this time
+abbrev pub FitsIn : ℕ → PhoneEffect → Type 0
+FitsIn clock (Takes move) = IsFit clock move
+FitsIn clock Nothing = Unit {0}
+FitsIn clock OutOfPlace = Unit {0}
+
+-- how much time it lets pass
+abbrev pub span_of_effect : PhoneEffect → ℕ
+span_of_effect (Takes move) = span_of_move move
+span_of_effect Nothing = 0
+span_of_effect OutOfPlace = 0

@@ -1,6 +1,7 @@
 -- A run of a handset that serves a card: what is sent to the card and noted is what the rules of the handset ask for, and what is
 -- seen of the card is how the card moves.
-use Rattle.std.specs.Prelude.{◌≡◌, ℕ, List, [], ◌∷◌, ◌++◌, Some, true, false, Result, Ok, Err, Bool}
+use Rattle.std.specs.List.{flat_map}
+use Rattle.std.specs.Prelude.{◌≡◌, ℕ, List, [], ◌∷◌, ◌++◌, Some, reverse, map, ◌⊎◌}
 use Rattle.uicc_types.specs.Counts.{Meter}
 use Rattle.uicc_types.specs.Told.{IsFront}
 use Rattle.uicc_types.specs.declared.plans.Plan.{Plan}
@@ -8,22 +9,36 @@ use Rattle.uicc_types.specs.declared.plans.TheConstants.Plan.{NONE}
 use Rattle.uicc_types.specs.declared.runs.Step.{Step}
 use Rattle.uicc_types.specs.declared.runs.Step.TheVariants as step
 use Rattle.uicc_types.specs.declared.runs.TraceItem.{TraceItem}
+use Rattle.uicc_types.specs.declared.runs.TraceItem.TheVariants as item
+use Rattle.script_form.specs.Traces.{trace_text}
 use Rattle.script_form.specs.declared.handset.Note.{Note}
+use Rattle.script_form.specs.declared.trace.TraceLine.TheVariants as line
 use Rattle.card_model.specs.Counts.{IsCounted}
 use Rattle.card_model.specs.Runs.{plan_given, armed_after, waiting_after}
-use Rattle.handset_model.specs.Legal.{IsOrderly}
+use Rattle.handset_model.specs.Legal.{IsOrderly, IsBegun, TraceEntry, Seen, items_seen, Shown}
 use Rattle.handset_model.specs.Rules.{asked}
 use Rattle.handset_model.specs.Sending.{apdu_of}
 use Rattle.handset_model.specs.declared.known.Duty.{Duty}
 use Rattle.handset_model.specs.declared.known.Duty.TheVariants.{Rest, Transmit, Await, Show, ResetCard}
-use Rattle.terminal_side.specs.Kept.{Kept, kept}
-use Rattle.run_steps.specs.Runs.{text_of}
-use Rattle.run_steps.specs.Stepping.{BreaksOff, Holds, IsCutOff, IsSeen, Moment, Rests as CardRests}
-use Rattle.run_steps.specs.Views.{CardView, LastShows, StepsShow}
+use Rattle.run_steps.specs.Runs.{text_of, item_text}
+use Rattle.run_steps.specs.Stepping.{BreaksOff, Holds, IsCutOff, Moment}
+use Rattle.run_steps.specs.Views.{CardView, LastShows, StepsShow, IsRunOf}
 use Rattle.run_steps.specs.declared.steps.StepEnd.{StepEnd}
 use Rattle.run_steps.specs.declared.steps.StepEnd.TheVariants.{SinkFailed, ResetFailed}
-use Rattle.phone_runs.specs.Logs.{Event, PhoneLine, AreInTurn, history, lines_back, shown, steps, trace}
-use Rattle.phone_runs.specs.Traces.{entries_text, note_line}
+use Rattle.phone_runs.specs.Logs.{Event, PhoneLine, AreInTurn, history, lines_back, shown, steps, trace, heard}
+
+-- the text of a note
+abbrev pub note_line : Note → List ℕ
+note_line note = trace_text (line.Note note)
+
+-- of an entry of the trace
+abbrev pub entry_text : TraceEntry → List ℕ
+entry_text (Seen item) = item_text item
+entry_text (Shown note) = note_line note
+
+-- and of all
+abbrev pub entries_text : List TraceEntry → List ℕ
+entries_text entries = flat_map entry_text entries
 
 -- This happened between a handset and a card that stood so at first, and stands so now: each event is one that was asked for, a plan
 -- stands between two lines, and the commands, resets and plans are the steps of a run of the card, which shows what was seen of it.
@@ -37,17 +52,6 @@ pub record Beginning : Type 0 where
   pub first : CardView
   pub before : List ℕ
   pub meter : Meter
-
--- this has happened so far, all that it shows was taken, and this is what the handset keeps
-pub record IsAt (given : Beginning) (log : List Event) (phone : Kept) (now : Moment) : Type 0 where
-  pub card : CardView
-  pub run : IsPhoneRun given.first log card
-  pub keeps : phone ≡ kept (history log)
-  pub seen : IsSeen card now
-  pub written : now.taken ≡ Some (given.before ++ entries_text (trace log))
-  pub counted : IsCounted given.meter now.meter (plan_given (steps log)) (shown log)
-  pub waits : now.waiting ≡ waiting_after NONE (steps log)
-  pub rests : CardRests card (shown log) now.is_due
 
 -- ---- how it ends before the handset rests
 
@@ -76,8 +80,7 @@ abbrev pub BreaksIn : Beginning → List Event → CardView → Moment → Duty 
 BreaksIn given log old now (Transmit command) = BreaksInStep given log old (step.Apdu (apdu_of command)) now
 BreaksIn given log old now ResetCard = BreaksInStep given log old step.Reset now
 BreaksIn given log old now (Show note) = BreaksInNote given log old note now
-BreaksIn given log old now Rest = ⊥
-BreaksIn given log old now Await = ⊥
+BreaksIn given log old now duty = ⊥
 
 -- The sink failed: it has taken all that these lines have shown before, and of what was asked for next the beginning.
 pub record BreaksSo (given : Beginning) (heard : List PhoneLine) (now : Moment) : Type 0 where
@@ -106,28 +109,48 @@ abbrev pub RunEnds : Beginning → List PhoneLine → Moment → StepEnd → Typ
 RunEnds given heard now SinkFailed = BreaksSo given heard now
 RunEnds given heard now ResetFailed = FailsSo given heard now
 
--- ---- how it goes on
+-- ---- the trace and the card at those two ends
 
--- more has happened, with these lines
-pub record Reaches (given : Beginning) (heard : List PhoneLine) (phone : Kept) (now : Moment) : Type 0 where
-  pub log : List Event
-  pub lines_are : lines_back log ≡ heard
-  pub at : IsAt given log phone now
+-- What the sink has taken is the beginning of the text of this trace, and the trace is the beginning of one that the rules ask for.
+pub record ShowsTrace (given : Beginning) (told : List PhoneLine) (entries : List TraceEntry) (now : Moment) : Type 0 where
+  pub begun : IsBegun (heard (reverse told)) entries
+  pub front : List ℕ
+  pub is_front : IsFront front (entries_text entries)
+  pub written : now.taken ≡ Some (given.before ++ front)
 
--- and the handset rests
-pub record Rests (given : Beginning) (heard : List PhoneLine) (phone : Kept) (now : Moment) : Type 0 where
-  pub log : List Event
-  pub lines_are : lines_back log ≡ heard
-  pub at : IsAt given log phone now
-  pub done : asked (history log) ≡ Rest
+-- it has taken the beginning of such a one
+pub record ShowsBegun (given : Beginning) (told : List PhoneLine) (now : Moment) : Type 0 where
+  pub entries : List TraceEntry
+  pub shows : ShowsTrace given told entries now
 
--- what comes of one thing that is asked for: it was done; or nothing is asked for
-abbrev pub GoesFurther : Beginning → List PhoneLine → Kept → Moment → Result Bool StepEnd → Type 0
-GoesFurther given heard phone now (Ok true) = Reaches given heard phone now
-GoesFurther given heard phone now (Ok false) = Rests given heard phone now
-GoesFurther given heard phone now (Err end) = RunEnds given heard now end
+-- all that has happened, and after it what is seen of the card in one step more
+abbrev pub trace_with : List Event → List TraceItem → List TraceEntry
+trace_with log items = trace log ++ map Seen items
 
--- what comes of all that is asked for
-abbrev pub Settles : Beginning → List PhoneLine → Kept → Moment → Result (Unit {0}) StepEnd → Type 0
-Settles given heard phone now (Ok done) = Rests given heard phone now
-Settles given heard phone now (Err end) = RunEnds given heard now end
+-- The sink shows this trace. Without its notes it is that of a run of the card by these steps, and the store stands for what the card
+-- holds for good at its end.
+pub record ShowsRun (given : Beginning) (told : List PhoneLine) (entries : List TraceEntry) (steps : List Step) (card : CardView) (now : Moment) : Type 0 where
+  pub shows : ShowsTrace given told entries now
+  pub run : IsRunOf given.first steps (items_seen entries) card
+  pub stands : Holds card now.held
+
+-- The same, where the line of a command stands after it, which the card was not sent.
+pub record ShowsUnsent (given : Beginning) (told : List PhoneLine) (entries : List TraceEntry) (apdu : List ℕ) (steps : List Step) (card : CardView) (now : Moment) : Type 0 where
+  pub shows : ShowsTrace given told (entries ++ Seen (item.Command apdu) ∷ []) now
+  pub run : IsRunOf given.first steps (items_seen entries) card
+  pub stands : Holds card now.held
+
+-- The sink failed: in a command that the card took, or in the line of one before it was sent; in a reset; in a note.
+abbrev pub BreakIsOfTheCard : (given : Beginning) → List PhoneLine → (log : List Event) (old : CardView) (now : Moment) (duty : Duty) → BreaksIn given log old now duty → Type 0
+BreakIsOfTheCard given told log old now (Transmit command) broken =
+    ShowsRun given told (trace_with log broken.pending) (steps log ++ step.Apdu (apdu_of command) ∷ []) broken.card now
+    ⊎ ShowsUnsent given told (trace log) (apdu_of command) (steps log) old now
+BreakIsOfTheCard given told log old now ResetCard broken = ShowsRun given told (trace_with log broken.pending) (steps log ++ step.Reset ∷ []) broken.card now
+BreakIsOfTheCard given told log old now (Show note) broken = ShowsRun given told (trace log ++ Shown note ∷ []) (steps log) old now
+BreakIsOfTheCard given told log old now Rest broken = ⊥
+BreakIsOfTheCard given told log old now Await broken = ⊥
+
+-- the sink failed, or the memory in a reset, of which the trace says so at its end
+abbrev pub EndIsOfTheCard : (given : Beginning) (told : List PhoneLine) (now : Moment) (end : StepEnd) → RunEnds given told now end → Type 0
+EndIsOfTheCard given told now SinkFailed broken = BreakIsOfTheCard given told broken.log broken.old now (asked (history broken.log)) broken.broken
+EndIsOfTheCard given told now ResetFailed failed = ShowsRun given told (trace_with failed.log failed.last) (steps failed.log ++ step.Reset ∷ []) failed.card now

@@ -5,7 +5,7 @@ ghost use Rattle.script_form.specs.declared.handset.HandsetLine.{HandsetLine as 
 ghost use Rattle.run_steps.specs.Ends.{moment_at};
 ghost use Rattle.long_runs.specs.LoadLines.{made_lines};
 ghost use Rattle.long_runs.specs.declared.load_lines.TheConstants.{LONGEST_SPAN};
-ghost use Rattle.phone_runs.specs.LoadRuns.{Gives, GivesAll, GivesServed, IsLoading};
+ghost use Rattle.phone_runs.specs.LoadingLines.{Gives, GivesAll, GivesServed, IsLoading};
 ghost use Rattle.phone_runs.specs.Playing.{Begins};
 ghost use Rattle.phone_runs.specs.Runs.{Beginning};
 ghost use Rattle.phone_runs.specs.Serving.{IsAtRest};

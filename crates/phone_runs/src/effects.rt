@@ -1,7 +1,7 @@
 //! What a line after `start` does where a handset is used.
 ghost use Rattle.std.specs.Prelude.{◌≤◌, ◌<◌, ◌+◌, ◌^◌, ℕ};
 ghost use Rattle.script_form.specs.Bounds.{IsBounded};
-ghost use Rattle.phone_runs.specs.Effects.{FitsIn, IsEffect, span_of_effect};
+ghost use Rattle.phone_runs.specs.Playing.{FitsIn, IsEffect, span_of_effect};
 ghost use Rattle.phone_runs.specs.declared.effects.TheConstants.{LONGEST_SPAN};
 
 use crate::playing::PhoneMove;

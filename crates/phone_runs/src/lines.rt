@@ -7,8 +7,8 @@ ghost use Rattle.script_reader.specs.Reading.{reading};
 ghost use Rattle.run_steps.specs.Ends.{moment_at};
 ghost use Rattle.run_steps.specs.Tallies.{tally};
 ghost use Rattle.phone_runs.specs.LineTallies.{TalliesLines};
-ghost use Rattle.phone_runs.specs.Lines.{EndsAmid, GivesServed, IsBetweenLines, IsLineFurther, IsServing};
-ghost use Rattle.phone_runs.specs.Effects.{may_be_heard};
+ghost use Rattle.phone_runs.specs.BetweenLines.{EndsAmid, GivesServed, IsBetweenLines, IsLineFurther, IsServing};
+ghost use Rattle.phone_runs.specs.Lines.{may_be_heard};
 ghost use Rattle.phone_runs.specs.Runs.{Beginning};
 
 use crate::effects::{PhoneEffect, effect_on_phone};

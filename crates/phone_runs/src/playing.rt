@@ -8,7 +8,8 @@ ghost use Rattle.run_steps.specs.Ends.{moment_at};
 ghost use Rattle.run_steps.specs.Tallies.{Tallies, tally};
 ghost use Rattle.phone_runs.specs.Logs.{Event, Hears, lines_back};
 ghost use Rattle.phone_runs.specs.Playing.{Begins, IsFit, line_of, span_of_move};
-ghost use Rattle.phone_runs.specs.Runs.{Beginning, IsAt, Settles};
+ghost use Rattle.phone_runs.specs.Runs.{Beginning};
+ghost use Rattle.phone_runs.specs.Settling.{IsAt, Settles};
 ghost use Rattle.phone_runs.specs.Serving.{IsAtRest};
 
 use crate::serving::{Places, settle};

@@ -7,7 +7,8 @@ ghost use Rattle.terminal_side.specs.Kept.{kept};
 ghost use Rattle.run_steps.specs.Ends.{moment_at};
 ghost use Rattle.run_steps.specs.Tallies.{Tallies, tally};
 ghost use Rattle.phone_runs.specs.Logs.{Event, lines_back};
-ghost use Rattle.phone_runs.specs.Runs.{Beginning, GoesFurther, IsAt, Settles};
+ghost use Rattle.phone_runs.specs.Runs.{Beginning};
+ghost use Rattle.phone_runs.specs.Settling.{GoesFurther, IsAt, Settles};
 ghost use Rattle.phone_runs.specs.Serving.{IsAtRest, IsPhoneServed, IsServedMore, replied, reset_by};
 
 use applet_trait::Applet;

@@ -5,7 +5,9 @@ ghost use Rattle.std.specs.Str.{bytes_eq};
 use uicc_types::Pin8;
 
 /// Whether the eight bytes that are presented are this value. Every pair of bytes is compared, whatever the ones before came
-/// to: there is no early exit, and `&` evaluates both sides, so that each pair of values takes the same steps.
+/// to: there is no early exit, and `&` evaluates both sides, so that each pair of values takes the same steps. It stands by itself, so that
+/// the value is compared where it lies.
+#[inline(never)]
 pub fn is_value(presented: &[u8], value: &Pin8) -> bool
     requires { length presented.now ≡ 8 }
     ensures { result ≡ bytes_eq presented.now value.now.0 }

@@ -69,6 +69,15 @@ fn has_short_text(command: &Proactive) -> bool
     }
 }
 
+// Whether it fits the 255 bytes that a length can say, by its bytes. Few commands need it, and the places for the bytes are made here alone.
+#[inline(never)]
+fn is_spelled(command: &Proactive) -> bool
+    requires { HasWritableTime command.now }
+    ensures { result ≡ is_short command.now }
+{
+    spell(command, 0).is_ok()
+}
+
 // Whether it fits the 255 bytes that a length can say. Most commands do whose bytes need not be made to see it.
 fn is_short(command: &Proactive) -> bool
     requires { HasWritableTime command.now }
@@ -76,7 +85,7 @@ fn is_short(command: &Proactive) -> bool
 {
     // This call is a law, and does nothing.
     lengths_of_commands();
-    has_short_text(command) || spell(command, 0).is_ok()
+    has_short_text(command) || is_spelled(command)
 }
 
 // Whether the handset sent its profile and can carry the command out.

@@ -130,7 +130,8 @@ pub fn has_parameters(command: &Command<'_>) -> bool
 }
 
 /// The EF that a command works on. Refused are, in this order, wrong P1 and P2, a wrong length, no such EF, an EF of another
-/// structure and one that is out of use.
+/// structure and one that is out of use. Inlined, what a command doesn't ask costs it nothing.
+#[inline(always)]
 #[tactic(auto, unfolding(file_model::specs::Records::record_file, file_model::specs::Chains::refused_if, file_model::specs::Chains::and_given))]
 pub fn record_file(
     loaded: &Loaded,

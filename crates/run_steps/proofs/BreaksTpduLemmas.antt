@@ -11,10 +11,11 @@ use Rattle.script_form.specs.Traces.{trace_text}
 use Rattle.script_form.specs.declared.trace.TraceLine.TheVariants as line
 use Rattle.card_model.specs.Runs.{armed_after}
 use Rattle.run_steps.specs.Ends.{End, moment_at}
-use Rattle.run_steps.specs.Tpdus.{BreaksTpdu, Delivers, TakesTpdu, steps_of}
+use Rattle.run_steps.specs.TakingTpdus.{BreaksTpdu, Delivers, TakesTpdu}
+use Rattle.run_steps.specs.Tpdus.{steps_of, shown_for}
 use Rattle.run_steps.proofs.SteppingLemmas.{ToldFront, holds_seen, idle_counted, in_one_line, text_of_one, text_of_two, told_front, told_more}
-use Rattle.run_steps.specs.Shown.{shown_for}
-use Rattle.run_steps.specs.Runs.{item_text, machine_of}
+use Rattle.run_steps.specs.Runs.{item_text}
+use Rattle.run_steps.specs.Taking.{machine_of}
 use Rattle.run_steps.specs.Stepping.{IsSeenBy}
 use Rattle.run_steps.specs.Views.{CardView}
 

@@ -20,10 +20,10 @@ use Rattle.card_model.specs.Counts.{IsCounted}
 use Rattle.card_model.specs.Laws.{PlansAreCounted}
 use Rattle.card_model.specs.Runs.{due}
 use Rattle.run_steps.specs.Ends.{End, Meets, MeetsAnswer, MeetsCut, TakesCommand, planned, reply_for, unplanned, with_plan_set, without_plan}
-use Rattle.run_steps.specs.Tpdus.{Delivers, IsPrepared}
-use Rattle.run_steps.specs.Shown.{item_of, kept_over, shown_over}
-use Rattle.run_steps.specs.Runs.{machine_of}
-use Rattle.run_steps.specs.Stepping.{IsSeenBy, RestsOn, seen}
+use Rattle.run_steps.specs.TakingTpdus.{Delivers, IsPrepared}
+use Rattle.run_steps.specs.Tpdus.{item_of, kept_over, shown_over}
+use Rattle.run_steps.specs.Taking.{machine_of, RestsOn, seen}
+use Rattle.run_steps.specs.Stepping.{IsSeenBy}
 use Rattle.run_steps.specs.Views.{CardView, IsBare}
 use Rattle.run_steps.proofs.SendsLemmas.{bare_reply, sends_off}
 use Rattle.run_steps.proofs.SteppingLemmas.{Showed, WithPlan, command_showed, counted_after, idle_counted, none_waits, rests_back, seen_back, seen_set, still_rests, with_command, with_plan}

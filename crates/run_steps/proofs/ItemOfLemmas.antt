@@ -18,7 +18,7 @@ use Rattle.t0_link.specs.declared.tpdus.Transfer.TheVariants.{GetResponse, Incom
 use Rattle.card_model.specs.Counts.{IsCounted, is_cut, is_failure}
 use Rattle.card_core.proofs.ActsAsLemmas.{cut_nothing}
 use Rattle.run_steps.specs.Views.{IsBare}
-use Rattle.run_steps.specs.Shown.{item_of, kept_over, shown_over}
+use Rattle.run_steps.specs.Tpdus.{item_of, kept_over, shown_over}
 
 -- the failure that one item shows, and the one that is still to be shown of what the link keeps
 abbrev pub failed : TraceItem → ℕ

@@ -14,9 +14,9 @@ use Rattle.card_model.specs.States.{CardState, Machine, powered, unpowered, rest
 use Rattle.card_core.specs.Cards.{card_of}
 use Rattle.card_core.specs.Moves.{Answers, Fails}
 use Rattle.card_core.specs.Parts.{CardParts}
-use Rattle.run_steps.specs.Runs.{is_calm, machine_of}
+use Rattle.run_steps.specs.Runs.{is_calm}
+use Rattle.run_steps.specs.Taking.{machine_of, Resets, Sends}
 use Rattle.run_steps.proofs.StandingLemmas.{card_stands, is_machine, machine_is}
-use Rattle.run_steps.specs.Stepping.{Resets, Sends}
 use Rattle.run_steps.specs.Views.{IsBare, IsReply}
 use Rattle.run_steps.specs.declared.steps.ResetOutcome.TheVariants as restart
 

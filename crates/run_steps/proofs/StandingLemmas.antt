@@ -5,7 +5,7 @@ use Rattle.card_state.specs.Persistent.{Persistent}
 use Rattle.card_model.specs.States.{CardState, Machine, woken}
 use Rattle.card_core.specs.Cards.{card_of, card_with, held_by}
 use Rattle.card_core.specs.Parts.{CardParts}
-use Rattle.run_steps.specs.Runs.{machine_of}
+use Rattle.run_steps.specs.Taking.{machine_of}
 use Rattle.run_steps.specs.Standing.{IsMachine}
 
 pub machine_is : (parts : CardParts) (machine : Machine) → machine_of parts ≡ Some machine → IsMachine parts machine

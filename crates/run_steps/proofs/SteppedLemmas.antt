@@ -18,8 +18,8 @@ use Rattle.card_model.specs.Instructions.{is_known}
 use Rattle.card_model.specs.Runs.{IsLeft, Exchanges, MemoryFails, PowerIsLost, Commands, MeetsNoPower, StepGives}
 use Rattle.card_model.specs.States.{CardState, Machine, powered}
 use Rattle.run_steps.specs.Linked.{shown, HasAnswer, HasOwnAnswer, GivesOwnAnswer, LinkChangesNoAnswer}
-use Rattle.run_steps.specs.Shown.{item_of, shown_for, without_bytes}
-use Rattle.run_steps.specs.Stepped.{HasOwnStep, GivesOwnStep, LinkChangesNoStep}
+use Rattle.run_steps.specs.Tpdus.{item_of, shown_for}
+use Rattle.run_steps.specs.Stepped.{without_bytes, HasOwnStep, GivesOwnStep, LinkChangesNoStep}
 
 -- what came of what was sent
 abbrev reply_in : List TraceItem → TraceItem

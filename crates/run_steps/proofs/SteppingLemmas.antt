@@ -23,8 +23,9 @@ use Rattle.card_core.proofs.RestartLemmas.{metered_same}
 use Rattle.run_steps.specs.declared.steps.ResetOutcome.{ResetOutcome}
 use Rattle.run_steps.specs.declared.steps.ResetOutcome.TheVariants as restart
 use Rattle.run_steps.specs.Ends.{Comes, End, disarmed, moment_at, planned, unplanned, with_plan_set, without_plan}
-use Rattle.run_steps.specs.Runs.{ends_calm, is_calm, item_text, machine_of, text_of}
-use Rattle.run_steps.specs.Stepping.{BreaksOff, BreaksStep, EndsStep, GivesShowing, Holds, IsCutOff, IsSeenBy, Resets, Rests, RestsOn, Sends, Stands, TakesStep, moment, shown_of}
+use Rattle.run_steps.specs.Runs.{ends_calm, is_calm, item_text, text_of}
+use Rattle.run_steps.specs.Taking.{machine_of, BreaksStep, EndsStep, GivesShowing, Resets, Rests, RestsOn, Sends, TakesStep, moment, shown_of}
+use Rattle.run_steps.specs.Stepping.{BreaksOff, Holds, IsCutOff, IsSeenBy, Stands}
 use Rattle.run_steps.specs.Views.{CardView, IsReply, ItsPower, Known, LastShows, StepShows, TheCard}
 use Rattle.run_steps.specs.declared.steps.StepEnd.{StepEnd}
 use Rattle.run_steps.specs.declared.steps.StepEnd.TheVariants.{SinkFailed, ResetFailed}

@@ -3,7 +3,7 @@ use Rattle.std.proofs.Common.{◌≡◌, Bool, List, [], ◌∷◌, ◌++◌, re
 use Rattle.uicc_types.specs.declared.runs.Step.{Step}
 use Rattle.uicc_types.specs.declared.runs.TraceItem.{TraceItem}
 use Rattle.run_steps.proofs.GoesOnLemmas.{calm_before, calm_behind, run_ends, run_of, run_one, run_then, shows_one, shows_then}
-use Rattle.run_steps.specs.Stepping.{Rests, RestsOn}
+use Rattle.run_steps.specs.Taking.{Rests, RestsOn}
 use Rattle.run_steps.specs.Views.{CardView, IsRunOf, ItsPower, LastShows, RunShows, StepShows, StepsShow, TheCard}
 
 steps_still : (old : CardView) → StepsShow old [] [] old

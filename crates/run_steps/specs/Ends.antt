@@ -12,14 +12,14 @@ use Rattle.t0_link.specs.declared.endpoint.LinkFault.TheVariants.{PowerLost, NoP
 use Rattle.card_model.specs.Counts.{IsCounted, is_cut, is_failure}
 use Rattle.card_model.specs.States.{Machine}
 use Rattle.card_core.specs.Parts.{CardParts}
-use Rattle.run_steps.specs.Runs.{machine_of}
-use Rattle.run_steps.specs.Stepping.{Moment, Resets, Sends, moment, shown_of}
+use Rattle.run_steps.specs.Taking.{machine_of, Resets, Sends, moment, shown_of}
+use Rattle.run_steps.specs.Stepping.{Moment}
 use Rattle.run_steps.specs.Views.{IsReply}
 use Rattle.run_steps.specs.declared.steps.Reply.{Reply}
 use Rattle.run_steps.specs.declared.steps.Reply.TheVariants as reply
 use Rattle.run_steps.specs.declared.steps.ResetOutcome.{ResetOutcome}
 use Rattle.run_steps.specs.declared.steps.ResetOutcome.TheVariants as outcomes
-use Rattle.run_steps.specs.Shown.{item_of}
+use Rattle.run_steps.specs.Tpdus.{item_of}
 
 -- what is seen of it: the parts of the card, and the plan of faults that waits for the next command or reset
 pub record End : Type 0 where

@@ -3,10 +3,11 @@ pub mod Le
 pub mod Linked
 pub mod Moves
 pub mod Runs
-pub mod Shown
 pub mod Standing
 pub mod Stepped
 pub mod Stepping
+pub mod Taking
+pub mod TakingTpdus
 pub mod Tallies
 pub mod Tpdus
 pub mod Views

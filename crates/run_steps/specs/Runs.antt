@@ -1,6 +1,6 @@
--- What a trace shows of a run, and the card of the code as a machine.
+-- What a trace shows of a run.
 use Rattle.std.specs.List.{flat_map}
-use Rattle.std.specs.Prelude.{ℕ, Bool, true, false, not, ◌==◌, List, [], ◌∷◌, Option, option_map}
+use Rattle.std.specs.Prelude.{ℕ, Bool, true, false, not, ◌==◌, List, [], ◌∷◌}
 use Rattle.uicc_types.specs.declared.answers.TheConstants.StatusWord.{MEMORY_PROBLEM}
 use Rattle.uicc_types.specs.declared.runs.Step.{Step}
 use Rattle.uicc_types.specs.declared.runs.TraceItem.{TraceItem}
@@ -10,8 +10,6 @@ use Rattle.script_form.specs.declared.trace.TraceLine.{TraceLine}
 use Rattle.script_form.specs.declared.trace.TraceLine.TheVariants as line
 use Rattle.card_model.specs.Runs.{StepGives, Then, Waits}
 use Rattle.card_model.specs.States.{Machine}
-use Rattle.card_core.specs.Cards.{card_of}
-use Rattle.card_core.specs.Parts.{CardParts}
 
 -- the line of the trace that shows an item
 abbrev pub line_of : TraceItem → TraceLine
@@ -29,18 +27,12 @@ item_text item = trace_text (line_of item)
 abbrev pub text_of : List TraceItem → List ℕ
 text_of shown = flat_map item_text shown
 
--- the card of the code with its power, where its store tells its bytes
-abbrev pub machine_of : CardParts → Option Machine
-machine_of parts = option_map (λ card. record { card = card; on = parts.is_on }) (card_of parts)
-
 -- the memory did not fail in what shows this, and the card had power
 abbrev pub is_calm : TraceItem → Bool
 is_calm (item.Command apdu) = true
 is_calm (item.Answer body status) = not (status.0 == MEMORY_PROBLEM.0)
 is_calm item.Reset = true
-is_calm item.Cut = false
-is_calm item.Off = false
-is_calm item.EepromFailed = false
+is_calm shown = false
 
 -- and so it was in the last command or reset, if there was one
 abbrev pub ends_calm : List TraceItem → Bool

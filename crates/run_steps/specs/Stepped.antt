@@ -1,18 +1,25 @@
 -- What a command over the T=0 link comes to in a run, beside the command by itself.
-use Rattle.std.specs.Prelude.{◌≡◌, ℕ, List, map, Option, Some, None, IsTrue}
+use Rattle.std.specs.Prelude.{◌≡◌, ℕ, List, map, Option, Some, None, IsTrue, []}
 use Rattle.uicc_types.specs.Counts.{Meter}
 use Rattle.uicc_types.specs.Told.{AreBytes}
 use Rattle.uicc_types.specs.declared.answers.Answer.{Answer}
 use Rattle.uicc_types.specs.declared.plans.Plan.{Plan}
 use Rattle.uicc_types.specs.declared.runs.Step.TheVariants as step
 use Rattle.uicc_types.specs.declared.runs.TraceItem.{TraceItem}
+use Rattle.uicc_types.specs.declared.runs.TraceItem.TheVariants as item
 use Rattle.apdu_form.specs.Model.{Apdu, command_in}
-use Rattle.t0_link.specs.Linking.{Linked, Course, Answers, Passes}
 use Rattle.t0_link.specs.Carrying.{is_carried, command_answer}
+use Rattle.t0_link.specs.Linking.{Linked, Course, Answers, Passes}
 use Rattle.card_model.specs.Counts.{IsCounted}
 use Rattle.card_model.specs.Runs.{StepGives}
 use Rattle.card_model.specs.States.{Machine, IsGood}
-use Rattle.run_steps.specs.Shown.{shown_over, kept_over, shown_for, without_bytes}
+use Rattle.run_steps.specs.Tpdus.{shown_over, kept_over, shown_for}
+
+-- what is shown, but for the bytes of a command and the data of an answer
+abbrev pub without_bytes : TraceItem → TraceItem
+without_bytes (item.Command bytes) = item.Command []
+without_bytes (item.Answer body status) = item.Answer [] status
+without_bytes other = other
 
 -- The card showed this of what the link passed for a command. The command by itself is a step too: it shows the terminal's bytes in
 -- place of those that were passed and the link's answer in place of the card's, and leaves the same card. The link's answer has the

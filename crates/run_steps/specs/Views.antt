@@ -24,19 +24,14 @@ Known OfCard OfPower (ItsPower on) = OfPower on
 abbrev pub KnownAlike : (Machine → Machine → Type 0) → (Bool → Bool → Type 0) → CardView → CardView → Type 0
 KnownAlike OfCards OfPowers (TheCard old) (TheCard new) = OfCards old new
 KnownAlike OfCards OfPowers (ItsPower on) (ItsPower after) = OfPowers on after
-KnownAlike OfCards OfPowers (TheCard old) (ItsPower after) = ⊥
-KnownAlike OfCards OfPowers (ItsPower on) (TheCard new) = ⊥
+KnownAlike OfCards OfPowers old new = ⊥
 
 -- ---- what may be shown by the power
 
 -- an answer that tells of a failing memory has no data
 abbrev pub IsBare : TraceItem → Type 0
 IsBare (item.Answer body status) = is_failure (item.Answer body status) ≡ true → body ≡ []
-IsBare (item.Command apdu) = ⊤
-IsBare item.Reset = ⊤
-IsBare item.Cut = ⊤
-IsBare item.Off = ⊤
-IsBare item.EepromFailed = ⊤
+IsBare shown = ⊤
 
 -- What may come of a command, by the power before it and after it: with power an answer, or that it was lost; and without, that there
 -- was none.
@@ -44,9 +39,7 @@ abbrev pub IsReply : Bool → TraceItem → Bool → Type 0
 IsReply on (item.Answer body status) after = (on ≡ true) × IsBare (item.Answer body status) × (after ≡ true)
 IsReply on item.Cut after = (on ≡ true) × (after ≡ false)
 IsReply on item.Off after = (on ≡ false) × (after ≡ false)
-IsReply on (item.Command apdu) after = ⊥
-IsReply on item.Reset after = ⊥
-IsReply on item.EepromFailed after = ⊥
+IsReply on shown after = ⊥
 
 -- By the power before a step and after it: a command is shown with what came of it; a reset in one line, that it was done, or that power
 -- was lost; and a plan not at all.
@@ -71,9 +64,8 @@ MayShowAll on (step ∷ more) items after = ThenShows (MayShow on step) (λ betw
 
 -- a reset in which the memory failed
 abbrev pub MayEnd : Step → List TraceItem → Type 0
-MayEnd (step.Apdu apdu) items = ⊥
 MayEnd step.Reset items = items ≡ item.EepromFailed ∷ []
-MayEnd (step.Plan plan) items = ⊥
+MayEnd step items = ⊥
 
 -- ---- steps
 

@@ -2,7 +2,7 @@
 ghost use Rattle.std.specs.Prelude.{◌≡◌, IsTrue};
 ghost use Rattle.t0_link.specs.Carrying.{carried};
 ghost use Rattle.run_steps.specs.Ends.{Comes, reply_for};
-ghost use Rattle.run_steps.specs.Stepping.{seen};
+ghost use Rattle.run_steps.specs.Taking.{seen};
 
 use crate::ends::CardEnd;
 use crate::link_laws::link_changes_no_step;

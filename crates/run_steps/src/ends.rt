@@ -4,7 +4,7 @@ ghost use Rattle.uicc_types.specs.Counts.{CountsFailure, names_fault as is_named
 ghost use Rattle.card_model.specs.Runs.{plans_joined};
 ghost use Rattle.card_core.specs.Cards.{parts_of, IsCardReady};
 ghost use Rattle.run_steps.specs.Ends.{TakesCommand, TakesReset, reply_for, with_plan_set, without_plan};
-ghost use Rattle.run_steps.specs.Stepping.{seen};
+ghost use Rattle.run_steps.specs.Taking.{seen};
 
 use crate::steps::ResetOutcome;
 use applet_trait::Applet;

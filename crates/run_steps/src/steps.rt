@@ -10,7 +10,8 @@ ghost use Rattle.script_form.specs.Traces.{trace_text};
 ghost use Rattle.run_steps.specs.Ends.{moment_at};
 ghost use Rattle.run_steps.specs.Moves.{IsShort, step_of};
 ghost use Rattle.run_steps.specs.Runs.{item_text};
-ghost use Rattle.run_steps.specs.Stepping.{GivesShowing, GivesStep, IsSeen, exchanged, restarted_by, seen};
+ghost use Rattle.run_steps.specs.Taking.{GivesShowing, GivesStep, exchanged, restarted_by, seen};
+ghost use Rattle.run_steps.specs.Stepping.{IsSeen};
 ghost use Rattle.run_steps.specs.Tallies.{Tallies, tally};
 ghost use Rattle.run_steps.specs.Views.{CardView};
 

@@ -5,9 +5,9 @@ ghost use Rattle.uicc_types.specs.declared.byte_lists.TheConstants.{LONGEST_COMM
 ghost use Rattle.t0_link.specs.Exchanging.{IsPassed};
 ghost use Rattle.t0_link.specs.Linking.{link_answer};
 ghost use Rattle.run_steps.specs.Ends.{moment_at};
-ghost use Rattle.run_steps.specs.Tpdus.{Delivers, GivesTpdu, IsPrepared};
-ghost use Rattle.run_steps.specs.Runs.{machine_of};
-ghost use Rattle.run_steps.specs.Stepping.{IsSeen, IsSeenBy, seen};
+ghost use Rattle.run_steps.specs.TakingTpdus.{Delivers, GivesTpdu, IsPrepared};
+ghost use Rattle.run_steps.specs.Taking.{machine_of, seen};
+ghost use Rattle.run_steps.specs.Stepping.{IsSeen, IsSeenBy};
 ghost use Rattle.run_steps.specs.Tallies.{Tallies, tally};
 ghost use Rattle.run_steps.specs.Views.{CardView};
 

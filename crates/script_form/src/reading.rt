@@ -38,6 +38,7 @@ pub fn read_line(bytes: &[u8], number: u32) -> Result<ScriptLine, LineFault>
 
 /// Reads a line as `read_line` does, into a place of the caller's. What a line says is large, and is written into its place
 /// once. After a fault the place holds any line.
+#[inline(always)]
 #[tactic(auto, using(crate::proofs::IsBoundedLemmas::bounded))]
 pub fn read_line_into(bytes: &[u8], number: u32, line: &mut ScriptLine) -> Result<(), LineFault>
     ensures read { OnOk result (IsOnly (IsLine bytes.now) line.new) }
@@ -52,6 +53,7 @@ pub fn read_line_into(bytes: &[u8], number: u32, line: &mut ScriptLine) -> Resul
 }
 
 /// Most lines are commands, so theirs are told from the others at once.
+#[inline(always)]
 fn read_into(bytes: &[u8], line: &mut ScriptLine) -> Option<()>
     ensures { ReadsInto (IsLine bytes.now) result line.new }
 {
@@ -68,6 +70,7 @@ fn read_into(bytes: &[u8], line: &mut ScriptLine) -> Option<()>
     }
 }
 
+#[inline(never)]
 fn statement(words: &mut Words<'_>, line: &mut ScriptLine) -> Option<()>
     ensures { ReadsInto (IsStatement words.old) result line.new }
 {

@@ -64,16 +64,40 @@ pub enum TraceLine {
 
 /// Writes one line with its end, in one call of `put`. It fails only where the sink did, which has then taken the
 /// beginning of the line, be it none or all.
+#[tactic(auto, unfolding(crate::specs::Traces::trace_text))]
 pub fn write_trace<W: Sink>(sink: &mut W, line: &TraceLine) -> Result<(), Failed>
     ensures ok { OnOk result (W.taken sink.new ≡ append_known (W.taken sink.old) (trace_text line.now)) }
     ensures err { OnErr result
         (Becomes (TakesFront (trace_text line.now)) (W.taken sink.old) (W.taken sink.new)) }
     ensures cause { CountsFailure (W.faults sink.old) (W.faults sink.new) (IsErr result) }
 {
-    let mut text = ArrayVec::<u8, LONGEST>::new();
-    put_line(&mut text, line);
-    let written = text.as_slice();
-    sink.put(written)
+    match line {
+        TraceLine::Command(apdu) => write_command(sink, apdu.as_slice()),
+        TraceLine::Answer(answer) => write_answer(sink, answer),
+        TraceLine::Cut => sink.put(b"! cut\n"),
+        TraceLine::Off => sink.put(b"! off\n"),
+        TraceLine::Reset => sink.put(b"! reset\n"),
+        TraceLine::Note(note) => write_note(sink, note),
+        TraceLine::Response(data) => write_bytes(sink, b"< ", data.as_slice()),
+        TraceLine::Event(event) => write_bytes(sink, b"* event ", event.as_slice()),
+        TraceLine::Usage => sink.put(b"usage\n"),
+        TraceLine::Line(number) => write_number(sink, b"line ", u64::from(*number)),
+        TraceLine::ReadFailed => sink.put(b"read failed\n"),
+        TraceLine::NoMemory => sink.put(b"no memory\n"),
+        TraceLine::EepromFailed => sink.put(b"eeprom failed\n"),
+        TraceLine::NotACard(at) => write_number(sink, b"not a card ", *at as u64),
+        TraceLine::NoApplet(shelf) => write_number(sink, b"no applet ", u64::from(*shelf)),
+        TraceLine::Counts {
+            lines,
+            commands,
+            fetches,
+            responses,
+            envelopes,
+            busy,
+        } => write_counts(
+            sink, *lines, *commands, *fetches, *responses, *envelopes, *busy,
+        ),
+    }
 }
 
 /// Writes the line of a command as `write_trace` does.
@@ -84,10 +108,11 @@ pub fn write_command<W: Sink>(sink: &mut W, apdu: &[u8]) -> Result<(), Failed>
         (Becomes (TakesFront (trace_text (line.Command apdu.now))) (W.taken sink.old) (W.taken sink.new)) }
     ensures cause { CountsFailure (W.faults sink.old) (W.faults sink.new) (IsErr result) }
 {
-    if apdu.len() <= SHORT_BYTES {
-        put_command::<SHORT, W>(sink, apdu)
-    } else {
-        put_command::<LONGEST, W>(sink, apdu)
+    // Most lines show few bytes, and are put together in a short buffer, since all of a buffer is filled with zeros before and raised after.
+    match apdu.len() {
+        0..=22 => put_command::<48, W>(sink, apdu),
+        23..=30 => put_command::<64, W>(sink, apdu),
+        _ => put_command::<LONGEST, W>(sink, apdu),
     }
 }
 
@@ -112,10 +137,10 @@ pub fn write_answer<W: Sink>(sink: &mut W, answer: &Answer) -> Result<(), Failed
     ensures cause { CountsFailure (W.faults sink.old) (W.faults sink.new) (IsErr result) }
 {
     let body = answer.body.as_slice();
-    if body.len() + 2 <= SHORT_BYTES {
-        put_answer::<SHORT, W>(sink, body, answer.status)
-    } else {
-        put_answer::<LONGEST, W>(sink, body, answer.status)
+    match body.len() {
+        0..=20 => put_answer::<48, W>(sink, body, answer.status),
+        21..=28 => put_answer::<64, W>(sink, body, answer.status),
+        _ => put_answer::<LONGEST, W>(sink, body, answer.status),
     }
 }
 
@@ -183,81 +208,59 @@ pub fn write_note<W: Sink>(sink: &mut W, note: &Note) -> Result<(), Failed>
 /// The bytes of the longest line: a mark of two bytes, the digits of the longest command, and the end.
 const LONGEST: usize = 2 + 2 * LONGEST_COMMAND + 1;
 
-/// Most lines show few bytes. A buffer is filled with zeros before it is used, so such a line is put together in a short one.
-const SHORT_BYTES: usize = 30;
-
-/// The bytes of a line of `SHORT_BYTES` bytes: a mark of two bytes, their digits, and the end. There is one more, since letters are
-/// raised 16 at once.
-const SHORT: usize = 2 + 2 * SHORT_BYTES + 1 + 1;
-
 /// The most bytes whose digits are written at once. Most lines show few, and letters are raised at once where their number is known.
 const FEW: usize = 16;
 
-/// Puts the text of the line, with its end, into an empty buffer.
-#[tactic(auto, using(crate::proofs::EncodeWithLemmas::joined_digits), unfolding(crate::specs::Traces::trace_text))]
-fn put_line(text: &mut ArrayVec<u8, LONGEST>, line: &TraceLine)
-    requires { text.old.items ≡ [] }
-    ensures { text.new.items ≡ trace_text line.now }
+/// Writes a line of words and the digits of bytes after them.
+fn write_bytes<W: Sink>(sink: &mut W, words: &[u8], bytes: &[u8]) -> Result<(), Failed>
+    requires fits { length words.now + 2 * length bytes.now + 1 ≤ LONGEST }
+    ensures put { IsPut (words.now ++ encode_upper bytes.now ++ 10 ∷ []) (W.taken sink.old) (W.taken sink.new) result }
+    ensures cause { CountsFailure (W.faults sink.old) (W.faults sink.new) (IsErr result) }
 {
-    match line {
-        TraceLine::Command(apdu) => put_bytes(text, b"> ", apdu.as_slice()),
-        TraceLine::Answer(answer) => {
-            put_text(text, b"< ");
-            put_hex(text, answer.body.as_slice());
-            put_hex(text, &answer.status.0.to_be_bytes());
-            put_text(text, b"\n");
-        }
-        TraceLine::Cut => put_text(text, b"! cut\n"),
-        TraceLine::Off => put_text(text, b"! off\n"),
-        TraceLine::Reset => put_text(text, b"! reset\n"),
-        TraceLine::Note(note) => put_note(text, note),
-        TraceLine::Response(data) => put_bytes(text, b"< ", data.as_slice()),
-        TraceLine::Event(event) => put_bytes(text, b"* event ", event.as_slice()),
-        TraceLine::Usage => put_text(text, b"usage\n"),
-        TraceLine::Line(number) => {
-            put_numbered(text, b"line ", Buffer::new().format(*number).as_bytes())
-        }
-        TraceLine::ReadFailed => put_text(text, b"read failed\n"),
-        TraceLine::NoMemory => put_text(text, b"no memory\n"),
-        TraceLine::EepromFailed => put_text(text, b"eeprom failed\n"),
-        TraceLine::NotACard(at) => put_numbered(
-            text,
-            b"not a card ",
-            Buffer::new().format(*at).as_bytes(),
-        ),
-        TraceLine::NoApplet(shelf) => put_numbered(
-            text,
-            b"no applet ",
-            Buffer::new().format(*shelf).as_bytes(),
-        ),
-        TraceLine::Counts {
-            lines,
-            commands,
-            fetches,
-            responses,
-            envelopes,
-            busy,
-        } => {
-            put_count(text, b"lines ", *lines);
-            put_count(text, b" commands ", *commands);
-            put_count(text, b" fetches ", *fetches);
-            put_count(text, b" responses ", *responses);
-            put_count(text, b" envelopes ", *envelopes);
-            put_count(text, b" busy ", *busy);
-            put_text(text, b"\n");
-        }
-    }
+    let mut text = ArrayVec::<u8, LONGEST>::new();
+    put_text(&mut text, words);
+    put_hex(&mut text, bytes);
+    put_text(&mut text, b"\n");
+    sink.put(text.as_slice())
 }
 
-/// Puts words and the digits of bytes behind them into an empty buffer, with the end of the line.
-fn put_bytes(text: &mut ArrayVec<u8, LONGEST>, words: &[u8], bytes: &[u8])
-    requires empty { text.old.items ≡ [] }
-    requires fits { length words.now + 2 * length bytes.now + 1 ≤ LONGEST }
-    ensures { text.new.items ≡ words.now ++ encode_upper bytes.now ++ 10 ∷ [] }
+/// Writes a line of words and a number after them.
+#[tactic(auto, using(crate::proofs::EncodeWithLemmas::joined_digits))]
+fn write_number<W: Sink>(sink: &mut W, words: &[u8], number: u64) -> Result<(), Failed>
+    requires fits { length words.now + 21 ≤ LONGEST }
+    ensures put { IsPut (words.now ++ decimal number ++ 10 ∷ []) (W.taken sink.old) (W.taken sink.new) result }
+    ensures cause { CountsFailure (W.faults sink.old) (W.faults sink.new) (IsErr result) }
 {
-    put_text(text, words);
-    put_hex(text, bytes);
-    put_text(text, b"\n");
+    let mut text = ArrayVec::<u8, LONGEST>::new();
+    put_count(&mut text, words, number);
+    put_text(&mut text, b"\n");
+    sink.put(text.as_slice())
+}
+
+/// Writes the line of the counts of a long run.
+#[tactic(auto, using(crate::proofs::EncodeWithLemmas::joined_digits), unfolding(crate::specs::Traces::trace_text))]
+fn write_counts<W: Sink>(
+    sink: &mut W,
+    lines: u64,
+    commands: u64,
+    fetches: u64,
+    responses: u64,
+    envelopes: u64,
+    busy: u64,
+) -> Result<(), Failed>
+    ensures put { IsPut (trace_text (line.Counts lines commands fetches responses envelopes busy))
+        (W.taken sink.old) (W.taken sink.new) result }
+    ensures cause { CountsFailure (W.faults sink.old) (W.faults sink.new) (IsErr result) }
+{
+    let mut text = ArrayVec::<u8, LONGEST>::new();
+    put_count(&mut text, b"lines ", lines);
+    put_count(&mut text, b" commands ", commands);
+    put_count(&mut text, b" fetches ", fetches);
+    put_count(&mut text, b" responses ", responses);
+    put_count(&mut text, b" envelopes ", envelopes);
+    put_count(&mut text, b" busy ", busy);
+    put_text(&mut text, b"\n");
+    sink.put(text.as_slice())
 }
 
 /// Adds words and a number behind them.

@@ -111,6 +111,27 @@ pub fn read_bytes<const N: usize>(word: &[u8], bytes: &mut ByteList<N>) -> Optio
     if count == 0 || count > N {
         return None;
     }
+    if count == NO_DATA {
+        read_places::<NO_DATA, N>(word, count, bytes)
+    } else {
+        read_others(word, count, bytes)
+    }
+}
+
+/// The bytes of a command that has no data and asks for some (ISO 7816-4, 5.1): four of its header, and Le. Many words have as many, and
+/// their number is known where they are read.
+const NO_DATA: usize = 5;
+
+/// Reads `count` bytes, any number of them, into a list that is empty before, and stays so where they can't be read.
+#[inline(never)]
+fn read_others<const N: usize>(word: &[u8], count: usize, bytes: &mut ByteList<N>) -> Option<()>
+    requires filled { 1 ≤ count }
+    requires fits { count ≤ N }
+    requires count { count ≡ length word.now / 2 }
+    requires empty { bytes.old ≡ [] }
+    ensures read { ReadsInto (IsHex N word.now) result bytes.new }
+    ensures none { IfNone result (bytes.new ≡ []) }
+{
     if count <= FEW {
         read_places::<FEW, N>(word, count, bytes)
     } else {
@@ -119,9 +140,10 @@ pub fn read_bytes<const N: usize>(word: &[u8], bytes: &mut ByteList<N>) -> Optio
 }
 
 /// Most words have few bytes. A buffer is filled with zeros before it is used, so such a word is read in a short one.
-const FEW: usize = 16;
+const FEW: usize = 32;
 
-/// Reads `count` bytes by a buffer of `M` into a list that is empty before, and stays so where they can't be read.
+/// Reads `count` bytes by a buffer of `M` bytes into a list that is empty before, and stays so where they can't be read.
+#[inline(always)]
 fn read_places<const M: usize, const N: usize>(
     word: &[u8],
     count: usize,

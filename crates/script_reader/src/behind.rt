@@ -30,6 +30,7 @@ pub enum PlayEnd {
 
 /// Reads the next line behind `start` into `line`. Where the script ends, goes on with a line in no form or can't be read on, it
 /// answers that the run ends so.
+#[inline(always)]
 pub fn read_behind<R: Source>(
     script: &mut ScriptReader,
     source: &mut R,

@@ -37,6 +37,7 @@ impl ScriptReader {
 
     /// Reads the next line into `line`, and answers whether there is one: none at the end of the script. What a line says is
     /// large, so its place is the caller's, and is used again. Where nothing is read it holds any line.
+    #[inline(always)]
     pub fn next<R: Source>(
         &mut self,
         source: &mut R,

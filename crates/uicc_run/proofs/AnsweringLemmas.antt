@@ -1,5 +1,5 @@
 -- Runs over devices that are let go, and runs that were not begun.
-use Rattle.std.proofs.Common.{◌≡◌, ℕ, List, [], Option, Some, None, refl, sym, ap, ◌∙◌, inl, inr, arith, subst, ◌⊎◌}
+use Rattle.std.proofs.Common.{◌≡◌, ℕ, Bool, true, false, List, [], Option, Some, None, refl, sym, ap, ◌∙◌, inl, inr, arith, subst, ◌⊎◌}
 use Rattle.std.specs.Result.{result_ok}
 use Rattle.uicc_types.specs.Counts.{Meter, Rose}
 use Rattle.byte_streams.proofs.ReadingLemmas.{IsTaken-none}
@@ -9,7 +9,7 @@ use Rattle.command_line.specs.Model.{AskForRun, IsMadeFor, IsRequest}
 use Rattle.command_line.specs.declared.requests.Devices.{Devices}
 use Rattle.command_line.specs.declared.requests.Mode.TheVariants.{Load}
 use Rattle.command_line.specs.declared.requests.Request.{Request}
-use Rattle.uicc_run.specs.Answering.{HasEnded, HasLoaded, HasRun, KeepsToScript, NameNoImage}
+use Rattle.uicc_run.specs.Answering.{HasLoaded, HasRun, HasTrace, KeepsToScript, NameNoImage}
 use Rattle.uicc_run.specs.Causes.{IsCaused, IsLoadCaused, IsSeenCause}
 use Rattle.uicc_run.specs.Endings.{HasFailed, status_for}
 use Rattle.uicc_run.specs.Headline.{Closes, Comes, Traces}
@@ -21,13 +21,14 @@ use Rattle.uicc_run.specs.Scripts.{IsUndisturbed}
 use Rattle.uicc_run.specs.Stores.{IsSizeFor, size_of}
 use Rattle.uicc_run.specs.declared.endings.Ending.{Ending}
 use Rattle.uicc_run.specs.declared.endings.Ending.TheVariants.{NoMemory, Usage}
+use Rattle.uicc_run.proofs.OpeningLemmas.{quiet_still}
 
 -- ---- a run of which the device is let go
 
 module _ {MemoryIsSame BoxesAreSame : Type 0} (given : Given) (status : ℕ) (before after : World) where
-  pub gone : (words : List (List ℕ)) → before.meter ≡ given.meter → Traces given after.left (left_in given.pages after) status (IsCaused given words before after MemoryIsSame BoxesAreSame)
-      → Traces given after.left (left_in given.pages after) status (IsSeenCause words (seen status before after) given.meter after.meter)
-  gone words was traces = record {
+  pub gone : (told : Bool) (words : List (List ℕ)) → before.meter ≡ given.meter → Traces given told after.left (left_in given.pages after) status (IsCaused given words before after MemoryIsSame BoxesAreSame)
+      → Traces given told after.left (left_in given.pages after) status (IsSeenCause words (seen status before after) given.meter after.meter)
+  gone told words was traces = record {
     ending = traces.ending;
     cause = record {
       usage = traces.cause.usage;
@@ -62,34 +63,42 @@ apart status other (inl one) is not_1 not_4 not_5 = not_1 (sym one ∙ is)
 apart status other (inr (inl four)) is not_1 not_4 not_5 = not_4 (sym four ∙ is)
 apart status other (inr (inr five)) is not_1 not_4 not_5 = not_5 (sym five ∙ is)
 
--- it keeps to the script by reading none of it
-unbegun : (given : Given) (words : List (List ℕ)) (seen : Seen) → IsUnbegun seen.status → (AskForRun words → IsUndisturbed seen → seen.status ≡ 5) → seen.left ≡ Some given.text → HasEnded given seen → KeepsToScript given words seen
-unbegun given words seen status wants unread ended = record {
-  untold = ended;
-  good_over_any = λ asks sound good. inr (inl (wants asks sound));
-  bad_over_any = λ asks sound found bad. inr (inl (wants asks sound));
-  no_room = λ asks sound found full. inr (wants asks sound);
-  complete_only = λ is. absurd (apart seen.status 0 status is (λ e. omega (arith, e)) (λ e. omega (arith, e)) (λ e. omega (arith, e)));
-  read_out = λ is. absurd (apart seen.status 0 status is (λ e. omega (arith, e)) (λ e. omega (arith, e)) (λ e. omega (arith, e)));
-  bad_line_only = λ is. absurd (apart seen.status 2 status is (λ e. omega (arith, e)) (λ e. omega (arith, e)) (λ e. omega (arith, e)));
-  no_room_only = λ is. absurd (apart seen.status 8 status is (λ e. omega (arith, e)) (λ e. omega (arith, e)) (λ e. omega (arith, e)));
-  refused_only = λ is. absurd (apart seen.status 7 status is (λ e. omega (arith, e)) (λ e. omega (arith, e)) (λ e. omega (arith, e)));
-  taken = IsTaken-none _ given.text seen.left unread;
-}
-
--- the trace of one
-unbegun_run : (given : Given) (words : List (List ℕ)) (seen : Seen) (before : Option (List ℕ)) (ending : Ending) → IsUnbegun seen.status → (AskForRun words → IsUndisturbed seen → seen.status ≡ 5)
-    → IsSeenCause words seen given.meter given.meter ending
-    → Comes given seen.left ending (record { held = result_ok given.memory; taken = before; meter = given.meter; boxes = given.boxes }) → Closes ending before seen.taken seen.status → HasRun given words seen
-unbegun_run given words seen before ending status wants cause comes closes = record {
+-- its trace is its last line
+unbegun_trace : (given : Given) (told : Bool) (words : List (List ℕ)) (seen : Seen) (before : Option (List ℕ)) (ending : Ending) → IsSeenCause words seen given.meter given.meter ending
+    → Comes given told seen.left ending (record { held = result_ok given.memory; taken = before; meter = given.meter; boxes = given.boxes }) → Closes ending before seen.taken seen.status → HasTrace given told words seen
+unbegun_trace given told words seen before ending cause comes closes = record {
   held = result_ok given.memory;
   meter = given.meter;
   boxes = given.boxes;
   trace = record { ending = ending; cause = cause; taken = before; comes = comes; closes = closes };
-  complete = λ asks sound good can. inr (wants asks sound);
-  bad_line = λ asks sound found bad. inr (wants asks sound);
-  no_card = λ asks sound why stops. inr (wants asks sound);
-  no_card_only = λ is. absurd (apart seen.status 7 status is (λ e. omega (arith, e)) (λ e. omega (arith, e)) (λ e. omega (arith, e)));
+}
+
+-- it keeps to the script by reading none of it
+unbegun : (given : Given) (words : List (List ℕ)) (seen : Seen) → IsUnbegun seen.status → (AskForRun words → IsUndisturbed seen → seen.status ≡ 5) → seen.left ≡ Some given.text → HasTrace given false words seen → KeepsToScript given words seen
+unbegun given words seen status wants unread has = record {
+  has = has;
+  ends = record {
+    good_over_any = λ asks sound good. inr (inl (wants asks sound));
+    bad_over_any = λ asks sound found bad. inr (inl (wants asks sound));
+    no_room = λ asks sound found full. inr (wants asks sound);
+    complete_only = λ is. absurd (apart seen.status 0 status is (λ e. omega (arith, e)) (λ e. omega (arith, e)) (λ e. omega (arith, e)));
+    read_out = λ is. absurd (apart seen.status 0 status is (λ e. omega (arith, e)) (λ e. omega (arith, e)) (λ e. omega (arith, e)));
+    bad_line_only = λ is. absurd (apart seen.status 2 status is (λ e. omega (arith, e)) (λ e. omega (arith, e)) (λ e. omega (arith, e)));
+    no_room_only = λ is. absurd (apart seen.status 8 status is (λ e. omega (arith, e)) (λ e. omega (arith, e)) (λ e. omega (arith, e)));
+    refused_only = λ is. absurd (apart seen.status 7 status is (λ e. omega (arith, e)) (λ e. omega (arith, e)) (λ e. omega (arith, e)));
+  };
+  taken = IsTaken-none _ given.text seen.left unread;
+}
+
+unbegun_run : (given : Given) (words : List (List ℕ)) (seen : Seen) → IsUnbegun seen.status → (AskForRun words → IsUndisturbed seen → seen.status ≡ 5) → HasTrace given true words seen → HasRun given words seen
+unbegun_run given words seen status wants has = record {
+  has = has;
+  ends = record {
+    complete = λ asks sound good can. inr (wants asks sound);
+    bad_line = λ asks sound found bad. inr (wants asks sound);
+    no_card = λ asks sound why stops. inr (wants asks sound);
+    no_card_only = λ is. absurd (apart seen.status 7 status is (λ e. omega (arith, e)) (λ e. omega (arith, e)) (λ e. omega (arith, e)));
+  };
 }
 
 -- what a last line gives
@@ -120,18 +129,21 @@ usage_status seen (inr four) = inr (inl four)
 
 module _ (seen : Seen) (before : Option (List ℕ)) where
   -- there was no memory for the device
+  no_device : (given : Given) (told : Bool) (words : List (List ℕ)) → before ≡ Some given.before → seen.left ≡ Some given.text → Closes NoMemory before seen.taken seen.status → HasTrace given told words seen
+  no_device given told words begun unread closes =
+      unbegun_trace given told words seen before NoMemory
+      (record { usage = λ is. absurd (cc); read_failed = λ is. absurd (omega arith); eeprom_failed = λ is. absurd (omega arith) })
+      (record { written = begun; counted = still given.meter; begun_at_most = inl unread; memory_kept = λ tells. inl refl }) closes
+
   pub keeps_without_device : (given : Given) (words : List (List ℕ)) → IsClosed NoMemory seen → HasSunk NoMemory seen → before ≡ Some given.before → seen.left ≡ Some given.text
       → Closes NoMemory before seen.taken seen.status → KeepsToScript given words seen
   keeps_without_device given words closed sunk begun unread closes =
-      unbegun given words seen (wanting_status seen closed) (λ asks sound. wants_so seen closed sunk sound) unread
-      (record { ending = NoMemory; put = before; closes = closes; reads = tt; unshown = λ unopened. begun })
+      unbegun given words seen (wanting_status seen closed) (λ asks sound. wants_so seen closed sunk sound) unread (no_device given false words begun unread closes)
 
   pub has_no_device : (given : Given) (words : List (List ℕ)) → IsClosed NoMemory seen → HasSunk NoMemory seen → before ≡ Some given.before → seen.left ≡ Some given.text
       → Closes NoMemory before seen.taken seen.status → HasRun given words seen
   has_no_device given words closed sunk begun unread closes =
-      unbegun_run given words seen before NoMemory (wanting_status seen closed) (λ asks sound. wants_so seen closed sunk sound)
-      (record { usage = λ is. absurd (cc); read_failed = λ is. absurd (omega arith); eeprom_failed = λ is. absurd (omega arith) })
-      (record { written = begun; counted = still given.meter; begun_at_most = inl unread; memory_kept = inl refl }) closes
+      unbegun_run given words seen (wanting_status seen closed) (λ asks sound. wants_so seen closed sunk sound) (no_device given true words begun unread closes)
 
   pub loads_no_device : (given : Given) (start count : ℕ) → IsClosed NoMemory seen → HasSunk NoMemory seen → before ≡ Some given.before
       → Closes NoMemory before seen.taken seen.status → HasLoaded given start count seen
@@ -149,18 +161,20 @@ module _ (seen : Seen) (before : Option (List ℕ)) where
   }
 
   -- the words are in no form
+  no_words : (given : Given) (told : Bool) (words : List (List ℕ)) → (AskForRun words → ⊥) → before ≡ Some given.before → Closes Usage before seen.taken seen.status → HasTrace given told words seen
+  no_words given told words none begun closes =
+      unbegun_trace given told words seen before Usage
+      (record { usage = λ is. none; read_failed = λ is. absurd (omega arith); eeprom_failed = λ is. absurd (omega arith) })
+      (quiet_still given before (result_ok given.memory) given.meter given.boxes begun refl) closes
+
   pub keeps_without_words : (given : Given) (words : List (List ℕ)) → (AskForRun words → ⊥) → IsClosed Usage seen → before ≡ Some given.before → seen.left ≡ Some given.text
       → Closes Usage before seen.taken seen.status → KeepsToScript given words seen
   keeps_without_words given words none closed begun unread closes =
-      unbegun given words seen (usage_status seen closed) (λ asks sound. absurd (none asks)) unread
-      (record { ending = Usage; put = before; closes = closes; reads = tt; unshown = λ unopened. begun })
+      unbegun given words seen (usage_status seen closed) (λ asks sound. absurd (none asks)) unread (no_words given false words none begun closes)
 
   pub has_no_words : (given : Given) (words : List (List ℕ)) → (AskForRun words → ⊥) → IsClosed Usage seen → before ≡ Some given.before
       → Closes Usage before seen.taken seen.status → HasRun given words seen
-  has_no_words given words none closed begun closes =
-      unbegun_run given words seen before Usage (usage_status seen closed) (λ asks sound. absurd (none asks))
-      (record { usage = λ is. none; read_failed = λ is. absurd (omega arith); eeprom_failed = λ is. absurd (omega arith) })
-      begun closes
+  has_no_words given words none closed begun closes = unbegun_run given words seen (usage_status seen closed) (λ asks sound. absurd (none asks)) (no_words given true words none begun closes)
 
 pub loads_run : (given : Given) (start count : ℕ) (words : List (List ℕ)) (before : World) → LoadsFrom given start count words before → AskForRun words
 loads_run given start count words before from = (record { mode = Load start count; devices = from.devices }, from.words_are)

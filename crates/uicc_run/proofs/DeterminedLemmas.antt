@@ -19,23 +19,19 @@ use Rattle.card_laws.specs.Faults.{ShowsNoCut, ShowsNoFailure}
 use Rattle.handset_model.specs.Legal.{TraceEntry}
 use Rattle.run_steps.specs.Runs.{text_of}
 use Rattle.run_steps.specs.Stepping.{CardStands, Moment, Stands}
-use Rattle.run_steps.specs.Tpdus.{CourseGives}
+use Rattle.run_steps.specs.Tpdus.{CourseGives, kept_over, shown_for, shown_over}
 use Rattle.run_steps.specs.Views.{CardView, ItsPower, Known, RunShows, TheCard}
-use Rattle.run_steps.specs.Shown.{kept_over, shown_for, shown_over}
 use Rattle.long_runs.specs.LoadLines.{made_lines}
 use Rattle.long_runs.specs.Counts.{counts_of}
 use Rattle.phone_runs.specs.LoadRuns.{all_heard, entry_line}
-use Rattle.phone_runs.specs.Effects.{phone_lines}
+use Rattle.phone_runs.specs.Lines.{phone_lines, told_back}
 use Rattle.phone_runs.specs.Laws.{PhoneRunsAreOne}
-use Rattle.phone_runs.specs.Lines.{told_back}
 use Rattle.phone_runs.specs.Logs.{Event, lines_back, log_lines, shown}
-use Rattle.phone_runs.specs.Runs.{IsPhoneRun}
-use Rattle.phone_runs.specs.Traces.{entries_text}
+use Rattle.phone_runs.specs.Runs.{IsPhoneRun, entries_text}
 use Rattle.uicc_run.specs.Accounts.{Account, AreTold, Deed, IsTold, Takes, Transfers, joined}
 use Rattle.uicc_run.specs.Determined.{LoadsAreOne, ServedTracesAreOne, TracesAreOne}
 use Rattle.uicc_run.specs.Loading.{IsFixedCard}
-use Rattle.uicc_run.specs.Playing.{CardLeaves, IsOpened, Leaves}
-use Rattle.uicc_run.specs.Runs.{first_machine}
+use Rattle.uicc_run.specs.Playing.{CardLeaves, IsOpened, Leaves, first_machine}
 use Rattle.uicc_run.specs.Steps.{deeds}
 use Rattle.uicc_run.proofs.AccountLemmas.{goes_by}
 

@@ -5,9 +5,8 @@ use Rattle.script_reader.specs.declared.behind.PlayEnd.{PlayEnd}
 use Rattle.script_reader.specs.declared.behind.PlayEnd.TheVariants as play
 use Rattle.long_runs.specs.declared.counts.Counts.{Counts}
 use Rattle.phone_runs.specs.declared.counting.MemoryFailed.{MemoryFailed}
-use Rattle.uicc_run.specs.Causes.{EndsFor, EndsLoad}
+use Rattle.uicc_run.specs.Making.{EndsFor, EndsLoad, ending_for_load}
 use Rattle.uicc_run.specs.Endings.{status_for}
-use Rattle.uicc_run.specs.Loading.{ending_for_load}
 use Rattle.uicc_run.specs.Worlds.{World}
 use Rattle.uicc_run.specs.declared.endings.Ending.{Ending}
 use Rattle.uicc_run.specs.declared.endings.Ending.TheVariants.{Played}

@@ -10,8 +10,7 @@ use Rattle.command_line.specs.declared.requests.Mode.{Mode}
 use Rattle.command_line.specs.declared.requests.Mode.TheVariants as mode
 use Rattle.command_line.specs.declared.requests.Request.{Request}
 use Rattle.section_lines.specs.RowLaws.{AreOfTheirBoxes, IsOfItsBox}
-use Rattle.uicc_run.specs.Headline.{first_of}
-use Rattle.uicc_run.specs.Opening.{IsAskedFor}
+use Rattle.uicc_run.specs.Opening.{first_of, IsAskedFor}
 use Rattle.uicc_run.specs.Playing.{Given}
 
 -- what stands in a list stands in a longer one

@@ -16,10 +16,10 @@ use Rattle.card_core.specs.Openings.{with_all_shelves}
 use Rattle.card_core.specs.Parts.{CardParts}
 use Rattle.card_core.proofs.RestartLemmas.{had_box}
 use Rattle.run_steps.specs.Ends.{End, moment_at}
-use Rattle.run_steps.specs.Runs.{machine_of}
+use Rattle.run_steps.specs.Taking.{machine_of, moment}
 use Rattle.run_steps.proofs.StandingLemmas.{machine_is}
-use Rattle.run_steps.specs.Stepping.{Moment, moment}
-use Rattle.uicc_run.specs.Runs.{HasKindsOf, first_machine}
+use Rattle.run_steps.specs.Stepping.{Moment}
+use Rattle.uicc_run.specs.Playing.{HasKindsOf, first_machine}
 
 -- waking keeps the kinds of the boxes
 kind_in : (row : Option Registration) (box : Option AppletState) → option_map (λ (mind : AppletState). mind.kind) (option_map (woken_mind row) box) ≡ option_map (λ (mind : AppletState). mind.kind) box

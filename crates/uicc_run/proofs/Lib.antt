@@ -14,7 +14,6 @@ mod ReadingLemmas
 mod RunningLemmas
 mod ScriptsLemmas
 mod ServingLemmas
-mod ShowingLemmas
 mod ShowsAsManyLemmas
 mod StoresLemmas
 mod TerminalsLemmas

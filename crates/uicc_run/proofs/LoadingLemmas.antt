@@ -32,26 +32,26 @@ use Rattle.section_lines.proofs.RowsHaveBoxesLemmas.{rows_have_boxes}
 use Rattle.section_lines.specs.Script.{then_on, with_lines}
 use Rattle.section_lines.proofs.WithLinesLemmas.{splits, with_lines-append}
 use Rattle.run_steps.proofs.StandingLemmas.{is_machine}
-use Rattle.run_steps.specs.Stepping.{Moment, moment}
+use Rattle.run_steps.specs.Stepping.{Moment}
+use Rattle.run_steps.specs.Taking.{moment}
 use Rattle.long_runs.specs.LoadLines.{made_lines}
 use Rattle.long_runs.specs.FixedRows.{fixed_rows}
 use Rattle.long_runs.specs.Rows.{IsFirstRefused}
 use Rattle.long_runs.specs.declared.counts.Counts.{Counts}
 use Rattle.run_steps.specs.Views.{TheCard}
-use Rattle.phone_runs.specs.LoadRuns.{GivesLoad, all_heard}
+use Rattle.phone_runs.specs.LoadingLines.{GivesLoad}
+use Rattle.phone_runs.specs.LoadRuns.{all_heard}
 use Rattle.phone_runs.specs.declared.counting.MemoryFailed.{MemoryFailed}
 use Rattle.phone_runs.specs.Laws.{RunsAreLegal, RunsAreOfTheCard}
 use Rattle.phone_runs.specs.Logs.{heard, trace}
 use Rattle.phone_runs.specs.Playing.{Begins}
 use Rattle.uicc_run.proofs.HasBoxLemmas.{have_boxes}
 use Rattle.uicc_run.proofs.OpeningLemmas.{caused_counted, caused_kept, refusal_keeps, stands_found, still}
-use Rattle.uicc_run.specs.Endings.{KeepsBytes, status_for}
+use Rattle.uicc_run.specs.Endings.{KeepsBytes, status_for, IsUnplanned}
 use Rattle.uicc_run.specs.Headline.{IsMigratedAtMost}
-use Rattle.uicc_run.specs.Loading.{ComesToLoad, FailsToOpenFixed, IsFixedCard, IsLeft, ending_for_load, load_beginning}
-use Rattle.uicc_run.specs.Opening.{ending_for as ending_for_fault}
-use Rattle.uicc_run.specs.Playing.{Given, Leaves}
-use Rattle.uicc_run.specs.Runs.{first_machine}
-use Rattle.uicc_run.specs.Unplanned.{IsUnplanned}
+use Rattle.uicc_run.specs.Loading.{ComesToLoad, FailsToOpenFixed, IsFixedCard, IsLeft, load_beginning}
+use Rattle.uicc_run.specs.Making.{ending_for_load, ending_for as ending_for_fault}
+use Rattle.uicc_run.specs.Playing.{Given, Leaves, first_machine}
 use Rattle.uicc_run.specs.declared.endings.Ending.{Ending}
 use Rattle.uicc_run.specs.declared.endings.Ending.TheVariants.{Usage, NoMemory, Section, FormatFailed, EepromFailed, NotACard, NoApplet, Played, Counted, LoadFailed}
 

@@ -6,7 +6,7 @@ use Rattle.command_line.specs.declared.requests.Mode.TheVariants.{Play, Open, Ph
 use Rattle.command_line.specs.declared.requests.Devices.{Devices}
 use Rattle.command_line.specs.declared.requests.Request.{Request}
 use Rattle.command_line.specs.declared.requests.Transport.{Transport}
-use Rattle.uicc_run.specs.Headline.{ReadsForCard, first_of}
+use Rattle.uicc_run.specs.Opening.{ReadsForCard, first_of}
 use Rattle.uicc_run.specs.Loading.{ComesToLoad}
 use Rattle.uicc_run.specs.Playing.{Given, Leaves}
 use Rattle.uicc_run.specs.declared.endings.Ending.{Ending}

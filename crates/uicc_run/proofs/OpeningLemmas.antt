@@ -1,5 +1,5 @@
 -- From the lines before `start` to the card that is opened.
-use Rattle.std.proofs.Common.{◌≡◌, ℕ, true, false, List, [], ◌∷◌, ◌++◌, Option, Some, None, is_some, Result, Ok, Err, refl, sym, ap, ◌∙◌, arith, inl, inr, option_map, subst, ◌⊎◌, IfSome, IsOkAnd}
+use Rattle.std.proofs.Common.{◌≡◌, ℕ, Bool, true, false, List, [], ◌∷◌, ◌++◌, Option, Some, None, is_some, Result, Ok, Err, refl, sym, ap, ◌∙◌, arith, inl, inr, option_map, subst, ◌⊎◌, IfSome, IsOkAnd}
 use Rattle.std.proofs.lemmas.List.Elements.{All-nil}
 use Rattle.std.specs.Result.{result_ok}
 use Rattle.list_laws.proofs.IfSomeLemmas.{if_some_at}
@@ -30,17 +30,17 @@ use Rattle.card_core.specs.declared.opening_faults.OpenFault.{OpenFault}
 use Rattle.card_core.specs.declared.opening_faults.OpenFault.TheVariants as fault
 use Rattle.section_lines.specs.SectionReading.{AtStart, InSection}
 use Rattle.section_lines.specs.Script.{described, then_on, with_lines}
-use Rattle.run_steps.specs.Stepping.{moment}
-use Rattle.run_steps.specs.Views.{TheCard}
-use Rattle.uicc_run.specs.Runs.{first_machine}
+use Rattle.run_steps.specs.Taking.{moment}
+use Rattle.run_steps.specs.Views.{CardView, ItsPower, TheCard}
+use Rattle.uicc_run.specs.Playing.{first_machine, Given, IsOpened, Leaves}
 use Rattle.run_steps.proofs.StandingLemmas.{is_machine}
-use Rattle.uicc_run.specs.Endings.{KeepsBytes}
-use Rattle.uicc_run.specs.Headline.{Comes, FailsToFormat, HasNoMemory, HoldsStart, IsMigratedAtMost, IsNotOpened}
-use Rattle.uicc_run.specs.Opening.{IsGiven, IsMade, IsStarted, ending_for, makes}
-use Rattle.uicc_run.specs.Playing.{Given, IsOpened, Leaves}
+use Rattle.uicc_run.specs.Endings.{KeepsBytes, IsUnplanned}
+use Rattle.uicc_run.specs.Headline.{Comes, FailsToOpen, HasNoMemory, HoldsStart, IsMigratedAtMost, IsNoCard, IsNotOpened, IsQuiet, LacksBox, is_known}
+use Rattle.uicc_run.specs.Opening.{IsGiven}
+use Rattle.uicc_run.specs.Making.{IsMade, StandsReady, ending_for, makes}
+use Rattle.uicc_run.specs.BetweenLines.{IsStarted}
 use Rattle.uicc_run.specs.Scripts.{ReachesStart}
 use Rattle.uicc_run.specs.Steps.{may_stand}
-use Rattle.uicc_run.specs.Unplanned.{IsUnplanned}
 use Rattle.uicc_run.specs.declared.endings.Ending.{Ending}
 use Rattle.uicc_run.specs.declared.endings.Ending.TheVariants.{EepromFailed, FormatFailed, NoMemory}
 
@@ -203,37 +203,38 @@ opens_without : (given : Given) (section : List ScriptLine) (start : Persistent)
 opens_without given section start (Some bare) described holds = let some = some_stays given.boxes section bare None described in absurd (cc)
 opens_without given section start None described holds = (described, holds)
 
--- the store was made ready, or left as it was
-pub made_so : {Failed Lost : Type 0} → (given : Given) (script : ScriptReader) (left taken : Option (List ℕ)) (card : Option Persistent) (mark mark_then : ℕ) (told told_then : Option (List ℕ)) (old new : Meter) (boxes : List (Option AppletState))
-    → AtStart given.boxes given.first given.text script left card → taken ≡ Some given.before → option_map (stands_for mark) told ≡ Some given.memory → old ≡ given.meter → boxes ≡ given.boxes
-    → makes card mark told told_then → mark_then ≡ mark → Caused old new Failed Lost → (Failed → ⊥) → (Lost → ⊥) → IsMade given script left taken (option_map (stands_for mark_then) told_then) new boxes
-made_so given script left taken (Some state) mark mark_then told told_then old new boxes at taken_is memory meter boxes_are makes_so same caused no_failure no_loss =
+-- what is known of a store that was made ready, or left as it was
+stands_ready : (given : Given) (section : List ScriptLine) (card : Option Persistent) (mark mark_then : ℕ) (told told_then : Option (List ℕ)) → with_lines given.boxes given.first section ≡ Ok card → option_map (stands_for mark) told ≡ Some given.memory
+    → makes card mark told told_then → mark_then ≡ mark → StandsReady given section card (option_map (stands_for mark_then) told_then)
+stands_ready given section (Some state) mark mark_then told told_then is_described memory makes_so same =
     let now : (found : Result Persistent ℕ) → option_map (stands_for mark_then) told_then ≡ Some found → found ≡ Ok state =
     λ found is. formatted mark told_then state found makes_so (ap (λ m. option_map (stands_for m) told_then) (sym same) ∙ is) in
     record {
-      card = Some state;
-      at = at;
-      opens = λ start is. let found = now (Ok start) is in let one : state ≡ start = cc in opens_with given at.section state start given.first at.described one;
+      opens = λ start is. let found = now (Ok start) is in let one : state ≡ start = cc in opens_with given section state start given.first is_described one;
       described = λ other found same is. now found is ∙ ap Ok (let one : state ≡ other = cc in one);
       no_card = λ place is. let none = now (Err place) is in absurd (cc);
-      kept = λ none. absurd (first_some given.boxes given.first at.section (Some state) at.described refl none);
-      taken_is = taken_is;
-      counted = subst (λ m. IsCounted m new [] []) meter (caused_counted old new caused no_failure no_loss);
-      boxes_are = boxes_are;
+      kept = λ none. absurd (first_some given.boxes given.first section (Some state) is_described refl none);
     }
-made_so given script left taken None mark mark_then told told_then old new boxes at taken_is memory meter boxes_are makes_so same caused no_failure no_loss =
+stands_ready given section None mark mark_then told told_then is_described memory makes_so same =
     let now : option_map (stands_for mark_then) told_then ≡ Some given.memory = ap (λ m. option_map (stands_for m) told_then) same ∙ ap (λ t. option_map (stands_for mark) t) makes_so ∙ memory in
     record {
-      card = None;
-      at = at;
-      opens = λ start is. let holds : given.memory ≡ Ok start = cc in opens_without given at.section start given.first at.described holds;
+      opens = λ start is. let holds : given.memory ≡ Ok start = cc in opens_without given section start given.first is_described holds;
       described = λ other found same is. absurd (cc);
-      no_card = λ place is. first_none given.boxes given.first at.section at.described;
+      no_card = λ place is. first_none given.boxes given.first section is_described;
       kept = λ none. now;
-      taken_is = taken_is;
-      counted = subst (λ m. IsCounted m new [] []) meter (caused_counted old new caused no_failure no_loss);
-      boxes_are = boxes_are;
     }
+
+pub made_so : {Failed Lost : Type 0} → (given : Given) (is_told : Bool) (script : ScriptReader) (left taken : Option (List ℕ)) (card : Option Persistent) (mark mark_then : ℕ) (told told_then : Option (List ℕ)) (old new : Meter) (boxes : List (Option AppletState))
+    → AtStart given.boxes given.first given.text script left card → taken ≡ Some given.before → (is_told ≡ true → option_map (stands_for mark) told ≡ Some given.memory) → old ≡ given.meter → boxes ≡ given.boxes
+    → makes card mark told told_then → mark_then ≡ mark → Caused old new Failed Lost → (Failed → ⊥) → (Lost → ⊥) → IsMade given is_told script left taken (option_map (stands_for mark_then) told_then) new boxes
+made_so given is_told script left taken card mark mark_then told told_then old new boxes at taken_is memory meter boxes_are makes_so same caused no_failure no_loss = record {
+  card = card;
+  at = at;
+  taken_is = taken_is;
+  counted = subst (λ m. IsCounted m new [] []) meter (caused_counted old new caused no_failure no_loss);
+  boxes_are = boxes_are;
+  known = λ is. stands_ready given at.section card mark mark_then told told_then at.described (memory is) makes_so same;
+}
 
 -- ---- opening
 
@@ -241,9 +242,9 @@ pub some_of : {A : Type 0} → (o : Option A) → is_some o ≡ true → (x : A)
 some_of None is = absurd (cc)
 some_of (Some x) is = (x, refl)
 
--- the card was opened
-pub starts : (given : Given) (script : ScriptReader) (left taken : Option (List ℕ)) (mark : ℕ) (told : Option (List ℕ)) (meter : Meter) (boxes : List (Option AppletState)) (parts : CardParts) → CountsJoin
-    → IsMade given script left taken (option_map (stands_for mark) told) meter boxes → is_some (standing mark told) ≡ true → card_of parts ≡ opened (standing mark told) boxes → parts.is_on ≡ true → parts.is_due ≡ false → IfSome (card_of parts) IsGood → Caused meter parts.meter ⊥ ⊥
+-- the card itself was opened
+starts : (given : Given) (script : ScriptReader) (left taken : Option (List ℕ)) (mark : ℕ) (told : Option (List ℕ)) (meter : Meter) (boxes : List (Option AppletState)) (parts : CardParts) → CountsJoin
+    → IsMade given true script left taken (option_map (stands_for mark) told) meter boxes → is_some (standing mark told) ≡ true → card_of parts ≡ opened (standing mark told) boxes → parts.is_on ≡ true → parts.is_due ≡ false → IfSome (card_of parts) IsGood → Caused meter parts.meter ⊥ ⊥
     → (first : Machine) × IsStarted given (TheCard first) script left (moment parts taken NONE)
 starts given script left taken mark told meter boxes parts join made holds is on rests good caused =
     let start = some_of (standing mark told) holds in
@@ -257,7 +258,7 @@ starts given script left taken mark told meter boxes parts join made holds is on
         lines = record { read = made.at.read; described = made.at.described; in_place = All-nil (λ line. may_stand given.is_served line ≡ true) };
         opened = record {
           start = start.0;
-          opened = made.opens start.0 (found_standing mark told start.0 start.1);
+          opened = (made.known refl).opens start.0 (found_standing mark told start.0 start.1);
           machine_is = refl;
           good = if_some_at (card_of parts) IsGood (woken (migrated start.0) (with_all_shelves given.boxes)) good card;
         };
@@ -272,10 +273,40 @@ starts given script left taken mark told meter boxes parts join made holds is on
       },
     )
 
+-- of its power alone more is not known
+starts_with_power : (given : Given) (script : ScriptReader) (left taken : Option (List ℕ)) (memory : Option (Result Persistent ℕ)) (meter : Meter) (boxes : List (Option AppletState)) (parts : CardParts) → CountsJoin
+    → IsMade given false script left taken memory meter boxes → parts.is_on ≡ true → Caused meter parts.meter ⊥ ⊥ → IsStarted given (ItsPower true) script left (moment parts taken NONE)
+starts_with_power given script left taken memory meter boxes parts join made on caused = record {
+  found = made.at.given;
+  section = made.at.section;
+  card = made.card;
+  lines = record { read = made.at.read; described = made.at.described; in_place = All-nil (λ line. may_stand given.is_served line ≡ true) };
+  opened = refl;
+  follows = made.at.follows;
+  begins = record {
+    seen = on;
+    written = made.taken_is;
+    counted = join given.meter meter parts.meter [] [] [] [] made.counted (caused_counted meter parts.meter caused (λ so. so) (λ so. so));
+    waits = refl;
+    rests = tt;
+  };
+}
+
+-- the card was opened, and is known as far as its memory tells
+pub starts_seen : (given : Given) (is_told : Bool) (script : ScriptReader) (left taken : Option (List ℕ)) (mark : ℕ) (told : Option (List ℕ)) (meter : Meter) (boxes : List (Option AppletState)) (parts : CardParts) → CountsJoin
+    → IsMade given is_told script left taken (option_map (stands_for mark) told) meter boxes → (is_told ≡ true → is_some (standing mark told) ≡ true) → card_of parts ≡ opened (standing mark told) boxes → parts.is_on ≡ true → parts.is_due ≡ false → IfSome (card_of parts) IsGood
+    → Caused meter parts.meter ⊥ ⊥ → (first : CardView) × (is_known first ≡ is_told) × IsStarted given first script left (moment parts taken NONE)
+starts_seen given true script left taken mark told meter boxes parts join made holds is on rests good caused =
+    let started = starts given script left taken mark told meter boxes parts join made (holds refl) is on rests good caused in
+    (TheCard started.0, refl, started.1)
+starts_seen given false script left taken mark told meter boxes parts join made holds is on rests good caused =
+    (ItsPower true, refl, starts_with_power given script left taken _ meter boxes parts join made on caused)
+
 -- it was not
-abbrev pub not_opened : (given : Given) (script : ScriptReader) (left taken : Option (List ℕ)) (card held_then : Option Persistent) (meter_then : Meter) (boxes_then : List (Option AppletState)) → AtStart given.boxes given.first given.text script left card → taken ≡ Some given.before
-    → IsUnplanned given.meter meter_then → IsNotOpened given left (record { held = held_then; taken = taken; meter = meter_then; boxes = boxes_then })
-not_opened given script left taken card held_then meter_then boxes_then at is counted = record {
+abbrev pub not_opened : (IsKnown : List ScriptLine → Option Persistent → Type 0) (given : Given) (is_told : Bool) (script : ScriptReader) (left taken : Option (List ℕ)) (card held_then : Option Persistent) (meter_then : Meter) (boxes_then : List (Option AppletState))
+    → (at : AtStart given.boxes given.first given.text script left card) → taken ≡ Some given.before → IsUnplanned given.meter meter_then → (is_told ≡ true → IsKnown at.section card)
+    → IsNotOpened given is_told left (record { held = held_then; taken = taken; meter = meter_then; boxes = boxes_then }) IsKnown
+not_opened IsKnown given is_told script left taken card held_then meter_then boxes_then at is counted known = record {
   found = at.given;
   more = lines_within script.reader.room (pending script.reader at.follows.reads.rest);
   section = at.section;
@@ -284,66 +315,67 @@ not_opened given script left taken card held_then meter_then boxes_then at is co
   read = at.read;
   described = at.described;
   reach = at.reach;
-  written = is;
-  counted = counted;
-}
-
-abbrev holds_start : (given : Given) (script : ScriptReader) (left taken : Option (List ℕ)) (memory : Option (Result Persistent ℕ)) (held_then : Option Persistent) (meter meter_then : Meter) (boxes boxes_then : List (Option AppletState)) (start : Persistent)
-    → IsMade given script left taken memory meter boxes → IsCounted given.meter meter_then [] [] → memory ≡ Some (Ok start) → held_then ≡ Some start → HoldsStart given left (record { held = held_then; taken = taken; meter = meter_then; boxes = boxes_then })
-holds_start given script left taken memory held_then meter meter_then boxes boxes_then start made counted is holds = record {
-  not_opened = not_opened given script left taken made.card held_then meter_then boxes_then made.at made.taken_is (counted_kept given.meter meter_then counted);
-  start = start;
-  opened = made.opens start is;
-  memory_kept = holds;
+  quiet = record { written = is; counted = counted };
+  known = known;
 }
 
 -- there was no memory to begin with, and the card's is as it was
-no_memory : (given : Given) (script : ScriptReader) (left taken : Option (List ℕ)) (memory : Option (Result Persistent ℕ)) (held_then : Option Persistent) (meter meter_then : Meter) (boxes boxes_then : List (Option AppletState)) (found : Result Persistent ℕ)
-    → IsMade given script left taken memory meter boxes → IsCounted given.meter meter_then [] [] → memory ≡ Some found → held_then ≡ result_ok found → HasNoMemory given left (record { held = held_then; taken = taken; meter = meter_then; boxes = boxes_then })
-no_memory given script left taken memory held_then meter meter_then boxes boxes_then (Ok start) made counted is holds =
-    record { written = made.taken_is; counted = counted; begun_at_most = inr (not_opened given script left taken made.card held_then meter_then boxes_then made.at made.taken_is (counted_kept given.meter meter_then counted)); memory_kept = inr (holds_start given script left taken memory held_then meter meter_then boxes boxes_then start made counted is holds) }
-no_memory given script left taken memory held_then meter meter_then boxes boxes_then (Err place) made counted is holds =
-    let was = made.kept (made.no_card place is) in
+no_memory_kept : (given : Given) (is_told : Bool) (script : ScriptReader) (left taken : Option (List ℕ)) (memory : Option (Result Persistent ℕ)) (held_then : Option Persistent) (meter meter_then : Meter) (boxes boxes_then : List (Option AppletState)) (found : Result Persistent ℕ)
+    → (made : IsMade given is_told script left taken memory meter boxes) → StandsReady given made.at.section made.card memory → IsCounted given.meter meter_then [] [] → memory ≡ Some found → held_then ≡ result_ok found
+    → (held_then ≡ result_ok given.memory) ⊎ IsNotOpened given is_told left (record { held = held_then; taken = taken; meter = meter_then; boxes = boxes_then }) (λ section card. HoldsStart given section held_then)
+no_memory_kept given is_told script left taken memory held_then meter meter_then boxes boxes_then (Ok start) made ready counted is holds =
+    inr (not_opened (λ section card. HoldsStart given section held_then) given is_told script left taken made.card held_then meter_then boxes_then made.at made.taken_is (counted_kept given.meter meter_then counted)
+    (λ told. record { start = start; opened = ready.opens start is; memory_kept = holds }))
+no_memory_kept given is_told script left taken memory held_then meter meter_then boxes boxes_then (Err place) made ready counted is holds =
+    let was = ready.kept (ready.no_card place is) in
     let same : Err place ≡ given.memory = cc in
-    record { written = made.taken_is; counted = counted; begun_at_most = inr (not_opened given script left taken made.card held_then meter_then boxes_then made.at made.taken_is (counted_kept given.meter meter_then counted)); memory_kept = inl (holds ∙ ap result_ok same) }
+    inl (holds ∙ ap result_ok same)
 
-pub refused : (given : Given) (script : ScriptReader) (left taken : Option (List ℕ)) (mark mark_then : ℕ) (told told_then : Option (List ℕ)) (meter meter_then : Meter) (boxes boxes_then : List (Option AppletState)) (why : OpenFault)
-    → CountsJoin → is_some told ≡ true → Finds why mark told (with_all_shelves boxes) → FaultLeaves why mark told told_then → mark_then ≡ mark → Caused meter meter_then (why ≡ fault.Failed) (why ≡ fault.PowerLost)
-    → IsMade given script left taken (option_map (stands_for mark) told) meter boxes
-    → Comes given left (ending_for why) (record { held = standing mark_then told_then; taken = taken; meter = meter_then; boxes = boxes_then })
-refused given script left taken mark mark_then told told_then meter meter_then boxes boxes_then (fault.NotACard at) join tells finds leaves same caused made =
-    let found = found_no_card mark told at tells (read_told told _ finds) in
-    let first = made.no_card at found in
-    let was = made.kept first in
-    record {
-      not_opened = not_opened given script left taken made.card _ meter_then boxes_then made.at made.taken_is (kept_on given.meter meter meter_then made.counted caused);
-      no_section = first;
-      first_failed = cc;
-      memory_kept = ap (λ m. standing m told_then) same ∙ ap (λ t. standing mark t) leaves ∙ stands_found mark told (Err at) found;
-      counted = join given.meter meter meter_then [] [] [] [] made.counted (caused_counted meter meter_then caused (λ so. cc) (λ so. cc));
-    }
-refused given script left taken mark mark_then told told_then meter meter_then boxes boxes_then (fault.NoBox shelf) join tells finds leaves same caused made =
-    let found = found_missing (with_all_shelves boxes) shelf mark told tells (read_told told _ finds) in
-    record {
-      holds = holds_start given script left taken _ _ meter meter_then boxes boxes_then found.0 made (join given.meter meter meter_then [] [] [] [] made.counted (caused_counted meter meter_then caused (λ so. cc) (λ so. cc))) found.1
-          (ap (λ m. standing m told_then) same ∙ ap (λ t. standing mark t) leaves ∙ stands_found mark told (Ok found.0) found.1);
-      first_missing = subst (λ b. IsFirstWithoutBox found.0.rows (with_all_shelves b) shelf) made.boxes_are found.2;
-      counted = join given.meter meter meter_then [] [] [] [] made.counted (caused_counted meter meter_then caused (λ so. cc) (λ so. cc));
-    }
-refused given script left taken mark mark_then told told_then meter meter_then boxes boxes_then fault.Failed join tells finds leaves same caused made = record {
-  not_opened = not_opened given script left taken made.card _ meter_then boxes_then made.at made.taken_is (kept_on given.meter meter meter_then made.counted caused);
-  made_at_most = λ card is. subst (λ m. IsMigratedAtMost (Ok card) (standing m told_then)) (sym same) (still_made card mark told told_then tells (λ found. made.described card found is) leaves);
-  migrated_at_most = λ first. subst (λ m. IsMigratedAtMost given.memory (standing m told_then)) (sym same) (still mark told told_then given.memory (made.kept first) leaves);
-}
-refused given script left taken mark mark_then told told_then meter meter_then boxes boxes_then fault.PowerLost join tells finds leaves same caused made = record {
-  not_opened = not_opened given script left taken made.card _ meter_then boxes_then made.at made.taken_is (kept_on given.meter meter meter_then made.counted caused);
-  made_at_most = λ card is. subst (λ m. IsMigratedAtMost (Ok card) (standing m told_then)) (sym same) (still_made card mark told told_then tells (λ found. made.described card found is) leaves);
-  migrated_at_most = λ first. subst (λ m. IsMigratedAtMost given.memory (standing m told_then)) (sym same) (still mark told told_then given.memory (made.kept first) leaves);
-}
-refused given script left taken mark mark_then told told_then meter meter_then boxes boxes_then fault.Memory join tells finds leaves same caused made =
-    let found = found_in mark told tells in
-    no_memory given script left taken _ _ meter meter_then boxes boxes_then found.0 made (join given.meter meter meter_then [] [] [] [] made.counted (caused_counted meter meter_then caused (λ so. cc) (λ so. cc))) found.1
-    (ap (λ m. standing m told_then) same ∙ ap (λ t. standing mark t) leaves ∙ stands_found mark told found.0 found.1)
+module _ (given : Given) (is_told : Bool) (script : ScriptReader) (left taken : Option (List ℕ)) (mark mark_then : ℕ) (told told_then : Option (List ℕ)) (meter meter_then : Meter) (boxes boxes_then : List (Option AppletState))
+    (join : CountsJoin) (tells : is_told ≡ true → is_some told ≡ true) (same : mark_then ≡ mark) (made : IsMade given is_told script left taken (option_map (stands_for mark) told) meter boxes) where
+  abbrev left_so : Leaves
+  left_so = record { held = standing mark_then told_then; taken = taken; meter = meter_then; boxes = boxes_then }
+
+  abbrev not_opened_so : (IsKnown : List ScriptLine → Option Persistent → Type 0) → IsUnplanned given.meter meter_then → (is_told ≡ true → IsKnown made.at.section made.card) → IsNotOpened given is_told left left_so IsKnown
+  not_opened_so IsKnown counted known = not_opened IsKnown given is_told script left taken made.card (standing mark_then told_then) meter_then boxes_then made.at made.taken_is counted known
+
+  failed_to_open : IsLeftMigrated mark told told_then → IsUnplanned given.meter meter_then → IsNotOpened given is_told left left_so (λ section card. FailsToOpen given card (standing mark_then told_then))
+  failed_to_open leaves counted = not_opened_so (λ section card. FailsToOpen given card (standing mark_then told_then)) counted (λ is. record {
+    made_at_most = λ state described. subst (λ m. IsMigratedAtMost (Ok state) (standing m told_then)) (sym same) (still_made state mark told told_then (tells is) (λ found. (made.known is).described state found described) leaves);
+    migrated_at_most = λ first. subst (λ m. IsMigratedAtMost given.memory (standing m told_then)) (sym same) (still mark told told_then given.memory ((made.known is).kept first) leaves);
+  })
+
+  pub refused : (why : OpenFault) → Finds why mark told (with_all_shelves boxes) → FaultLeaves why mark told told_then → Caused meter meter_then (why ≡ fault.Failed) (why ≡ fault.PowerLost)
+      → Comes given is_told left (ending_for why) (record { held = standing mark_then told_then; taken = taken; meter = meter_then; boxes = boxes_then })
+  refused (fault.NotACard at) finds leaves caused =
+      let counted = join given.meter meter meter_then [] [] [] [] made.counted (caused_counted meter meter_then caused (λ so. cc) (λ so. cc)) in
+      not_opened_so (λ section card. IsNoCard given at left_so) (counted_kept given.meter meter_then counted) (λ is.
+      let found = found_no_card mark told at (tells is) (read_told told _ finds) in
+      let first = (made.known is).no_card at found in
+      let was = (made.known is).kept first in
+      record { no_section = first; first_failed = cc; memory_kept = ap (λ m. standing m told_then) same ∙ ap (λ t. standing mark t) leaves ∙ stands_found mark told (Err at) found; counted = counted })
+  refused (fault.NoBox shelf) finds leaves caused =
+      let counted = join given.meter meter meter_then [] [] [] [] made.counted (caused_counted meter meter_then caused (λ so. cc) (λ so. cc)) in
+      not_opened_so (λ section card. LacksBox given shelf section left_so) (counted_kept given.meter meter_then counted) (λ is.
+      let found = found_missing (with_all_shelves boxes) shelf mark told (tells is) (read_told told _ finds) in
+      record {
+        holds = record { start = found.0; opened = (made.known is).opens found.0 found.1; memory_kept = ap (λ m. standing m told_then) same ∙ ap (λ t. standing mark t) leaves ∙ stands_found mark told (Ok found.0) found.1 };
+        first_missing = subst (λ b. IsFirstWithoutBox found.0.rows (with_all_shelves b) shelf) made.boxes_are found.2;
+        counted = counted;
+      })
+  refused fault.Failed finds leaves caused = failed_to_open leaves (kept_on given.meter meter meter_then made.counted caused)
+  refused fault.PowerLost finds leaves caused = failed_to_open leaves (kept_on given.meter meter meter_then made.counted caused)
+  refused fault.Memory finds leaves caused =
+      let counted = join given.meter meter meter_then [] [] [] [] made.counted (caused_counted meter meter_then caused (λ so. cc) (λ so. cc)) in
+      record {
+        written = made.taken_is;
+        counted = counted;
+        begun_at_most = inr (not_opened_so (λ section card. Unit {0}) (counted_kept given.meter meter_then counted) (λ is. tt));
+        memory_kept = λ is.
+            let found = found_in mark told (tells is) in
+            no_memory_kept given is_told script left taken _ (standing mark_then told_then) meter meter_then boxes boxes_then found.0 made (made.known is) counted found.1
+            (ap (λ m. standing m told_then) same ∙ ap (λ t. standing mark t) leaves ∙ stands_found mark told found.0 found.1);
+      }
 
 -- a fault of a memory that holds no card leaves the bytes as they were
 fault_keeps : (mark : ℕ) (told told_then : Option (List ℕ)) (held : Option Persistent) → standing mark told ≡ held → IsLeftMigrated mark told told_then → KeepsBytes EepromFailed held → told_then ≡ told
@@ -385,15 +417,11 @@ describes_none cast text script left None at = refl
 describes_none cast text script left (Some state) at = let none = none_stays cast at.section (Some state) at.described in absurd (cc)
 
 -- the memory could not be formatted
-pub not_made : {Failed Lost : Type 0} → (given : Given) (script : ScriptReader) (left taken : Option (List ℕ)) (card held_then : Option Persistent) (meter meter_then : Meter) (boxes_then : List (Option AppletState)) → AtStart given.boxes given.first given.text script left card → taken ≡ Some given.before
-    → is_some card ≡ true → meter ≡ given.meter → Caused meter meter_then Failed Lost → FailsToFormat given left (record { held = held_then; taken = taken; meter = meter_then; boxes = boxes_then })
-not_made given script left taken card held_then meter meter_then boxes_then at is some was caused =
-    let state = some_of card some in
-    record {
-      not_opened = not_opened given script left taken card held_then meter_then boxes_then at is (subst (λ m. IsUnplanned m meter_then) was (caused_kept meter meter_then caused));
-      card = state.0;
-      described = state.1;
-    }
+pub not_made : {Failed Lost : Type 0} → (given : Given) (is_told : Bool) (script : ScriptReader) (left taken : Option (List ℕ)) (card held_then : Option Persistent) (meter meter_then : Meter) (boxes_then : List (Option AppletState)) → AtStart given.boxes given.first given.text script left card
+    → taken ≡ Some given.before → is_some card ≡ true → meter ≡ given.meter → Caused meter meter_then Failed Lost
+    → IsNotOpened given is_told left (record { held = held_then; taken = taken; meter = meter_then; boxes = boxes_then }) (λ section described. is_some described ≡ true)
+not_made given is_told script left taken card held_then meter meter_then boxes_then at is some was caused =
+    not_opened (λ section described. is_some described ≡ true) given is_told script left taken card held_then meter_then boxes_then at is (subst (λ m. IsUnplanned m meter_then) was (caused_kept meter meter_then caused)) (λ told. some)
 
 -- nothing was done
 pub none_counted : (given : Given) (meter : Meter) → meter ≡ given.meter → IsCounted given.meter meter [] []
@@ -401,13 +429,13 @@ none_counted given meter same =
     subst (λ m. IsCounted given.meter m [] []) (sym same) (record { failures = refl; cuts = refl; plans = refl; latest = refl; no_plan = λ none. none })
 
 -- the script was not begun
-pub not_begun : (given : Given) (left taken : Option (List ℕ)) (mark : ℕ) (told : Option (List ℕ)) (meter : Meter) (boxes boxes_then : List (Option AppletState)) → left ≡ Some given.text → IsGiven given taken (option_map (stands_for mark) told) meter boxes
-    → HasNoMemory given left (record { held = standing mark told; taken = taken; meter = meter; boxes = boxes_then })
-not_begun given left taken mark told meter boxes boxes_then text is = record {
+pub not_begun : (given : Given) (is_told : Bool) (left taken : Option (List ℕ)) (mark : ℕ) (told : Option (List ℕ)) (meter : Meter) (boxes boxes_then : List (Option AppletState)) → left ≡ Some given.text → IsGiven given is_told taken (option_map (stands_for mark) told) meter boxes
+    → HasNoMemory given is_told left (record { held = standing mark told; taken = taken; meter = meter; boxes = boxes_then })
+not_begun given is_told left taken mark told meter boxes boxes_then text is = record {
   written = is.before_is;
   counted = none_counted given meter is.meter_is;
   begun_at_most = inl text;
-  memory_kept = inl (stands_found mark told given.memory is.memory_is);
+  memory_kept = λ tells. inl (stands_found mark told given.memory (is.memory_is tells));
 }
 
 -- ---- closing
@@ -464,14 +492,9 @@ reached given script left card at = record {
 
 -- ---- where no card was open
 
-pub unplanned_then : (first middle last : Meter) → IsUnplanned first middle → IsUnplanned middle last → IsUnplanned first last
-unplanned_then first middle last one two = record {
-  faults_kept = let a = one.faults_kept in let b = two.faults_kept in omega arith;
-  cuts_kept = let a = one.cuts_kept in let b = two.cuts_kept in omega arith;
-  plans_kept = two.plans_kept ∙ one.plans_kept;
-  latest_kept = two.latest_kept ∙ one.latest_kept;
-  no_plan = λ none. two.no_plan (one.no_plan none);
-}
-
 pub unplanned_still : (meter : Meter) → IsUnplanned meter meter
 unplanned_still meter = record { faults_kept = omega arith; cuts_kept = omega arith; plans_kept = refl; latest_kept = refl; no_plan = λ none. none }
+
+-- so it is with a run to which nothing was done
+pub quiet_still : (given : Given) (taken : Option (List ℕ)) (held : Option Persistent) (meter : Meter) (boxes : List (Option AppletState)) → taken ≡ Some given.before → meter ≡ given.meter → IsQuiet given (record { held = held; taken = taken; meter = meter; boxes = boxes })
+quiet_still given taken held meter boxes is same = record { written = is; counted = subst (λ m. IsUnplanned m meter) same (unplanned_still meter) }

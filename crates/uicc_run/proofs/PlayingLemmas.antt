@@ -28,13 +28,14 @@ use Rattle.run_steps.proofs.GoesOnLemmas.{text_of-append}
 use Rattle.run_steps.proofs.SteppingLemmas.{no_last_command, no_last_plan}
 use Rattle.run_steps.proofs.ViewLemmas.{rests_then, run_failed, run_shown}
 use Rattle.run_steps.specs.Runs.{text_of}
-use Rattle.run_steps.specs.Stepping.{BreaksStep, EndsStep, Holds, IsCutOff, IsSeen, Moment, Rests, RestsOn, TakesStep}
+use Rattle.run_steps.specs.Taking.{BreaksStep, EndsStep, Rests, RestsOn, TakesStep}
+use Rattle.run_steps.specs.Stepping.{Holds, IsCutOff, IsSeen, Moment}
 use Rattle.run_steps.specs.Views.{CardView, ItsPower, Known, TheCard}
-use Rattle.run_steps.specs.Tpdus.{BreaksTpdu, TakesTpdu, steps_of}
-use Rattle.run_steps.specs.Shown.{shown_for}
+use Rattle.run_steps.specs.TakingTpdus.{BreaksTpdu, TakesTpdu}
+use Rattle.run_steps.specs.Tpdus.{steps_of, shown_for}
 use Rattle.uicc_run.specs.Accounts.{Account, AreTold, BreaksOffDeed, Deed, IsTold, Takes, Transfers, joined, kept_behind}
-use Rattle.uicc_run.specs.Playing.{AreReadInPlace, BreaksSo, CardComesTo, CardLeaves, CarriedOut, EndsSo, FailsSo, Given, IsFirst, IsPlaying, Leaves, Reaches, StopsPlaying, left_at}
-use Rattle.uicc_run.specs.Runs.{HasKindsOf}
+use Rattle.uicc_run.specs.Playing.{AreReadInPlace, BreaksSo, CardComesTo, CardLeaves, CarriedOut, EndsSo, FailsSo, Given, IsFirst, Leaves, Reaches, StopsPlaying, left_at, HasKindsOf}
+use Rattle.uicc_run.specs.BetweenLines.{IsPlaying}
 use Rattle.uicc_run.specs.Steps.{deeds, deeds_of, may_follow, may_stand}
 use Rattle.uicc_run.proofs.AccountLemmas.{goes_by, goes_on, told_one, told_then}
 use Rattle.uicc_run.proofs.DeedsLemmas.{deeds_none, deeds_one}

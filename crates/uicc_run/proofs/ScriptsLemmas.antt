@@ -1,7 +1,6 @@
 -- What an undisturbed run comes to, by its script and the card that is to be opened.
-use Rattle.std.proofs.Common.{◌≡◌, ℕ, ◌+◌, ◌<◌, Bool, true, false, List, [], ◌∷◌, ◌++◌, length, Option, Some, None, is_some, Result, Ok, Err, refl, sym, ap, ◌∙◌, inl, inr, ⊎_elim, arith, subst, append_assoc, ◌⊎◌, All, IfSome, if◌then◌else◌, append-nil}
+use Rattle.std.proofs.Common.{◌≡◌, ℕ, ◌+◌, ◌<◌, Bool, true, false, List, [], ◌∷◌, ◌++◌, length, Option, Some, None, is_some, Result, Ok, Err, refl, sym, ap, ◌∙◌, inl, inr, ⊎_elim, arith, subst, ◌⊎◌, All, IfSome, if◌then◌else◌, append-nil}
 use Rattle.std.specs.Io.KnownBytes.{append_known}
-use Rattle.std.specs.List.{AllPass}
 use Rattle.std.proofs.lemmas.Bool.{cases_order}
 use Rattle.std.proofs.lemmas.List.Elements.{All-contains, All-nil}
 use Rattle.byte_streams.specs.Lines.{LineList, lines}
@@ -12,8 +11,7 @@ use Rattle.script_form.specs.declared.lines.ScriptLine.{ScriptLine}
 use Rattle.script_form.specs.declared.lines.ScriptLine.TheVariants.{Start}
 use Rattle.script_form.specs.declared.trace.TraceLine.TheVariants as line
 use Rattle.script_reader.proofs.AreReadLemmas.{Say-from_read}
-use Rattle.script_reader.specs.Behind.{StopsReading}
-use Rattle.script_reader.specs.Said.{AreRead, Say}
+use Rattle.script_reader.specs.Said.{Say}
 use Rattle.script_reader.specs.declared.behind.PlayEnd.{PlayEnd}
 use Rattle.script_reader.specs.declared.behind.PlayEnd.TheVariants as play
 use Rattle.script_reader.specs.declared.faults.ScriptFault.TheVariants as script
@@ -26,16 +24,15 @@ use Rattle.section_lines.specs.SectionReading.{EndsInSection}
 use Rattle.section_lines.specs.RowLaws.{AreOfTheirBoxes}
 use Rattle.section_lines.proofs.RowsHaveBoxesLemmas.{rows_have_boxes}
 use Rattle.section_lines.specs.Script.{with_lines}
-use Rattle.run_steps.specs.Views.{TheCard}
+use Rattle.run_steps.specs.Views.{CardView, ItsPower, TheCard}
 use Rattle.phone_runs.specs.Lines.{PhoneEnds}
 use Rattle.bip_runs.proofs.IsLineLemmas.{Only, only_first, only_last, only_says, says_itself}
-use Rattle.uicc_run.specs.Endings.{IsUnshown, status_for}
-use Rattle.uicc_run.specs.Headline.{Closes, Comes, IsNoCard, IsNotOpened, LacksBox, last_text}
-use Rattle.uicc_run.specs.Playing.{AreReadInPlace, EndsSo, Given, IsOpened, Leaves}
-use Rattle.uicc_run.specs.Reading.{EndsBehind, HasStarted, ReadsTo}
+use Rattle.uicc_run.specs.Making.{IsUnshown}
+use Rattle.uicc_run.specs.Endings.{status_for}
+use Rattle.uicc_run.specs.Headline.{Closes, Comes, IsNoCard, IsNotOpened, LacksBox, is_known, last_text}
+use Rattle.uicc_run.specs.Playing.{AreReadInPlace, EndsSo, Given, IsOpened, Leaves, first_machine, ComesTo, ServedComesTo, beginning}
+use Rattle.uicc_run.proofs.ReadingLemmas.{EndsBehind, HasStarted, ReadsTo, reads_played, reads_served}
 use Rattle.uicc_run.proofs.ServingLemmas.{opening}
-use Rattle.uicc_run.specs.Serving.{ComesTo, ServedComesTo, beginning}
-use Rattle.uicc_run.specs.Runs.{first_machine}
 use Rattle.uicc_run.specs.Steps.{may_stand}
 use Rattle.uicc_run.specs.Scripts.{AreInPlace, CanOpen, CannotOpen, HoldsWholeCard, IsFirstBad, IsFirstTooMuch, IsGoodScript, MeetsBad, NoBoxOn, NoCardAt, ReachesStart, Refusal, RefusesAndTells, StopsAndTells, StopsAtStart, StopsBehind, TellsNext, TellsWhy, refusal_line}
 use Rattle.uicc_run.specs.declared.endings.Ending.{Ending}
@@ -425,8 +422,8 @@ tells_why : (given : Given) (before taken : Option (List ℕ)) (why : Refusal) �
 tells_why given before taken why was told =
     told ∙ ap (λ b. append_known b (trace_text (refusal_line why) ++ [])) was ∙ ap (λ t. Some (given.before ++ t)) (append-nil (trace_text (refusal_line why)))
 
-refused_so : (given : Given) (status : ℕ) (left taken : Option (List ℕ)) (leaves : Leaves) (why : Refusal) → status ≡ 7 → (refused : IsNotOpened given left leaves) → refused.card ≡ None → CannotOpen given why → taken ≡ append_known leaves.taken (trace_text (refusal_line why) ++ []) → Refused given status taken
-refused_so given status left taken leaves why is refused none cannot told = record {
+refused_so : (IsKnown : List ScriptLine → Option Persistent → Type 0) (given : Given) (status : ℕ) (left taken : Option (List ℕ)) (leaves : Leaves) (why : Refusal) → status ≡ 7 → (refused : IsNotOpened given true left leaves IsKnown) → refused.card ≡ None → CannotOpen given why → taken ≡ append_known leaves.taken (trace_text (refusal_line why) ++ []) → Refused given status taken
+refused_so IsKnown given status left taken leaves why is refused none cannot told = record {
   seven = is;
   reaches = record {
     found = refused.found;
@@ -438,16 +435,17 @@ refused_so given status left taken leaves why is refused none cannot told = reco
   };
   why = why;
   cannot = cannot;
-  tells = tells_why given leaves.taken taken why refused.written told;
+  tells = tells_why given leaves.taken taken why refused.quiet.written told;
 }
 
-describes_none : (given : Given) (left : Option (List ℕ)) (leaves : Leaves) (refused : IsNotOpened given left leaves) → given.first ≡ None → refused.card ≡ None
-describes_none given left leaves refused none =
+describes_none : (IsKnown : List ScriptLine → Option Persistent → Type 0) (given : Given) (left : Option (List ℕ)) (leaves : Leaves) (refused : IsNotOpened given true left leaves IsKnown) → given.first ≡ None → refused.card ≡ None
+describes_none IsKnown given left leaves refused none =
     is_none refused.card (none_stays given.boxes refused.section refused.card (ap (λ f. with_lines given.boxes f refused.section) (sym none) ∙ refused.described))
 
-no_card_so : (given : Given) (status at : ℕ) (left taken : Option (List ℕ)) (leaves : Leaves) → status ≡ 7 → IsNoCard given at left leaves → taken ≡ append_known leaves.taken (last_text (NotACard at)) → Refused given status taken
-no_card_so given status at left taken leaves is none told =
-    refused_so given status left taken leaves (NoCardAt at) is none.not_opened (describes_none given left leaves none.not_opened none.no_section) none.first_failed told
+no_card_so : (given : Given) (status at : ℕ) (left taken : Option (List ℕ)) (leaves : Leaves) → status ≡ 7 → IsNotOpened given true left leaves (λ section card. IsNoCard given at leaves) → taken ≡ append_known leaves.taken (last_text (NotACard at)) → Refused given status taken
+no_card_so given status at left taken leaves is refused told =
+    let none = refused.known refl in
+    refused_so (λ section card. IsNoCard given at leaves) given status left taken leaves (NoCardAt at) is refused (describes_none (λ section card. IsNoCard given at leaves) given left leaves refused none.no_section) none.first_failed told
 
 -- a card that is described lacks no box
 lacks_none : (cast : List (Option AppletState)) (first : Option Persistent) (memory : Result Persistent ℕ) (section : List ScriptLine) (start : Persistent) (shelf : ℕ) → ((IfSome first (AreOfTheirBoxes cast) → ⊥) → ⊥)
@@ -456,13 +454,15 @@ lacks_none cast None memory section start shelf boxed opened missing = refl
 lacks_none cast (Some bare) memory section start shelf boxed opened missing =
     absurd (boxed (λ all. missing.lacks (All-contains (HasBox (with_all_shelves cast)) start.rows missing.row (have_boxes cast start.rows (rows_have_boxes cast section bare start all opened)) missing.there)))
 
-no_box_so : (given : Given) (status shelf : ℕ) (left taken : Option (List ℕ)) (leaves : Leaves) → ((IsBoxed given → ⊥) → ⊥) → status ≡ 7 → LacksBox given shelf left leaves → taken ≡ append_known leaves.taken (last_text (NoApplet shelf)) → Refused given status taken
-no_box_so given status shelf left taken leaves boxed is lacks told =
+no_box_so : (given : Given) (status shelf : ℕ) (left taken : Option (List ℕ)) (leaves : Leaves) → ((IsBoxed given → ⊥) → ⊥) → status ≡ 7 → IsNotOpened given true left leaves (λ section card. LacksBox given shelf section leaves)
+    → taken ≡ append_known leaves.taken (last_text (NoApplet shelf)) → Refused given status taken
+no_box_so given status shelf left taken leaves boxed is refused told =
+    let lacks = refused.known refl in
     let held = lacks.holds in
-    let none = describes_none given left leaves held.not_opened (lacks_none given.boxes given.first given.memory held.not_opened.section held.start shelf boxed held.opened lacks.first_missing) in
-    refused_so given status left taken leaves (NoBoxOn shelf) is held.not_opened none (record {
+    let none = describes_none (λ section card. LacksBox given shelf section leaves) given left leaves refused (lacks_none given.boxes given.first given.memory refused.section held.start shelf boxed held.opened lacks.first_missing) in
+    refused_so (λ section card. LacksBox given shelf section leaves) given status left taken leaves (NoBoxOn shelf) is refused none (record {
       start = held.start;
-      is = memory_holds given.boxes given.first given.memory held.not_opened.section held.start (held.not_opened.described ∙ ap Ok none) held.opened;
+      is = memory_holds given.boxes given.first given.memory refused.section held.start (refused.described ∙ ap Ok none) held.opened;
       first_missing = lacks.first_missing;
     }) told
 
@@ -478,7 +478,7 @@ ends_played given left end leaves first ends =
     let done = ends.done in
     let card = done.opened in
     record {
-      ends = record { found = done.found; section = done.section; played = done.played; card = done.described; lines_are = done.lines; cause = ends.cause };
+      ends = reads_played given (TheCard first) left end leaves ends;
       opens = was_to_open given done.section card.start done.described done.lines.described card.opened (subst (λ (m : Machine). IsGood m.card) card.machine_is card.good);
       front = _;
       written = ends.written;
@@ -489,30 +489,21 @@ ends_served : (given : Given) (left : Option (List ℕ)) (end : PlayEnd) (leaves
 ends_served given left end leaves first is served ends =
     let card = served.opened in
     record {
-      ends = record {
-        found = ends.found;
-        section = served.section;
-        played = ends.played;
-        card = served.card;
-        lines_are = record {
-          read = subst (AreRead ends.found) (append_assoc served.section (Start ∷ []) ends.played) ends.are_served.read;
-          described = served.described;
-          in_place = subst (λ s. AllPass (may_stand s) ends.played) (sym is) ends.are_served.in_place;
-        };
-        cause = subst (λ s. StopsReading (may_stand s) given.text ends.found left end) (sym is) ends.cause;
-      };
+      ends = reads_served given (TheCard first) left end leaves is served ends;
       opens = was_to_open given served.section card.start served.card served.described card.opened (subst (λ (m : Machine). IsGood m.card) card.machine_is card.good);
       front = _;
       written = ap (λ (l : Leaves). l.taken) served.left_is ∙ ends.written;
     }
 
-behind_end : (given : Given) (left : Option (List ℕ)) (leaves : Leaves) (first : Machine) → ComesTo given (TheCard first) left play.Finished leaves → EndsInLines given left play.Finished leaves
-behind_end given left leaves first (inl card) = ends_played given left play.Finished leaves first card.1
-behind_end given left leaves first (inr served) = ends_served given left play.Finished leaves first served.0 served.1 served.1.comes
+behind_end : (given : Given) (left : Option (List ℕ)) (leaves : Leaves) (first : CardView) → is_known first ≡ true → ComesTo given first left play.Finished leaves → EndsInLines given left play.Finished leaves
+behind_end given left leaves (TheCard machine) known (inl card) = ends_played given left play.Finished leaves machine card.1
+behind_end given left leaves (TheCard machine) known (inr served) = ends_served given left play.Finished leaves machine served.0 served.1 served.1.comes
+behind_end given left leaves (ItsPower on) known comes = absurd (cc)
 
-behind_bad : (given : Given) (left : Option (List ℕ)) (number : ℕ) (leaves : Leaves) (first : Machine) → ComesTo given (TheCard first) left (play.BadLine number) leaves → EndsInLines given left (play.BadLine number) leaves
-behind_bad given left number leaves first (inl card) = ends_played given left (play.BadLine number) leaves first card.1
-behind_bad given left number leaves first (inr served) = ends_served given left (play.BadLine number) leaves first served.0 served.1 served.1.comes
+behind_bad : (given : Given) (left : Option (List ℕ)) (number : ℕ) (leaves : Leaves) (first : CardView) → is_known first ≡ true → ComesTo given first left (play.BadLine number) leaves → EndsInLines given left (play.BadLine number) leaves
+behind_bad given left number leaves (TheCard machine) known (inl card) = ends_played given left (play.BadLine number) leaves machine card.1
+behind_bad given left number leaves (TheCard machine) known (inr served) = ends_served given left (play.BadLine number) leaves machine served.0 served.1 served.1.comes
+behind_bad given left number leaves (ItsPower on) known comes = absurd (cc)
 
 finished_so : (given : Given) (status : ℕ) (left : Option (List ℕ)) (leaves : Leaves) → EndsInLines given left play.Finished leaves → status ≡ 0 → (finishes : Finishes given status) × OpensAt given (Behind finishes.card)
 finished_so given status left leaves came is = (finished given status left came.ends is, came.opens)
@@ -521,26 +512,26 @@ stopped_so : (given : Given) (status number : ℕ) (left taken : Option (List �
     → (stopped : Stopped given status left taken) × OpensAt given stopped.to
 stopped_so given status number left taken leaves came is told = (stopped_behind given status number leaves.taken taken left came.front came.ends is came.written told, came.opens)
 
-verdict_of : (given : Given) (left taken : Option (List ℕ)) (ending : Ending) (leaves : Leaves) (status : ℕ) → status ≡ status_for ending → taken ≡ append_known leaves.taken (last_text ending) → Comes given left ending leaves
+verdict_of : (given : Given) (left taken : Option (List ℕ)) (ending : Ending) (leaves : Leaves) (status : ℕ) → status ≡ status_for ending → taken ≡ append_known leaves.taken (last_text ending) → Comes given true left ending leaves
     → (status ≡ 7 → (IsBoxed given → ⊥) → ⊥) → (ending ≡ Usage → ⊥) → (status_for ending ≡ 3 → ⊥) → (status_for ending ≡ 4 → ⊥) → (status_for ending ≡ 6 → ⊥) → Verdict given status left taken
 verdict_of given left taken Usage leaves status is told comes boxed used sound four six = absurd (used refl)
 verdict_of given left taken NoMemory leaves status is told comes boxed used sound four six = inl is
-verdict_of given left taken (Section (script.BadLine number)) leaves status is told comes boxed used sound four six = inr (inr (inl (stopped_before given status number leaves.taken taken left given.before comes.0 is comes.1 told, tt)))
-verdict_of given left taken (Section (script.NoRoom number)) leaves status is told comes boxed used sound four six = inr (inr (inl (stopped_full given status number leaves.taken taken left given.before comes.0 is comes.1 told, tt)))
+verdict_of given left taken (Section (script.BadLine number)) leaves status is told comes boxed used sound four six = inr (inr (inl (stopped_before given status number leaves.taken taken left given.before comes.0 is comes.1.written told, tt)))
+verdict_of given left taken (Section (script.NoRoom number)) leaves status is told comes boxed used sound four six = inr (inr (inl (stopped_full given status number leaves.taken taken left given.before comes.0 is comes.1.written told, tt)))
 verdict_of given left taken (Section script.ReadFailed) leaves status is told comes boxed used sound four six = absurd (sound refl)
 verdict_of given left taken FormatFailed leaves status is told comes boxed used sound four six = absurd (six refl)
 verdict_of given left taken EepromFailed leaves status is told comes boxed used sound four six = absurd (six refl)
 verdict_of given left taken (NotACard at) leaves status is told comes boxed used sound four six = inr (inr (inr (no_card_so given status at left taken leaves is comes told)))
 verdict_of given left taken (NoApplet shelf) leaves status is told comes boxed used sound four six = inr (inr (inr (no_box_so given status shelf left taken leaves (boxed is) is comes told)))
-verdict_of given left taken (Played play.Finished) leaves status is told comes boxed used sound four six = inr (inl (finished_so given status left leaves (behind_end given left leaves comes.0 comes.1) is))
-verdict_of given left taken (Played (play.BadLine number)) leaves status is told comes boxed used sound four six = inr (inr (inl (stopped_so given status number left taken leaves (behind_bad given left number leaves comes.0 comes.1) is told)))
+verdict_of given left taken (Played play.Finished) leaves status is told comes boxed used sound four six = inr (inl (finished_so given status left leaves (behind_end given left leaves comes.0 comes.1 comes.2) is))
+verdict_of given left taken (Played (play.BadLine number)) leaves status is told comes boxed used sound four six = inr (inr (inl (stopped_so given status number left taken leaves (behind_bad given left number leaves comes.0 comes.1 comes.2) is told)))
 verdict_of given left taken (Played play.ReadFailed) leaves status is told comes boxed used sound four six = absurd (sound refl)
 verdict_of given left taken (Played play.SinkFailed) leaves status is told comes boxed used sound four six = absurd (four refl)
 verdict_of given left taken (Played play.ResetFailed) leaves status is told comes boxed used sound four six = absurd (six refl)
 verdict_of given left taken (Counted lines counts) leaves status is told comes boxed used sound four six = absurd comes
 verdict_of given left taken LoadFailed leaves status is told comes boxed used sound four six = absurd comes
 
-pub verdict : (given : Given) (left taken : Option (List ℕ)) (ending : Ending) (leaves : Leaves) (status : ℕ) → Closes ending leaves.taken taken status → Comes given left ending leaves
+pub verdict : (given : Given) (left taken : Option (List ℕ)) (ending : Ending) (leaves : Leaves) (status : ℕ) → Closes ending leaves.taken taken status → Comes given true left ending leaves
     → (status ≡ 7 → (IsBoxed given → ⊥) → ⊥) → (status ≡ 1 → ⊥) → (status ≡ 3 → ⊥) → (status ≡ 4 → ⊥) → (status ≡ 6 → ⊥) → Verdict given status left taken
 verdict given left taken ending leaves status closes comes boxed one three four six =
     elim closes [

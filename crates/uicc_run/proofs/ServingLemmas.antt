@@ -7,11 +7,11 @@ use Rattle.script_reader.specs.declared.behind.PlayEnd.{PlayEnd}
 use Rattle.script_reader.specs.declared.reader.ScriptReader.{ScriptReader}
 use Rattle.run_steps.specs.Stepping.{Moment}
 use Rattle.run_steps.specs.Views.{CardView}
-use Rattle.phone_runs.specs.Lines.{PhoneComesTo, StandsAtStart}
+use Rattle.phone_runs.specs.Lines.{PhoneComesTo}
+use Rattle.phone_runs.specs.BetweenLines.{StandsAtStart}
 use Rattle.uicc_run.specs.Accounts.{nothing}
-use Rattle.uicc_run.specs.Opening.{IsStarted}
-use Rattle.uicc_run.specs.Playing.{Given, IsPlaying, left_at}
-use Rattle.uicc_run.specs.Serving.{ServedComesTo, beginning}
+use Rattle.uicc_run.specs.BetweenLines.{IsStarted, IsPlaying}
+use Rattle.uicc_run.specs.Playing.{Given, left_at, ServedComesTo, beginning}
 use Rattle.uicc_run.proofs.PlayingLemmas.{carried_out}
 
 -- the lines up to `start`

@@ -13,9 +13,8 @@ use Rattle.t0_link.specs.declared.tpdus.Transfer.{Transfer}
 use Rattle.t0_link.specs.declared.tpdus.Transfer.TheVariants.{GetResponse, Incoming, Outgoing}
 use Rattle.card_model.specs.Counts.{is_cut, is_failure}
 use Rattle.run_steps.proofs.ItemOfLemmas.{IsShownOnce, cut, cut_over, failed, fetched_fits, given_shown, kept_shown, left}
-use Rattle.run_steps.specs.Tpdus.{BreaksOffTpdu, CourseGives}
+use Rattle.run_steps.specs.Tpdus.{BreaksOffTpdu, CourseGives, item_of, kept_over, shown_for, shown_over}
 use Rattle.run_steps.specs.Views.{CardView, IsBare}
-use Rattle.run_steps.specs.Shown.{item_of, kept_over, shown_for, shown_over}
 use Rattle.uicc_run.specs.Accounts.{Account, AreTold, BreaksOffDeed, Deed, IsTold, ShowsAsMany, Takes, Transfers, joined, kept_behind}
 
 -- where the link keeps no failure, the trace shows as many as the card did, and the link keeps none behind them

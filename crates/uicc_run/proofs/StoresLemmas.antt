@@ -10,11 +10,11 @@ use Rattle.uicc_run.specs.Stores.{content_in, held_in, memory_in}
 use Rattle.uicc_run.specs.declared.endings.Ending.{Ending}
 
 -- what is read off a device is what is read off the store that was made over it
-pub given_over : (given : Given) (pages : Bool) (taken contents : Option (List ℕ)) (memory : Option (Result Persistent ℕ)) (meter meter_now : Meter) (boxes : List (Option AppletState)) → given.pages ≡ pages → memory ≡ memory_in pages contents → meter_now ≡ meter
-    → IsGiven given taken (memory_in given.pages contents) meter boxes → IsGiven given taken memory meter_now boxes
-given_over given pages taken contents memory meter meter_now boxes over same same_meter is = record {
+pub given_over : (given : Given) (told pages : Bool) (taken contents : Option (List ℕ)) (memory : Option (Result Persistent ℕ)) (meter meter_now : Meter) (boxes : List (Option AppletState)) → given.pages ≡ pages → memory ≡ memory_in pages contents → meter_now ≡ meter
+    → IsGiven given told taken (memory_in given.pages contents) meter boxes → IsGiven given told taken memory meter_now boxes
+given_over given told pages taken contents memory meter meter_now boxes over same same_meter is = record {
   before_is = is.before_is;
-  memory_is = same ∙ ap (λ p. memory_in p contents) (sym over) ∙ is.memory_is;
+  memory_is = λ tells. same ∙ ap (λ p. memory_in p contents) (sym over) ∙ is.memory_is tells;
   meter_is = same_meter ∙ is.meter_is;
   boxes_are = is.boxes_are;
 }

@@ -9,8 +9,7 @@ use Rattle.script_reader.specs.declared.behind.PlayEnd.TheVariants as play
 use Rattle.command_line.specs.Model.{AskForRun}
 use Rattle.command_line.specs.declared.requests.Mode.TheVariants.{Bip}
 use Rattle.bip_runs.proofs.ScriptsLemmas.{bad_ends_not, bad_stops_there, end_was_good, good_stops_not, stop_was_bad}
-use Rattle.bip_runs.specs.Scripts.{IsFirstBadBip, IsGoodBip}
-use Rattle.bip_runs.specs.Serving.{EndsServing}
+use Rattle.bip_runs.specs.Serving.{IsFirstBadBip, IsGoodBip, EndsServing}
 use Rattle.bip_runs.specs.Traces.{trace_of}
 use Rattle.uicc_run.specs.Endings.{status_for}
 use Rattle.uicc_run.specs.Headline.{Closes, last_text}

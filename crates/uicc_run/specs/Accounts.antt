@@ -10,9 +10,8 @@ use Rattle.t0_link.specs.Linking.{link_answer}
 use Rattle.card_model.specs.Counts.{is_cut, is_failure}
 use Rattle.card_model.specs.Runs.{armed_after}
 use Rattle.run_steps.specs.Stepping.{BreaksOff}
-use Rattle.run_steps.specs.Tpdus.{BreaksOffTpdu, CourseGives, steps_of}
+use Rattle.run_steps.specs.Tpdus.{BreaksOffTpdu, CourseGives, steps_of, shown_for}
 use Rattle.run_steps.specs.Views.{CardView, StepShows}
-use Rattle.run_steps.specs.Shown.{shown_for}
 
 -- what a line after `start` is for: a step of the card, or a TPDU for the link
 pub data Deed : Type 0 where

@@ -1,26 +1,24 @@
 -- What the program answers where its words ask for no page: what `run` says, over a device and boxes that are gone at the end.
-use Rattle.std.specs.Prelude.{◌≡◌, ◌≢◌, ◌⊎◌, ◌+◌, ◌≤◌, ℕ, List, [], Option, Some, None}
+use Rattle.std.specs.Prelude.{◌≡◌, ◌⊎◌, ◌+◌, ◌≤◌, ℕ, Bool, true, false, List, Option, Some, None}
 use Rattle.uicc_types.specs.Counts.{CountsFailure, Meter}
-use Rattle.byte_streams.specs.Lines.{LineList}
 use Rattle.byte_streams.specs.Reading.{IsTaken}
 use Rattle.byte_streams.specs.declared.limits.TheConstants.{MOST_BYTES}
 use Rattle.card_state.specs.Persistent.{Persistent}
 use Rattle.applet_trait.specs.Minds.{AppletState}
-use Rattle.command_line.specs.Model.{AskForRun, IsRequest}
+use Rattle.command_line.specs.Model.{IsRequest}
 use Rattle.command_line.specs.declared.requests.Request.{Request}
 use Rattle.uicc_run.specs.Causes.{IsSeenCause}
-use Rattle.uicc_run.specs.Endings.{HasFailed, IsUnopened, status_for}
+use Rattle.uicc_run.specs.Endings.{HasFailed, status_for}
 use Rattle.uicc_run.specs.Headline.{Closes, Traces}
 use Rattle.uicc_run.specs.Loading.{AskToLoad, IsFixedCard, LoadsFrom, TracesLoad}
-use Rattle.uicc_run.specs.Opening.{ReadsFrom, RunsFrom}
+use Rattle.uicc_run.specs.Opening.{RunsFrom}
 use Rattle.uicc_run.specs.Pages.{AsksFor, IsNoUse, Shows}
 use Rattle.uicc_run.specs.Playing.{Given}
-use Rattle.uicc_run.specs.Reading.{ReadsTo}
-use Rattle.uicc_run.specs.Worlds.{World, Seen, over_bench, seen}
-use Rattle.uicc_run.specs.Scripts.{CanOpen, IsFirstBad, IsFirstTooMuch, IsGoodScript, IsUndisturbed, MeetsBad, ReachesStart, Refusal, RefusesAndTells, StopsAndTells, StopsAtStart, StopsBehind, TellsNext, TellsWhy}
+use Rattle.uicc_run.specs.Running.{EndsByCard, EndsByScript}
+use Rattle.uicc_run.specs.Scripts.{IsUndisturbed}
 use Rattle.uicc_run.specs.Stores.{size_of}
 use Rattle.uicc_run.specs.Terminals.{AskForBip, TracesBip}
-use Rattle.uicc_run.specs.declared.endings.Ending.{Ending}
+use Rattle.uicc_run.specs.Worlds.{World, Seen, over_bench, seen}
 use Rattle.uicc_run.specs.declared.endings.Ending.TheVariants.{Usage}
 use Rattle.uicc_run.specs.declared.pages.Page.{Page}
 
@@ -28,62 +26,35 @@ use Rattle.uicc_run.specs.declared.pages.Page.{Page}
 abbrev pub NameNoImage : List (List ℕ) → Type 0
 NameNoImage words = (asked : Request) → IsRequest words asked → asked.devices.image ≡ None
 
--- How the run ended: by that end which lines were read, and why no more of them, and that nothing was shown before its last line where no
--- card was open.
-pub record HasEnded (given : Given) (seen : Seen) : Type 0 where
-  pub ending : Ending
-  pub put : Option (List ℕ)
-  pub closes : Closes ending put seen.taken seen.status
-  pub reads : ReadsTo given seen.left ending
-  pub unshown : IsUnopened ending → put ≡ Some given.before
+-- The run was carried out over a device that is gone, which stood for this at the end and had counted so much; so are the boxes. Its trace
+-- is that of a memory that tells its bytes, or that of any.
+pub record HasTrace (given : Given) (told : Bool) (words : List (List ℕ)) (seen : Seen) : Type 0 where
+  pub held : Option Persistent
+  pub meter : Meter
+  pub boxes : List (Option AppletState)
+  pub trace : Traces given told seen.left (record { held = held; taken = seen.taken; meter = meter; boxes = boxes }) seen.status
+      (IsSeenCause words seen given.meter meter)
 
--- What is said of a script's lines over any memory, an image too, which tells nothing: the clauses of `run` that say so, each under its
--- name.
+-- What is said of a script's lines over any memory, an image too, which tells nothing.
 pub record KeepsToScript (given : Given) (words : List (List ℕ)) (seen : Seen) : Type 0 where
-  pub untold : HasEnded given seen
-  pub good_over_any : AskForRun words → IsUndisturbed seen → IsGoodScript given
-      → (seen.status ≡ 0) ⊎ ((seen.status ≡ 5) ⊎ (seen.status ≡ 7))
-  pub bad_over_any : AskForRun words → IsUndisturbed seen → (found : LineList) → IsFirstBad given found
-      → ((seen.status ≡ 2) × TellsNext found seen.taken) ⊎ ((seen.status ≡ 5) ⊎ ((seen.status ≡ 7) × StopsBehind given found))
-  pub no_room : AskForRun words → IsUndisturbed seen → (found : LineList) → IsFirstTooMuch given found
-      → ((seen.status ≡ 8) × TellsNext found seen.taken) ⊎ (seen.status ≡ 5)
-  pub complete_only : seen.status ≡ 0 → IsGoodScript given
-  pub read_out : seen.status ≡ 0 → seen.left ≡ Some []
-  pub bad_line_only : seen.status ≡ 2 → StopsAndTells (IsFirstBad given) given.text seen.left seen.taken
-  pub no_room_only : seen.status ≡ 8 → StopsAndTells (IsFirstTooMuch given) given.text seen.left seen.taken
-  pub refused_only : seen.status ≡ 7 → (card : Option Persistent) × ReachesStart given card
+  pub has : HasTrace given false words seen
+  pub ends : EndsByScript given words seen
   pub taken : IsTaken (MOST_BYTES + 1) given.text seen.left
 
 -- so it is with whatever a run is given
 abbrev pub KeepsToScripts : List (List ℕ) → ℕ → World → World → Type 0
 KeepsToScripts words status before after =
-    (given : Given) → ReadsFrom given words before → KeepsToScript given words (seen status before after)
+    (given : Given) → RunsFrom given false words before → KeepsToScript given words (seen status before after)
 
--- The run was carried out over a device that is gone, which stood for this at the end and had counted so much; so are the boxes. Its
--- bytes were told, so that a card that can't be opened is refused, with why, and only then.
+-- What is said of it over a memory whose bytes were told, so that a card that can't be opened is refused, with why, and only then.
 pub record HasRun (given : Given) (words : List (List ℕ)) (seen : Seen) : Type 0 where
-  pub held : Option Persistent
-  pub meter : Meter
-  pub boxes : List (Option AppletState)
-  pub trace : Traces given seen.left (record { held = held; taken = seen.taken; meter = meter; boxes = boxes }) seen.status
-      (IsSeenCause words seen given.meter meter)
-  pub complete : AskForRun words → IsUndisturbed seen → IsGoodScript given → CanOpen given
-      → (seen.status ≡ 0) ⊎ (seen.status ≡ 5)
-  pub bad_line : AskForRun words → IsUndisturbed seen → (found : LineList) → MeetsBad given found
-      → ((seen.status ≡ 2) × TellsNext found seen.taken) ⊎ (seen.status ≡ 5)
-  pub no_card : AskForRun words → IsUndisturbed seen → (why : Refusal) → StopsAtStart given why
-      → ((seen.status ≡ 7) × TellsWhy given why seen.taken) ⊎ (seen.status ≡ 5)
-  pub no_card_only : seen.status ≡ 7 → RefusesAndTells given seen.taken
+  pub has : HasTrace given true words seen
+  pub ends : EndsByCard given words seen
 
--- so it is over a memory that tells its bytes,
-abbrev pub HasRunOver : List (List ℕ) → ℕ → World → World → Type 0
-HasRunOver words status before after =
-    (given : Given) → RunsFrom given words before → HasRun given words (seen status before after)
-
--- and over a new memory of the bench, for the store that is asked for
+-- so it is over a new memory of the bench, for the store that is asked for
 abbrev pub HasRunOnBench : List (List ℕ) → ℕ → World → World → Type 0
 HasRunOnBench words status before after =
-    (given : Given) → RunsFrom given words (over_bench (size_of given.pages) before) → HasRun given words (seen status before after)
+    (given : Given) → RunsFrom given true words (over_bench (size_of given.pages) before) → HasRun given words (seen status before after)
 
 -- The same of a long run: so many lines from this number were carried out over a device and boxes that are gone.
 pub record HasLoaded (given : Given) (start count : ℕ) (seen : Seen) : Type 0 where
@@ -93,11 +64,6 @@ pub record HasLoaded (given : Given) (start count : ℕ) (seen : Seen) : Type 0 
   pub trace : TracesLoad given start count (record { held = held; taken = seen.taken; meter = meter; boxes = boxes }) seen.status
       (λ ending. status_for ending ≡ 6 → HasFailed given.meter meter)
   pub complete : (card : Persistent) → IsUndisturbed seen → IsFixedCard given.boxes card → (seen.status ≡ 0) ⊎ (seen.status ≡ 5)
-
-abbrev pub HasLoadedOver : List (List ℕ) → ℕ → World → World → Type 0
-HasLoadedOver words status before after =
-    (given : Given) (start count : ℕ) → LoadsFrom given start count words before
-    → HasLoaded given start count (seen status before after)
 
 abbrev pub HasLoadedOnBench : List (List ℕ) → ℕ → World → World → Type 0
 HasLoadedOnBench words status before after =
@@ -125,13 +91,3 @@ pub record HasOuterCauses (words : List (List ℕ)) (status : ℕ) (before after
   pub statuses : status ≤ 8
   pub source_failed : CountsFailure before.source after.source (status ≡ 3)
   pub sink_failed : CountsFailure before.sink after.sink (status ≡ 4)
-
--- the same of words that are those of a run, of which none is wrong
-pub record HasUsedCauses (words : List (List ℕ)) (status : ℕ) (before after : World) (ScriptIsSame : Type 0) : Type 0 where
-  pub used : status ≢ 1
-  pub outer : HasOuterCauses words status before after ScriptIsSame
-
--- words in no form of a run end with their status, and no others do
-pub record IsUsage (words : List (List ℕ)) (status : ℕ) (taken taken_then : Option (List ℕ)) : Type 0 where
-  pub usage_only : status ≡ 1 → AskForRun words → ⊥
-  pub usage : (AskForRun words → ⊥) → Closes Usage taken taken_then status

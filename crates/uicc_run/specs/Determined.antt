@@ -12,8 +12,7 @@ use Rattle.phone_runs.specs.Lines.{PhoneEnds}
 use Rattle.phone_runs.specs.Logs.{shown}
 use Rattle.phone_runs.specs.Runs.{Beginning}
 use Rattle.uicc_run.specs.Loading.{Loads}
-use Rattle.uicc_run.specs.Playing.{EndsSo, Given, IsCardOpened, Leaves}
-use Rattle.uicc_run.specs.Serving.{beginning}
+use Rattle.uicc_run.specs.Playing.{EndsSo, Given, IsCardOpened, Leaves, beginning}
 
 -- in the run of the card no memory failed and no power was lost
 abbrev pub IsCalm : {given : Given} {first : CardView} {left : Option (List ℕ)} {end : PlayEnd} {now : Leaves} → EndsSo given first left end now → Type 0

@@ -1,6 +1,7 @@
--- The status and the last line of each end of a run.
-use Rattle.std.specs.Prelude.{◌≡◌, ◌⊎◌, ℕ, false, List, [], ◌∷◌, Option, Some, None}
+-- The status and the last line of each end of a run, and which ends are alike.
+use Rattle.std.specs.Prelude.{◌≡◌, ◌⊎◌, ℕ, false, List, [], ◌∷◌, Option, None, ◌≤◌}
 use Rattle.uicc_types.specs.Counts.{Meter, Rose}
+use Rattle.uicc_types.specs.declared.plans.TheConstants.Plan.{NONE}
 use Rattle.script_form.specs.declared.trace.TraceLine.{TraceLine}
 use Rattle.script_form.specs.declared.trace.TraceLine.TheVariants as line
 use Rattle.script_reader.specs.declared.behind.PlayEnd.TheVariants as play
@@ -56,14 +57,7 @@ line_for LoadFailed = line.EepromFailed ∷ []
 abbrev pub IsEarly : Ending → Type 0
 IsEarly Usage = Unit {0}
 IsEarly (Section fault) = Unit {0}
-IsEarly NoMemory = ⊥
-IsEarly FormatFailed = ⊥
-IsEarly EepromFailed = ⊥
-IsEarly (NotACard at) = ⊥
-IsEarly (NoApplet shelf) = ⊥
-IsEarly (Played end) = ⊥
-IsEarly (Counted lines counts) = ⊥
-IsEarly LoadFailed = ⊥
+IsEarly ending = ⊥
 
 -- the memory failed or lost power, or had none
 abbrev pub HasFailed : Meter → Meter → Type 0
@@ -71,41 +65,24 @@ HasFailed old new = Rose old.faults new.faults ⊎ (Rose old.cuts new.cuts ⊎ (
 
 -- an end at which no card was open
 abbrev pub IsUnopened : Ending → Type 0
-IsUnopened Usage = Unit {0}
-IsUnopened (Section fault) = Unit {0}
-IsUnopened NoMemory = Unit {0}
-IsUnopened FormatFailed = Unit {0}
-IsUnopened EepromFailed = Unit {0}
-IsUnopened (NotACard at) = Unit {0}
-IsUnopened (NoApplet shelf) = Unit {0}
 IsUnopened (Played end) = ⊥
 IsUnopened (Counted lines counts) = ⊥
 IsUnopened LoadFailed = ⊥
-
--- an end at which the memory failed, and nothing is shown but the last line: no card was open, or the run was a long one
-abbrev pub IsUnshown : Ending → Type 0
-IsUnshown Usage = ⊥
-IsUnshown (Section fault) = ⊥
-IsUnshown NoMemory = ⊥
-IsUnshown FormatFailed = Unit {0}
-IsUnshown EepromFailed = Unit {0}
-IsUnshown (NotACard at) = ⊥
-IsUnshown (NoApplet shelf) = ⊥
-IsUnshown (Played end) = ⊥
-IsUnshown (Counted lines counts) = ⊥
-IsUnshown LoadFailed = Unit {0}
+IsUnopened ending = Unit {0}
 
 -- an end at which each byte of a memory that was to be opened is kept, which held this card or none: the card was not opened, though
 -- the memory didn't fail; or it failed, and held none
 abbrev pub KeepsBytes : Ending → Option Persistent → Type 0
-KeepsBytes Usage held = ⊥
-KeepsBytes (Section fault) held = ⊥
 KeepsBytes NoMemory held = Unit {0}
-KeepsBytes FormatFailed held = ⊥
 KeepsBytes EepromFailed None = Unit {0}
-KeepsBytes EepromFailed (Some card) = ⊥
 KeepsBytes (NotACard at) held = Unit {0}
 KeepsBytes (NoApplet shelf) held = Unit {0}
-KeepsBytes (Played end) held = ⊥
-KeepsBytes (Counted lines counts) held = ⊥
-KeepsBytes LoadFailed held = ⊥
+KeepsBytes ending held = ⊥
+
+-- The device was given no plan, and no count fell. Nothing is shown of a fault that was met: the end of the run tells it.
+pub record IsUnplanned (old new : Meter) : Type 0 where
+  pub faults_kept : old.faults ≤ new.faults
+  pub cuts_kept : old.cuts ≤ new.cuts
+  pub plans_kept : new.plans ≡ old.plans
+  pub latest_kept : new.latest ≡ old.latest
+  pub no_plan : old.plan ≡ NONE → new.plan ≡ NONE

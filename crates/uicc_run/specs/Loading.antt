@@ -1,5 +1,5 @@
 -- A long run, in which a handset carries out lines that are made from a number: what it is given, and what it comes to.
-use Rattle.std.specs.Prelude.{◌≡◌, ℕ, List, [], Option, Some, Result, Ok, Err, IfSome}
+use Rattle.std.specs.Prelude.{◌≡◌, ℕ, List, [], Option, Some, Ok, IfSome, true}
 use Rattle.script_reader.specs.declared.faults.ScriptFault.TheVariants as script
 use Rattle.card_state.specs.Persistent.{Persistent}
 use Rattle.card_state.specs.Sections.{bare_card}
@@ -13,30 +13,28 @@ use Rattle.command_line.specs.declared.requests.Mode.TheVariants.{Load}
 use Rattle.section_lines.specs.Script.{with_lines}
 use Rattle.run_steps.specs.Stepping.{Moment}
 use Rattle.run_steps.specs.Views.{RunShows, TheCard}
-use Rattle.long_runs.specs.LoadLines.{made_lines}
 use Rattle.long_runs.specs.FixedRows.{fixed_rows}
+use Rattle.long_runs.specs.LoadLines.{made_lines}
 use Rattle.long_runs.specs.Rows.{IsFirstRefused}
 use Rattle.long_runs.specs.declared.counts.Counts.{Counts}
 use Rattle.phone_runs.specs.LoadRuns.{FailsAmid, IsCountedRun}
-use Rattle.phone_runs.specs.declared.counting.MemoryFailed.{MemoryFailed}
 use Rattle.phone_runs.specs.Logs.{shown, steps, trace}
 use Rattle.phone_runs.specs.Runs.{Beginning}
+use Rattle.uicc_run.specs.Endings.{IsUnplanned}
 use Rattle.uicc_run.specs.Headline.{Closes, IsMigratedAtMost}
 use Rattle.uicc_run.specs.Opening.{IsGiven}
-use Rattle.uicc_run.specs.Playing.{Given, Leaves}
-use Rattle.uicc_run.specs.Runs.{first_machine}
-use Rattle.uicc_run.specs.Worlds.{World}
+use Rattle.uicc_run.specs.Playing.{Given, Leaves, first_machine}
 use Rattle.uicc_run.specs.Stores.{mark_of, memory_in}
-use Rattle.uicc_run.specs.Unplanned.{IsUnplanned}
+use Rattle.uicc_run.specs.Worlds.{World}
 use Rattle.uicc_run.specs.declared.endings.Ending.{Ending}
-use Rattle.uicc_run.specs.declared.endings.Ending.TheVariants.{Usage, NoMemory, Section, FormatFailed, EepromFailed, NotACard, NoApplet, Played, Counted, LoadFailed}
+use Rattle.uicc_run.specs.declared.endings.Ending.TheVariants.{NoMemory, Section, FormatFailed, EepromFailed, Counted, LoadFailed}
 
 -- the words ask for so many lines from this number, and the run is given the rest
 pub record LoadsFrom (given : Given) (start count : ℕ) (words : List (List ℕ)) (before : World) : Type 0 where
   pub devices : Devices
   pub words_are : IsRequest words (record { mode = Load start count; devices = devices })
   pub store_is : given.pages ≡ devices.pages
-  pub others_are : IsGiven given before.taken (memory_in given.pages before.contents) before.meter before.boxes
+  pub others_are : IsGiven given true before.taken (memory_in given.pages before.contents) before.meter before.boxes
 
 -- the words ask for so many lines from this number
 abbrev pub AskToLoad : List (List ℕ) → ℕ → ℕ → Type 0
@@ -98,12 +96,7 @@ ComesToLoad given start count FormatFailed leaves = IsUnplanned given.meter leav
 ComesToLoad given start count EepromFailed leaves = FailsToOpenFixed given leaves
 ComesToLoad given start count (Counted lines counts) leaves = Loads given start count lines counts leaves
 ComesToLoad given start count LoadFailed leaves = FailsLoading given start count leaves
-ComesToLoad given start count (Section (script.NoRoom number)) leaves = ⊥
-ComesToLoad given start count (Section script.ReadFailed) leaves = ⊥
-ComesToLoad given start count Usage leaves = ⊥
-ComesToLoad given start count (NotACard at) leaves = ⊥
-ComesToLoad given start count (NoApplet shelf) leaves = ⊥
-ComesToLoad given start count (Played end) leaves = ⊥
+ComesToLoad given start count ending leaves = ⊥
 
 -- The run ended so: nothing is put into the sink before its last line.
 pub record TracesLoad (given : Given) (start count : ℕ) (leaves : Leaves) (status : ℕ) (HasCause : Ending → Type 0) : Type 0 where
@@ -111,8 +104,3 @@ pub record TracesLoad (given : Given) (start count : ℕ) (leaves : Leaves) (sta
   pub cause : HasCause ending
   pub comes : ComesToLoad given start count ending leaves
   pub closes : Closes ending (Some given.before) leaves.taken status
-
--- why it ends where the card was open
-abbrev pub ending_for_load : ℕ → Result Counts MemoryFailed → Ending
-ending_for_load lines (Ok counts) = Counted lines counts
-ending_for_load lines (Err failed) = LoadFailed

@@ -1,6 +1,6 @@
 -- The pages that the program prints about itself in place of a run.
-use Rattle.std.specs.Prelude.{◌≡◌, ℕ, ◌⊎◌, List, [], ◌∷◌, Option, String, codes, drop, map, string_bytes}
 use Rattle.std.specs.Io.KnownBytes.{append_known}
+use Rattle.std.specs.Prelude.{◌≡◌, ℕ, ◌⊎◌, List, [], ◌∷◌, Option, String, codes, drop, map, string_bytes}
 use Rattle.uicc_types.specs.Told.{Becomes}
 use Rattle.byte_streams.specs.Streams.{TakesFront}
 use Rattle.command_line.specs.Model.{AskForRun}
@@ -16,9 +16,6 @@ words_of arguments = map string_bytes (drop 1 arguments)
 abbrev pub page_word : Page → List ℕ
 page_word Help = codes "--help"
 page_word Version = codes "--version"
-
-abbrev pub IsPageWord : List ℕ → Page → Type 0
-IsPageWord word page = word ≡ page_word page
 
 -- the words of the command line are that word alone
 abbrev pub AsksFor : List (List ℕ) → Page → Type 0

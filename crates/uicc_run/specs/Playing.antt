@@ -1,6 +1,6 @@
--- Where a run whose lines go to the card stands between two lines after `start`, and how it ends there.
+-- What a run is given and leaves, and how its lines after `start` end, be they for the card or for a handset that serves it.
 use Rattle.std.specs.List.{AllPass}
-use Rattle.std.specs.Prelude.{◌≡◌, ℕ, Bool, true, false, List, [], ◌∷◌, ◌++◌, Option, Some, None, Result, Ok, Err}
+use Rattle.std.specs.Prelude.{◌≡◌, ℕ, Bool, true, List, [], ◌∷◌, ◌++◌, Option, Some, None, Result, Ok, ◌⊎◌, false}
 use Rattle.uicc_types.specs.Counts.{Meter}
 use Rattle.uicc_types.specs.declared.answers.Answer.{Answer}
 use Rattle.uicc_types.specs.declared.plans.Plan.{Plan}
@@ -13,22 +13,23 @@ use Rattle.script_form.specs.Reads.{IsOnly}
 use Rattle.script_form.specs.declared.lines.ScriptLine.{ScriptLine}
 use Rattle.script_form.specs.declared.lines.ScriptLine.TheVariants.{Start}
 use Rattle.script_reader.specs.Behind.{StopsReading}
-use Rattle.script_reader.specs.Reading.{Follows}
 use Rattle.script_reader.specs.Said.{AreRead}
 use Rattle.script_reader.specs.declared.behind.PlayEnd.{PlayEnd}
-use Rattle.script_reader.specs.declared.behind.PlayEnd.TheVariants.{Finished, BadLine, ReadFailed, SinkFailed, ResetFailed}
-use Rattle.script_reader.specs.declared.reader.ScriptReader.{ScriptReader}
+use Rattle.script_reader.specs.declared.behind.PlayEnd.TheVariants.{SinkFailed, ResetFailed}
+use Rattle.card_state.specs.Migration.{migrated}
 use Rattle.card_state.specs.Persistent.{Persistent}
-use Rattle.applet_trait.specs.Minds.{AppletState}
+use Rattle.applet_trait.specs.Minds.{AppletState, kind_on}
 use Rattle.card_model.specs.Counts.{IsCounted}
 use Rattle.card_model.specs.Runs.{plan_given, armed_after, waiting_after}
-use Rattle.card_model.specs.States.{IsGood, Machine}
+use Rattle.card_model.specs.States.{IsGood, Machine, powered, woken}
+use Rattle.card_core.specs.Openings.{with_all_shelves}
 use Rattle.section_lines.specs.Script.{with_lines}
 use Rattle.run_steps.specs.Runs.{ends_calm, text_of}
-use Rattle.run_steps.specs.Stepping.{Holds, IsCutOff, IsSeen, Moment, Rests}
+use Rattle.run_steps.specs.Stepping.{Holds, IsCutOff, Moment}
 use Rattle.run_steps.specs.Views.{CardView, IsRunOf, Known, LastShows, RunShows}
+use Rattle.phone_runs.specs.Lines.{PhoneComesTo}
+use Rattle.phone_runs.specs.Runs.{Beginning}
 use Rattle.uicc_run.specs.Accounts.{Account, AreTold, BreaksOffDeed, Deed, ShowsAsMany, Takes}
-use Rattle.uicc_run.specs.Runs.{HasKindsOf, first_machine}
 use Rattle.uicc_run.specs.Steps.{deeds, deeds_of, may_stand}
 
 -- What a run is given: the text of the script, what the sink has taken already, whether its store is the one whose pages move,
@@ -69,6 +70,11 @@ pub record AreReadInPlace (given : Given) (found : LineList) (section played : L
   pub described : with_lines given.boxes given.first section ≡ Ok card
   pub in_place : AllPass (may_stand given.is_served) played
 
+-- The card that is opened over a store that stands for this, with these boxes: with power, as a reset leaves it. Where its files
+-- leave room for the rows of a wide card it has become one.
+abbrev pub first_machine : Persistent → List (Option AppletState) → Machine
+first_machine held boxes = powered (woken (migrated held) (with_all_shelves boxes))
+
 -- The card itself as it is opened after these lines: it holds what they describe, or what the memory stood for, and it is a good one, in
 -- which each applet that is registered has its box.
 pub record IsCardOpened (given : Given) (section : List ScriptLine) (machine : Machine) : Type 0 where
@@ -97,25 +103,15 @@ pub record CarriedOut (given : Given) (first : CardView) : Type 0 where
   pub run : RunShows first account.steps account.own card
   pub shows : ShowsAsMany account.own account.shown
 
--- ---- between two lines
-
--- lines after `start` have been carried out, all that they show was taken, and the link keeps this
-pub record IsPlaying (given : Given) (first : CardView) (script : ScriptReader) (left : Option (List ℕ)) (kept : Option Answer) (now : Moment) : Type 0 where
-  pub done : CarriedOut given first
-  pub unserved : given.is_served ≡ false
-  pub follows : Follows given.text done.found script left
-  pub keeps : done.kept ≡ kept
-  pub seen : IsSeen done.card now
-  pub written : now.taken ≡ Some (given.before ++ text_of done.account.shown)
-  pub counted : IsCounted given.meter now.meter (plan_given done.account.steps) done.account.own
-  pub waits : now.waiting ≡ waiting_after NONE done.account.steps
-  pub rests : Rests done.card done.account.own now.is_due
-
 -- ---- why it ends
 
 -- why a run ends after `start`
 abbrev pub StopsPlaying : Given → LineList → Option (List ℕ) → PlayEnd → Type 0
 StopsPlaying given found left end = StopsReading (may_stand given.is_served) given.text found left end
+
+-- where there is a box on a shelf of the first, there is one of its kind on that of the second
+abbrev pub HasKindsOf : List (Option AppletState) → List (Option AppletState) → Type 0
+HasKindsOf boxes others = (shelf kind : ℕ) → kind_on boxes shelf ≡ Some kind → kind_on others shelf ≡ Some kind
 
 -- What the card itself leaves: the memory stands for what it holds. Each box that it has is handed back on its shelf, of its kind; where
 -- nothing failed in the last command or reset just these are, with the minds that they have.
@@ -178,13 +174,28 @@ pub record FailsSo (given : Given) (first : CardView) (now : Leaves) : Type 0 wh
 
 -- by each end
 abbrev pub CardComesTo : Given → CardView → Option (List ℕ) → PlayEnd → Leaves → Type 0
-CardComesTo given first left Finished now = EndsSo given first left Finished now
-CardComesTo given first left (BadLine number) now = EndsSo given first left (BadLine number) now
-CardComesTo given first left ReadFailed now = EndsSo given first left ReadFailed now
 CardComesTo given first left SinkFailed now = BreaksSo given first now
 CardComesTo given first left ResetFailed now = FailsSo given first now
+CardComesTo given first left end now = EndsSo given first left end now
 
--- what a line after `start` comes to: it was carried out, or the run ends
-abbrev pub GivesPlayed : Given → CardView → ScriptReader → Option (List ℕ) → Option Answer → Moment → Result (Unit {0}) PlayEnd → Type 0
-GivesPlayed given first script left kept now (Ok done) = IsPlaying given first script left kept now
-GivesPlayed given first script left kept now (Err end) = CardComesTo given first left end (left_at now)
+-- ---- to the card or to a handset
+
+-- what the handset's run begins with, where the card that was opened is seen so
+abbrev pub beginning : Given → CardView → Beginning
+beginning given first = record { first = first; before = given.before; meter = given.meter }
+
+-- Where they go to a handset: after the lines before `start`, which describe this card or none, and the card that was opened, what
+-- `phone_runs` says of them. What is left is what the last moment of that has.
+pub record ServedComesTo (given : Given) (first : CardView) (left : Option (List ℕ)) (end : PlayEnd) (now : Leaves) : Type 0 where
+  pub section : List ScriptLine
+  pub card : Option Persistent
+  pub described : with_lines given.boxes given.first section ≡ Ok card
+  pub opened : IsFirst given section first
+  pub at : Moment
+  pub left_is : now ≡ left_at at
+  pub comes : PhoneComesTo given.text (section ++ Start ∷ []) (beginning given first) left end at
+
+-- where they go to the card or to a handset
+abbrev pub ComesTo : Given → CardView → Option (List ℕ) → PlayEnd → Leaves → Type 0
+ComesTo given first left end now =
+    ((given.is_served ≡ false) × CardComesTo given first left end now) ⊎ ((given.is_served ≡ true) × ServedComesTo given first left end now)

@@ -1,5 +1,5 @@
 -- What a run owes its caller, by its words, its status and what is seen of it before and after it. Each field is a fact of its own.
-use Rattle.std.specs.Prelude.{◌≡◌, ◌⊎◌, ◌+◌, ◌≤◌, ℕ, List, [], Option, Some, true, is_some}
+use Rattle.std.specs.Prelude.{◌≡◌, ◌⊎◌, ◌+◌, ◌≤◌, ℕ, Bool, true, false, List, [], Option, Some, is_some}
 use Rattle.std.specs.Io.KnownBytes.{append_known}
 use Rattle.uicc_types.specs.Counts.{CountsFailure, Rose}
 use Rattle.byte_streams.specs.Lines.{LineList}
@@ -7,81 +7,46 @@ use Rattle.byte_streams.specs.Reading.{IsTaken}
 use Rattle.byte_streams.specs.declared.limits.TheConstants.{MOST_BYTES}
 use Rattle.card_state.specs.Persistent.{Persistent}
 use Rattle.command_line.specs.Model.{AskForRun}
-use Rattle.bip_runs.specs.Scripts.{IsFirstBadBip, IsGoodBip}
+use Rattle.bip_runs.specs.Serving.{IsFirstBadBip, IsGoodBip}
 use Rattle.uicc_run.specs.Causes.{IsCaused, IsLoadCaused}
-use Rattle.uicc_run.specs.Endings.{HasFailed, IsEarly, IsUnopened}
+use Rattle.uicc_run.specs.Endings.{HasFailed}
 use Rattle.uicc_run.specs.Headline.{Closes, Traces, last_text}
 use Rattle.uicc_run.specs.Loading.{AskToLoad, IsFixedCard, LoadsFrom, TracesLoad}
-use Rattle.uicc_run.specs.Opening.{ReadsFrom, RunsFrom}
+use Rattle.uicc_run.specs.Opening.{RunsFrom}
 use Rattle.uicc_run.specs.Playing.{Given}
-use Rattle.uicc_run.specs.Reading.{ReadsTo}
-use Rattle.uicc_run.specs.Worlds.{World, left_in, seen}
 use Rattle.uicc_run.specs.Scripts.{CanOpen, HoldsDescribed, IsFirstBad, IsFirstTooMuch, IsGoodScript, IsUndisturbed, MeetsBad, ReachesStart, Refusal, RefusesAndTells, StopsAndTells, StopsAtStart, StopsBehind, TellsNext, TellsWhy}
-use Rattle.uicc_run.specs.Showing.{ShowsTo}
 use Rattle.uicc_run.specs.Stores.{content_in}
 use Rattle.uicc_run.specs.Terminals.{AskForBip, IsUnbroken, TracesBip}
-use Rattle.uicc_run.specs.Unplanned.{IsUnplanned}
-use Rattle.uicc_run.specs.declared.endings.Ending.{Ending}
+use Rattle.uicc_run.specs.Worlds.{Seen, World, left_in, seen}
 use Rattle.uicc_run.specs.declared.endings.Ending.TheVariants.{Usage, EepromFailed}
 
--- How a run of a script ended, over any memory: the sink took the last line of that end after what is shown before it. Which lines were
--- read, and why no more of them, where the lines or the source ended it. Where a card was open, what the lines show, to the card or by a
--- handset, and what the device has counted of that. Where no card was open, nothing was shown, the device was given no plan and counts no
--- fewer faults, and the boxes are as they were; and where the script was not read up to `start`, but for want of memory, or its words are
--- wrong, so is the memory.
-pub record EndsUntold (given : Given) (status : ℕ) (before after : World) (MemoryIsSame BoxesAreSame : Type 0) : Type 0 where
-  pub ending : Ending
-  pub put : Option (List ℕ)
-  pub closes : Closes ending put after.taken status
-  pub reads : ReadsTo given after.left ending
-  pub shows : ShowsTo given after.left ending (record (left_in given.pages after) { taken = put })
-  pub unshown : IsUnopened ending → put ≡ Some given.before
-  pub unplanned : IsUnopened ending → IsUnplanned before.meter after.meter
-  pub boxes_kept : IsUnopened ending → BoxesAreSame
-  pub untouched : IsEarly ending → MemoryIsSame
+-- ---- which scripts end with which status
 
--- Where neither the source nor the sink failed and the run doesn't end for its memory, a good script is carried out to its end, if there
--- is memory to begin with and the card can be opened, of which nothing is known over a memory that tells nothing. Status 0 comes only
--- for a good script, over any memory, and that is read to its end then.
-pub record CarriesOut (words : List (List ℕ)) (status : ℕ) (before after : World) : Type 0 where
-  pub complete : (given : Given) → RunsFrom given words before → AskForRun words
-      → IsUndisturbed (seen status before after)
-      → IsGoodScript given → CanOpen given → (status ≡ 0) ⊎ (status ≡ 5)
-  pub good_over_any : (given : Given) → ReadsFrom given words before → AskForRun words
-      → IsUndisturbed (seen status before after)
-      → IsGoodScript given → (status ≡ 0) ⊎ (status ≡ 5) ⊎ (status ≡ 7)
-  pub complete_only : (given : Given) → ReadsFrom given words before → status ≡ 0 → IsGoodScript given
-  pub read_out : (given : Given) → ReadsFrom given words before → status ≡ 0 → after.left ≡ Some []
+-- By the script alone, over any memory. Where neither the source nor the sink failed and the run doesn't end for its memory, a good script is
+-- carried out to its end, and another one up to its first bad line, or the first for which there is no room, whose number is then the last of
+-- the trace; if there is memory to begin with, and the card can be opened, of which nothing is known over a memory that tells nothing. Status 0
+-- comes only for a good script, which is read to its end then; 2 and 8 only so; and 7 only where `start` comes after good lines.
+pub record EndsByScript (given : Given) (words : List (List ℕ)) (seen : Seen) : Type 0 where
+  pub good_over_any : AskForRun words → IsUndisturbed seen → IsGoodScript given → (seen.status ≡ 0) ⊎ (seen.status ≡ 5) ⊎ (seen.status ≡ 7)
+  pub bad_over_any : AskForRun words → IsUndisturbed seen → (found : LineList) → IsFirstBad given found
+      → ((seen.status ≡ 2) × TellsNext found seen.taken) ⊎ (seen.status ≡ 5) ⊎ ((seen.status ≡ 7) × StopsBehind given found)
+  pub no_room : AskForRun words → IsUndisturbed seen → (found : LineList) → IsFirstTooMuch given found
+      → ((seen.status ≡ 8) × TellsNext found seen.taken) ⊎ (seen.status ≡ 5)
+  pub complete_only : seen.status ≡ 0 → IsGoodScript given
+  pub read_out : seen.status ≡ 0 → seen.left ≡ Some []
+  pub bad_line_only : seen.status ≡ 2 → StopsAndTells (IsFirstBad given) given.text seen.left seen.taken
+  pub no_room_only : seen.status ≡ 8 → StopsAndTells (IsFirstTooMuch given) given.text seen.left seen.taken
+  pub refused_only : seen.status ≡ 7 → (card : Option Persistent) × ReachesStart given card
 
--- Another script is carried out up to its first bad line, after `start` where the card can be opened, and the trace ends with its number.
--- Status 2 comes only so, over any memory.
-pub record StopsAtBad (words : List (List ℕ)) (status : ℕ) (before after : World) : Type 0 where
-  pub bad_line : (given : Given) → RunsFrom given words before → AskForRun words
-      → IsUndisturbed (seen status before after)
-      → (found : LineList) → MeetsBad given found → ((status ≡ 2) × TellsNext found after.taken) ⊎ (status ≡ 5)
-  pub bad_over_any : (given : Given) → ReadsFrom given words before → AskForRun words
-      → IsUndisturbed (seen status before after)
-      → (found : LineList) → IsFirstBad given found
-      → ((status ≡ 2) × TellsNext found after.taken) ⊎ (status ≡ 5) ⊎ ((status ≡ 7) × StopsBehind given found)
-  pub bad_line_only : (given : Given) → ReadsFrom given words before → status ≡ 2
-      → StopsAndTells (IsFirstBad given) given.text after.left after.taken
-
--- So it is with a line for which there is no room, and status 8, over any memory.
-pub record StopsForRoom (words : List (List ℕ)) (status : ℕ) (before after : World) : Type 0 where
-  pub no_room : (given : Given) → ReadsFrom given words before → AskForRun words
-      → IsUndisturbed (seen status before after)
-      → (found : LineList) → IsFirstTooMuch given found → ((status ≡ 8) × TellsNext found after.taken) ⊎ (status ≡ 5)
-  pub no_room_only : (given : Given) → ReadsFrom given words before → status ≡ 8
-      → StopsAndTells (IsFirstTooMuch given) given.text after.left after.taken
-
--- A card that can't be opened is refused, with why. Status 7 comes only so; over any memory only where `start` comes after good lines.
-pub record RefusesCards (words : List (List ℕ)) (status : ℕ) (before after : World) : Type 0 where
-  pub no_card : (given : Given) → RunsFrom given words before → AskForRun words
-      → IsUndisturbed (seen status before after)
-      → (why : Refusal) → StopsAtStart given why → ((status ≡ 7) × TellsWhy given why after.taken) ⊎ (status ≡ 5)
-  pub no_card_only : (given : Given) → RunsFrom given words before → status ≡ 7 → RefusesAndTells given after.taken
-  pub refused_only : (given : Given) → ReadsFrom given words before → status ≡ 7
-      → (card : Option Persistent) × ReachesStart given card
+-- By the script and what the memory holds, where that tells its bytes: so it is where the card can be opened. One that can't be is refused,
+-- with why, and status 7 comes only so.
+pub record EndsByCard (given : Given) (words : List (List ℕ)) (seen : Seen) : Type 0 where
+  pub complete : AskForRun words → IsUndisturbed seen → IsGoodScript given → CanOpen given → (seen.status ≡ 0) ⊎ (seen.status ≡ 5)
+  pub bad_line : AskForRun words → IsUndisturbed seen → (found : LineList) → MeetsBad given found
+      → ((seen.status ≡ 2) × TellsNext found seen.taken) ⊎ (seen.status ≡ 5)
+  pub no_card : AskForRun words → IsUndisturbed seen → (why : Refusal) → StopsAtStart given why
+      → ((seen.status ≡ 7) × TellsWhy given why seen.taken) ⊎ (seen.status ≡ 5)
+  pub no_card_only : seen.status ≡ 7 → RefusesAndTells given seen.taken
 
 -- A long run is carried out to its end, where each of its rows has its box and nothing fails.
 pub record LoadsToEnd (words : List (List ℕ)) (status : ℕ) (before after : World) : Type 0 where
@@ -116,27 +81,25 @@ pub record HasCauses (status : ℕ) (before after : World) : Type 0 where
   pub reset_failed : status ≡ 6
       → Rose before.meter.faults after.meter.faults ⊎ (after.taken ≡ append_known before.taken (last_text EepromFailed))
 
--- ---- the four parts of what `run` owes
+-- ---- the three parts of what `run` owes
 
--- Where script, sink and memory tell their bytes: of a script for a card, be it made, opened or served by a handset, the trace is that of the
--- abstract card, and the memory holds at the end what that card does. Where sink and memory tell theirs: a long run comes to the counts of a
--- trace that its lines have on its card. Where the script and the sink do: of the channels of a terminal the trace is that of the script's
+-- What was carried out, and what the sink has of it. Of a script for a card, be it made, opened or served by a handset: where script, sink and
+-- memory tell their bytes the trace is that of the abstract card, and the memory holds at the end what that card does; over any memory, also
+-- one that tells nothing, as an image, it shows what the card's power allows. Where sink and memory tell theirs: a long run comes to the counts
+-- of a trace that its lines have on its card. Where the script and the sink do: of the channels of a terminal the trace is that of the script's
 -- lines, and on each channel the card got the first of the bytes that it gave, in order.
-pub record TellsAll (words : List (List ℕ)) (status : ℕ) (before after : World) (MemoryIsSame BoxesAreSame : Type 0) : Type 0 where
-  pub trace : (given : Given) → RunsFrom given words before
-      → Traces given after.left (left_in given.pages after) status (IsCaused given words before after MemoryIsSame BoxesAreSame)
+pub record HasTraces (words : List (List ℕ)) (status : ℕ) (before after : World) (MemoryIsSame BoxesAreSame : Type 0) : Type 0 where
+  pub trace : (given : Given) (told : Bool) → RunsFrom given told words before
+      → Traces given told after.left (left_in given.pages after) status (IsCaused given words before after MemoryIsSame BoxesAreSame)
   pub load : (given : Given) (start count : ℕ) → LoadsFrom given start count words before
       → TracesLoad given start count (left_in given.pages after) status (IsLoadCaused given before after MemoryIsSame BoxesAreSame)
   pub bip : (text : List ℕ) → AskForBip words → before.left ≡ Some text → TracesBip text before.taken (seen status before after)
 
--- which scripts end with which status: carried out to the end, 0; words in no form, 1; a bad line, 2; no card, 7; no room for a line, 8;
--- and why 3, 4 and 6 come
+-- which scripts end with which status, over any memory and by what it holds; that words in no form end with 1; and why 3, 4 and 6 come
 pub record HasStatuses (words : List (List ℕ)) (status : ℕ) (before after : World) : Type 0 where
-  pub good : CarriesOut words status before after
+  pub script : (given : Given) → RunsFrom given false words before → EndsByScript given words (seen status before after)
+  pub card : (given : Given) → RunsFrom given true words before → EndsByCard given words (seen status before after)
   pub usage : RefusesWords words status before after
-  pub bad : StopsAtBad words status before after
-  pub no_card : RefusesCards words status before after
-  pub no_room : StopsForRoom words status before after
   pub load : LoadsToEnd words status before after
   pub bip : ServesToEnd words status before after
   pub causes : HasCauses status before after
@@ -151,14 +114,13 @@ pub record LeavesTheRest (words : List (List ℕ)) (status : ℕ) (before after 
   pub unread : (AskForRun words → ⊥) → ScriptIsSame
   pub load_unread : (start count : ℕ) → AskToLoad words start count → ScriptIsSame
   pub taken : (text : List ℕ) → before.left ≡ Some text → IsTaken (MOST_BYTES + 1) text after.left
-  pub no_memory : (given : Given) → RunsFrom given words before → is_some given.first ≡ true → status ≡ 5
+  pub no_memory : (given : Given) → RunsFrom given true words before → is_some given.first ≡ true → status ≡ 5
       → MemoryIsSame ⊎ HoldsDescribed given (content_in given.pages after.contents)
 
--- What a run owes its caller by its words, its status, and what is seen of it before and after it: where all tell their bytes; over any
--- memory, also one that tells nothing, as an image; which scripts end with which status; and what stays. The last three parameters say that
--- the script, the memory and the boxes are as they were.
+-- What a run owes its caller by its words, its status, and what is seen of it before and after it: what was carried out, and what the sink has
+-- of it; which scripts end with which status; and what stays. The last three parameters say that the script, the memory and the boxes are as
+-- they were.
 pub record RunsAsAsked (words : List (List ℕ)) (status : ℕ) (before after : World) (ScriptIsSame MemoryIsSame BoxesAreSame : Type 0) : Type 0 where
-  pub told : TellsAll words status before after MemoryIsSame BoxesAreSame
-  pub untold : (given : Given) → ReadsFrom given words before → EndsUntold given status before after MemoryIsSame BoxesAreSame
+  pub traces : HasTraces words status before after MemoryIsSame BoxesAreSame
   pub statuses : HasStatuses words status before after
   pub stays : LeavesTheRest words status before after ScriptIsSame MemoryIsSame BoxesAreSame

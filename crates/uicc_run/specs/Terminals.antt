@@ -1,5 +1,5 @@
 -- The run of a terminal's channels: what it comes to, and when it comes to its end. No card is made or opened for it.
-use Rattle.std.specs.Prelude.{◌≡◌, ◌≤◌, ℕ, List, Option, Some}
+use Rattle.std.specs.Prelude.{◌≡◌, ℕ, List, Option, Some}
 use Rattle.uicc_types.specs.Counts.{Rose}
 use Rattle.command_line.specs.Model.{IsRequest}
 use Rattle.command_line.specs.declared.requests.Devices.{Devices}
@@ -7,9 +7,9 @@ use Rattle.command_line.specs.declared.requests.Mode.TheVariants.{Bip}
 use Rattle.bip_runs.specs.Serving.{BipComesTo}
 use Rattle.uicc_run.specs.Endings.{status_for}
 use Rattle.uicc_run.specs.Headline.{Closes}
-use Rattle.uicc_run.specs.Worlds.{World, Seen}
+use Rattle.uicc_run.specs.Worlds.{Seen}
 use Rattle.uicc_run.specs.declared.endings.Ending.{Ending}
-use Rattle.uicc_run.specs.declared.endings.Ending.TheVariants.{Usage, NoMemory, Section, FormatFailed, EepromFailed, NotACard, NoApplet, Played, Counted, LoadFailed}
+use Rattle.uicc_run.specs.declared.endings.Ending.TheVariants.{NoMemory, Played}
 
 -- the words ask for it
 abbrev pub AskForBip : List (List ℕ) → Type 0
@@ -19,21 +19,7 @@ AskForBip words = (devices : Devices) × IsRequest words (record { mode = Bip; d
 abbrev pub ComesToBip : List ℕ → Option (List ℕ) → Option (List ℕ) → Option (List ℕ) → Ending → Type 0
 ComesToBip text before left taken NoMemory = (left ≡ Some text) × (taken ≡ before)
 ComesToBip text before left taken (Played end) = BipComesTo text before left taken end
-ComesToBip text before left taken Usage = ⊥
-ComesToBip text before left taken (Section fault) = ⊥
-ComesToBip text before left taken FormatFailed = ⊥
-ComesToBip text before left taken EepromFailed = ⊥
-ComesToBip text before left taken (NotACard at) = ⊥
-ComesToBip text before left taken (NoApplet shelf) = ⊥
-ComesToBip text before left taken (Counted lines counts) = ⊥
-ComesToBip text before left taken LoadFailed = ⊥
-
--- what it comes to by its words, and leaves alone: what it is for the memory and the boxes to be as they were
-pub record ServesBip (before after : World) (MemoryIsSame BoxesAreSame : Type 0) (ending : Ending) : Type 0 where
-  pub comes : (text : List ℕ) → before.left ≡ Some text → ComesToBip text before.taken after.left after.taken ending
-  pub low : status_for ending ≤ 5
-  pub memory_kept : MemoryIsSame
-  pub boxes_kept : BoxesAreSame
+ComesToBip text before left taken ending = ⊥
 
 -- why it ended so, be its last line taken or not
 pub record IsBipCaused (seen : Seen) (ending : Ending) : Type 0 where

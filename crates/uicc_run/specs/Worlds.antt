@@ -5,8 +5,6 @@ use Rattle.byte_streams.specs.declared.streams.Sink.{Ghosts as SinkWords}
 use Rattle.byte_streams.specs.declared.streams.Source.{Ghosts as SourceWords}
 use Rattle.eeprom_model.specs.Bench.{new_bench}
 use Rattle.eeprom_model.specs.declared.device.Eeprom.{Ghosts as EepromWords}
-use Rattle.store_form.specs.declared.store.Store.{Ghosts as StoreWords}
-use Rattle.card_state.specs.Standing.{standing}
 use Rattle.applet_trait.specs.Minds.{AppletState, minds_of}
 use Rattle.applet_trait.specs.declared.applets.Applet.{Ghosts as AppletWords}
 use Rattle.uicc_run.specs.Playing.{Leaves}
@@ -35,19 +33,6 @@ world source_words sink_words device_words box_words source sink device boxes = 
   sink = sink_words.faults sink;
   contents = device_words.contents device;
   meter = device_words.meter device;
-  boxes = minds_of box_words.mind boxes;
-}
-
--- over a store: the bytes are those that it stands for
-abbrev pub stored : {R W S B : Type 0} → SourceWords R → SinkWords W → StoreWords S → AppletWords B
-    → R → W → S → List (Option B) → World
-stored source_words sink_words store_words box_words source sink store boxes = record {
-  left = source_words.left source;
-  source = source_words.faults source;
-  taken = sink_words.taken sink;
-  sink = sink_words.faults sink;
-  contents = store_words.stable store;
-  meter = store_words.meter store;
   boxes = minds_of box_words.mind boxes;
 }
 
@@ -98,7 +83,3 @@ seen status before after = record {
 -- over a device: what the one of the two stores stands for
 abbrev pub left_in : Bool → World → Leaves
 left_in pages after = record { held = held_in pages after.contents; taken = after.taken; meter = after.meter; boxes = after.boxes }
-
--- over a store with this mark
-abbrev pub left_of : ℕ → World → Leaves
-left_of mark after = record { held = standing mark after.contents; taken = after.taken; meter = after.meter; boxes = after.boxes }

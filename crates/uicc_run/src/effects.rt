@@ -1,5 +1,5 @@
 //! What a line after `start` does.
-ghost use Rattle.uicc_run.specs.Steps.{IsEffect};
+ghost use Rattle.uicc_run.specs.BetweenLines.{IsEffect};
 
 use run_steps::Move;
 use script_form::ScriptLine;

@@ -1,6 +1,7 @@
 //! To whom the lines after `start` go.
 ghost use Rattle.std.specs.Prelude.{◌≡◌};
-ghost use Rattle.uicc_run.specs.Listeners.{IsCarrierBy, listener_of};
+ghost use Rattle.uicc_run.specs.BetweenLines.{IsCarrierBy};
+ghost use Rattle.uicc_run.specs.Opening.{listener_of};
 
 use command_line::{Mode, Transport};
 use run_steps::Carrier;

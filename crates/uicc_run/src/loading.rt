@@ -1,12 +1,12 @@
 //! A long run: a handset carries out lines that are made from a number, and what it did is counted.
-ghost use Rattle.std.specs.Prelude.{◌≡◌, ◌⊎◌, [], ℕ, List, Option, Some, Ok, option_map, IfSome};
+ghost use Rattle.std.specs.Prelude.{◌≡◌, ◌⊎◌, [], ℕ, true, List, Option, Some, Ok, option_map, IfSome};
 ghost use Rattle.card_state.specs.Persistent.{Persistent};
 ghost use Rattle.card_state.specs.Places.{memory_size};
 ghost use Rattle.card_state.specs.Standing.{standing, stands_for};
 ghost use Rattle.applet_trait.specs.Minds.{minds_of};
 ghost use Rattle.card_model.specs.Counts.{IsCounted};
-ghost use Rattle.uicc_run.specs.Causes.{EndsLoad, FitsStore};
-ghost use Rattle.uicc_run.specs.Loading.{ComesToLoad, HoldsFixed, IsFixedCard, ending_for_load};
+ghost use Rattle.uicc_run.specs.Making.{EndsLoad, FitsStore, ending_for_load};
+ghost use Rattle.uicc_run.specs.Loading.{ComesToLoad, HoldsFixed, IsFixedCard};
 ghost use Rattle.uicc_run.specs.Opening.{IsGiven};
 ghost use Rattle.uicc_run.specs.Playing.{Given};
 ghost use Rattle.uicc_run.specs.Stores.{content_in, held_in, mark_of, memory_in, size_of};
@@ -39,7 +39,7 @@ pub fn load<E: Eeprom, B: Applet>(
 ) -> (Ending, E, Vec<Option<B>>)
     requires fits { FitsStore (E.byte_count eeprom) (size_of pages) cast.items }
     ensures comes { (given : Given) (before taken : Option (List ℕ)) → given.pages ≡ pages
-        → IsGiven given before (memory_in given.pages (E.contents eeprom)) (E.meter eeprom)
+        → IsGiven given true before (memory_in given.pages (E.contents eeprom)) (E.meter eeprom)
         (minds_of B.mind cast.items)
         → ComesToLoad given start count result.0 (record {
           held = held_in given.pages (E.contents result.1);
@@ -75,7 +75,7 @@ fn load_on<E: Eeprom, B: Applet>(
     requires fits { FitsStore (E.byte_count eeprom) (size_of pages) cast.items }
     ensures comes { (given : Given) (before taken : Option (List ℕ)) → given.pages ≡ pages
         → IsFixedCard given.boxes section.now
-        → IsGiven given before (memory_in given.pages (E.contents eeprom)) (E.meter eeprom)
+        → IsGiven given true before (memory_in given.pages (E.contents eeprom)) (E.meter eeprom)
         (minds_of B.mind cast.items)
         → ComesToLoad given start count result.0 (record {
           held = held_in given.pages (E.contents result.1);
@@ -110,7 +110,7 @@ fn load_over<S: Store, B: Applet>(
 ) -> (Ending, S, Vec<Option<B>>)
     requires fits { FitsStore (S.byte_count store) memory_size cast.items }
     ensures comes { (given : Given) (before taken : Option (List ℕ)) → IsFixedCard given.boxes section.now
-        → IsGiven given before (option_map (stands_for (S.store_mark store)) (S.stable store)) (S.meter store)
+        → IsGiven given true before (option_map (stands_for (S.store_mark store)) (S.stable store)) (S.meter store)
         (minds_of B.mind cast.items)
         → ComesToLoad given start count result.0 (record {
           held = standing (S.store_mark result.1) (S.stable result.1);

@@ -10,11 +10,13 @@ ghost use Rattle.run_steps.specs.Moves.{step_of};
 ghost use Rattle.run_steps.specs.Tallies.{tally};
 ghost use Rattle.run_steps.specs.Views.{CardView};
 ghost use Rattle.phone_runs.specs.LineTallies.{TalliesLines};
-ghost use Rattle.phone_runs.specs.Lines.{IsBetweenLines, IsServing, PhoneComesTo};
+ghost use Rattle.phone_runs.specs.BetweenLines.{IsBetweenLines, IsServing};
+ghost use Rattle.phone_runs.specs.Lines.{PhoneComesTo};
 ghost use Rattle.phone_runs.specs.Runs.{Beginning};
 ghost use Rattle.uicc_run.specs.Accounts.{kept_behind};
-ghost use Rattle.uicc_run.specs.Listeners.{is_handset};
-ghost use Rattle.uicc_run.specs.Playing.{CardComesTo, Given, GivesPlayed, IsPlaying, left_at};
+ghost use Rattle.uicc_run.specs.Opening.{is_handset};
+ghost use Rattle.uicc_run.specs.Playing.{CardComesTo, Given, left_at};
+ghost use Rattle.uicc_run.specs.BetweenLines.{GivesPlayed, IsPlaying};
 ghost use Rattle.uicc_run.specs.Steps.{may_follow, may_stand};
 
 use crate::effects::{Effect, effect_of};

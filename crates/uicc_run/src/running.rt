@@ -1,37 +1,31 @@
 //! A whole run: the words of the command line, the script, the card's memory and the trace.
-ghost use Rattle.std.specs.Prelude.{◌≡◌, ◌≢◌, ◌⊎◌, ◌≤◌, ℕ, List, [], Some, None, true, map, string_bytes, is_some, option_map, IsErrOf, OnOk, OnErr, Option};
+ghost use Rattle.std.specs.Prelude.{◌≡◌, ◌≢◌, ◌⊎◌, ◌≤◌, ◌+◌, ℕ, Bool, false, List, Some, None, true, map, string_bytes, is_some, option_map, IsErrOf, OnOk, OnErr, Option};
 ghost use Rattle.uicc_types.specs.Counts.{Rose};
 ghost use Rattle.uicc_types.specs.Told.{Becomes};
-ghost use Rattle.byte_streams.specs.Reading.{IsWithin};
-ghost use Rattle.script_form.specs.declared.lines.ScriptLine.{ScriptLine as AnyLine};
-ghost use Rattle.script_reader.specs.Behind.{IsReading, LinesReadTo};
+ghost use Rattle.byte_streams.specs.Reading.{IsTaken, IsWithin};
+ghost use Rattle.byte_streams.specs.declared.limits.TheConstants.{MOST_BYTES};
 ghost use Rattle.script_reader.specs.Reading.{reading};
 ghost use Rattle.card_state.specs.Places.{memory_size};
 ghost use Rattle.card_state.specs.Standing.{stands_for};
 ghost use Rattle.card_state.specs.Persistent.{Persistent};
 ghost use Rattle.layout_section.specs.Laying.{KeepsFirstOr};
 ghost use Rattle.applet_trait.specs.Minds.{minds_of};
-ghost use Rattle.card_model.specs.Counts.{IsCounted};
 ghost use Rattle.section_lines.specs.SectionReading.{AtStart};
 ghost use Rattle.run_steps.specs.Ends.{moment_at};
 ghost use Rattle.run_steps.specs.Tallies.{tally};
 ghost use Rattle.run_steps.specs.Views.{CardView};
 ghost use Rattle.phone_runs.specs.LineTallies.{TalliesLines};
-ghost use Rattle.uicc_run.specs.Causes.{EndsFor, FitsRun, FitsStore, KeepsMemory, KeepsOpened, KeepsCardThere, KeepsStoreForm, LoadsUntold, ReadsUntold, RefusesAtFirst};
-ghost use Rattle.uicc_run.specs.Endings.{HasFailed, IsUnopened, status_for};
+ghost use Rattle.uicc_run.specs.Making.{EndsFor, FitsStore, KeepsOpened, KeepsCardThere, KeepsStoreForm, LoadsUntold, RefusesAtFirst, IsMade, IsToPlay, ending_for, makes, left_of, stored, ServesBip};
+ghost use Rattle.uicc_run.specs.Causes.{FitsRun, KeepsMemory};
+ghost use Rattle.uicc_run.specs.Endings.{HasFailed, status_for};
 ghost use Rattle.uicc_run.specs.Headline.{Closes, Comes};
-ghost use Rattle.uicc_run.specs.Listeners.{is_handset};
-ghost use Rattle.uicc_run.specs.Opening.{IsGiven, IsMade, IsStarted, IsToPlay, IsToRead, RunsFrom, ending_for, makes};
-ghost use Rattle.uicc_run.specs.Playing.{Given, left_at};
-ghost use Rattle.uicc_run.specs.Reading.{ReadsTo};
+ghost use Rattle.uicc_run.specs.Opening.{is_handset, IsGiven, RunsFrom};
+ghost use Rattle.uicc_run.specs.BetweenLines.{IsStarted};
+ghost use Rattle.uicc_run.specs.Playing.{Given, left_at, ComesTo};
 ghost use Rattle.uicc_run.specs.Running.{RunsAsAsked};
-ghost use Rattle.uicc_run.specs.Worlds.{left_in, left_of, world, stored};
-ghost use Rattle.uicc_run.specs.Serving.{ComesTo};
-ghost use Rattle.uicc_run.specs.Showing.{ShowsTo};
-ghost use Rattle.uicc_run.specs.Steps.{may_stand};
+ghost use Rattle.uicc_run.specs.Worlds.{left_in, world};
 ghost use Rattle.uicc_run.specs.Stores.{memory_in, size_of};
-ghost use Rattle.uicc_run.specs.Terminals.{AskForBip, ServesBip};
-ghost use Rattle.uicc_run.specs.Unplanned.{IsQuiet};
+ghost use Rattle.uicc_run.specs.Terminals.{AskForBip};
 
 use crate::endings::{Ending, last_line, status_of};
 use crate::listeners::{Listener, carrier_by, listener_for};
@@ -88,15 +82,14 @@ fn carry_out<R: Source, W: Sink, E: Eeprom, B: Applet>(
     cast: Vec<Option<B>>,
 ) -> (Ending, E, Vec<Option<B>>)
     requires fits { FitsRun (map string_bytes words.now) (E.byte_count eeprom) cast.items }
-    ensures comes { (given : Given) → RunsFrom given (map string_bytes words.now)
+    // Where the memory tells its bytes, and over any.
+    ensures comes { (given : Given) (told : Bool) → RunsFrom given told (map string_bytes words.now)
         (world R.Source W.Sink E.Eeprom B.Applet script.old trace.old eeprom cast.items)
-        → Comes given (R.left script.new) result.0 (left_in given.pages
+        → Comes given told (R.left script.new) result.0 (left_in given.pages
         (world R.Source W.Sink E.Eeprom B.Applet script.new trace.new result.1 result.2.items)) }
-    // Over any memory: which lines of the script were read, why no more of them, and what is shown.
-    ensures untold { ReadsUntold (λ given. IsToRead given (map string_bytes words.now)
-        (world R.Source W.Sink E.Eeprom B.Applet script.old trace.old eeprom cast.items)) result.0
-        (world R.Source W.Sink E.Eeprom B.Applet script.old trace.old eeprom cast.items)
-        (world R.Source W.Sink E.Eeprom B.Applet script.new trace.new result.1 result.2.items) }
+    // No more than 16,777,217 bytes of the script are taken.
+    ensures taken { (text : List ℕ) → R.left script.old ≡ Some text
+        → IsTaken (MOST_BYTES + 1) text (R.left script.new) }
     ensures load { LoadsUntold (map string_bytes words.now) result.0
         (world R.Source W.Sink E.Eeprom B.Applet script.old trace.old eeprom cast.items)
         (world R.Source W.Sink E.Eeprom B.Applet script.new trace.new result.1 result.2.items)
@@ -107,7 +100,7 @@ fn carry_out<R: Source, W: Sink, E: Eeprom, B: Applet>(
         (result.1 ≡ eeprom) (result.2.items ≡ cast.items) result.0 }
     ensures usage { RefusesAtFirst (map string_bytes words.now) result.0
         (script.new ≡ script.old) (trace.new ≡ trace.old) }
-    ensures memory { (given : Given) → IsToRead given (map string_bytes words.now)
+    ensures memory { (given : Given) → RunsFrom given false (map string_bytes words.now)
         (world R.Source W.Sink E.Eeprom B.Applet script.old trace.old eeprom cast.items)
         → KeepsMemory given result.0
         (world R.Source W.Sink E.Eeprom B.Applet script.old trace.old eeprom cast.items)
@@ -153,16 +146,14 @@ fn read_and_play<R: Source, W: Sink, E: Eeprom, B: Applet>(
     cast: Vec<Option<B>>,
 ) -> (Ending, E, Vec<Option<B>>)
     requires fits { FitsStore (E.byte_count eeprom) (size_of pages) cast.items }
-    ensures comes { (given : Given) → IsToPlay given listener pages card
+    ensures comes { (given : Given) (told : Bool) → IsToPlay given listener pages card
         (world R.Source W.Sink E.Eeprom B.Applet script.old trace.old eeprom cast.items)
-        → IsGiven given (W.taken trace.old) (memory_in given.pages (E.contents eeprom)) (E.meter eeprom)
+        → IsGiven given told (W.taken trace.old) (memory_in given.pages (E.contents eeprom)) (E.meter eeprom)
         (minds_of B.mind cast.items)
-        → Comes given (R.left script.new) result.0 (left_in given.pages
+        → Comes given told (R.left script.new) result.0 (left_in given.pages
         (world R.Source W.Sink E.Eeprom B.Applet script.new trace.new result.1 result.2.items)) }
-    ensures untold { ReadsUntold (λ given. IsToPlay given listener pages card
-        (world R.Source W.Sink E.Eeprom B.Applet script.old trace.old eeprom cast.items)) result.0
-        (world R.Source W.Sink E.Eeprom B.Applet script.old trace.old eeprom cast.items)
-        (world R.Source W.Sink E.Eeprom B.Applet script.new trace.new result.1 result.2.items) }
+    ensures taken { (text : List ℕ) → R.left script.old ≡ Some text
+        → IsTaken (MOST_BYTES + 1) text (R.left script.new) }
     ensures used { result.0 ≢ Ending.Usage }
     ensures memory { (given : Given) → IsToPlay given listener pages card
         (world R.Source W.Sink E.Eeprom B.Applet script.old trace.old eeprom cast.items)
@@ -222,26 +213,15 @@ fn make_and_play<S: Store, R: Source, W: Sink, B: Applet>(
     cast: Vec<Option<B>>,
 ) -> (Ending, S, Vec<Option<B>>)
     requires fits { FitsStore (S.byte_count store) memory_size cast.items }
-    ensures comes { (given : Given) → given.is_served ≡ is_handset listener
-        → IsGiven given (W.taken trace.old) (option_map (stands_for (S.store_mark store)) (S.stable store))
+    ensures comes { (given : Given) (told : Bool) → given.is_served ≡ is_handset listener
+        → IsGiven given told (W.taken trace.old) (option_map (stands_for (S.store_mark store)) (S.stable store))
         (S.meter store) (minds_of B.mind cast.items)
         → AtStart given.boxes given.first given.text reader.old (R.left script.old) card.now
-        → Comes given (R.left script.new) result.0 (left_of (S.store_mark result.1)
-        (stored R.Source W.Sink S.Store B.Applet script.new trace.new result.1 result.2.items)) }
-    ensures reads { (given : Given) (described : Option Persistent) → given.is_served ≡ is_handset listener
-        → AtStart given.boxes given.first given.text reader.old (R.left script.old) described
-        → ReadsTo given (R.left script.new) result.0 }
-    ensures shows { (given : Given) (described : Option Persistent) → given.is_served ≡ is_handset listener
-        → AtStart given.boxes given.first given.text reader.old (R.left script.old) described
-        → W.taken trace.old ≡ Some given.before → IsCounted given.meter (S.meter store) [] []
-        → ShowsTo given (R.left script.new) result.0 (left_of (S.store_mark result.1)
+        → Comes given told (R.left script.new) result.0 (left_of (S.store_mark result.1)
         (stored R.Source W.Sink S.Store B.Applet script.new trace.new result.1 result.2.items)) }
     ensures within { (text : List ℕ) → IsWithin text (reading reader.old) (R.left script.old)
         → IsWithin text (reading reader.new) (R.left script.new) }
     ensures memory { KeepsCardThere (S.store_mark store) card.now result.0
-        (stored R.Source W.Sink S.Store B.Applet script.old trace.old store cast.items)
-        (stored R.Source W.Sink S.Store B.Applet script.new trace.new result.1 result.2.items) }
-    ensures quiet { IsUnopened result.0 → IsQuiet
         (stored R.Source W.Sink S.Store B.Applet script.old trace.old store cast.items)
         (stored R.Source W.Sink S.Store B.Applet script.new trace.new result.1 result.2.items) }
     ensures ends { EndsFor result.0
@@ -285,25 +265,15 @@ fn open_and_play<S: Store, R: Source, W: Sink, B: Applet>(
     cast: Vec<Option<B>>,
 ) -> (Ending, S, Vec<Option<B>>)
     requires fits { FitsStore (S.byte_count store) memory_size cast.items }
-    ensures comes { (given : Given) → given.is_served ≡ is_handset listener → is_some (S.stable store) ≡ true
-        → IsMade given reader.old (R.left script.old) (W.taken trace.old)
+    ensures comes { (given : Given) (told : Bool) → given.is_served ≡ is_handset listener
+        → (told ≡ true → is_some (S.stable store) ≡ true)
+        → IsMade given told reader.old (R.left script.old) (W.taken trace.old)
         (option_map (stands_for (S.store_mark store)) (S.stable store)) (S.meter store) (minds_of B.mind cast.items)
-        → Comes given (R.left script.new) result.0 (left_of (S.store_mark result.1)
-        (stored R.Source W.Sink S.Store B.Applet script.new trace.new result.1 result.2.items)) }
-    ensures reads { (given : Given) (described : Option Persistent) → given.is_served ≡ is_handset listener
-        → AtStart given.boxes given.first given.text reader.old (R.left script.old) described
-        → ReadsTo given (R.left script.new) result.0 }
-    ensures shows { (given : Given) (described : Option Persistent) → given.is_served ≡ is_handset listener
-        → AtStart given.boxes given.first given.text reader.old (R.left script.old) described
-        → W.taken trace.old ≡ Some given.before → IsCounted given.meter (S.meter store) [] []
-        → ShowsTo given (R.left script.new) result.0 (left_of (S.store_mark result.1)
+        → Comes given told (R.left script.new) result.0 (left_of (S.store_mark result.1)
         (stored R.Source W.Sink S.Store B.Applet script.new trace.new result.1 result.2.items)) }
     ensures within { (text : List ℕ) → IsWithin text (reading reader.old) (R.left script.old)
         → IsWithin text (reading reader.new) (R.left script.new) }
     ensures memory { KeepsOpened (S.store_mark store) result.0
-        (stored R.Source W.Sink S.Store B.Applet script.old trace.old store cast.items)
-        (stored R.Source W.Sink S.Store B.Applet script.new trace.new result.1 result.2.items) }
-    ensures quiet { IsUnopened result.0 → IsQuiet
         (stored R.Source W.Sink S.Store B.Applet script.old trace.old store cast.items)
         (stored R.Source W.Sink S.Store B.Applet script.new trace.new result.1 result.2.items) }
     ensures ends { EndsFor result.0
@@ -337,9 +307,6 @@ fn carry_on<S: Store, B: Applet, R: Source, W: Sink>(
     ensures comes { (given : Given) (first : CardView) → given.is_served ≡ is_handset listener
         → IsStarted given first reader.old (R.left script.old) (moment_at card.old (W.taken trace.old))
         → ComesTo given first (R.left script.new) result (left_at (moment_at card.new (W.taken trace.new))) }
-    ensures reads { (text : List ℕ) (opening : List AnyLine)
-        → IsReading (may_stand (is_handset listener)) opening text reader.old (R.left script.old)
-        → LinesReadTo (may_stand (is_handset listener)) opening text (R.left script.new) result }
     ensures within { (text : List ℕ) → IsWithin text (reading reader.old) (R.left script.old)
         → IsWithin text (reading reader.new) (R.left script.new) }
     ensures tallies { TalliesLines (tally W.Sink card.old trace.old) (tally W.Sink card.new trace.new)

@@ -3,7 +3,8 @@ ghost use Rattle.std.specs.Prelude.{◌≡◌, ◌≢◌, ◌≤◌, ◌+◌, �
 ghost use Rattle.uicc_types.specs.Counts.{CountsFailure};
 ghost use Rattle.byte_streams.specs.Reading.{IsTaken};
 ghost use Rattle.byte_streams.specs.declared.limits.TheConstants.{MOST_BYTES};
-ghost use Rattle.uicc_run.specs.Endings.{IsUnshown, status_for};
+ghost use Rattle.uicc_run.specs.Making.{IsUnshown};
+ghost use Rattle.uicc_run.specs.Endings.{status_for};
 ghost use Rattle.uicc_run.specs.Terminals.{ComesToBip};
 
 use crate::endings::Ending;

@@ -9,7 +9,7 @@ use Rattle.list_laws.proofs.IfSomeLemmas.{whichever}
 use Rattle.uicc_types.specs.Counts.{raised, raised_by}
 use Rattle.store_form.specs.Pieces.{Piece, byte_total, IsWithinBounds}
 use Rattle.store_form.specs.declared.store.StoreFault.{StoreFault}
-use Rattle.update_journal.specs.Calls.{calls_at, calls_of, calls_to_recover, CallsAtMost, MakesCalls}
+use Rattle.update_journal.specs.Calls.{calls_at, calls_of, calls_to_recover, MadeAtMost, MakesCalls}
 use Rattle.update_journal.specs.Journal.{IsUnderWay}
 
 -- ---- the count
@@ -40,16 +40,16 @@ pub none_left : (left total before now : ℕ) → CallsLeft left total before no
 none_left left total before now calls none =
     let all : calls.done ≡ total = omega (arith, calls.in_all, none) in calls.counted ∙ ap (λ (n : ℕ). raised_by n before) all
 
-pub fault_in : (some left total before mid now : ℕ) → CallsLeft left total before mid → some ≤ left → CallsAtMost some mid now → CallsAtMost total before now
+pub fault_in : (some left total before mid now : ℕ) → CallsLeft left total before mid → some ≤ left → MadeAtMost some mid now → MadeAtMost total before now
 fault_in some left total before mid now calls fits made =
     let few = made.1.0 in
     (calls.done + made.0, (omega (arith, calls.in_all, fits, few), made.1.1 ∙ ap (λ (n : ℕ). raised_by made.0 n) calls.counted ∙ sym (raised_by-plus calls.done made.0 before)))
 
-pub fewer : (some total before now : ℕ) → some ≤ total → CallsAtMost some before now → CallsAtMost total before now
+pub fewer : (some total before now : ℕ) → some ≤ total → MadeAtMost some before now → MadeAtMost total before now
 fewer some total before now fits made = let few = made.1.0 in (made.0, (omega (arith, few), made.1.1))
 
 -- so many, and then at most so many
-pub then_at_most : (first later before mid now : ℕ) → mid ≡ raised_by first before → CallsAtMost later mid now → CallsAtMost (first + later) before now
+pub then_at_most : (first later before mid now : ℕ) → mid ≡ raised_by first before → MadeAtMost later mid now → MadeAtMost (first + later) before now
 then_at_most first later before mid now made more =
     fault_in later later (first + later) before mid now (record { done = first; in_all = refl; counted = made }) (omega arith) more
 
@@ -71,11 +71,11 @@ pub made_as : {T : Type 0} (times others before now : ℕ) (result : Result T St
 made_as times others before now result same made = subst (λ n. MakesCalls n before now result) same made
 
 -- nothing was programmed at all
-pub none_made : (times before now : ℕ) → now ≡ before → CallsAtMost times before now
+pub none_made : (times before now : ℕ) → now ≡ before → MadeAtMost times before now
 none_made times before now same = (0, (omega arith, same))
 
 -- at most so many in any case
-pub at_most_in_all : {T : Type 0} (times most before now : ℕ) (result : Result T StoreFault) → times ≤ most → MakesCalls times before now result → CallsAtMost most before now
+pub at_most_in_all : {T : Type 0} (times most before now : ℕ) (result : Result T StoreFault) → times ≤ most → MakesCalls times before now result → MadeAtMost most before now
 at_most_in_all times most before now result fits made = whichever result made.all made.no_more (λ all. (times, (fits, all))) (λ some. fewer times most before now fits some)
 
 -- ---- how many calls a range takes

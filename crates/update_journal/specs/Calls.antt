@@ -33,13 +33,13 @@ calls_to_recover image = if is_open image then calls_of (pending image) + 1 else
 
 -- ---- how many calls were made
 
--- the count rose so often, or less often
-abbrev pub CallsAtMost : ℕ → ℕ → ℕ → Type 0
-CallsAtMost times before now = (done : ℕ) × ((done ≤ times) × (now ≡ raised_by done before))
+-- so many calls were counted, or fewer
+abbrev pub MadeAtMost : ℕ → ℕ → ℕ → Type 0
+MadeAtMost times before now = (done : ℕ) × ((done ≤ times) × (now ≡ raised_by done before))
 
 -- A call of the store that takes so many program calls has made them.
 pub record MakesCalls {T : Type 0} (times before now : ℕ) (result : Result T StoreFault) : Type 0 where
   -- after Ok just so many
   pub all : OnOk result (now ≡ raised_by times before)
-  -- after a fault no more than these, the one that met it among them
-  pub no_more : OnErr result (CallsAtMost times before now)
+  -- after a fault no more than these; the call that met it may be one of them that is not counted
+  pub no_more : OnErr result (MadeAtMost times before now)

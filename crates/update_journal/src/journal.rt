@@ -5,7 +5,7 @@ ghost use Rattle.uicc_types.specs.Counts.{armed};
 ghost use Rattle.store_form.specs.Faults.{HasCause};
 ghost use Rattle.store_form.specs.Pieces.{IsUsable, IsUsablePiece};
 ghost use Rattle.store_form.specs.StoreCalls.{CommitsPieces, HoldsTheSame, PreparesBytes, StaysItself};
-ghost use Rattle.update_journal.specs.Calls.{calls_at, calls_to_commit, calls_to_recover, CallsAtMost, MakesCalls};
+ghost use Rattle.update_journal.specs.Calls.{calls_at, calls_to_commit, calls_to_recover, MadeAtMost, MakesCalls};
 ghost use Rattle.update_journal.specs.Journal.{is_open, is_recovered, stable, committed, recovered_image};
 ghost use Rattle.update_journal.specs.Laws.{told_stable, told_own};
 
@@ -181,7 +181,7 @@ impl<E: Eeprom> Store for Journal<E> {
         ensures calls { IfSome (E.contents self.old.device)
             (λ image. MakesCalls (calls_to_recover image) self.old.programs self.new.programs result) }
         // At most 18 calls, also where the device tells nothing.
-        ensures few_calls { CallsAtMost MOST_TO_RECOVER self.old.programs self.new.programs }
+        ensures few_calls { MadeAtMost MOST_TO_RECOVER self.old.programs self.new.programs }
         // Each byte of the device, also of the journal's own.
         ensures left { OnOk result (E.contents self.new.device ≡ option_map recovered_image (E.contents self.old.device)) }
     {

@@ -6,7 +6,7 @@ ghost use Rattle.store_form.specs.Faults.{HasCause};
 ghost use Rattle.store_form.specs.Pieces.{applied, IsUsable, IsUsablePiece, IsWithinBounds};
 ghost use Rattle.store_form.specs.Spared.{Rewritten};
 ghost use Rattle.update_journal.specs.Entries.{entries};
-ghost use Rattle.update_journal.specs.Calls.{calls_at, calls_of, calls_to_commit, calls_to_recover, CallsAtMost, MakesCalls};
+ghost use Rattle.update_journal.specs.Calls.{calls_at, calls_of, calls_to_commit, calls_to_recover, MadeAtMost, MakesCalls};
 ghost use Rattle.update_journal.specs.Journal.{is_open, stable, is_settled, IsUnderWay, IsWhole, ended, committed, recovered_image};
 
 use crate::device::{CountedDevice, program, read, write};
@@ -157,7 +157,7 @@ pub fn recover<E: Eeprom>(device: &mut CountedDevice<E>) -> Result<(), StoreFaul
         (E.contents device.new.eeprom ≡ option_map recovered_image (E.contents device.old.eeprom)) }
     ensures calls { IfSome (E.contents device.old.eeprom)
         (λ image. MakesCalls (calls_to_recover image) device.old.programs device.new.programs result) }
-    ensures few_calls { CallsAtMost MOST_TO_RECOVER device.old.programs device.new.programs }
+    ensures few_calls { MadeAtMost MOST_TO_RECOVER device.old.programs device.new.programs }
 {
     let mut gate = [CLOSED; 1];
     read(device, GATE, &mut gate)?;

@@ -9,7 +9,7 @@ use Rattle.toolkit_commands.specs.Reading.{list_of, details_found}
 use Rattle.toolkit_commands.specs.Steps.{template_in, needed}
 use Rattle.bip_channels.specs.Channels.{carried_out, answered, echoed, cut}
 use Rattle.bip_channels.specs.Reading.{bip_of, command_of, command_in, opening_in, closing_in, receiving_in, sending_in, status_in}
-use Rattle.bip_runs.specs.Places.{moved_by}
+use Rattle.bip_runs.specs.Parts.{moved_by}
 use Rattle.bip_runs.specs.Traces.{trace_of}
 use Rattle.bip_runs.specs.declared.effects.Place.TheVariants.{Before, Behind}
 

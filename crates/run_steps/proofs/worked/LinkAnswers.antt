@@ -34,7 +34,7 @@ use Rattle.card_model.specs.Runs.{StepGives}
 use Rattle.card_model.specs.States.{CardState, powered, woken}
 use Rattle.card_model.specs.Toolkit.{command_fetched, toolkit_outcome}
 use Rattle.run_steps.specs.Linked.{shown}
-use Rattle.run_steps.specs.Shown.{item_of, shown_for, shown_over}
+use Rattle.run_steps.specs.Tpdus.{item_of, shown_for, shown_over}
 
 -- ---- the card
 

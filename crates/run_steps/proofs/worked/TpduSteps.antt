@@ -10,8 +10,7 @@ use Rattle.t0_link.specs.Linking.{given, kept_back, link_answer}
 use Rattle.t0_link.specs.Tpdus.{transfer_in}
 use Rattle.card_model.specs.Runs.{Commands, MeetsNoPower, armed_after, waiting_after}
 use Rattle.card_model.specs.States.{Machine}
-use Rattle.run_steps.specs.Tpdus.{CourseGives, steps_of}
-use Rattle.run_steps.specs.Shown.{item_of, kept_over, shown_over}
+use Rattle.run_steps.specs.Tpdus.{CourseGives, steps_of, item_of, kept_over, shown_over}
 use Rattle.run_steps.specs.Views.{CardView, TheCard}
 
 abbrev answered : List ℕ → ℕ → Answer

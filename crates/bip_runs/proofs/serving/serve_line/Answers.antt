@@ -1,4 +1,5 @@
-use Rattle.bip_runs.specs.Parts.{Begins, Does, Foreign, occurrence_for}
+use Rattle.bip_runs.specs.Parts.{Begins, Does, Foreign}
+use Rattle.bip_runs.specs.BetweenLines.{occurrence_for}
 use Rattle.bip_runs.proofs.IsServingLemmas.{bad_serves, blank_serves, happening_serves, happening_stops, no_more_serve, nowhere, start_again, start_serves, too_early}
 use Rattle.bip_runs.proofs.serving.serve_line.Goals as goal
 

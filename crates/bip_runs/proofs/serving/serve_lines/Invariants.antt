@@ -1,7 +1,7 @@
 -- Between two lines the run is where it was at first, or further.
 use Rattle.std.proofs.Common.{◌≡◌, List, ℕ, Option, is_some, ◌≤◌}
 use Rattle.byte_streams.specs.Reading.{IsWithin}
-use Rattle.bip_runs.specs.Serving.{IsServing}
+use Rattle.bip_runs.specs.BetweenLines.{IsServing}
 use Rattle.bip_runs.specs.declared.effects.Place.TheVariants.{Before}
 use Rattle.bip_runs.proofs.serving.serve_lines.Given as goal
 

@@ -1,5 +1,5 @@
 use Rattle.card_state.specs.Memory.{memory}
-use Rattle.card_core.proofs.TreeOutcomeLemmas.{told_created, told_deleted, told_resized}
+use Rattle.card_core.proofs.TreeYieldsLemmas.{told_created, told_deleted, told_resized}
 use Rattle.card_core.specs.Serving.{TellsOfTree}
 use Rattle.card_core.proofs.commands.on_tree.Goals as goal
 

@@ -1,5 +1,4 @@
 use Rattle.std.proofs.Common.{◌≡◌, ℕ, Some, sym, subst}
-use Rattle.apdu_form.specs.Classes.{family}
 use Rattle.card_model.specs.Instructions.{is_known, row_named}
 use Rattle.card_core.specs.Commands.{row_shown}
 use Rattle.card_core.proofs.InstructionOfLemmas.{known_alone}

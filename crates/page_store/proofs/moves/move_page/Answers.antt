@@ -5,7 +5,7 @@ use Rattle.list_laws.specs.Patches.{patched, Torn}
 use Rattle.uicc_types.specs.Counts.{raised_by}
 use Rattle.uicc_types.specs.Told.{Becomes}
 use Rattle.store_form.specs.Pieces.{IsUsable}
-use Rattle.update_journal.specs.Calls.{calls_at, CallsAtMost}
+use Rattle.update_journal.specs.Calls.{calls_at, MadeAtMost}
 use Rattle.update_journal.proofs.CallsLemmas.{none_made}
 use Rattle.page_store.specs.Tables.{IsPool}
 use Rattle.page_store.specs.Commits.{Moves}
@@ -69,8 +69,8 @@ returns-in_err-prepare-clause-calls g c =
     record {
       all = search rules;
       no_more =
-          on_err c.from_residual-in_err-prepare.result (subst (λ n. CallsAtMost n (g.S.CountedStore.programs c.args.store.now) (g.S.CountedStore.programs c.prepare.new.self)) one
-          (subst (λ n. CallsAtMost (calls_at (64 * c.from.result) (length c.put_pieces.new.bytes)) n (g.S.CountedStore.programs c.prepare.new.self)) c.in_ok-read.ensures.calls c.in_err-prepare.ensures.calls.no_more));
+          on_err c.from_residual-in_err-prepare.result (subst (λ n. MadeAtMost n (g.S.CountedStore.programs c.args.store.now) (g.S.CountedStore.programs c.prepare.new.self)) one
+          (subst (λ n. MadeAtMost (calls_at (64 * c.from.result) (length c.put_pieces.new.bytes)) n (g.S.CountedStore.programs c.prepare.new.self)) c.in_ok-read.ensures.calls c.in_err-prepare.ensures.calls.no_more));
     }
 
 pub returns-clause-calls : goal.returns-clause-calls

@@ -2,7 +2,7 @@
 use Rattle.std.proofs.Common.{◌≡◌, ◌∙◌, ap, subst, arith, rules}
 use Rattle.list_laws.proofs.IfSomeLemmas.{on_err}
 use Rattle.uicc_types.specs.Counts.{raised_by}
-use Rattle.update_journal.specs.Calls.{CallsAtMost}
+use Rattle.update_journal.specs.Calls.{MadeAtMost}
 use Rattle.update_journal.proofs.CallsLemmas.{none_made, fewer, then_all, then_at_most}
 use Rattle.page_store.specs.Calls.{calls_to_begin, calls_to_move, calls_to_write}
 use Rattle.page_store.specs.Paged.{table_of}
@@ -16,7 +16,7 @@ returns-in_err-table-clause-calls g c = record {
   all = search rules;
   no_more =
       on_err c.from_residual-in_err-table.result (fewer (calls_to_begin c.args.known.now) (calls_to_write c.args.known.now c.args.writes.now) (g.S.CountedStore.programs c.args.store.now) (g.S.CountedStore.programs c.take_table.new.store) (omega arith)
-      (subst (λ n. CallsAtMost (calls_to_begin c.args.known.now) n (g.S.CountedStore.programs c.take_table.new.store)) c.in_ok-read.ensures.calls c.in_err-table.ensures.calls.no_more));
+      (subst (λ n. MadeAtMost (calls_to_begin c.args.known.now) n (g.S.CountedStore.programs c.take_table.new.store)) c.in_ok-read.ensures.calls c.in_err-table.ensures.calls.no_more));
 }
 
 pub returns-in_err-commit-clause-calls : goal.returns-in_err-commit-clause-calls
@@ -26,7 +26,7 @@ returns-in_err-commit-clause-calls g c =
       all = search rules;
       no_more =
           on_err c.from_residual-in_err-commit.result (then_at_most (calls_to_begin c.args.known.now) (calls_to_move c.args.writes.now (table_of c.args.known.now)) (g.S.CountedStore.programs c.args.store.now) (g.S.CountedStore.programs c.take_table.new.store) (g.S.CountedStore.programs c.commit.new.store) begun
-          (subst (λ t. CallsAtMost (calls_to_move c.args.writes.now t) (g.S.CountedStore.programs c.take_table.new.store) (g.S.CountedStore.programs c.commit.new.store)) c.in_ok-table.ensures.table c.in_err-commit.ensures.calls.no_more));
+          (subst (λ t. MadeAtMost (calls_to_move c.args.writes.now t) (g.S.CountedStore.programs c.take_table.new.store) (g.S.CountedStore.programs c.commit.new.store)) c.in_ok-table.ensures.table c.in_err-commit.ensures.calls.no_more));
     }
 
 pub returns-clause-calls : goal.returns-clause-calls

@@ -2,7 +2,7 @@
 use Rattle.std.proofs.Common.{◌+◌, ◌∙◌, length, ap, subst, arith, rules}
 use Rattle.list_laws.proofs.IfSomeLemmas.{on_err}
 use Rattle.uicc_types.specs.Counts.{raised_by}
-use Rattle.update_journal.specs.Calls.{calls_at, CallsAtMost}
+use Rattle.update_journal.specs.Calls.{calls_at, MadeAtMost}
 use Rattle.update_journal.proofs.CallsLemmas.{none_made, fewer, then_all, then_at_most}
 use Rattle.page_store.specs.Calls.{calls_to_begin}
 use Rattle.page_store.proofs.paged.prepare.Goals as goal
@@ -15,7 +15,7 @@ returns-in_err-table-clause-calls g c = record {
   all = search rules;
   no_more =
       on_err c.from_residual-in_err-table.result (fewer (calls_to_begin c.args.known.now) (calls_to_begin c.args.known.now + calls_at c.args.at (length c.args.bytes.now)) (g.S.CountedStore.programs c.args.store.now) (g.S.CountedStore.programs c.take_table.new.store) (omega arith)
-      (subst (λ n. CallsAtMost (calls_to_begin c.args.known.now) n (g.S.CountedStore.programs c.take_table.new.store)) c.in_ok-read.ensures.calls c.in_err-table.ensures.calls.no_more));
+      (subst (λ n. MadeAtMost (calls_to_begin c.args.known.now) n (g.S.CountedStore.programs c.take_table.new.store)) c.in_ok-read.ensures.calls c.in_err-table.ensures.calls.no_more));
 }
 
 pub returns-in_err-prepare-clause-calls : goal.returns-in_err-prepare-clause-calls

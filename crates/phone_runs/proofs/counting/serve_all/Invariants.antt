@@ -3,7 +3,7 @@ use Rattle.std.proofs.Common.{List, ◌≤◌, ◌<◌, ◌+◌, ◌*◌, ◌^�
 use Rattle.script_form.specs.declared.handset.HandsetLine.{HandsetLine}
 use Rattle.run_steps.specs.Ends.{moment_at}
 use Rattle.long_runs.specs.declared.load_lines.TheConstants.{LONGEST_SPAN}
-use Rattle.phone_runs.specs.LoadRuns.{IsLoading}
+use Rattle.phone_runs.specs.LoadingLines.{IsLoading}
 use Rattle.phone_runs.specs.Runs.{Beginning}
 use Rattle.phone_runs.specs.Serving.{IsAtRest}
 use Rattle.phone_runs.proofs.counting.serve_all.Given as goal

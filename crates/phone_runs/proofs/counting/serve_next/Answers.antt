@@ -1,7 +1,7 @@
 use Rattle.std.proofs.Common.{List, Some, sym, ◌∙◌, subst}
 use Rattle.script_form.specs.declared.handset.HandsetLine.{HandsetLine}
 use Rattle.run_steps.specs.Ends.{moment_at}
-use Rattle.phone_runs.specs.LoadRuns.{IsLoading}
+use Rattle.phone_runs.specs.LoadingLines.{IsLoading}
 use Rattle.phone_runs.proofs.LoadRunsLemmas.{fails_amid, loads_on}
 use Rattle.phone_runs.proofs.counting.serve_next.Goals as goal
 

@@ -1,6 +1,6 @@
 -- A line does nothing, is out of place, or is told the handset: each goes on from the lines served, or says behind which of them it ends.
 use Rattle.script_reader.proofs.BehindLemmas.{bad_behind, ends_reading, reads_on, reads_to_end}
-use Rattle.phone_runs.specs.Effects.{may_be_heard}
+use Rattle.phone_runs.specs.Lines.{may_be_heard}
 use Rattle.phone_runs.specs.Playing.{line_of}
 use Rattle.phone_runs.proofs.LineLemmas.{ends_amid, ends_serving, lines_end, serves_further, serves_on, stops_in_line, unread_amid}
 use Rattle.phone_runs.proofs.lines.serve_line.Goals as goal

@@ -2,7 +2,8 @@
 use Rattle.std.proofs.Common.{◌≡◌, List, is_some, ◌≤◌}
 use Rattle.run_steps.specs.Ends.{moment_at}
 use Rattle.phone_runs.specs.Logs.{Event, lines_back}
-use Rattle.phone_runs.specs.Runs.{Beginning, IsAt, Reaches}
+use Rattle.phone_runs.specs.Runs.{Beginning}
+use Rattle.phone_runs.specs.Settling.{IsAt, Reaches}
 use Rattle.phone_runs.specs.Serving.{IsPhoneServed, work_at}
 use Rattle.phone_runs.proofs.serving.settle.Given as goal
 

@@ -1,6 +1,6 @@
 use Rattle.std.proofs.Common.{sym, subst}
 use Rattle.run_steps.specs.Ends.{Comes}
-use Rattle.run_steps.specs.Stepping.{seen}
+use Rattle.run_steps.specs.Taking.{seen}
 use Rattle.run_steps.specs.declared.steps.Reply.{Reply}
 use Rattle.run_steps.proofs.ComesLemmas.{came}
 use Rattle.run_steps.proofs.carriers.send.Goals as goal

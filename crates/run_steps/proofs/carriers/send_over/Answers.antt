@@ -1,7 +1,7 @@
 use Rattle.std.proofs.Common.{sym, subst}
 use Rattle.t0_link.specs.Linking.{Linked}
 use Rattle.run_steps.specs.Ends.{Comes}
-use Rattle.run_steps.specs.Stepping.{seen}
+use Rattle.run_steps.specs.Taking.{seen}
 use Rattle.run_steps.specs.declared.steps.Reply.{Reply}
 use Rattle.run_steps.proofs.ComesLemmas.{came_over}
 use Rattle.run_steps.proofs.carriers.send_over.Goals as goal

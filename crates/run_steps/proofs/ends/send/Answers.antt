@@ -4,7 +4,7 @@ use Rattle.std.proofs.lemmas.Bool.{eqb-true, false≢true}
 use Rattle.uicc_types.specs.declared.answers.StatusWord.{StatusWord}
 use Rattle.uicc_types.specs.declared.answers.TheConstants.StatusWord.{MEMORY_PROBLEM}
 use Rattle.card_core.specs.Cards.{parts_of}
-use Rattle.run_steps.specs.Runs.{machine_of}
+use Rattle.run_steps.specs.Taking.{machine_of}
 use Rattle.run_steps.proofs.SendsLemmas.{caused_as, on_or_off, sends_answer, sends_cut, sends_off}
 use Rattle.run_steps.proofs.ends.send.Goals as goal
 

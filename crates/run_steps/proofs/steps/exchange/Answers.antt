@@ -1,7 +1,7 @@
 -- A plan is set before the command and taken back after: the machine is the same with it, and the sink may break off in either line.
 use Rattle.std.proofs.Common.{Ok, Err, ◌∙◌, rules}
 use Rattle.run_steps.proofs.SteppingLemmas.{breaks_command, exchanges_at, faults_behind, with_plan}
-use Rattle.run_steps.specs.Stepping.{seen}
+use Rattle.run_steps.specs.Taking.{seen}
 use Rattle.run_steps.proofs.TakesFrontLemmas.{tells_front, tells_whole}
 use Rattle.run_steps.proofs.steps.exchange.Goals as goal
 

@@ -1,10 +1,10 @@
 use Rattle.std.proofs.Common.{sym, subst}
 use Rattle.t0_link.specs.Linking.{Linked, link_answer}
 use Rattle.run_steps.specs.Ends.{end_words}
-use Rattle.run_steps.specs.Tpdus.{Delivers}
+use Rattle.run_steps.specs.TakingTpdus.{Delivers}
 use Rattle.run_steps.proofs.DeliversLemmas.{delivers}
 use Rattle.run_steps.proofs.tpdus.deliver.Goals as goal
-use Rattle.run_steps.specs.Stepping.{seen}
+use Rattle.run_steps.specs.Taking.{seen}
 use Rattle.run_steps.specs.declared.steps.Reply.{Reply}
 
 pub returns-clause-delivers : goal.returns-clause-delivers

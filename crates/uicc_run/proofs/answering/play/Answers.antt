@@ -23,7 +23,7 @@ returns-in-Some-clause-causes g c = c.play_on.ensures.causes.outer
 -- ---- words in no form
 
 pub returns-in-None-clause-script : goal.returns-in-None-clause-script
-returns-in-None-clause-script g c = λ given from. keeps_without_words _ (g.W.Sink.taken c.args.output.now) given _ (asks_for_devices _ c.in-None.ensures) c.close.ensures.status from.before_is from.text_is c.close.ensures.closed
+returns-in-None-clause-script g c = λ given from. keeps_without_words _ (g.W.Sink.taken c.args.output.now) given _ (asks_for_devices _ c.in-None.ensures) c.close.ensures.status from.others_are.before_is from.text_is c.close.ensures.closed
 
 pub returns-in-None-clause-trace : goal.returns-in-None-clause-trace
 returns-in-None-clause-trace g c = λ none given from. has_no_words _ _ given _ (asks_for_devices _ c.in-None.ensures) c.close.ensures.status from.others_are.before_is c.close.ensures.closed

@@ -1,5 +1,5 @@
 -- The words that ask for the run also name the device: it has the size that the run wants, and where no image is named there is no path.
-use Rattle.std.proofs.Common.{map, string_bytes, ap, ◌∙◌, subst}
+use Rattle.std.proofs.Common.{true, map, string_bytes, ap, ◌∙◌, subst}
 use Rattle.applet_trait.specs.Minds.{minds_of}
 use Rattle.uicc_run.specs.Loading.{LoadsFrom}
 use Rattle.uicc_run.specs.Opening.{RunsFrom}
@@ -31,7 +31,7 @@ pub returns-in-None-clause-trace : goal.returns-in-None-clause-trace
 returns-in-None-clause-trace g c = λ none given from.
     let over = outside g.R.Source g.W.Sink c.args.script.now c.args.output.now (minds_of g.B.Applet.mind c.args.cast.items) in
     c.play_on_bench.ensures.trace given
-    (subst (λ size. RunsFrom given (map string_bytes c.args.words.now) (over_bench size over)) (size_given given _ c.args.made _ c.requires.used c.device_size-size.ensures from.is_asked) from)
+    (subst (λ size. RunsFrom given true (map string_bytes c.args.words.now) (over_bench size over)) (size_given given _ c.args.made _ c.requires.used c.device_size-size.ensures from.is_asked) from)
 
 pub returns-in-Some-clause-load : goal.returns-in-Some-clause-load
 returns-in-Some-clause-load g c = λ none. let no_path = c.image_path.ensures.none none in absurd (cc)

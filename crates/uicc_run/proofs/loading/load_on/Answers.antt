@@ -10,7 +10,7 @@ pub returns-then-pages-clause-comes : goal.returns-then-pages-clause-comes
 returns-then-pages-clause-comes g c = λ given before taken store fixed is.
     let over = store ∙ c.if-pages.true in
     let device = ap (λ s. s.device) c.new-store.ensures in
-    let comes = c.load_over-ending.ensures.comes given before taken fixed (given_over given true _ (g.E.Eeprom.contents c.args.eeprom) _ (g.E.Eeprom.meter c.args.eeprom) _ _ over (ap (λ e. memory_in true (g.E.Eeprom.contents e)) device) (ap g.E.Eeprom.meter device) is) in
+    let comes = c.load_over-ending.ensures.comes given before taken fixed (given_over given true true _ (g.E.Eeprom.contents c.args.eeprom) _ (g.E.Eeprom.meter c.args.eeprom) _ _ over (ap (λ e. memory_in true (g.E.Eeprom.contents e)) device) (ap g.E.Eeprom.meter device) is) in
     comes_over (ComesToLoad given c.args.start c.args.count c.load_over-ending.result.0) given true _ (g.E.Eeprom.contents c.into_device.result) _ _ over
     (subst (λ e. ComesToLoad given c.args.start c.args.count c.load_over-ending.result.0
     (record { held = held_in true (g.E.Eeprom.contents e); taken = taken; meter = g.E.Eeprom.meter e; boxes = minds_of g.B.Applet.mind c.load_over-ending.result.2.items })) (sym c.into_device.ensures.device) comes)
@@ -19,7 +19,7 @@ pub returns-else-pages-clause-comes : goal.returns-else-pages-clause-comes
 returns-else-pages-clause-comes g c = λ given before taken store fixed is.
     let over = store ∙ c.if-pages.false in
     let device = ap (λ s. s.device) c.new-store-else-pages.ensures in
-    let comes = c.load_over-ending-else-pages.ensures.comes given before taken fixed (given_over given false _ (g.E.Eeprom.contents c.args.eeprom) _ (g.E.Eeprom.meter c.args.eeprom) _ _ over (ap (λ e. memory_in false (g.E.Eeprom.contents e)) device) (ap g.E.Eeprom.meter device) is) in
+    let comes = c.load_over-ending-else-pages.ensures.comes given before taken fixed (given_over given true false _ (g.E.Eeprom.contents c.args.eeprom) _ (g.E.Eeprom.meter c.args.eeprom) _ _ over (ap (λ e. memory_in false (g.E.Eeprom.contents e)) device) (ap g.E.Eeprom.meter device) is) in
     comes_over (ComesToLoad given c.args.start c.args.count c.load_over-ending-else-pages.result.0) given false _ (g.E.Eeprom.contents c.into_device-else-pages.result) _ _ over
     (subst (λ e. ComesToLoad given c.args.start c.args.count c.load_over-ending-else-pages.result.0
     (record { held = held_in false (g.E.Eeprom.contents e); taken = taken; meter = g.E.Eeprom.meter e; boxes = minds_of g.B.Applet.mind c.load_over-ending-else-pages.result.2.items })) (sym c.into_device-else-pages.ensures.device) comes)

@@ -3,8 +3,8 @@ use Rattle.std.proofs.lemmas.Bool.{false≢true}
 use Rattle.uicc_types.specs.declared.answers.Answer.{Answer}
 use Rattle.script_reader.specs.Behind.{IsReading, LinesReadTo}
 use Rattle.run_steps.specs.Ends.{moment_at}
-use Rattle.uicc_run.specs.Listeners.{is_handset}
-use Rattle.uicc_run.specs.Playing.{IsPlaying}
+use Rattle.uicc_run.specs.Opening.{is_handset}
+use Rattle.uicc_run.specs.BetweenLines.{IsPlaying}
 use Rattle.uicc_run.specs.Steps.{may_stand}
 use Rattle.uicc_run.proofs.playing.play_lines.Goals as goal
 

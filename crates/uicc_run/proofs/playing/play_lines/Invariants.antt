@@ -5,10 +5,11 @@ use Rattle.script_form.specs.declared.lines.ScriptLine.{ScriptLine}
 use Rattle.script_reader.specs.Behind.{IsReading}
 use Rattle.run_steps.specs.Ends.{moment_at}
 use Rattle.run_steps.specs.Views.{CardView}
-use Rattle.phone_runs.specs.Lines.{IsBetweenLines, IsServing}
+use Rattle.phone_runs.specs.BetweenLines.{IsBetweenLines, IsServing}
 use Rattle.phone_runs.specs.Runs.{Beginning}
-use Rattle.uicc_run.specs.Listeners.{is_handset}
-use Rattle.uicc_run.specs.Playing.{Given, IsPlaying}
+use Rattle.uicc_run.specs.Opening.{is_handset}
+use Rattle.uicc_run.specs.Playing.{Given}
+use Rattle.uicc_run.specs.BetweenLines.{IsPlaying}
 use Rattle.uicc_run.specs.Steps.{may_stand}
 use Rattle.uicc_run.proofs.playing.play_lines.Given as goal
 

@@ -1,111 +1,50 @@
 -- The words ask for one mode alone: in its branch all that is said of the other modes is refuted, and its own call says the rest.
-use Rattle.std.proofs.Common.{Some, refl, ap, sym, ◌∙◌, inl}
+use Rattle.std.proofs.Common.{Some, false, refl, ap, sym, ◌∙◌, inl}
 use Rattle.byte_streams.proofs.ReadingLemmas.{IsTaken-none}
 use Rattle.command_line.specs.declared.requests.Mode.TheVariants.{Bip, Load}
-use Rattle.uicc_run.specs.Headline.{first_of, is_served_by}
-use Rattle.uicc_run.specs.Listeners.{is_handset}
+use Rattle.uicc_run.specs.Opening.{first_of, is_served_by, is_handset}
 use Rattle.uicc_run.specs.Stores.{mark_of}
-use Rattle.uicc_run.proofs.OpeningLemmas.{not_begun, unplanned_still}
-use Rattle.uicc_run.proofs.IsToPlayLemmas.{to_play, to_play_told}
+use Rattle.uicc_run.proofs.OpeningLemmas.{not_begun, quiet_still}
+use Rattle.uicc_run.proofs.IsToPlayLemmas.{to_play}
 use Rattle.uicc_run.proofs.ModeLemmas.{makes_bare, no_bip, no_load, not_bip, not_bip_load, not_bip_open, not_load, not_load_bip, not_load_open, the_load}
 use Rattle.uicc_run.proofs.running.carry_out.Goals as goal
 
+pub returns-in_default-clause-comes : goal.returns-in_default-clause-comes
+returns-in_default-clause-comes g c = λ given told from. quiet_still given _ _ _ _ from.others_are.before_is from.others_are.meter_is
+
 pub returns-in-Ok-clause-comes : goal.returns-in-Ok-clause-comes
-returns-in-Ok-clause-comes g c = λ given from.
+returns-in-Ok-clause-comes g c = λ given told from.
     let wish = from.is_asked c.in-Some.asked c.in-Some.ensures.so in
-    c.read_and_play.ensures.comes given (to_play_told given _ _ _ _ _ from (wish.served_is ∙ sym (ap is_handset c.listener_for-listener.ensures)) (wish.first_is ∙ makes_bare _ c.in-Play.is ∙ ap Some (sym c.in-Ok.ensures)) wish.store_is) from.others_are
+    c.read_and_play.ensures.comes given told (to_play given told _ _ _ _ _ from (wish.served_is ∙ sym (ap is_handset c.listener_for-listener.ensures)) (wish.first_is ∙ makes_bare _ c.in-Play.is ∙ ap Some (sym c.in-Ok.ensures)) wish.store_is) from.others_are
 
 pub returns-in-Open-clause-comes : goal.returns-in-Open-clause-comes
-returns-in-Open-clause-comes g c = λ given from.
+returns-in-Open-clause-comes g c = λ given told from.
     let wish = from.is_asked c.in-Some.asked c.in-Some.ensures.so in
-    c.read_and_play-in-Open.ensures.comes given (to_play_told given _ _ _ _ _ from (wish.served_is ∙ ap is_served_by c.in-Open.is) (wish.first_is ∙ ap first_of c.in-Open.is) wish.store_is) from.others_are
+    c.read_and_play-in-Open.ensures.comes given told (to_play given told _ _ _ _ _ from (wish.served_is ∙ ap is_served_by c.in-Open.is) (wish.first_is ∙ ap first_of c.in-Open.is) wish.store_is) from.others_are
 
 pub returns-in-Err-clause-comes : goal.returns-in-Err-clause-comes
-returns-in-Err-clause-comes g c = λ given from. not_begun given _ _ (mark_of given.pages) _ _ _ _ from.text_is from.others_are
+returns-in-Err-clause-comes g c = λ given told from. not_begun given told _ _ (mark_of given.pages) _ _ _ _ from.text_is from.others_are
 
 pub returns-in-Load-clause-comes : goal.returns-in-Load-clause-comes
-returns-in-Load-clause-comes g c = λ given from.
+returns-in-Load-clause-comes g c = λ given told from.
     let wish = from.is_asked c.in-Some.asked c.in-Some.ensures.so in
     absurd (no_load _ c.in-Load.start c.in-Load.count c.in-Load.is wish.for_card)
 
 pub returns-in-Bip-clause-comes : goal.returns-in-Bip-clause-comes
-returns-in-Bip-clause-comes g c = λ given from.
+returns-in-Bip-clause-comes g c = λ given told from.
     let wish = from.is_asked c.in-Some.asked c.in-Some.ensures.so in
     absurd (no_bip _ c.in-Bip.is wish.for_card)
 
--- ---- over any memory
+-- ---- how much of the script was taken
 
-pub returns-in_default-clause-untold : goal.returns-in_default-clause-untold
-returns-in_default-clause-untold g c = record {
-  reads = λ given from. tt;
-  shows = λ given from told counts. tt;
-  quiet = λ given from unopened. record { silent = refl; unplanned = unplanned_still _ };
-  taken = λ text told. IsTaken-none _ text _ told;
-}
+pub returns-in_default-clause-taken : goal.returns-in_default-clause-taken
+returns-in_default-clause-taken g c = λ text told. IsTaken-none _ text _ told
 
-pub returns-in-Ok-clause-untold : goal.returns-in-Ok-clause-untold
-returns-in-Ok-clause-untold g c = record {
-  reads = λ given from.
-      let wish = from.is_asked c.in-Some.asked c.in-Some.ensures.so in
-      c.read_and_play.ensures.untold.reads given (to_play given _ _ _ _ _ from (wish.served_is ∙ sym (ap is_handset c.listener_for-listener.ensures)) (wish.first_is ∙ makes_bare _ c.in-Play.is ∙ ap Some (sym c.in-Ok.ensures)) wish.store_is);
-  shows = λ given from told counts.
-      let wish = from.is_asked c.in-Some.asked c.in-Some.ensures.so in
-      c.read_and_play.ensures.untold.shows given (to_play given _ _ _ _ _ from (wish.served_is ∙ sym (ap is_handset c.listener_for-listener.ensures)) (wish.first_is ∙ makes_bare _ c.in-Play.is ∙ ap Some (sym c.in-Ok.ensures)) wish.store_is) told counts;
-  quiet = λ given from unopened.
-      let wish = from.is_asked c.in-Some.asked c.in-Some.ensures.so in
-      c.read_and_play.ensures.untold.quiet given (to_play given _ _ _ _ _ from (wish.served_is ∙ sym (ap is_handset c.listener_for-listener.ensures)) (wish.first_is ∙ makes_bare _ c.in-Play.is ∙ ap Some (sym c.in-Ok.ensures)) wish.store_is) unopened;
-  taken = c.read_and_play.ensures.untold.taken;
-}
+pub returns-in-Err-clause-taken : goal.returns-in-Err-clause-taken
+returns-in-Err-clause-taken g c = λ text told. IsTaken-none _ text _ told
 
-pub returns-in-Open-clause-untold : goal.returns-in-Open-clause-untold
-returns-in-Open-clause-untold g c = record {
-  reads = λ given from.
-      let wish = from.is_asked c.in-Some.asked c.in-Some.ensures.so in
-      c.read_and_play-in-Open.ensures.untold.reads given (to_play given _ _ _ _ _ from (wish.served_is ∙ ap is_served_by c.in-Open.is) (wish.first_is ∙ ap first_of c.in-Open.is) wish.store_is);
-  shows = λ given from told counts.
-      let wish = from.is_asked c.in-Some.asked c.in-Some.ensures.so in
-      c.read_and_play-in-Open.ensures.untold.shows given (to_play given _ _ _ _ _ from (wish.served_is ∙ ap is_served_by c.in-Open.is) (wish.first_is ∙ ap first_of c.in-Open.is) wish.store_is) told counts;
-  quiet = λ given from unopened.
-      let wish = from.is_asked c.in-Some.asked c.in-Some.ensures.so in
-      c.read_and_play-in-Open.ensures.untold.quiet given (to_play given _ _ _ _ _ from (wish.served_is ∙ ap is_served_by c.in-Open.is) (wish.first_is ∙ ap first_of c.in-Open.is) wish.store_is) unopened;
-  taken = c.read_and_play-in-Open.ensures.untold.taken;
-}
-
-pub returns-in-Err-clause-untold : goal.returns-in-Err-clause-untold
-returns-in-Err-clause-untold g c = record {
-  reads = λ given from. tt;
-  shows = λ given from told counts. tt;
-  quiet = λ given from unopened. record { silent = refl; unplanned = unplanned_still _ };
-  taken = λ text told. IsTaken-none _ text _ told;
-}
-
-pub returns-in-Load-clause-untold : goal.returns-in-Load-clause-untold
-returns-in-Load-clause-untold g c = record {
-  reads = λ given from.
-      let wish = from.is_asked c.in-Some.asked c.in-Some.ensures.so in
-      absurd (no_load _ c.in-Load.start c.in-Load.count c.in-Load.is wish.for_card);
-  shows = λ given from told counts.
-      let wish = from.is_asked c.in-Some.asked c.in-Some.ensures.so in
-      absurd (no_load _ c.in-Load.start c.in-Load.count c.in-Load.is wish.for_card);
-  quiet = λ given from unopened.
-      let wish = from.is_asked c.in-Some.asked c.in-Some.ensures.so in
-      absurd (no_load _ c.in-Load.start c.in-Load.count c.in-Load.is wish.for_card);
-  taken = λ text told. IsTaken-none _ text _ told;
-}
-
-pub returns-in-Bip-clause-untold : goal.returns-in-Bip-clause-untold
-returns-in-Bip-clause-untold g c = record {
-  reads = λ given from.
-      let wish = from.is_asked c.in-Some.asked c.in-Some.ensures.so in
-      absurd (no_bip _ c.in-Bip.is wish.for_card);
-  shows = λ given from told counts.
-      let wish = from.is_asked c.in-Some.asked c.in-Some.ensures.so in
-      absurd (no_bip _ c.in-Bip.is wish.for_card);
-  quiet = λ given from unopened.
-      let wish = from.is_asked c.in-Some.asked c.in-Some.ensures.so in
-      absurd (no_bip _ c.in-Bip.is wish.for_card);
-  taken = c.serve_channels.ensures.taken;
-}
+pub returns-in-Load-clause-taken : goal.returns-in-Load-clause-taken
+returns-in-Load-clause-taken g c = λ text told. IsTaken-none _ text _ told
 
 -- ---- what the memory holds
 
@@ -115,12 +54,12 @@ returns-in_default-clause-memory g c = λ given from. record { bytes = λ none k
 pub returns-in-Ok-clause-memory : goal.returns-in-Ok-clause-memory
 returns-in-Ok-clause-memory g c = λ given from.
     let wish = from.is_asked c.in-Some.asked c.in-Some.ensures.so in
-    c.read_and_play.ensures.memory given (to_play given _ _ _ _ _ from (wish.served_is ∙ sym (ap is_handset c.listener_for-listener.ensures)) (wish.first_is ∙ makes_bare _ c.in-Play.is ∙ ap Some (sym c.in-Ok.ensures)) wish.store_is)
+    c.read_and_play.ensures.memory given (to_play given false _ _ _ _ _ from (wish.served_is ∙ sym (ap is_handset c.listener_for-listener.ensures)) (wish.first_is ∙ makes_bare _ c.in-Play.is ∙ ap Some (sym c.in-Ok.ensures)) wish.store_is)
 
 pub returns-in-Open-clause-memory : goal.returns-in-Open-clause-memory
 returns-in-Open-clause-memory g c = λ given from.
     let wish = from.is_asked c.in-Some.asked c.in-Some.ensures.so in
-    c.read_and_play-in-Open.ensures.memory given (to_play given _ _ _ _ _ from (wish.served_is ∙ ap is_served_by c.in-Open.is) (wish.first_is ∙ ap first_of c.in-Open.is) wish.store_is)
+    c.read_and_play-in-Open.ensures.memory given (to_play given false _ _ _ _ _ from (wish.served_is ∙ ap is_served_by c.in-Open.is) (wish.first_is ∙ ap first_of c.in-Open.is) wish.store_is)
 
 pub returns-in-Err-clause-memory : goal.returns-in-Err-clause-memory
 returns-in-Err-clause-memory g c = λ given from. record { bytes = λ none kept. refl; half_made = λ some failed. absurd (cc); no_memory = λ some wanting. inl refl }

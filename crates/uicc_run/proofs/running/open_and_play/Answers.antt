@@ -1,48 +1,32 @@
 -- The card opened is the one at the end of the link, and the store handed back is that card's: the lines are told from one to the other.
-use Rattle.std.proofs.Common.{[], true, ap, refl, ◌∙◌}
-use Rattle.uicc_types.specs.declared.plans.TheConstants.Plan.{NONE}
+use Rattle.std.proofs.Common.{ap, ◌∙◌}
 use Rattle.card_core.specs.Parts.{CardParts}
 use Rattle.card_core.specs.Cards.{parts_of}
-use Rattle.run_steps.specs.Stepping.{moment}
-use Rattle.run_steps.specs.Views.{ItsPower, TheCard}
-use Rattle.uicc_run.specs.Listeners.{is_handset}
-use Rattle.uicc_run.specs.Opening.{IsStarted}
+use Rattle.uicc_run.specs.BetweenLines.{IsStarted}
 use Rattle.uicc_run.proofs.HasKindsOfLemmas.{at_end}
 use Rattle.uicc_run.proofs.EndsForLemmas.{ends_played, rose_as}
-use Rattle.uicc_run.proofs.OpeningLemmas.{caused_counted, caused_kept, formatted_then, given_back, refusal_keeps, refused, starts}
-use Rattle.uicc_run.proofs.ReadingLemmas.{reads_behind, reads_refused, reads_start}
-use Rattle.uicc_run.proofs.ServingLemmas.{opening}
-use Rattle.uicc_run.proofs.ShowingLemmas.{refused_shows, starts_with_power}
-use Rattle.uicc_run.specs.Serving.{ComesTo}
+use Rattle.uicc_run.proofs.OpeningLemmas.{formatted_then, given_back, refusal_keeps, refused, starts_seen}
+use Rattle.uicc_run.specs.Playing.{ComesTo}
 use Rattle.uicc_run.proofs.running.open_and_play.Goals as goal
 
 pub returns-in-Ok-clause-comes : goal.returns-in-Ok-clause-comes
-returns-in-Ok-clause-comes g c = λ given served told made.
+returns-in-Ok-clause-comes g c = λ given told served tells made.
     let parts = parts_of g.S.Store g.B.Applet c.in-Ok.card in
-    let started = starts given c.args.reader.now (g.R.Source.left c.args.script.now) (g.W.Sink.taken c.args.trace.now) _ _ _ _ parts
-    c.runs_are_counted.ensures.join made (c.in-Ok.ensures.opened.opens.card ∙ told) c.in-Ok.ensures.opened.opened c.in-Ok.ensures.opened.on c.in-Ok.ensures.opened.rests c.in-Ok.ensures.opened.ready.good c.in-Ok.ensures.opened.calm in
-    let first = TheCard started.0 in (
+    let started = starts_seen given told c.args.reader.now (g.R.Source.left c.args.script.now) (g.W.Sink.taken c.args.trace.now) _ _ _ _ parts c.runs_are_counted.ensures.join made (λ is. c.in-Ok.ensures.opened.opens.card ∙ tells is)
+    c.in-Ok.ensures.opened.opened c.in-Ok.ensures.opened.on c.in-Ok.ensures.opened.rests c.in-Ok.ensures.opened.ready.good c.in-Ok.ensures.opened.calm in (
       started.0,
-      given_back (ComesTo given first (g.R.Source.left c.carry_on-end.new.script) c.carry_on-end.result) (g.W.Sink.taken c.carry_on-end.new.trace) c.carry_on-end.new.card.parts _ _ _ _
+      started.1,
+      given_back (ComesTo given started.0 (g.R.Source.left c.carry_on-end.new.script) c.carry_on-end.result) (g.W.Sink.taken c.carry_on-end.new.trace) c.carry_on-end.new.card.parts _ _ _ _
           (c.close-store.ensures.mark ∙ ap (λ (p : CardParts). p.store_mark) c.into_parts-card.ensures.parts) (c.close-store.ensures.told ∙ ap (λ (p : CardParts). p.told) c.into_parts-card.ensures.parts)
           (c.close-store.ensures.meter ∙ ap (λ (p : CardParts). p.meter) c.into_parts-card.ensures.parts) (c.close-store.ensures.boxes ∙ ap (λ (p : CardParts). p.boxes) c.into_parts-card.ensures.parts)
-          (c.carry_on-end.ensures.comes given first served
-          (at_end (IsStarted given first c.args.reader.now (g.R.Source.left c.args.script.now)) c.new-card.result parts (g.W.Sink.taken c.args.trace.now) c.new-card.ensures.parts c.new-card.ensures.waiting started.1)),
+          (c.carry_on-end.ensures.comes given started.0 served
+          (at_end (IsStarted given started.0 c.args.reader.now (g.R.Source.left c.args.script.now)) c.new-card.result parts (g.W.Sink.taken c.args.trace.now) c.new-card.ensures.parts c.new-card.ensures.waiting started.2)),
     )
 
-pub returns-in-Ok-clause-reads : goal.returns-in-Ok-clause-reads
-returns-in-Ok-clause-reads g c = λ given described served at.
-    reads_behind given (g.R.Source.left c.carry_on-end.new.script) at.section described (is_handset c.args.listener) c.carry_on-end.result served at.described
-    (c.carry_on-end.ensures.reads given.text (opening at.section) (reads_start given c.args.reader.now (g.R.Source.left c.args.script.now) described (is_handset c.args.listener) at))
-
 pub returns-in-Err-clause-comes : goal.returns-in-Err-clause-comes
-returns-in-Err-clause-comes g c = λ given served told made.
-    rw c.ending_of.ensures (refused given c.args.reader.now (g.R.Source.left c.args.script.now) (g.W.Sink.taken c.args.trace.now) _ _ _ _ _ _ _ _ c.in-Err.fault
-    c.runs_are_counted.ensures.join told c.in-Err.ensures.refuses.found c.in-Err.ensures.refuses.left c.in-Err.ensures.keeps.mark c.in-Err.ensures.keeps.cause made)
-
-pub returns-in-Err-clause-reads : goal.returns-in-Err-clause-reads
-returns-in-Err-clause-reads g c = λ given described served at.
-    rw c.ending_of.ensures (reads_refused given c.args.reader.now (g.R.Source.left c.args.script.now) described c.in-Err.fault at)
+returns-in-Err-clause-comes g c = λ given told served tells made.
+    rw c.ending_of.ensures (refused given told c.args.reader.now (g.R.Source.left c.args.script.now) (g.W.Sink.taken c.args.trace.now) _ _ _ _ _ _ _ _
+    c.runs_are_counted.ensures.join tells c.in-Err.ensures.keeps.mark made c.in-Err.fault c.in-Err.ensures.refuses.found c.in-Err.ensures.refuses.left c.in-Err.ensures.keeps.cause)
 
 pub returns-in-Err-clause-memory : goal.returns-in-Err-clause-memory
 returns-in-Err-clause-memory g c = record {
@@ -50,9 +34,6 @@ returns-in-Err-clause-memory g c = record {
       refusal_keeps c.in-Err.fault _ _ _ c.in-Err.ensures.refuses.left (rw c.ending_of.ensures at refusal);
   formatted = λ failed. formatted_then c.in-Err.fault (rw c.ending_of.ensures at failed);
 }
-
-pub returns-in-Err-clause-quiet : goal.returns-in-Err-clause-quiet
-returns-in-Err-clause-quiet g c = λ unopened. record { silent = refl; unplanned = caused_kept _ _ c.in-Err.ensures.keeps.cause }
 
 pub returns-in-Ok-clause-ends : goal.returns-in-Ok-clause-ends
 returns-in-Ok-clause-ends g c =
@@ -63,18 +44,3 @@ returns-in-Ok-clause-ends g c =
     (c.close-store.ensures.meter ∙ ap (λ (p : CardParts). p.meter) c.into_parts-card.ensures.parts)
     (c.carry_on-end.ensures.tallies.reset reset))
     c.carry_on-end.ensures.tallies.steps.tells
-
-pub returns-in-Ok-clause-shows : goal.returns-in-Ok-clause-shows
-returns-in-Ok-clause-shows g c = λ given described served at told counted.
-    let parts = parts_of g.S.Store g.B.Applet c.in-Ok.card in
-    let taken = g.W.Sink.taken c.args.trace.now in
-    let opened = c.runs_are_counted.ensures.join given.meter (g.S.Store.meter c.args.store) parts.meter [] [] [] [] counted (caused_counted _ _ c.in-Ok.ensures.opened.calm (λ so. so) (λ so. so)) in
-    given_back (ComesTo given (ItsPower true) (g.R.Source.left c.carry_on-end.new.script) c.carry_on-end.result) (g.W.Sink.taken c.carry_on-end.new.trace) c.carry_on-end.new.card.parts _ _ _ _
-    (c.close-store.ensures.mark ∙ ap (λ (p : CardParts). p.store_mark) c.into_parts-card.ensures.parts) (c.close-store.ensures.told ∙ ap (λ (p : CardParts). p.told) c.into_parts-card.ensures.parts)
-    (c.close-store.ensures.meter ∙ ap (λ (p : CardParts). p.meter) c.into_parts-card.ensures.parts) (c.close-store.ensures.boxes ∙ ap (λ (p : CardParts). p.boxes) c.into_parts-card.ensures.parts)
-    (c.carry_on-end.ensures.comes given (ItsPower true) served
-    (at_end (IsStarted given (ItsPower true) c.args.reader.now (g.R.Source.left c.args.script.now)) c.new-card.result parts taken c.new-card.ensures.parts c.new-card.ensures.waiting
-    (starts_with_power given c.args.reader.now (g.R.Source.left c.args.script.now) described (moment parts taken NONE) at c.in-Ok.ensures.opened.on told opened refl)))
-
-pub returns-in-Err-clause-shows : goal.returns-in-Err-clause-shows
-returns-in-Err-clause-shows g c = λ given described served at told counted. rw c.ending_of.ensures (refused_shows given c.in-Err.fault _ _)

@@ -1,12 +1,12 @@
 -- What is known before the last line, and what that line is.
-use Rattle.std.proofs.Common.{◌≡◌, ℕ, List, Some, ap, arith, map, string_bytes, subst, ◌∙◌}
+use Rattle.std.proofs.Common.{◌≡◌, ℕ, true, List, Some, ap, arith, map, string_bytes, subst, ◌∙◌}
 use Rattle.std.proofs.lemmas.Grind.{common_steps}
 use Rattle.uicc_run.specs.Headline.{Closes}
 use Rattle.uicc_run.specs.Running.{HasCauses, RefusesWords}
 use Rattle.uicc_run.specs.Terminals.{AskForBip, TracesBip}
 use Rattle.uicc_run.specs.Worlds.{seen, world}
 use Rattle.uicc_run.proofs.TerminalsLemmas.{rose_on, serves_to_end, status_low}
-use Rattle.uicc_run.proofs.IsToPlayLemmas.{to_read, to_read_told}
+use Rattle.uicc_run.proofs.IsToPlayLemmas.{over_any}
 use Rattle.uicc_run.proofs.RunningLemmas.{statuses_so}
 use Rattle.uicc_run.proofs.ScriptsLemmas.{five_is, one_is, six_shows}
 use Rattle.uicc_run.proofs.running.run.Goals as goal
@@ -45,8 +45,8 @@ returns g c =
       closes = c.close.ensures.closed;
     } in
     record {
-      told = record {
-        trace = λ given from. record {
+      traces = record {
+        trace = λ given told from. record {
           ending = ending;
           cause = record {
             usage = c.carry_out-ending.ensures.usage.usage_only;
@@ -55,11 +55,11 @@ returns g c =
             untouched = c.carry_out-ending.ensures.ends.untouched;
             boxes_kept = c.carry_out-ending.ensures.ends.boxes;
             memory_kept =
-                let kept = c.carry_out-ending.ensures.memory given (to_read_told given _ _ from) in
+                let kept = c.carry_out-ending.ensures.memory given (over_any given told _ _ from) in
                 record { bytes = kept.bytes; half_made = kept.half_made; no_memory = kept.no_memory };
           };
           taken = put;
-          comes = c.carry_out-ending.ensures.comes given from;
+          comes = c.carry_out-ending.ensures.comes given told from;
           closes = c.close.ensures.closed;
         };
         load = λ given start count from.
@@ -77,18 +77,7 @@ returns g c =
             };
         bip = bip;
       };
-      untold = λ given from. record {
-        ending = ending;
-        put = put;
-        closes = c.close.ensures.closed;
-        reads = c.carry_out-ending.ensures.untold.reads given (to_read given _ _ from);
-        shows = c.carry_out-ending.ensures.untold.shows given (to_read given _ _ from) from.before_is from.meter_is;
-        unshown = λ unopened. (c.carry_out-ending.ensures.untold.quiet given (to_read given _ _ from) unopened).silent ∙ from.before_is;
-        unplanned = λ unopened. (c.carry_out-ending.ensures.untold.quiet given (to_read given _ _ from) unopened).unplanned;
-        boxes_kept = c.carry_out-ending.ensures.ends.boxes;
-        untouched = c.carry_out-ending.ensures.ends.untouched;
-      };
-      statuses = statuses_so words status before after ending put c.close.ensures.closed c.close.ensures.status c.carry_out-ending.ensures.ends.tells c.carry_out-ending.ensures.untold.reads c.carry_out-ending.ensures.comes
+      statuses = statuses_so words status before after ending put c.close.ensures.closed c.close.ensures.status c.carry_out-ending.ensures.ends.tells c.carry_out-ending.ensures.comes
           c.carry_out-ending.ensures.usage.usage usage causes (λ given start count from. (_, c.carry_out-ending.ensures.load.load given start count after.taken from))
           (serves_to_end words status before after bip (λ asks. status_low _ status c.close.ensures.status (c.carry_out-ending.ensures.bip asks).low) causes.source_failed.rose causes.sink_failed.rose);
       stays = record {
@@ -96,8 +85,8 @@ returns g c =
         bip_untouched = λ asks. let channels = c.carry_out-ending.ensures.bip asks in (channels.memory_kept, channels.boxes_kept);
         unread = c.carry_out-ending.ensures.usage.unread;
         load_unread = c.carry_out-ending.ensures.load.load_unread;
-        taken = c.carry_out-ending.ensures.untold.taken;
+        taken = c.carry_out-ending.ensures.taken;
         no_memory = λ given from some is.
-            (c.carry_out-ending.ensures.memory given (to_read_told given _ _ from)).no_memory some (five_is ending status c.close.ensures.status is);
+            (c.carry_out-ending.ensures.memory given (over_any given true _ _ from)).no_memory some (five_is ending status c.close.ensures.status is);
       };
     }

@@ -4,7 +4,7 @@ use Rattle.list_laws.specs.Patches.{patched, Torn}
 use Rattle.uicc_types.specs.Told.{Becomes}
 use Rattle.uicc_types.proofs.IsCalmLemmas.{calm_same, caused_then, calm_ok}
 use Rattle.uicc_types.specs.Counts.{raised_by}
-use Rattle.update_journal.specs.Calls.{calls_at, calls_of, CallsAtMost}
+use Rattle.update_journal.specs.Calls.{calls_at, calls_of, MadeAtMost}
 use Rattle.update_journal.proofs.CallsLemmas.{all_left, after_some, none_left, fault_in, calls_from, calls_behind}
 use Rattle.update_journal.proofs.IsUnderWayLemmas.{none_written, piece_written, all_written, piece_torn, piece_inside}
 use Rattle.update_journal.proofs.steps.write_pieces.Goals as goal
@@ -42,7 +42,7 @@ returns-clause-ok g c = all_written c.args.writes.now c.loop-at.at (g.E.Eeprom.c
 
 pub returns-in_err-write-clause-calls : goal.returns-in_err-write-clause-calls
 returns-in_err-write-clause-calls g c =
-    let place : ℕ → Type 0 = λ place. CallsAtMost (calls_at place (length c.piece-place.result.1.now)) c.loop-at.device.programs c.write.new.device.programs in
+    let place : ℕ → Type 0 = λ place. MadeAtMost (calls_at place (length c.piece-place.result.1.now)) c.loop-at.device.programs c.write.new.device.programs in
     let piece = calls_from c.args.writes.now c.loop-at.at (record { place = c.piece-place.result.0; bytes = c.piece-place.result.1.now }) c.piece-place.ensures in
     record {
       all = search rules;

@@ -1,30 +1,16 @@
 -- A fault puts the noted rows back: no row had come but by INSTALL, so table and boxes fit again, whatever was committed.
-use Rattle.std.proofs.Common.{◌∷◌, Err, Option, ap, subst, sym, ◌∙◌, rules, All, IfSome, IsSomeAnd}
+use Rattle.std.proofs.Common.{ap, subst, sym, ◌∙◌, rules, All}
 use Rattle.card_state.specs.declared.entries.Loaded.{Loaded}
-use Rattle.card_model.specs.Answers.{settled, carried_out}
-use Rattle.card_model.specs.Runs.{IsLeft}
-use Rattle.card_model.specs.States.{CardState}
 use Rattle.card_model.specs.declared.instructions.Instruction.TheVariants.{Toolkit}
-use Rattle.card_core.specs.Cards.{parts_of, card_of}
+use Rattle.card_core.specs.Cards.{parts_of}
 use Rattle.card_core.specs.Registered.{IsUsedOrBlank}
 use Rattle.card_core.proofs.HasNoRowLemmas.{none_comes}
-use Rattle.card_core.proofs.ActsOnLemmas.{toolkit_acts}
-use Rattle.card_core.proofs.PutBackLemmas.{rows_blank, put_back_so, due_same, set_restored, moves_restored}
+use Rattle.card_core.proofs.PutBackLemmas.{rows_blank, put_back_so, yields_restored, set_restored, moves_restored}
 use Rattle.card_core.proofs.IsRunningLemmas.{in_order, some_told}
 use Rattle.card_core.proofs.cards.CardOver.carry_out_by_toolkit.Goals as goal
 
 pub note-requires : goal.note-requires
 note-requires g c = record { blank = subst (λ (table : Loaded). All IsUsedOrBlank table.rows) (sym c.deref.ensures) (rows_blank _ _ _ c.requires.underway.running.mounted.agrees) }
-
-pub returns-in-Err-clause-settled : goal.returns-in-Err-clause-settled
-returns-in-Err-clause-settled g c = record {
-  settles =
-      subst (λ (due : Option CardState). IfSome (card_of (parts_of g.S.Store g.B.Applet c.args.self.now)) (λ card. IsSomeAnd due (IsLeft card (card.persistent ∷ (settled card (carried_out (Toolkit c.args.command) card c.args.apdu.now)).commits))))
-      (sym (due_same (parts_of g.S.Store g.B.Applet c.serve_toolkit-2.new.self) c.put_back.new.loaded)) c.in-Err.ensures.settled.settles;
-  counts = record { commits = tt; stopped = c.in-Err.ensures.settled.counts.stopped; stable = c.in-Err.ensures.settled.counts.stable };
-  usual = search rules;
-  empty = search rules;
-}
 
 pub returns-in-Err-clause-table : goal.returns-in-Err-clause-table
 returns-in-Err-clause-table g c =
@@ -34,14 +20,18 @@ returns-in-Err-clause-table g c =
     (c.put_back.ensures ∙ ap (λ (table : Loaded). record table { rows = c.serve_toolkit-2.new.self.before.rows; next = c.serve_toolkit-2.new.self.before.next }) c.deref_mut.ensures.value)
 
 pub returns-in-Err-clause-acts : goal.returns-in-Err-clause-acts
-returns-in-Err-clause-acts g c =
-    toolkit_acts {X = Unit} (Err c.in-Err.fault) c.args.apdu.now (parts_of g.S.Store g.B.Applet c.args.self.now) _ c.serve_toolkit-2.new.out c.args.command (λ state told. tt)
-    (λ state told. c.in-Err.ensures.acts.commits state tt told) c.in-Err.ensures.acts.done (λ state told. c.in-Err.ensures.acts.calm state tt told)
-    (let some = some_told c.tables_tell_states.ensures _ _ c.args.self.now.loaded.value c.requires.underway.running.mounted.agrees in
-    moves_restored (parts_of g.S.Store g.B.Applet c.args.self.now) (parts_of g.S.Store g.B.Applet c.serve_toolkit-2.new.self) c.put_back.new.loaded (returns-in-Err-clause-table g c) c.args.command c.args.apdu.now c.in-Err.ensures.acts.moves c.in-Err.ensures.stopped.boxes
-    (λ shelf apart lacks.
-    none_comes c.states_are_of_entries.ensures.rows (parts_of g.S.Store g.B.Applet c.args.self.now) (parts_of g.S.Store g.B.Applet c.serve_toolkit-2.new.self) some.0 some.1
-    (in_order c.tables_have_rows.ensures (parts_of g.S.Store g.B.Applet c.args.self.now) c.requires.underway.running some.0 some.1) shelf lacks c.cards_go_on.ensures.rows c.args.command c.args.apdu.now apart (c.in-Err.ensures.stopped.rows some.0 some.1)))
+returns-in-Err-clause-acts g c = record {
+  says = λ by state known needs. tt;
+  yields = λ by state known. yields_restored (parts_of g.S.Store g.B.Applet c.args.self.now) (parts_of g.S.Store g.B.Applet c.serve_toolkit-2.new.self) c.put_back.new.loaded c.in-Err.fault by (Toolkit c.args.command) _ _ _ (c.in-Err.ensures.acts.yields by state known);
+  done = c.in-Err.ensures.acts.done;
+  denied = λ status refused. absurd refused;
+  moves =
+      (let some = some_told c.tables_tell_states.ensures _ _ c.args.self.now.loaded.value c.requires.underway.running.mounted.agrees in
+      moves_restored (parts_of g.S.Store g.B.Applet c.args.self.now) (parts_of g.S.Store g.B.Applet c.serve_toolkit-2.new.self) c.put_back.new.loaded (returns-in-Err-clause-table g c) c.args.command c.args.apdu.now c.in-Err.ensures.acts.moves c.in-Err.ensures.stopped.boxes
+      (λ shelf apart lacks.
+      none_comes c.states_are_of_entries.ensures.rows (parts_of g.S.Store g.B.Applet c.args.self.now) (parts_of g.S.Store g.B.Applet c.serve_toolkit-2.new.self) some.0 some.1
+      (in_order c.tables_have_rows.ensures (parts_of g.S.Store g.B.Applet c.args.self.now) c.requires.underway.running some.0 some.1) shelf lacks c.cards_go_on.ensures.rows c.args.command c.args.apdu.now apart (c.in-Err.ensures.stopped.rows some.0 some.1)));
+}
 
 pub returns-in-Err-clause-goes_on : goal.returns-in-Err-clause-goes_on
 returns-in-Err-clause-goes_on g c = record {

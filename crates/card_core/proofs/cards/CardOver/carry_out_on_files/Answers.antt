@@ -1,57 +1,34 @@
 -- A refusal and STATUS put back what their channel had selected and meet no fault; else a fault leaves one of the states passed.
 use Rattle.std.proofs.Common.{◌≡◌, ℕ, List, Option, Some, refl, sym, ◌∙◌, ap, subst, rules, slice_set, unwrap_or, Ok, Err}
 use Rattle.std.proofs.lemmas.Bool.{false≢true}
-use Rattle.apdu_form.specs.Model.{Apdu}
-use Rattle.card_state.specs.declared.entries.Loaded.{Loaded}
+use Rattle.apdu_form.specs.Classes.{channel_of}
 use Rattle.card_state.specs.Memory.{memory}
-use Rattle.card_state.specs.Standing.{standing, Agrees}
+use Rattle.card_state.specs.Standing.{Agrees}
 use Rattle.card_state.specs.States.{pins_of, rows_of}
+use Rattle.card_state.specs.declared.entries.Loaded.{Loaded}
 use Rattle.file_model.specs.Access.{keys_seen}
+use Rattle.file_model.specs.Channels.{selected_on}
+use Rattle.file_model.specs.Commands.{file_outcome}
 use Rattle.file_model.specs.Files.{descriptors_of}
+use Rattle.file_model.specs.LawfulTrees.{AreSelected}
+use Rattle.file_model.specs.Outcomes.{settled_file}
+use Rattle.file_model.specs.declared.commands.FileCommand.{FileCommand}
 use Rattle.file_model.specs.declared.selections.Selection.{Selection}
 use Rattle.file_model.specs.declared.selections.TheConstants.Selection.{AT_START}
-use Rattle.apdu_form.specs.Classes.{channel_of}
-use Rattle.file_model.specs.Channels.{selected_on}
-use Rattle.file_model.specs.LawfulTrees.{AreSelected}
-use Rattle.file_model.specs.Commands.{file_outcome}
-use Rattle.file_model.specs.declared.commands.FileCommand.{FileCommand}
-use Rattle.file_model.specs.Outcomes.{settled_file}
 use Rattle.card_commits.specs.Laws.{IsTold}
 use Rattle.record_commands.specs.Tables.{HasOtherFiles}
 use Rattle.card_model.specs.declared.instructions.Instruction.TheVariants.{File}
 use Rattle.card_core.specs.AnyStore.{RefusesFile, NeedsNoContents}
-use Rattle.card_core.specs.Cards.{parts_of, card_of, memory_of}
-use Rattle.card_core.proofs.RefusesByTableLemmas.{all_stays}
-use Rattle.card_core.proofs.IsSetLemmas.{kept_selected, rows_beside_files, set_after}
-use Rattle.card_core.proofs.RestartLemmas.{toolkit_kept}
+use Rattle.card_core.specs.Cards.{parts_of, memory_of}
 use Rattle.card_core.proofs.AreSelectedLemmas.{set_selected}
-use Rattle.card_core.proofs.SettlesLemmas.{files_settle, files_fault, put_back, files_counts}
-use Rattle.card_core.proofs.IsLeftLemmas.{fault_left, card_boxes}
-use Rattle.card_core.proofs.IsRunningLemmas.{cards_in_order, some_told}
-use Rattle.card_core.proofs.MovesItsOwnLemmas.{files_moved, files_kept, status_keeps}
-use Rattle.card_core.proofs.AnswersAsLemmas.{files_told}
-use Rattle.card_core.proofs.ActsOnLemmas.{files_act}
+use Rattle.card_core.proofs.FileYieldsLemmas.{files_act, files_stopped, files_move, put_back}
 use Rattle.card_core.proofs.HoldsCardLemmas.{holds_card}
+use Rattle.card_core.proofs.IsRunningLemmas.{some_told}
+use Rattle.card_core.proofs.IsSetLemmas.{kept_selected, rows_beside_files, set_after}
+use Rattle.card_core.proofs.MovesItsOwnLemmas.{files_moved, files_kept, status_keeps}
+use Rattle.card_core.proofs.RefusesByTableLemmas.{all_stays}
+use Rattle.card_core.proofs.RestartLemmas.{toolkit_kept}
 use Rattle.card_core.proofs.cards.CardOver.carry_out_on_files.Goals as goal
-
-pub returns-in-Ok-clause-settled : goal.returns-in-Ok-clause-settled
-returns-in-Ok-clause-settled g c = record {
-  settles =
-      let channel : c.channel-channel.result ≡ channel_of c.args.apdu.now.class = c.channel-channel.ensures in
-      files_settle c.args.command c.tables_tell_states.ensures _ _ c.requires.underway.rests c.requires.underway.running.mounted.agrees c.args.apdu.now c.in-Some.selection
-      (ap (selected_on c.args.self.now.channels) (sym channel) ∙ sym c.selected.ensures ∙ c.in-Some.is)
-      (keys_seen (pins_of c.deref_mut.result.now) c.args.self.now.verified) (ap (λ (table : Loaded). keys_seen (pins_of table) c.args.self.now.verified) c.deref_mut.ensures.value)
-      _ c.on_files.new.selection c.on_files.new.out c.in-Ok.ensures.performs c.requires.underway.rests
-      (c.set.ensures ∙ ap (λ (at : ℕ). slice_set c.args.self.now.channels at (Some c.on_files.new.selection)) channel) refl refl refl;
-  counts =
-      let channel : c.channel-channel.result ≡ channel_of c.args.apdu.now.class = c.channel-channel.ensures in
-      files_counts c.args.command c.tables_tell_states.ensures (parts_of g.S.Store g.B.Applet c.args.self.now) _ c.requires.underway.rests c.requires.underway.running.mounted.agrees c.args.apdu.now c.in-Some.selection
-      (ap (selected_on c.args.self.now.channels) (sym channel) ∙ sym c.selected.ensures ∙ c.in-Some.is)
-      (keys_seen (pins_of c.deref_mut.result.now) c.args.self.now.verified) (ap (λ (table : Loaded). keys_seen (pins_of table) c.args.self.now.verified) c.deref_mut.ensures.value)
-      c.deref_mut.result.now _ c.on_files.new.selection c.on_files.new.out c.in-Ok.ensures.performs c.on_files.ensures.still;
-  usual = search rules;
-  empty = search rules;
-}
 
 pub returns-in-Ok-clause-goes_on : goal.returns-in-Ok-clause-goes_on
 returns-in-Ok-clause-goes_on g c = record {
@@ -71,27 +48,6 @@ returns-in-Ok-clause-goes_on g c = record {
   };
   others = search rules;
   cause = search rules;
-}
-
-pub returns-in-Err-clause-settled : goal.returns-in-Err-clause-settled
-returns-in-Err-clause-settled g c = record {
-  settles =
-      let old = parts_of g.S.Store g.B.Applet c.args.self.now in
-      let channel : c.channel-channel.result ≡ channel_of c.args.apdu.now.class = c.channel-channel.ensures in
-      fault_left c.cards_go_on.ensures.rows (File c.args.command) c.args.apdu.now refl (card_of old) _ c.requires.underway.running.stays (card_boxes old c.requires.underway.rests)
-      (cards_in_order c.tables_tell_states.ensures c.tables_have_rows.ensures old c.requires.underway.running c.requires.underway.rests)
-      (files_fault c.args.command c.tables_tell_states.ensures (parts_of g.S.Store g.B.Applet c.args.self.now) (parts_of g.S.Store g.B.Applet c.args.self.now) c.requires.underway.rests c.requires.underway.running.mounted.agrees c.args.apdu.now c.in-Some.selection
-      (ap (selected_on c.args.self.now.channels) (sym channel) ∙ sym c.selected.ensures ∙ c.in-Some.is)
-      (keys_seen (pins_of c.deref_mut.result.now) c.args.self.now.verified) (ap (λ (table : Loaded). keys_seen (pins_of table) c.args.self.now.verified) c.deref_mut.ensures.value)
-      (standing (g.S.Store.store_mark c.on_files.new.store) (g.S.Store.stable c.on_files.new.store)) c.in-Err.ensures.performs.passes);
-  counts =
-      let channel : c.channel-channel.result ≡ channel_of c.args.apdu.now.class = c.channel-channel.ensures in
-      files_counts c.args.command c.tables_tell_states.ensures (parts_of g.S.Store g.B.Applet c.args.self.now) _ c.requires.underway.rests c.requires.underway.running.mounted.agrees c.args.apdu.now c.in-Some.selection
-      (ap (selected_on c.args.self.now.channels) (sym channel) ∙ sym c.selected.ensures ∙ c.in-Some.is)
-      (keys_seen (pins_of c.deref_mut.result.now) c.args.self.now.verified) (ap (λ (table : Loaded). keys_seen (pins_of table) c.args.self.now.verified) c.deref_mut.ensures.value)
-      c.deref_mut.result.now _ c.on_files.new.selection c.on_files.new.out c.in-Err.ensures.performs c.on_files.ensures.still;
-  usual = search rules;
-  empty = search rules;
 }
 
 pub returns-in-Ok-clause-still : goal.returns-in-Ok-clause-still
@@ -117,36 +73,28 @@ returns-in-Ok-clause-still g c = λ is.
 
 pub returns-in-Ok-clause-acts : goal.returns-in-Ok-clause-acts
 returns-in-Ok-clause-acts g c =
+    let old = parts_of g.S.Store g.B.Applet c.args.self.now in
     let channel : c.channel-channel.result ≡ channel_of c.args.apdu.now.class = c.channel-channel.ensures in
     let there : selected_on c.args.self.now.channels (channel_of c.args.apdu.now.class) ≡ Some c.in-Some.selection = ap (selected_on c.args.self.now.channels) (sym channel) ∙ sym c.selected.ensures ∙ c.in-Some.is in
-    files_act {X = Unit} (Ok c.in-Ok.field-0) c.args.apdu.now (parts_of g.S.Store g.B.Applet c.args.self.now) _ c.on_files.new.out c.args.command
-    (some_told c.tables_tell_states.ensures (g.S.Store.store_mark c.args.self.now.store) (g.S.Store.stable c.args.self.now.store) c.args.self.now.loaded.value c.requires.underway.running.mounted.agrees)
-    (λ state needs told.
-    let gives = c.in-Ok.ensures.tells.answers state needs (subst (λ (table : Loaded). IsTold table state) (sym c.deref_mut.ensures.value) told) in (
-      refl,
-      files_told c.args.command (parts_of g.S.Store g.B.Applet c.args.self.now) _ state c.args.apdu.now c.in-Some.selection c.on_files.new.selection c.on_files.new.out there
-          (keys_seen (pins_of c.deref_mut.result.now) c.args.self.now.verified) (ap (λ (table : Loaded). keys_seen (pins_of table) c.args.self.now.verified) c.deref_mut.ensures.value) told (gives.2 ∙ c.deref_mut.ensures.value) gives.1
-          (c.set.ensures ∙ ap (λ (at : ℕ). slice_set c.args.self.now.channels at (Some c.on_files.new.selection)) channel) refl refl refl,
-      gives.3,
-    ))
+    let set = c.set.ensures ∙ ap (λ (at : ℕ). slice_set c.args.self.now.channels at (Some c.on_files.new.selection)) channel in
+    files_act c.args.command c.args.apdu.now old _ c.in-Some.selection c.on_files.new.selection there c.on_files.new.out c.tables_tell_states.ensures c.tables_have_rows.ensures c.requires.underway.running
+    c.deref_mut.result.now c.deref_mut.ensures.value
+    (files_move {X = Unit} (Ok tt) c.args.command c.args.apdu.now old _
+    (files_moved (channel_of c.args.apdu.now.class) c.channel-channel.result old _ (Some c.on_files.new.selection)
+    (subst (λ (table : Loaded). HasOtherFiles table c.on_files.new.loaded) c.deref_mut.ensures.value c.on_files.ensures.files.files) channel c.set.ensures refl refl refl) (returns-in-Ok-clause-still g c))
+    c.on_files.ensures.still tt (record { channels = set; verified = refl; session = refl; boxes = refl }) c.in-Ok.ensures.performs c.in-Ok.ensures.tells
     (λ status refused.
     let told = subst (λ (table : Loaded). RefusesFile c.args.command (descriptors_of table) c.in-Some.selection c.args.apdu.now status) (sym c.deref_mut.ensures.value)
     (subst (λ (found : Option Selection). RefusesFile c.args.command (descriptors_of c.args.self.now.loaded.value) (unwrap_or found AT_START) c.args.apdu.now status) there refused) in
-    let gives = c.in-Ok.ensures.tells.denied status told in (
-      refl,
-      record {
-        refused = record { body = gives.1.body; status_is = gives.1.status_is };
-        stays =
-            all_stays (parts_of g.S.Store g.B.Applet c.args.self.now) (memory g.S.Store c.on_files.new.store c.on_files.new.loaded) _
-            (gives.2 ∙ ap (λ (table : Loaded). record (memory_of (parts_of g.S.Store g.B.Applet c.args.self.now)) { table = table }) c.deref_mut.ensures.value)
-            (c.set.ensures ∙ ap (λ (at : ℕ). slice_set c.args.self.now.channels at (Some c.on_files.new.selection)) channel
-            ∙ ap (λ (next : Selection). slice_set c.args.self.now.channels (channel_of c.args.apdu.now.class) (Some next)) gives.1.selected
-            ∙ put_back c.args.self.now.channels (channel_of c.args.apdu.now.class) c.in-Some.selection there);
-      },
-    ))
-    (files_moved (channel_of c.args.apdu.now.class) c.channel-channel.result (parts_of g.S.Store g.B.Applet c.args.self.now) _ (Some c.on_files.new.selection)
-    (subst (λ (table : Loaded). HasOtherFiles table c.on_files.new.loaded) c.deref_mut.ensures.value c.on_files.ensures.files.files) channel c.set.ensures refl refl refl)
-    (returns-in-Ok-clause-still g c)
+    let gives = c.in-Ok.ensures.tells.denied status told in
+    record {
+      refused = record { body = gives.1.body; status_is = gives.1.status_is };
+      stays =
+          all_stays old (memory g.S.Store c.on_files.new.store c.on_files.new.loaded) _
+          (gives.2 ∙ ap (λ (table : Loaded). record (memory_of old) { table = table }) c.deref_mut.ensures.value)
+          (set ∙ ap (λ (next : Selection). slice_set c.args.self.now.channels (channel_of c.args.apdu.now.class) (Some next)) gives.1.selected
+          ∙ put_back c.args.self.now.channels (channel_of c.args.apdu.now.class) c.in-Some.selection there);
+    })
 
 pub returns-in-Err-clause-still : goal.returns-in-Err-clause-still
 returns-in-Err-clause-still g c = λ is.
@@ -155,16 +103,16 @@ returns-in-Err-clause-still g c = λ is.
 
 pub returns-in-Err-clause-acts : goal.returns-in-Err-clause-acts
 returns-in-Err-clause-acts g c =
-    let channel : c.channel-channel.result ≡ channel_of c.args.apdu.now.class = c.channel-channel.ensures in
-    let there : selected_on c.args.self.now.channels (channel_of c.args.apdu.now.class) ≡ Some c.in-Some.selection = ap (selected_on c.args.self.now.channels) (sym channel) ∙ sym c.selected.ensures ∙ c.in-Some.is in
-    files_act {X = Unit} (Err c.in-Err.fault) c.args.apdu.now (parts_of g.S.Store g.B.Applet c.args.self.now) _ c.on_files.new.out c.args.command
-    (some_told c.tables_tell_states.ensures (g.S.Store.store_mark c.args.self.now.store) (g.S.Store.stable c.args.self.now.store) c.args.self.now.loaded.value c.requires.underway.running.mounted.agrees)
-    (λ state needs told. absurd (false≢true (c.in-Err.ensures.tells.answers state needs (subst (λ (table : Loaded). IsTold table state) (sym c.deref_mut.ensures.value) told)).0))
+    let old = parts_of g.S.Store g.B.Applet c.args.self.now in
+    let there : selected_on c.args.self.now.channels (channel_of c.args.apdu.now.class) ≡ Some c.in-Some.selection = ap (selected_on c.args.self.now.channels) (sym c.channel-channel.ensures) ∙ sym c.selected.ensures ∙ c.in-Some.is in
+    files_stopped c.args.command c.args.apdu.now old _ c.in-Some.selection c.on_files.new.selection there c.on_files.new.out c.tables_tell_states.ensures c.tables_have_rows.ensures c.requires.underway.running
+    c.deref_mut.result.now c.deref_mut.ensures.value
+    (files_move {X = Unit} (Err c.in-Err.fault) c.args.command c.args.apdu.now old _
+    (files_kept (channel_of c.args.apdu.now.class) old _ (c.in-Err.ensures.ends.table ∙ c.deref_mut.ensures.value) refl refl refl refl) (returns-in-Err-clause-still g c))
+    c.on_files.ensures.still c.in-Err.fault c.cards_go_on.ensures.rows c.requires.underway.running.stays refl c.in-Err.ensures.performs c.in-Err.ensures.tells
     (λ status refused.
     absurd (false≢true (c.in-Err.ensures.tells.denied status (subst (λ (table : Loaded). RefusesFile c.args.command (descriptors_of table) c.in-Some.selection c.args.apdu.now status) (sym c.deref_mut.ensures.value)
     (subst (λ (found : Option Selection). RefusesFile c.args.command (descriptors_of c.args.self.now.loaded.value) (unwrap_or found AT_START) c.args.apdu.now status) there refused))).0))
-    (files_kept (channel_of c.args.apdu.now.class) (parts_of g.S.Store g.B.Applet c.args.self.now) _ (c.in-Err.ensures.ends.table ∙ c.deref_mut.ensures.value) refl refl refl refl)
-    (returns-in-Err-clause-still g c)
 
 pub returns-in-Err-clause-table : goal.returns-in-Err-clause-table
 returns-in-Err-clause-table g c = c.in-Err.ensures.ends.table ∙ c.deref_mut.ensures.value

@@ -1,41 +1,24 @@
 -- A fault puts the old PINs back in the table, whatever was committed: the store holds one of the states that the command passes.
-use Rattle.std.proofs.Common.{None, Contains, Ok, Err, ℕ, List, ◌∷◌, Option, refl, sym, ◌∙◌, ap, subst, rules}
+use Rattle.std.proofs.Common.{None, Contains, ℕ, List, ◌∷◌, Option, refl, sym, ◌∙◌, ap, subst, rules}
 use Rattle.std.proofs.lemmas.Bool.{false≢true}
-use Rattle.card_state.specs.Standing.{standing, Agrees}
-use Rattle.card_state.specs.declared.entries.Loaded.{Loaded}
-use Rattle.card_state.specs.States.{pins_of, rows_of}
 use Rattle.card_state.specs.Memory.{memory}
+use Rattle.card_state.specs.Standing.{Agrees}
+use Rattle.card_state.specs.States.{pins_of, rows_of}
+use Rattle.card_state.specs.declared.entries.Loaded.{Loaded}
 use Rattle.access_rules.specs.declared.rules.Verified.{Verified}
-use Rattle.file_model.specs.declared.descriptors.Descriptor.{Descriptor}
-use Rattle.file_model.specs.Files.{descriptors_of}
 use Rattle.file_model.specs.Commands.{pin_outcome, pin_settled}
+use Rattle.file_model.specs.Files.{descriptors_of}
 use Rattle.file_model.specs.LawfulTrees.{AreSelected}
+use Rattle.file_model.specs.declared.descriptors.Descriptor.{Descriptor}
 use Rattle.card_commits.specs.Performing.{with_each}
-use Rattle.pin_rules.specs.Outcomes.{IsCarriedOut}
-use Rattle.card_model.specs.declared.instructions.Instruction.TheVariants.{Pin}
-use Rattle.card_core.proofs.PutBackLemmas.{silent_agrees}
-use Rattle.card_core.proofs.ActsOnLemmas.{pins_act}
-use Rattle.card_core.specs.Cards.{parts_of, card_of}
+use Rattle.card_core.specs.Cards.{parts_of}
 use Rattle.card_core.proofs.HoldsCardLemmas.{holds_card}
-use Rattle.card_core.proofs.RefusesByTableLemmas.{all_stays, pins_refused}
 use Rattle.card_core.proofs.IsSetLemmas.{rows_beside_pins, files_beside_pins, holds_passed, set_after}
-use Rattle.card_core.proofs.IsLeftLemmas.{fault_left, card_boxes}
-use Rattle.card_core.proofs.IsRunningLemmas.{cards_in_order}
+use Rattle.card_core.proofs.PinYieldsLemmas.{pins_act, pins_stopped}
+use Rattle.card_core.proofs.PutBackLemmas.{silent_agrees}
+use Rattle.card_core.proofs.RefusesByTableLemmas.{all_stays, pins_refused}
 use Rattle.card_core.proofs.RestartLemmas.{toolkit_kept}
-use Rattle.card_core.proofs.SettlesLemmas.{pins_settle, pins_fault, pins_counts}
-use Rattle.card_core.proofs.AnswersAsLemmas.{pins_answer}
 use Rattle.card_core.proofs.cards.CardOver.carry_out_on_pins.Goals as goal
-
-pub returns-in-Ok-clause-settled : goal.returns-in-Ok-clause-settled
-returns-in-Ok-clause-settled g c = record {
-  settles =
-      pins_settle c.args.command (parts_of g.S.Store g.B.Applet c.args.self.now) c.requires.underway.rests c.args.apdu.now _ _ c.named_pin_command.new.out c.in-Ok.ensures.performs c.requires.underway.rests refl refl refl;
-  counts =
-      pins_counts c.args.command (parts_of g.S.Store g.B.Applet c.args.self.now) c.requires.underway.rests c.args.apdu.now _ c.deref_mut.result.now c.named_pin_command.new.loaded c.tables_tell_states.ensures c.requires.underway.running.mounted.agrees c.deref_mut.ensures.value
-      _ c.named_pin_command.new.out c.in-Ok.ensures.performs c.in-Ok.ensures.stops (λ none. ap g.S.Store.stable (c.named_pin_command.ensures.still none).1);
-  usual = search rules;
-  empty = search rules;
-}
 
 pub returns-in-Ok-clause-goes_on : goal.returns-in-Ok-clause-goes_on
 returns-in-Ok-clause-goes_on g c = record {
@@ -55,33 +38,21 @@ returns-in-Ok-clause-goes_on g c = record {
   cause = search rules;
 }
 
-pub returns-in-Err-clause-settled : goal.returns-in-Err-clause-settled
-returns-in-Err-clause-settled g c = record {
-  settles =
-      fault_left c.cards_go_on.ensures.rows (Pin c.args.command) c.args.apdu.now refl (card_of (parts_of g.S.Store g.B.Applet c.args.self.now)) _ c.requires.underway.running.stays (card_boxes (parts_of g.S.Store g.B.Applet c.args.self.now) c.requires.underway.rests)
-      (cards_in_order c.tables_tell_states.ensures c.tables_have_rows.ensures (parts_of g.S.Store g.B.Applet c.args.self.now) c.requires.underway.running c.requires.underway.rests)
-      (pins_fault c.args.command (parts_of g.S.Store g.B.Applet c.args.self.now) c.requires.underway.rests c.args.apdu.now
-      (standing (g.S.Store.store_mark c.named_pin_command.new.store) (g.S.Store.stable c.named_pin_command.new.store)) c.in-Err.ensures.performs.passes);
-  counts =
-      pins_counts c.args.command (parts_of g.S.Store g.B.Applet c.args.self.now) c.requires.underway.rests c.args.apdu.now _ c.deref_mut.result.now c.named_pin_command.new.loaded c.tables_tell_states.ensures c.requires.underway.running.mounted.agrees c.deref_mut.ensures.value
-      _ c.named_pin_command.new.out c.in-Err.ensures.performs c.in-Err.ensures.stops (λ none. ap g.S.Store.stable (c.named_pin_command.ensures.still none).1);
-  usual = search rules;
-  empty = search rules;
-}
-
 pub returns-in-Err-clause-table : goal.returns-in-Err-clause-table
 returns-in-Err-clause-table g c = ap (λ (table : Loaded). record table { pins = c.deref.result.now.pins }) (c.deref_mut-in-Err.ensures.value ∙ c.named_pin_command.ensures.ends.others ∙ ap (λ (table : Loaded). record table { pins = c.named_pin_command.new.loaded.pins }) c.deref_mut.ensures.value) ∙ ap (λ (table : Loaded). record c.args.self.now.loaded.value { pins = table.pins }) c.deref.ensures
 
 pub returns-in-Err-clause-acts : goal.returns-in-Err-clause-acts
 returns-in-Err-clause-acts g c =
-    pins_act {X = Unit} (Err c.in-Err.fault) c.args.apdu.now (parts_of g.S.Store g.B.Applet c.args.self.now) _ c.named_pin_command.new.out c.args.command (λ state told. tt)
-    (λ status refused. absurd (false≢true (c.in-Err.ensures.refused status (ap (λ (table : Loaded). pin_outcome c.args.command (pins_of table) c.args.self.now.verified c.args.apdu.now) c.deref_mut.ensures.value ∙ refused)).0))
+    pins_stopped c.args.command c.args.apdu.now (parts_of g.S.Store g.B.Applet c.args.self.now) _ c.named_pin_command.new.out c.tables_tell_states.ensures c.requires.underway.running c.deref_mut.result.now c.deref_mut.ensures.value
     (record {
       table = returns-in-Err-clause-table g c ∙ ap (λ (table : Loaded). record c.args.self.now.loaded.value { pins = table.pins }) (sym (returns-in-Err-clause-table g c));
       channels = refl;
       session = refl;
       boxes = refl;
     })
+    (λ none. ap g.S.Store.stable (c.named_pin_command.ensures.still none).1) c.tables_have_rows.ensures c.cards_go_on.ensures.rows c.in-Err.fault c.requires.underway.running.stays
+    c.named_pin_command.new.loaded c.in-Err.ensures.performs c.in-Err.ensures.stops
+    (λ status refused. absurd (false≢true (c.in-Err.ensures.refused status (ap (λ (table : Loaded). pin_outcome c.args.command (pins_of table) c.args.self.now.verified c.args.apdu.now) c.deref_mut.ensures.value ∙ refused)).0))
 
 pub returns-in-Err-clause-goes_on : goal.returns-in-Err-clause-goes_on
 returns-in-Err-clause-goes_on g c = record {
@@ -97,27 +68,23 @@ returns-in-Err-clause-goes_on g c = record {
 
 pub returns-in-Ok-clause-acts : goal.returns-in-Ok-clause-acts
 returns-in-Ok-clause-acts g c =
-    pins_act {X = Unit} (Ok c.in-Ok.field-0) c.args.apdu.now (parts_of g.S.Store g.B.Applet c.args.self.now) _ c.named_pin_command.new.out c.args.command
-    (λ state told.
-    pins_answer c.args.command (parts_of g.S.Store g.B.Applet c.args.self.now) _ state c.args.apdu.now c.named_pin_command.new.out told c.named_pin_command.ensures.ends.empty
-    (subst (λ (table : Loaded). IsCarriedOut (pin_settled c.args.command (pins_of table) c.args.self.now.verified c.args.apdu.now) (pins_of table) c.named_pin_command.new.out.status c.named_pin_command.new.verified (pins_of c.named_pin_command.new.loaded)) c.deref_mut.ensures.value c.in-Ok.ensures.comes.carried_out)
-    (c.named_pin_command.ensures.ends.others ∙ ap (λ (table : Loaded). record table { pins = c.named_pin_command.new.loaded.pins }) c.deref_mut.ensures.value) refl refl refl)
-    (λ status refused.
-    let gives = c.in-Ok.ensures.refused status (ap (λ (table : Loaded). pin_outcome c.args.command (pins_of table) c.args.self.now.verified c.args.apdu.now) c.deref_mut.ensures.value ∙ refused) in
-    let stays = c.named_pin_command.ensures.still (pins_refused _ _ _ _ status (ap (λ (table : Loaded). pin_outcome c.args.command (pins_of table) c.args.self.now.verified c.args.apdu.now) c.deref_mut.ensures.value ∙ refused)) in
-    let old = parts_of g.S.Store g.B.Applet c.args.self.now in (
-      refl,
-      record {
-        refused = record { body = gives.1.body; status_is = gives.1.status_is };
-        stays =
-            all_stays (record old { verified = c.named_pin_command.new.verified }) (memory g.S.Store c.named_pin_command.new.store c.named_pin_command.new.loaded) old.channels
-            (ap (λ store. memory g.S.Store store c.named_pin_command.new.loaded) stays.1 ∙ ap (memory g.S.Store c.args.self.now.store) (stays.2 ∙ c.deref_mut.ensures.value)) refl
-            ∙ ap (λ (marks : Verified). record old { verified = marks }) gives.1.verified;
-      },
-    ))
+    pins_act c.args.command c.args.apdu.now (parts_of g.S.Store g.B.Applet c.args.self.now) _ c.named_pin_command.new.out c.tables_tell_states.ensures c.requires.underway.running c.deref_mut.result.now c.deref_mut.ensures.value
     (record {
       table = c.named_pin_command.ensures.ends.others ∙ ap (λ (table : Loaded). record table { pins = c.named_pin_command.new.loaded.pins }) c.deref_mut.ensures.value;
       channels = refl;
       session = refl;
       boxes = refl;
+    })
+    (λ none. ap g.S.Store.stable (c.named_pin_command.ensures.still none).1) tt (record { channels = refl; session = refl; boxes = refl }) c.named_pin_command.ensures.ends.empty c.in-Ok.ensures.performs c.in-Ok.ensures.comes.carried_out
+    (λ status refused.
+    let told = ap (λ (table : Loaded). pin_outcome c.args.command (pins_of table) c.args.self.now.verified c.args.apdu.now) c.deref_mut.ensures.value ∙ refused in
+    let gives = c.in-Ok.ensures.refused status told in
+    let stays = c.named_pin_command.ensures.still (pins_refused _ _ _ _ status told) in
+    let old = parts_of g.S.Store g.B.Applet c.args.self.now in
+    record {
+      refused = record { body = gives.1.body; status_is = gives.1.status_is };
+      stays =
+          all_stays (record old { verified = c.named_pin_command.new.verified }) (memory g.S.Store c.named_pin_command.new.store c.named_pin_command.new.loaded) old.channels
+          (ap (λ store. memory g.S.Store store c.named_pin_command.new.loaded) stays.1 ∙ ap (memory g.S.Store c.args.self.now.store) (stays.2 ∙ c.deref_mut.ensures.value)) refl
+          ∙ ap (λ (marks : Verified). record old { verified = marks }) gives.1.verified;
     })

@@ -1,29 +1,18 @@
 -- A fault puts the noted rows back: telling of STATUS gives no shelf a row that had none, so the table is the old one and boxes fit.
-use Rattle.std.proofs.Common.{◌∷◌, Option, ap, subst, sym, ◌∙◌, rules, All, IfSome, IsSomeAnd}
+use Rattle.std.proofs.Common.{ap, subst, sym, ◌∙◌, rules, All}
 use Rattle.card_state.specs.declared.entries.Loaded.{Loaded}
-use Rattle.card_model.specs.Runs.{IsLeft}
-use Rattle.card_model.specs.States.{CardState}
-use Rattle.card_core.specs.Cards.{parts_of, card_of}
-use Rattle.card_core.specs.Moves.{polled_on}
+use Rattle.file_model.specs.declared.commands.FileCommand.TheVariants.{Status}
+use Rattle.card_model.specs.declared.instructions.Instruction.TheVariants.{File}
+use Rattle.card_core.specs.Cards.{parts_of}
 use Rattle.card_core.specs.Registered.{IsUsedOrBlank}
 use Rattle.card_core.proofs.HasNoRowLemmas.{none_polled}
-use Rattle.card_core.proofs.PutBackLemmas.{rows_blank, put_back_so, due_same, set_restored, status_restored}
+use Rattle.card_core.proofs.PutBackLemmas.{rows_blank, put_back_so, yields_restored, set_restored, status_restored}
 use Rattle.card_core.proofs.HasToolkitLemmas.{rows_alone_moved}
 use Rattle.card_core.proofs.IsRunningLemmas.{in_order, some_told}
 use Rattle.card_core.proofs.cards.CardOver.tell_applets.Goals as goal
 
 pub note-requires : goal.note-requires
 note-requires g c = record { blank = subst (λ (table : Loaded). All IsUsedOrBlank table.rows) (sym c.deref.ensures) (rows_blank _ _ _ c.requires.underway.running.mounted.agrees) }
-
-pub returns-in-Err-clause-polled : goal.returns-in-Err-clause-polled
-returns-in-Err-clause-polled g c = record {
-  settles =
-      subst (λ (due : Option CardState). IfSome (card_of (parts_of g.S.Store g.B.Applet c.args.self.now)) (λ card. IsSomeAnd due (IsLeft card (card.persistent ∷ (polled_on card).commits))))
-      (sym (due_same (parts_of g.S.Store g.B.Applet c.serve_status.new.self) c.put_back.new.loaded)) c.in-Err.ensures.polled.settles;
-  counts = record { commits = tt; stopped = c.in-Err.ensures.polled.counts.stopped; stable = c.in-Err.ensures.polled.counts.stable };
-  out = search rules;
-  empty = search rules;
-}
 
 pub returns-in-Err-clause-table : goal.returns-in-Err-clause-table
 returns-in-Err-clause-table g c =
@@ -34,9 +23,7 @@ returns-in-Err-clause-table g c =
 
 pub returns-in-Err-clause-acts : goal.returns-in-Err-clause-acts
 returns-in-Err-clause-acts g c = record {
-  answers = search rules;
-  commits = c.in-Err.ensures.acts.commits;
-  calm = search rules;
+  yields = λ by state known. yields_restored (parts_of g.S.Store g.B.Applet c.args.self.now) (parts_of g.S.Store g.B.Applet c.serve_status.new.self) c.put_back.new.loaded c.in-Err.fault by (File Status) _ _ _ (c.in-Err.ensures.acts.yields by state known);
   moves =
       let some = some_told c.tables_tell_states.ensures _ _ c.args.self.now.loaded.value c.requires.underway.running.mounted.agrees in
       status_restored (parts_of g.S.Store g.B.Applet c.args.self.now) (parts_of g.S.Store g.B.Applet c.serve_status.new.self) c.put_back.new.loaded (returns-in-Err-clause-table g c) c.in-Err.ensures.acts.moves

@@ -15,11 +15,9 @@ use Rattle.card_core.proofs.RestartLemmas.{due_same, failed_ready, fail_power, n
 use Rattle.card_core.proofs.IsGoodLemmas.{fail_moves}
 use Rattle.card_core.proofs.CommandNamedLemmas.{failed_first, ok_not_err}
 use Rattle.card_core.proofs.MovesItsOwnLemmas.{still_its_own, refused_anew, left_alone}
-use Rattle.card_core.proofs.AnswersAsLemmas.{answered_so, stood_so}
 use Rattle.card_core.proofs.ActsAsLemmas.{acts_named}
-use Rattle.card_core.proofs.ActingLemmas.{calm_may, calm_stands}
+use Rattle.card_core.proofs.ActsOnLemmas.{answers_told, answers_stood, commits_told, commits_stood, calm_told, calm_stood}
 use Rattle.card_core.proofs.CommitsStatesLemmas.{if_any, stops_unmoved}
-use Rattle.card_core.proofs.CommitsSoLemmas.{so_may, so_stands}
 use Rattle.card_core.proofs.cards.CardOver.transmit.Goals as goal
 
 pub returns-in-Err-clause-moves : goal.returns-in-Err-clause-moves
@@ -42,15 +40,13 @@ returns-in-Ok-clause-acts g c = λ on rests.
     let does = acts_named {X = Unit} (Ok c.in-Ok.field-0) (parts_of g.S.Store g.B.Applet c.args.self.now) (parts_of g.S.Store g.B.Applet c.perform.new.self) c.args.apdu.now c.perform.new.out acts in
     record {
       refused = λ status refused. (let gives = acts.refused status refused in (refl, gives.1, gives.2));
-      answers = λ card instruction may named needs other.
-          answered_so (parts_of g.S.Store g.B.Applet c.args.self.now) (parts_of g.S.Store g.B.Applet c.perform.new.self) card c.args.apdu.now c.perform.new.out may ((does instruction named).answers card.persistent needs may.table);
-      trees = λ card instruction may named of_tree other.
-          stood_so (parts_of g.S.Store g.B.Applet c.args.self.now) (parts_of g.S.Store g.B.Applet c.perform.new.self) card c.args.apdu.now c.perform.new.out may ((does instruction named).trees card.persistent of_tree may.table);
+      answers = λ card instruction may named needs other. answers_told {X = Unit} (Ok c.in-Ok.field-0) instruction _ (parts_of g.S.Store g.B.Applet c.args.self.now) (parts_of g.S.Store g.B.Applet c.perform.new.self) c.args.apdu.now c.perform.new.out _ (does instruction named) card may needs;
+      trees = λ card instruction may named of_tree other. answers_stood {X = Unit} (Ok c.in-Ok.field-0) instruction _ (parts_of g.S.Store g.B.Applet c.args.self.now) (parts_of g.S.Store g.B.Applet c.perform.new.self) c.args.apdu.now c.perform.new.out _ (does instruction named) card may of_tree;
       commits = λ card instruction may named by.
-          let so = so_may {X = Unit} (Ok c.in-Ok.field-0) (parts_of g.S.Store g.B.Applet c.args.self.now) (parts_of g.S.Store g.B.Applet c.perform.new.self) card c.args.apdu.now may ((does instruction named).commits card.persistent by may.table) in
+          let so = commits_told {X = Unit} (Ok c.in-Ok.field-0) instruction _ (parts_of g.S.Store g.B.Applet c.args.self.now) (parts_of g.S.Store g.B.Applet c.perform.new.self) c.args.apdu.now c.perform.new.out _ (does instruction named) card may by in
           (λ other. so, all_commits (length (answer card c.args.apdu.now).commits) _ _ so);
       commits_trees = λ card instruction may named of_tree.
-          let so = so_stands {X = Unit} (Ok c.in-Ok.field-0) (parts_of g.S.Store g.B.Applet c.args.self.now) (parts_of g.S.Store g.B.Applet c.perform.new.self) card c.args.apdu.now may ((does instruction named).commits_trees card.persistent of_tree may.table) in
+          let so = commits_stood {X = Unit} (Ok c.in-Ok.field-0) instruction _ (parts_of g.S.Store g.B.Applet c.args.self.now) (parts_of g.S.Store g.B.Applet c.perform.new.self) c.args.apdu.now c.perform.new.out _ (does instruction named) card may of_tree in
           (λ other. so, all_commits (length (answer card c.args.apdu.now).commits) _ _ so);
       done = λ card instruction may named leaves. (refl, (λ is. c.in-Ok.ensures.answered.usual (ap (λ (word : StatusWord). word.0) is)));
       calm = λ card instruction may named reaches none. (refl, (λ is. c.in-Ok.ensures.answered.usual (ap (λ (word : StatusWord). word.0) is)));
@@ -71,18 +67,18 @@ returns-in-Err-clause-acts g c = λ on rests.
       commits = λ card instruction may named by. (
         failed_first _ c.in-Err.fault c.fail.result c.fail.new.out.status c.fail.ensures.failed c.fail.ensures.lost,
         subst (λ each. CommitsAtMost (length (answer card c.args.apdu.now).commits) (parts_of g.S.Store g.B.Applet c.args.self.now).commits (parts_of g.S.Store g.B.Applet each).commits) (sym c.fail.ensures.others)
-            (so_may {X = Unit} (Err c.in-Err.fault) (parts_of g.S.Store g.B.Applet c.args.self.now) (parts_of g.S.Store g.B.Applet c.perform.new.self) card c.args.apdu.now may ((does instruction named).commits card.persistent by may.table)),
+            (commits_told {X = Unit} (Err c.in-Err.fault) instruction _ (parts_of g.S.Store g.B.Applet c.args.self.now) (parts_of g.S.Store g.B.Applet c.perform.new.self) c.args.apdu.now c.perform.new.out _ (does instruction named) card may by),
       );
       commits_trees = λ card instruction may named of_tree. (
         failed_first _ c.in-Err.fault c.fail.result c.fail.new.out.status c.fail.ensures.failed c.fail.ensures.lost,
         subst (λ each. CommitsAtMost (length (answer card c.args.apdu.now).commits) (parts_of g.S.Store g.B.Applet c.args.self.now).commits (parts_of g.S.Store g.B.Applet each).commits) (sym c.fail.ensures.others)
-            (so_stands {X = Unit} (Err c.in-Err.fault) (parts_of g.S.Store g.B.Applet c.args.self.now) (parts_of g.S.Store g.B.Applet c.perform.new.self) card c.args.apdu.now may ((does instruction named).commits_trees card.persistent of_tree may.table)),
+            (commits_stood {X = Unit} (Err c.in-Err.fault) instruction _ (parts_of g.S.Store g.B.Applet c.args.self.now) (parts_of g.S.Store g.B.Applet c.perform.new.self) c.args.apdu.now c.perform.new.out _ (does instruction named) card may of_tree),
       );
       done = λ card instruction may named leaves. absurd (false≢true ((does instruction named).done leaves));
       calm = λ card instruction may named reaches none.
-          absurd (false≢true (calm_may {X = Unit} (Err c.in-Err.fault) (parts_of g.S.Store g.B.Applet c.args.self.now) card c.args.apdu.now may ((does instruction named).calm card.persistent reaches may.table) none));
+          absurd (false≢true (calm_told {X = Unit} (Err c.in-Err.fault) instruction _ (parts_of g.S.Store g.B.Applet c.args.self.now) (parts_of g.S.Store g.B.Applet c.perform.new.self) c.args.apdu.now c.perform.new.out _ (does instruction named) card may reaches none));
       calm_trees = λ card instruction may named of_tree none.
-          absurd (false≢true (calm_stands {X = Unit} (Err c.in-Err.fault) (parts_of g.S.Store g.B.Applet c.args.self.now) card c.args.apdu.now may ((does instruction named).calm_trees card.persistent of_tree may.table) none));
+          absurd (false≢true (calm_stood {X = Unit} (Err c.in-Err.fault) instruction _ (parts_of g.S.Store g.B.Applet c.args.self.now) (parts_of g.S.Store g.B.Applet c.perform.new.self) c.args.apdu.now c.perform.new.out _ (does instruction named) card may of_tree none));
       denied = λ instruction command status read named refused. absurd (false≢true ((acts.acts instruction command read named).denied status refused).0);
       stays = λ instruction command read named.
           subst (λ card. MovesItsOwn instruction command (parts_of g.S.Store g.B.Applet c.args.self.now) (parts_of g.S.Store g.B.Applet card)) (sym c.fail.ensures.others)

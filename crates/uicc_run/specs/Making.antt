@@ -1,0 +1,177 @@
+-- What the functions inside a run say of it, from the words to the lines after `start`. A whole run is told without it.
+use Rattle.std.specs.Prelude.{◌≡◌, ◌≢◌, ◌⊎◌, ◌≤◌, ℕ, Bool, true, List, [], length, Option, Some, None, Result, Ok, Err, IfSome, is_some}
+use Rattle.uicc_types.specs.Counts.{Meter, Caused, CountsFailure, Rose}
+use Rattle.uicc_types.specs.Told.{Becomes}
+use Rattle.byte_streams.specs.declared.streams.Sink.{Ghosts as SinkWords}
+use Rattle.byte_streams.specs.declared.streams.Source.{Ghosts as SourceWords}
+use Rattle.script_form.specs.declared.lines.ScriptLine.{ScriptLine}
+use Rattle.script_reader.specs.declared.behind.PlayEnd.{PlayEnd}
+use Rattle.script_reader.specs.declared.behind.PlayEnd.TheVariants as play
+use Rattle.script_reader.specs.declared.reader.ScriptReader.{ScriptReader}
+use Rattle.store_form.specs.declared.store.Store.{Ghosts as StoreWords}
+use Rattle.card_state.specs.Persistent.{Persistent}
+use Rattle.card_state.specs.Standing.{standing, stands_for}
+use Rattle.card_state.specs.declared.sizes.TheConstants.{ROW_COUNT}
+use Rattle.layout_section.specs.Laying.{KeepsFirstOr}
+use Rattle.applet_trait.specs.Minds.{minds_of, AppletState}
+use Rattle.applet_trait.specs.declared.applets.Applet.{Ghosts as AppletWords}
+use Rattle.card_model.specs.Counts.{IsCounted}
+use Rattle.card_core.specs.declared.opening_faults.OpenFault.{OpenFault}
+use Rattle.card_core.specs.declared.opening_faults.OpenFault.TheVariants as fault
+use Rattle.command_line.specs.Model.{AskForRun}
+use Rattle.section_lines.specs.SectionReading.{AtStart}
+use Rattle.long_runs.specs.declared.counts.Counts.{Counts}
+use Rattle.phone_runs.specs.declared.counting.MemoryFailed.{MemoryFailed}
+use Rattle.uicc_run.specs.Endings.{HasFailed, IsEarly, IsUnopened, KeepsBytes, status_for}
+use Rattle.uicc_run.specs.Opening.{is_handset}
+use Rattle.uicc_run.specs.Loading.{AskToLoad, ComesToLoad, HoldsFixed, LoadsFrom}
+use Rattle.uicc_run.specs.Playing.{Leaves, Given, IsOpened}
+use Rattle.uicc_run.specs.Stores.{content_in}
+use Rattle.uicc_run.specs.Terminals.{ComesToBip}
+use Rattle.uicc_run.specs.Worlds.{World, left_in}
+use Rattle.uicc_run.specs.declared.endings.Ending.{Ending}
+use Rattle.uicc_run.specs.declared.endings.Ending.TheVariants.{Usage, NoMemory, FormatFailed, EepromFailed, NotACard, NoApplet, Played, Counted, LoadFailed}
+use Rattle.uicc_run.specs.declared.listeners.Listener.{Listener}
+
+-- over a store: the bytes are those that it stands for
+abbrev pub stored : {R W S B : Type 0} → SourceWords R → SinkWords W → StoreWords S → AppletWords B
+    → R → W → S → List (Option B) → World
+stored source_words sink_words store_words box_words source sink store boxes = record {
+  left = source_words.left source;
+  source = source_words.faults source;
+  taken = sink_words.taken sink;
+  sink = sink_words.faults sink;
+  contents = store_words.stable store;
+  meter = store_words.meter store;
+  boxes = minds_of box_words.mind boxes;
+}
+
+-- over a store with this mark
+abbrev pub left_of : ℕ → World → Leaves
+left_of mark after = record { held = standing mark after.contents; taken = after.taken; meter = after.meter; boxes = after.boxes }
+
+-- an end at which the memory failed, and nothing is shown but the last line: no card was open, or the run was a long one
+abbrev pub IsUnshown : Ending → Type 0
+IsUnshown FormatFailed = Unit {0}
+IsUnshown EepromFailed = Unit {0}
+IsUnshown LoadFailed = Unit {0}
+IsUnshown ending = ⊥
+
+-- A run is given the text and the boxes; its lines are for this listener, those before `start` are added to this card, if there is one, and
+-- it is made over this store.
+pub record IsToPlay (given : Given) (listener : Listener) (pages : Bool) (card : Option Persistent) (before : World) : Type 0 where
+  pub text_is : before.left ≡ Some given.text
+  pub boxes_are : before.boxes ≡ given.boxes
+  pub served_is : given.is_served ≡ is_handset listener
+  pub first_is : given.first ≡ card
+  pub store_is : given.pages ≡ pages
+
+-- What a store stands for that was made ready for the opening, if it does, is the card that is to be opened; where no card is described it is
+-- what it was.
+pub record StandsReady (given : Given) (section : List ScriptLine) (card : Option Persistent) (memory : Option (Result Persistent ℕ)) : Type 0 where
+  pub opens : (start : Persistent) → memory ≡ Some (Ok start) → IsOpened given.boxes given.first given.memory section start
+  pub described : (state : Persistent) (found : Result Persistent ℕ) → card ≡ Some state → memory ≡ Some found → found ≡ Ok state
+  pub no_card : (place : ℕ) → memory ≡ Some (Err place) → given.first ≡ None
+  pub kept : given.first ≡ None → memory ≡ Some given.memory
+
+-- `start` was read, and the store was made ready for the opening; what it stands for is known where its memory tells its bytes.
+pub record IsMade (given : Given) (told : Bool) (script : ScriptReader) (left taken : Option (List ℕ)) (memory : Option (Result Persistent ℕ)) (meter : Meter) (boxes : List (Option AppletState)) : Type 0 where
+  pub card : Option Persistent
+  pub at : AtStart given.boxes given.first given.text script left card
+  pub taken_is : taken ≡ Some given.before
+  pub counted : IsCounted given.meter meter [] []
+  pub boxes_are : boxes ≡ given.boxes
+  pub known : told ≡ true → StandsReady given at.section card memory
+
+-- a store with this mark was formatted as a card is described, or it was left as it was where none is
+abbrev pub makes : Option Persistent → ℕ → Option (List ℕ) → Option (List ℕ) → Type 0
+makes (Some state) mark before after = IfSome after (λ content. stands_for mark content ≡ Ok state)
+makes None mark before after = after ≡ before
+
+-- why a run ends whose card was not opened
+abbrev pub ending_for : OpenFault → Ending
+ending_for (fault.NotACard at) = NotACard at
+ending_for (fault.NoBox shelf) = NoApplet shelf
+ending_for fault.Failed = EepromFailed
+ending_for fault.PowerLost = EepromFailed
+ending_for fault.Memory = NoMemory
+
+-- ---- over any memory
+
+-- a device or a store has just so many bytes, and there is a shelf for each box
+pub record FitsStore {B : Type 0} (byte_count wanted : ℕ) (cast : List B) : Type 0 where
+  pub size : byte_count ≡ wanted
+  pub shelves : length cast ≤ ROW_COUNT
+
+-- Whether a store tells its bytes stays, and so do its mark and its size; each fault has its cause.
+pub record KeepsStoreForm {S : Type 0} (words : StoreWords S) (old new : S) (IsFailed IsLost : Type 0) : Type 0 where
+  pub told : is_some (words.stable new) ≡ is_some (words.stable old)
+  pub mark : words.store_mark new ≡ words.store_mark old
+  pub size : words.byte_count new ≡ words.byte_count old
+  pub cause : Caused (words.meter old) (words.meter new) IsFailed IsLost
+
+-- Each end has its cause: 3, 4 and 6 come where the source, the sink, the memory failed; of a reset in which the memory failed a fault
+-- was counted. A sink that tells what it has taken goes on telling it. The trace stays where the memory failed before a card was open,
+-- the memory where nothing was done to it, and the boxes where no card was open; what each of these is.
+pub record EndsFor (ending : Ending) (before after : World) (TraceIsSame MemoryIsSame BoxesAreSame : Type 0) : Type 0 where
+  pub source_cause : CountsFailure before.source after.source (status_for ending ≡ 3)
+  pub sink_cause : CountsFailure before.sink after.sink (status_for ending ≡ 4)
+  pub memory_cause : status_for ending ≡ 6 → HasFailed before.meter after.meter
+  pub reset_cause : ending ≡ Played play.ResetFailed → Rose before.meter.faults after.meter.faults
+  pub tells : is_some after.taken ≡ is_some before.taken
+  pub unshown : IsUnshown ending → TraceIsSame
+  pub untouched : IsEarly ending → MemoryIsSame
+  pub boxes : IsUnopened ending → BoxesAreSame
+
+-- The words of the command line are in no form just where a run ends for that. Then nothing is read and nothing is written.
+pub record RefusesAtFirst (words : List (List ℕ)) (ending : Ending) (ScriptIsSame TraceIsSame : Type 0) : Type 0 where
+  pub usage_only : ending ≡ Usage → AskForRun words → ⊥
+  pub usage : (AskForRun words → ⊥) → ending ≡ Usage
+  pub unread : (AskForRun words → ⊥) → ScriptIsSame
+  pub unused : (AskForRun words → ⊥) → TraceIsSame
+
+-- A long run ends so: not for its words, its source or its sink, nor as the lines of a script do; and for its memory only where that
+-- failed. What it is for the memory and the boxes to be as they were.
+pub record EndsLoad (ending : Ending) (memory memory_then : Meter) (MemoryIsSame BoxesAreSame : Type 0) : Type 0 where
+  pub used : ending ≢ Usage
+  pub played : (end : PlayEnd) → ending ≢ Played end
+  pub unread : status_for ending ≢ 3
+  pub unwritten : status_for ending ≢ 4
+  pub untouched : IsEarly ending → MemoryIsSame
+  pub boxes : IsUnopened ending → BoxesAreSame
+  pub memory_cause : status_for ending ≡ 6 → HasFailed memory memory_then
+
+-- A long run before its last line: it writes nothing and reads nothing. Its memory tells its bytes; where there was none for the rest of
+-- it, it is as it was, or holds just the card of such a run.
+pub record LoadsUntold (words : List (List ℕ)) (ending : Ending) (before after : World) (ScriptIsSame TraceIsSame MemoryIsSame : Type 0) : Type 0 where
+  pub load : (given : Given) (start count : ℕ) (taken : Option (List ℕ)) → LoadsFrom given start count words before
+      → ComesToLoad given start count ending (record (left_in given.pages after) { taken = taken })
+  pub load_unwritten : (given : Given) (start count : ℕ) → LoadsFrom given start count words before → TraceIsSame
+  pub load_unread : (start count : ℕ) → AskToLoad words start count → ScriptIsSame
+  pub load_no_memory : (given : Given) (start count : ℕ) → LoadsFrom given start count words before → ending ≡ NoMemory
+      → MemoryIsSame ⊎ HoldsFixed given (content_in given.pages after.contents)
+
+-- the same of a store with this mark, by the card that was described, if one was
+pub record KeepsCardThere (mark : ℕ) (described : Option Persistent) (ending : Ending) (before after : World) : Type 0 where
+  pub bytes : described ≡ None → KeepsBytes ending (standing mark before.contents) → after.contents ≡ before.contents
+  pub half_made : (card : Persistent) → described ≡ Some card → ending ≡ FormatFailed
+      → Becomes (KeepsFirstOr mark card) before.contents after.contents
+  pub no_memory : (card : Persistent) → described ≡ Some card → ending ≡ NoMemory
+      → IfSome after.contents (λ content. stands_for mark content ≡ Ok card)
+
+-- and where the card is only opened: no end of it is one of a formatting
+pub record KeepsOpened (mark : ℕ) (ending : Ending) (before after : World) : Type 0 where
+  pub bytes : KeepsBytes ending (standing mark before.contents) → after.contents ≡ before.contents
+  pub formatted : ending ≢ FormatFailed
+
+-- why it ends where the card was open
+abbrev pub ending_for_load : ℕ → Result Counts MemoryFailed → Ending
+ending_for_load lines (Ok counts) = Counted lines counts
+ending_for_load lines (Err failed) = LoadFailed
+
+-- what it comes to by its words, and leaves alone: what it is for the memory and the boxes to be as they were
+pub record ServesBip (before after : World) (MemoryIsSame BoxesAreSame : Type 0) (ending : Ending) : Type 0 where
+  pub comes : (text : List ℕ) → before.left ≡ Some text → ComesToBip text before.taken after.left after.taken ending
+  pub low : status_for ending ≤ 5
+  pub memory_kept : MemoryIsSame
+  pub boxes_kept : BoxesAreSame
