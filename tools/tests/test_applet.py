@@ -258,6 +258,20 @@ class Words(Copy):
         self.assertEqual(self.told("rows")[:2], (1, shown))
         self.change("TheVariants.{Ready}", "TheVariants.{Ready, Asking}", "boxed_applets", "specs", "Parrots.antt")
         self.assertEqual(self.told("rows")[:2], (0, shown[1:]))
+        self.change("phase_of Asking = 1", "phase_of Asking = 0", "boxed_applets", "specs", "Parrots.antt")
+        self.assertEqual(self.told("rows")[:2], (1, [place + "phase_of gives Ready and Asking the same number, 0", *shown[1:]]))
+
+    def test_a_file_that_is_missing(self):
+        """The code of a kind without its mind, and its mind without the code, are told."""
+        self.told("new", "parrot")
+        for gone, said in (("specs/Parrots.antt", "crates/boxed_applets/src/parrots.rt:1: no file of boxed_applets/specs gives its phases numbers (phase_of)"),
+                           ("src/parrots.rt", "crates/boxed_applets/specs/Parrots.antt:10: boxed_applets/src/parrots.rt, whose phases have numbers here, "
+                                              "has no phases or isn't there")):
+            path = os.path.join(self.crates, "boxed_applets", gone)
+            os.rename(path, os.path.join(self.folder, "gone"))
+            with self.subTest(gone=gone):
+                self.assertEqual(self.told("rows")[:2], (1, [said, "328 rows, 0 differ"]))
+            os.rename(os.path.join(self.folder, "gone"), path)
 
     def test_texts_in_digits(self):
         """A row that differs by the spelling of a text alone is told why."""

@@ -1,4 +1,6 @@
 """uicc.kinds: the kinds of applets are those of the sources, and what their definitions come to is what the code does."""
+import contextlib
+import io
 import json
 import os
 import shutil
@@ -189,6 +191,9 @@ class Sources(unittest.TestCase):
                 self.assertEqual(known.lacking, lacking)
                 if lacking:
                     self.assertRegex(toolkit.Toolkit({}, known).doubt, "^the released program runs, which has no tipper: .*UICC_RUN=draft")
+                with contextlib.redirect_stderr(io.StringIO()) as said:
+                    kinds.warn.__wrapped__()
+                self.assertRegex(said.getvalue(), "^uicc: the released program runs, which has no tipper: .*UICC_RUN=draft" if lacking else "^$")
 
     def test_unread_sources(self):
         """Where the sources can't be read the kinds are those of the file, and what is told of a card says so."""

@@ -11,7 +11,7 @@ A command that isn't answered 9000, 91XX or a warning raises StatusError, which 
 import dataclasses
 import os
 
-from . import coding, decode, described, fields, image, layout, lint, names, process, profile, refusals, tlv
+from . import coding, decode, described, fields, image, kept, kinds, layout, lint, names, process, profile, refusals, tlv
 from .follow import Follower
 from .status import Status
 from .toolkit import MEMORY_PROBLEM, Toolkit, ToolkitNow
@@ -170,6 +170,7 @@ class Card:
         self._words += ["--image", self._image]
         self.trace, self.pending = [], None
         self._fetched = None
+        kinds.warn()
         self._follower, self._toolkit = Follower(self.holds), Toolkit(dict(self.holds.rows))
         try:
             self._simulator = process.Simulator(["open" if self._opened else "play", *self._words], section)

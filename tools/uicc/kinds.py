@@ -10,6 +10,7 @@ import functools
 import json
 import os
 import re
+import sys
 
 from . import antt, evaluation, names, process
 
@@ -213,21 +214,40 @@ def findings(crates):
 
 
 def unnumbered(crates):
-    """The phases of the code that have no number in the definition of its mind, or aren't imported there."""
-    folder, found = source(crates, *PHASES), []
+    """The phases of the code that have no number of their own in the definition of its mind, or aren't imported there."""
+    folder, found, declared = source(crates, *PHASES), [], declared_phases(source(crates, "boxed_applets", "src"))
     for path in (os.path.join(folder, name) for name in sorted(os.listdir(folder)) if name.endswith(".antt")):
         file = antt.File(path)
         module = next((place.split(".")[4] for place, _ in file.uses.values() if place.endswith(".Phase")), None)
         if not module or "phase_of" not in file.heads:
             continue
-        with open(source(crates, "boxed_applets", "src", module + ".rt"), encoding="utf-8") as text:
-            declared = re.search(r"^enum Phase \{\n(.*?)^\}", text.read(), re.MULTILINE | re.DOTALL)
-        numbered = {pattern for _, clause in file.texts("phase_of") for pattern in re.findall(r"^phase_of (\w+) =", clause)}
         line = file.line_of("phase_of")
-        for phase in re.findall(r"^    (\w+)", declared[1], re.MULTILINE) if declared else ():
+        if module not in declared:
+            found.append((path, line, f"boxed_applets/src/{module}.rt, whose phases have numbers here, has no phases or isn't there"))
+            continue
+        _, phases = declared.pop(module)
+        numbers = [pair for _, clause in file.texts("phase_of") for pair in re.findall(r"^phase_of (\w+) = *(\S+)", clause)]
+        numbered = {phase for phase, _ in numbers}
+        for number in sorted({number for _, number in numbers}):
+            alike = [phase for phase, other in numbers if other == number]
+            if len(alike) > 1:
+                found.append((path, line, f"phase_of gives {' and '.join(alike)} the same number, {number}"))
+        for phase in phases:
             if phase not in numbered and "_" not in numbered:
                 found.append((path, line, f"phase_of has no number for {phase}, a phase of boxed_applets/src/{module}.rt"))
         found += [(path, line, f"phase_of uses `{phase}`, which the file neither defines nor imports") for phase in sorted(numbered - {*file.uses, "_"})]
+    found += [(path, 1, "no file of boxed_applets/specs gives its phases numbers (phase_of)") for path, _ in declared.values()]
+    return found
+
+
+def declared_phases(folder):
+    """The files of the applets' code that declare phases, by their modules, each with the names of the phases."""
+    found = {}
+    for name in sorted(os.listdir(folder)):
+        with open(os.path.join(folder, name), encoding="utf-8") as text:
+            declared = re.search(r"^enum Phase \{\n(.*?)^\}", text.read(), re.MULTILINE | re.DOTALL)
+        if declared:
+            found[name.removesuffix(".rt")] = os.path.join(folder, name), re.findall(r"^    (\w+)", declared[1], re.MULTILINE)
     return found
 
 
@@ -290,6 +310,14 @@ def of_program():
         return known
     return Kinds(known.data, f"the released program runs, which has no {' and no '.join(lacking)}: with UICC_RUN=draft in the environment that of the sources does",
                  lacking)
+
+
+@functools.cache
+def warn():
+    """Says on standard error, once, where the program that runs lacks a kind which the sources have."""
+    known = of_program()
+    if known.lacking:
+        print(f"uicc: {known.fault}", file=sys.stderr, flush=True)
 
 
 def not_released(found):
