@@ -12,6 +12,8 @@ from .names import table
 IMSI_DIGITS = 15
 # the services of an emergency call, by the bits of its category (3GPP TS 24.008, 10.5.4.33)
 EMERGENCIES = ("police", "ambulance", "fire brigade", "marine guard", "mountain rescue", "manual eCall", "automatic eCall", "spare")
+# the first of them that isn't for a number that is dialled; and the byte of a number without category
+FIRST_UNDIALLED, NO_CATEGORY = 5, 0xFF
 
 
 def decode_iccid(content):
@@ -32,9 +34,17 @@ def check_iccid(content):
 
 def check_imsi(content):
     """BadContent, where an IMSI hasn't the digits that nearly every one has."""
-    digits = decode_imsi(content)
-    if len(digits) != IMSI_DIGITS:
-        raise BadContent(f"nearly every IMSI has {IMSI_DIGITS} digits, and {digits} {len(digits)}")
+    digits = "" if is_blank(content) else decode_imsi(content)
+    if digits and len(digits) != IMSI_DIGITS:
+        raise BadContent(f"{digits} has {len(digits)} digits: nearly all IMSIs have {IMSI_DIGITS}")
+
+
+def check_ecc(record):
+    """BadContent, where the category of an emergency number has bits of services that nobody dials, or a spare one."""
+    wrong = [name for bit, name in enumerate(EMERGENCIES) if bit >= FIRST_UNDIALLED and record[-1] >> bit & 1]
+    if record[-1] != NO_CATEGORY and wrong:
+        raise BadContent(f"its category {record[-1]} is for {' and '.join(wrong)}, which no number is dialled for: a category is the sum of "
+                         f"{', '.join(f'{1 << bit} ({name})' for bit, name in enumerate(EMERGENCIES[:FIRST_UNDIALLED]))}")
 
 
 def luhn(digits):
@@ -187,8 +197,8 @@ def encode_spn(name, size=17, shown=1):
 # bits
 
 def decode_acc(content):
-    bits = int.from_bytes(content, "big")
-    return "classes " + (", ".join(str(n) for n in range(16) if bits >> n & 1 and n != 10) or "none")
+    found = [str(number) for number in classes_of(content) if number != 10]
+    return f"class{'es' * (len(found) != 1)} {', '.join(found)}" if found else "no class"
 
 
 def encode_acc(classes):
@@ -234,6 +244,11 @@ def decode_bits(content, names):
         if content[place // 8] >> place % 8 & 1:
             found.append(f"{place + 1} {names[place]}" if place < len(names) else str(place + 1))
     return ", ".join(found) or "none"
+
+
+def classes_of(content):
+    bits = int.from_bytes(content, "big")
+    return [number for number in range(16) if bits >> number & 1]
 
 
 def decode_sst(content):
@@ -359,7 +374,7 @@ def decode_ecc(record):
     if is_blank(record):
         return None
     services = [name for bit, name in enumerate(EMERGENCIES) if record[-1] >> bit & 1]
-    category = f", category {record[-1]}: {', '.join(services)}" if len(record) > 3 and record[-1] not in (0x00, 0xFF) else ""
+    category = f", category {record[-1]}: {', '.join(services) or 'none'}" if len(record) > 3 and record[-1] != NO_CATEGORY else ""
     return digits_of(record[:3]) + (f" ({text_of(record[3:-1])})" if len(record) > 4 and not is_blank(record[3:-1]) else "") + category
 
 
@@ -431,6 +446,16 @@ DECODERS = {
     "suci": told(structured.concealing_of), "supi-nai": told(structured.identifiers_of), "uri": told(structured.uri_of),
     "uris": told(structured.uri_of), "servers": told(structured.server_of),
 }
+
+
+# what is said of contents that can be read, and that are hardly right
+CHECKS = {"iccid": check_iccid, "imsi": check_imsi, "ecc": check_ecc}
+
+
+def check(kind, content):
+    """BadContent, where the bytes of this kind can be read and are hardly right."""
+    if kind in CHECKS:
+        CHECKS[kind](bytes(content))
 
 
 def decode(kind, content):

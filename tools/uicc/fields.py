@@ -89,11 +89,6 @@ def encode_minutes(minutes, _):
     return bytes((minutes // 6,))
 
 
-def classes_of(content):
-    bits = int.from_bytes(content, "big")
-    return [number for number in range(16) if bits >> number & 1]
-
-
 def services_of(content):
     bits = int.from_bytes(content, "little")
     return [number + 1 for number in range(bits.bit_length()) if bits >> number & 1]
@@ -136,7 +131,7 @@ KINDS = {
     "imsi": Kind("imsi", TEXT, '"262019876543210"', lambda value, _: contents.encode_imsi(value), contents.decode_imsi),
     "spn": Kind("spn", forms.OneOf(TEXT, TABLE({"name": TEXT, "with_network": TRUTH, "abroad": TRUTH}, ("name",))), '"Nordlicht"', encode_name,
                 name_of),
-    "acc": Kind("acc", forms.ListOf(NUMBER, "numbers"), "[9]", lambda value, _: contents.encode_acc(value), classes_of),
+    "acc": Kind("acc", forms.ListOf(NUMBER, "numbers"), "[9]", lambda value, _: contents.encode_acc(value), contents.classes_of),
     "ad": Kind("ad", TABLE({"mode": TEXT, "network_digits": NUMBER}), '{ mode = "normal", network_digits = 2 }',
                lambda value, _: contents.encode_ad(value), mode_of),
     "loci": Kind("loci", TABLE({"tmsi": TEXT, "plmn": TEXT, "area": TEXT, "status": TEXT}, ("plmn",)),

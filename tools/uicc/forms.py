@@ -1,6 +1,7 @@
 """What values of TOML have to be: each form says of a value what is wrong with it, and nothing where it is in order."""
 import datetime
 import difflib
+import tomllib
 
 
 def called(value):
@@ -24,6 +25,23 @@ def near(word, known):
     """Of which known word another one is a slip; None where it is of none."""
     found = difflib.get_close_matches(str(word).lower(), known, 1, 0.65)
     return found[0] if found else None
+
+
+def table_in(form):
+    """The table that a value is told by, or each entry of a list; None where it is told by none."""
+    if isinstance(form, ListOf):
+        return table_in(form.one)
+    return form if isinstance(form, TableOf) else form.table if isinstance(form, OneOf) and isinstance(form.table, TableOf) else None
+
+
+def of_text(form, text):
+    """The value that a text says without the quotes of TOML: itself, where it may be a text and begins no table."""
+    if str in form.classes and not (dict in form.classes and text.startswith("{")):
+        return text
+    try:
+        return tomllib.loads(f"value = {text}")["value"]
+    except (tomllib.TOMLDecodeError, RecursionError):
+        return text
 
 
 class Form:
