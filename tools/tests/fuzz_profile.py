@@ -18,7 +18,7 @@ GOOD = """like = "usim"
 
 [pins]
 pin1 = { value = "1234", unblock = "12345678" }
-pin2 = { value = 5678, on = false }
+pin2 = { value = "5678", on = false }
 adm = { value = "3838383838383838" }
 
 [default]

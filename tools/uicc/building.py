@@ -310,7 +310,7 @@ class Builder:
 def named_rule(word):
     """The rule that a profile names: the identifier of an EF_ARR and the number of a record; None where everybody may do all."""
     try:
-        return None if word == "none" else grammar.read_rule(word)
+        return None if word == "none" else grammar.read_rule(word if word != "-" else "")
     except grammar.Wrong:
         raise BadContent(f"`rule` is an EF_ARR and the number of a record in it, as \"2F06:3\", or \"none\", by which everybody may do all, "
                          f"and not \"{word}\"") from None
@@ -371,7 +371,7 @@ def faults_of_words(applet):
         yield from told_by(event_code, event)
         wrong = forms.TEXTS.wrong(actions)
         if wrong:
-            yield f"on: `{event}` {wrong}: on = {{ location = [\"show A\"] }}"
+            yield f"on: {forms.about(f'`{event}`', wrong)}: on = {{ location = [\"show A\"] }}"
             continue
         for action in actions:
             yield from told_by(action_bytes, action)

@@ -7,7 +7,7 @@ from . import rules, structured
 from .coding import (
     UPDATES, BadContent, coded_text, decode_plmn, dialled_digits, digits_of, encode_plmn, exact_bytes, is_blank, is_digits,
     packed, text_of)
-from .names import table
+from .names import by_name, table
 
 IMSI_DIGITS = 15
 # the services of an emergency call, by the bits of its category (3GPP TS 24.008, 10.5.4.33)
@@ -19,15 +19,15 @@ FIRST_UNDIALLED, NO_CATEGORY = 5, 0xFF
 def decode_iccid(content):
     digits = digits_of(content)
     if len(digits) < 18:
-        raise BadContent(f"a card's number has 18 to 20 digits, and this one {len(digits)}")
+        raise BadContent(f"an ICCID has 18 to 20 digits, and this one {len(digits)}")
     return digits + ("" if len(digits) == 18 or luhn(digits[:-1]) == digits[-1] else f" (its check digit would be {luhn(digits[:-1])})")
 
 
 def check_iccid(content):
-    """BadContent, where the check digit of a card's number is wrong: one of 18 digits may have none."""
+    """BadContent, where the check digit of an ICCID is wrong: one of 18 digits may have none."""
     digits = digits_of(content)
     if is_blank(content):
-        raise BadContent("the card has no number")
+        raise BadContent("it is blank")
     if len(digits) > 18 and luhn(digits[:-1]) != digits[-1]:
         raise BadContent(f"the check digit of {digits} is {digits[-1]}, and should be {luhn(digits[:-1])}")
 
@@ -58,7 +58,7 @@ def luhn(digits):
 
 def encode_iccid(digits):
     if not 18 <= len(digits) <= 20:
-        raise BadContent(f"a card's number has 18 to 20 digits, and not {len(digits)}")
+        raise BadContent(f"an ICCID has 18 to 20 digits, and not {len(digits)}")
     return packed(digits, 10)
 
 
@@ -187,6 +187,7 @@ def decode_spn(content):
     if shown == 0xFF and is_blank(content[1:]):
         return "none"
     when = ["the network's name is shown too"] if shown & 1 else ["the network's name isn't asked for at home"]
+    when += ["it isn't shown abroad"] if shown & 2 else []
     return f"{text_of(content[1:])} ({', '.join(when)})"
 
 
@@ -233,6 +234,10 @@ def encode_ad(given):
     return bytes((mode, 0, 0, given.get("network_digits", 2)))
 
 
+# the kinds of tables of services, and the bits that each service has in one
+SERVICES = {"ust": 1, "sst": 2, "ist": 1, "est": 1}
+
+
 def decode_ust(content):
     return decode_bits(content, table("files")["ust"])
 
@@ -264,20 +269,32 @@ def decode_sst(content):
 MOST_SERVICES = 2040
 
 
-def services(given, names):
+def services(given, kind):
+    """The numbers of services that are said by numbers, by names, or by the one file that a service is for (`FDN`, `EF_FDN`)."""
+    known = {name.lower(): number for number, name in enumerate(table("files")[kind], 1)}
     for one in given:
         if isinstance(one, int) and not isinstance(one, bool) and 1 <= one <= MOST_SERVICES:
             yield one
-        elif one in names:
-            yield names.index(one) + 1
-        else:
-            meant = difflib.get_close_matches(str(one), names, 1)
-            raise BadContent(f"`{one}` is no service by number or name" + (f", but `{meant[0]}` is" if meant else ""))
+            continue
+        word = str(one).lower()
+        number = known.get(word) or service_of_file(str(one), kind)
+        if number is None:
+            meant = difflib.get_close_matches(word, known, 1)
+            raise BadContent(f"`{one}` is no service by number or name" + (f", but `{table('files')[kind][known[meant[0]] - 1]}` is" if meant else "")
+                             + f": tools/profile services {kind} lists them")
+        yield number
+
+
+def service_of_file(word, kind):
+    """The service that a standard file is for, by the file's name; None where it is for none, or for one of several."""
+    needs = {tuple(entry.get("needs", {}).get(kind, ())) for entry in by_name(word)} - {()}
+    found = needs.pop() if len(needs) == 1 else ()
+    return found[0] if len(found) == 1 else None
 
 
 def encode_ust(given, size=None, kind="ust"):
     bits = 0
-    for number in services(given, table("files")[kind]):
+    for number in services(given, kind):
         bits |= 1 << number - 1
     return sized(bits, size or max(1, (bits.bit_length() + 7) // 8))
 
@@ -293,7 +310,7 @@ def services_on(kind, content):
 
 def encode_sst(given, size=None):
     bits = 0
-    for number in services(given, table("files")["sst"]):
+    for number in services(given, "sst"):
         bits |= 3 << 2 * (number - 1)
     return sized(bits, size or max(2, (bits.bit_length() + 7) // 8))
 
@@ -354,7 +371,7 @@ def encode_languages(languages):
 
 
 def decode_minutes(content):
-    return "no search" if content[0] == 0 else f"each {6 * content[0]} minutes"
+    return "no search" if content[0] == 0 else f"every {6 * content[0]} minutes"
 
 
 def decode_application(record):

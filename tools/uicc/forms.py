@@ -44,6 +44,11 @@ def of_text(form, text):
         return text
 
 
+def about(subject, wrong):
+    """What is said of a subject, where a form finds something wrong: of itself, or of a part of it."""
+    return subject + ("" if wrong.startswith(":") else " ") + wrong
+
+
 class Form:
     """A value that is of one of some classes of Python; true and false are no numbers here."""
 
@@ -88,7 +93,7 @@ class ListOf(Form):
 
     def faults_within(self, value):
         for place, each in enumerate(value, 1):
-            yield from (f"has a wrong entry {place}: it {wrong}" for wrong in self.one.faults(each))
+            yield from (f": {about(f'entry {place}', wrong)}" for wrong in self.one.faults(each))
 
 
 class TableOf(Form):
@@ -100,7 +105,7 @@ class TableOf(Form):
 
     def faults_within(self, value):
         for key, each in value.items():
-            yield from (f"has a wrong `{key}`: it {wrong}" for wrong in self.faults_of_key(key, each))
+            yield from (f": {about(f'`{key}`', wrong)}" for wrong in self.faults_of_key(key, each))
         yield from (f"has no `{key}`" for key in self.needed if key not in value)
 
     def faults_of_key(self, key, value):

@@ -68,7 +68,11 @@ def places(folder, usim=True):
 
 def usual_folder(entry):
     """The path of the folder in which a standard file lies."""
-    place = entry["in"][0]
+    return folder_of(entry["in"][0])
+
+
+def folder_of(place):
+    """The path of a folder by its name in data/files.json."""
     if place in FOLDERS:
         return FOLDERS[place]
     above = next(one for one in table("files")["files"] if one["name"] == "DF." + place)

@@ -21,6 +21,8 @@ TEMPLATES = os.path.join(names.DATA, "profiles")
 SHAPE = ("size", "length", "count", "cyclic")
 # what a profile says of an access control class that is the last digit of the IMSI
 BY_IMSI = "imsi"
+# what a table of services says of a few of them
+CHANGES_OF_SERVICES = ("services_on", "services_off")
 # what a reason says of the lines of a script
 OF_SCRIPT = re.compile(r" \(line \d+\)")
 
@@ -89,7 +91,7 @@ def laid_over_template(given):
     like, faults, base = given.get("like", "none"), [], {}
     wrong = forms.TEXT.wrong(like)
     if wrong:
-        faults.append(Fault(("like",), f"like {wrong}: like = \"usim\""))
+        faults.append(Fault(("like",), f"{forms.about('like', wrong)}: like = \"usim\""))
     else:
         try:
             base = template(like)
@@ -186,7 +188,8 @@ def judged(profile, is_part=False, own=()):
     for what is found after it; what may come of that is no fault, and neither is what may be missing in the part of a profile. Of the
     files that are named in `own`, it is doubtful too what the standard has otherwise."""
     profile, faults = with_class_by_imsi(profile)
-    faults += faults_at_top(profile)
+    profile, more = with_services(profile)
+    faults += [*more, *faults_at_top(profile)]
     tables = [(name, value) for name, value in profile.items() if is_file_table(name, value)]
     usim = is_usim(path for name, _ in tables if (path := path_or_none(name)))
     for name, value in tables:
@@ -214,6 +217,53 @@ def with_class_by_imsi(profile):
                                     "EF_IMSI")]
     classes = [int(digit) for digit in last_digit(profile.get(imsi, {}))]
     return {**profile, acc: {**profile[acc], "acc": classes}}, faults
+
+
+def with_services(profile):
+    """A profile whose services are all told by `services`: where a table of a file says `services_on` or `services_off`, the others stay
+    as they are. And what is wrong with those words."""
+    found, faults = {}, []
+    for name, given in profile.items():
+        if is_file_table(name, given) and any(key in given for key in CHANGES_OF_SERVICES) and path_or_none(name):
+            found[name], more = services_changed(name, given)
+            faults += more
+    return {**profile, **found}, faults
+
+
+def services_changed(name, given):
+    """The table of a file with all its services, and what is wrong with the change of them. It grows where it has no room for one."""
+    kept, faults, changes = {key: value for key, value in given.items() if key not in CHANGES_OF_SERVICES}, [], {}
+    path = path_of(name)
+    kind = (names.file(path, True) or names.file(path, False) or {}).get("content")
+    for key in filter(given.__contains__, CHANGES_OF_SERVICES):
+        try:
+            changes[key] = numbers_of(key, given[key], kind)
+        except contents.BadContent as fault:
+            faults.append(Fault((name, key), f"{shown_name(name)} {fault}"))
+    if faults:
+        return kept, faults
+    with contextlib.suppress(ValueError, TypeError):
+        # a ValueError or TypeError: the services that are told are wrong, which is said of them
+        numbers = set(contents.services(kept.get("services", []), kind)) | changes.get("services_on", set())
+        numbers -= changes.get("services_off", set())
+        kept["services"] = sorted(numbers)
+        needed = -(-max(numbers, default=1) * contents.SERVICES[kind] // 8)
+        if isinstance(kept.get("size"), int) and kept["size"] < needed:
+            kept["size"] = needed
+    return kept, []
+
+
+def numbers_of(key, given, kind):
+    """The numbers of the services that a change names. BadContent, where it can't be."""
+    if kind not in contents.SERVICES:
+        raise contents.BadContent(f"{key} is of files with services: EF_UST, EF_SST, EF_IST and EF_EST")
+    wrong = fields.SERVICES.wrong(given)
+    if wrong:
+        raise contents.BadContent(f"{forms.about(key, wrong)}: {key} = [\"FDN\"]")
+    try:
+        return set(contents.services(given, kind))
+    except contents.BadContent as fault:
+        raise contents.BadContent(f"{key}: {fault}") from None
 
 
 def last_digit(given):
