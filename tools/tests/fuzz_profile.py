@@ -72,7 +72,7 @@ count = 50
 applications = [{ aid = "A0000000871002FFFFFFFF8907090000", label = "USIM" }]
 
 [EF_ECC]
-emergency = ["112", 110]
+emergency = ["112", "110"]
 
 ["7F10/6F99"]
 hex = "0102"

@@ -175,7 +175,7 @@ class LeavingOut(unittest.TestCase):
         (exported("MF/ADF.USIM/EF.IMSI", "update_binary 082926108967452301") + exported("MF/DF.GSM/EF.LI", "update_binary 656e"),
          ["MF/DF.GSM/EF.LI: the files of ADF.USIM lie in the folder of DF.GSM here"]),
         (exported("MF/DF.TELECOM/EF.NEW", "update_binary 00"), ["MF/DF.TELECOM/EF.NEW: no identifier is told for EF.NEW"]),
-        (exported("MF/7F10/6F99", "set_data 0x80 00", fcp=OBJECTS_FCP), ["MF/7F10/6F99: `set_data` writes nothing"]),
+        (exported("MF/7F10/6F99", "set_data 0x80 00", fcp=OBJECTS_FCP), ["MF/7F10/6F99: `set_data` writes an object of a file of the structure BER-TLV"]),
         (exported("MF/7F10/6F99", "update_binary 00", fcp=OBJECTS_FCP), ["it is neither transparent, linear fixed nor cyclic"]),
         (exported("MF/7F10/6F99", "update_binary 00", structure="ber_tlv"), ["it is neither transparent, linear fixed nor cyclic"]),
         (exported("MF/7F10/6F99", "update_binary 0"), ["MF/7F10/6F99: `0` are no bytes"]),
@@ -202,7 +202,7 @@ class LeavingOut(unittest.TestCase):
          ["a service stands beyond 1 bytes"]),
         (exported("MF/DF.TELECOM/EF.X\x7f", "update_binary 0", identifiers="3f00/7f10/6f99"), ["`0` are no bytes"]),
         ("update_binary 00\n", ["line 9: no file is selected"]),
-        ("pySIM-shell (00:MF)> export\n", ["line 9: `pySIM-shell` writes nothing"]),
+        ("pySIM-shell (00:MF)> export\n", ["line 9: `pySIM-shell` isn't known: select, update_binary"]),
         ("# directory: MF (3f00)\n# bad file: MF/EF.UMPC, SW match failed! Expected 9000 and got 6a82: File not found\n", []),
         (exported("MF/ADF.USIM/EF.LOCI").removesuffix("#\n")
          + "# bad file: MF/ADF.USIM/EF.LOCI, SW match failed! Expected 9000 and got 6982: Security status not satisfied\n",

@@ -219,6 +219,8 @@ class Export:
                 raise Unread(f"`{number}` is no number of a record")
             self.opened().records[int(number)] = value_of(word, value)
         else:
+            if word == "set_data":
+                raise Unread("`set_data` writes an object of a file of the structure BER-TLV, which a card here can't hold")
             meant = forms.near(word, WORDS)
             raise Unread(f"`{word}` isn't known: " + (f"`{meant}` is" if meant else f"{', '.join(WORDS)} are"))
 

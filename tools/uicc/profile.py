@@ -270,7 +270,7 @@ def last_digit(given):
     """The last digit of the IMSI that the table of its file says; nothing where it says none."""
     with contextlib.suppress(ValueError, IndexError, TypeError):
         told = given["imsi"] if "imsi" in given else contents.decode_imsi(bytes.fromhex(given.get("hex", "")))
-        return told[-1] if coding.is_digits(told) else ""
+        return told[-1] if isinstance(told, str) and coding.is_digits(told) else ""
     return ""
 
 
