@@ -127,13 +127,13 @@ class Differing(unittest.TestCase):
          ["7F20/6F46 EF.SPN", "- shape: transparent, 17 bytes", "+ shape: transparent, 18 bytes", "- update: adm", "+ update: pin1",
           "- holds: 0141" + "FF" * 15, "+ holds: 0141" + "FF" * 16]),
         ('[EF_ADN]\nentries = [{ name = "A", number = "1" }]', "", ["7F10/6F3A EF.ADN", "- record 1: A: 1", "+ record 1: blank"]),
-        ("", '["7F10/6F99"]\nsize = 1', ["7F10/6F99", "+ file, 1 byte, rule 2F06:1"]),
+        ("", '["7F10/6F99"]\nsize = 1', ["7F10/6F99", "+ EF, 1 byte, rule 2F06:1"]),
         ('[pins]\npin1 = { on = false }', "", ["PIN 1", "- 1234, off, unblocked by 12345678", "+ 1234, on, unblocked by 12345678"]),
         ('[[applet]]\nkind = "greeter"', "", ["applet on shelf 0", "- greets, priority 1, events none, keeps nothing"]),
         # the other one has the same rules by other numbers
         ('[EF_PL]\nupdate = "adm"', '[EF_PL]\nupdate = "adm"\n["7F10/6F99"]\nsize = 1\nread = "never"', ["2F06 EF.ARR", "- shape: linear fixed, 6 records of 27", "+ shape: linear fixed, 7 records of 27", "- record 6: read: always; update: adm",
           "+ record 6: read: never; update, deactivate, activate: adm", "+ record 7: read: always; update: adm", "7F10/6F99",
-          "+ file, 1 byte, rule 2F06:6"]),
+          "+ EF, 1 byte, rule 2F06:6"]),
         # what the words leave out: bytes, and fields
         ('[EF_AD]\nhex = "00000002"', '[EF_AD]\nhex = "00000102"', ["7F20/6FAD EF.AD", "- holds: byte 3: 00", "+ holds: byte 3: 01"]),
         ('[EF_PLMNwAcT]\nplmns = ["unused", "262-01 by GSM"]', '[EF_PLMNwAcT]\nplmns = ["262-01 by GSM"]',
@@ -167,13 +167,13 @@ class Rights(unittest.TestCase):
         rows = dict(rights.rows(made(self.TEXT)))
         self.assertEqual(rows["7F10/6F99"], ["always", "always (not pin2: PIN 2 is off)", "never (not adm: ADM1 isn't there)",
                                              "pin1 (not pin1 or adm: ADM1 isn't there)", ""])
-        self.assertEqual(rows["7F10/6F39 EF.ACM"], ["pin1", "never", "never", "never", "pin1 (not pin1 and pin2: PIN 2 is off)"])
+        self.assertEqual(rows["7F10/6F39"], ["pin1", "never", "never", "never", "pin1 (not pin1 and pin2: PIN 2 is off)"])
         self.assertEqual(rows["7F10/6F98"], ["always"] * 4 + [""])
 
     def test_what_is_open_and_what_no_key_opens(self):
         card = made(self.TEXT)
         self.assertEqual(dict(rights.outcomes(card, access.EVERYBODY))["update"], ["7F10/6F99", "7F10/6F98"])
-        self.assertEqual(dict(rights.outcomes(card, access.NOBODY))["deactivate"], ["2F06 EF.ARR", "7F10/6F99", "7F10/6F39 EF.ACM"])
+        self.assertEqual(dict(rights.outcomes(card, access.NOBODY))["deactivate"], ["2F06 EF.ARR", "7F10/6F99", "7F10/6F39"])
 
     def test_as_csv(self):
         rows = list(csv.reader(rights.as_csv(made(self.TEXT)).splitlines()))

@@ -195,7 +195,7 @@ class Doubts(unittest.TestCase):
 
     def test_files_of_ones_own(self):
         """In a folder that is no standard one an identifier says nothing."""
-        self.assertEqual([names.name_of(path) for path in (("7F66", "5F40", "6F01"), ("7F77", "6F50"), ("7F20", "6F07"))], ["6F01", "6F50", "EF.IMSI"])
+        self.assertEqual([names.name_of(path) for path in (("7F66", "5F40", "6F01"), ("7F77", "6F50"), ("7F10", "6F31"), ("7F20", "6F07"))], ["6F01", "6F50", "6F31", "EF.IMSI"])
 
 
 class Quotes(unittest.TestCase):
@@ -261,7 +261,7 @@ class Mistakes(unittest.TestCase):
         ('[EF_AD]\nread = "adm)"', ["line 3: [EF_AD] read: `adm)` is no condition: a bracket is closed that isn't open"]),
         ('[EF_PL]\nlanguages = ["DE"]', ["line 3: [EF_PL] languages: a language is two small letters (ISO 639), as `de`, and not `DE`"]),
         ('[EF_DIR]\napplications = [{ aid = "A000" }]', ["line 3: [EF_DIR] applications: an AID has 5 to 16 bytes, and A000 2"]),
-        ('[EF_SPN]\nspn = "A"\nshort = 7', ["line 2: [EF_SPN]: the short identifier 7 is taken by 7F20/6F07"]),
+        ('[EF_SPN]\nspn = "A"\nshort = 7', ["line 2: [EF_SPN]: the SFI 7 is taken by 7F20/6F07"]),
         ('[EF_SPN]\nspn = "A"\nsize = 100000', ["line 4: [EF_SPN] size is 100000, and has to be a number from 1 to 32767: size = 17"]),
         ('["7F10/6F99"]\nsize = 5\ncyclic = true', ['line 2: ["7F10/6F99"]: `cyclic` is of files with records, and `size` of those without']),
         ('[EF_SPN]\niccid = "1"', ["line 3: [EF_SPN] iccid is nothing that EF.SPN holds: `spn = \"Nordlicht\"` is"]),
@@ -314,7 +314,7 @@ class Mistakes(unittest.TestCase):
         ('[EF_SPN]\nsp = "x"\n["7F10/6F99"]\nhx = "00"\n', ["line 2: [EF_SPN] sp isn't known", 'line 4: ["7F10/6F99"] hx isn\'t known']),
         # what only the script shows comes with the rest
         ('like = "usim"\n[EF_SPN]\nspn = "A"\nshort = 7\n[EF_ACC]\nacc = [10]\n',
-         ["line 2: [EF_SPN]: the short identifier 7 is taken by", "line 6: [EF_ACC] acc: an access control class"]),
+         ["line 2: [EF_SPN]: the SFI 7 is taken by", "line 6: [EF_ACC] acc: an access control class"]),
         # lines that are no TOML: each that is wrong by itself, and what stands in the others
         ('like = "usim"\n[EF_IMSI]\nimsi = 0123456\n[EF_SPN]\nspn = "Nord\n[EF_ACC]\nacc = [10]\n',
          ["line 3: Expected newline or end of document after a statement: digits that begin with 0", "line 5: Illegal character",

@@ -51,11 +51,11 @@ def pair(one, other, label=""):
 def of_file(one, other, path, usim, exactly):
     files = [card.files.get(path) for card in (one, other)]
     if None in files or files[0].is_df or files[1].is_df:
-        yield from pair(*(file and (("folder" if file.is_df else "file") + f", {tree.facts(card, file)}" * (not file.is_df))
+        yield from pair(*(file and (("DF" if file.is_df else "EF") + f", {tree.facts(card, file)}" * (not file.is_df))
                           for card, file in zip((one, other), files)))
         return
     yield from pair(*(f"{tree.STRUCTURES[file.structure]}, {tree.shape(file)}" for file in files), "shape")
-    yield from pair(*(str(file.short or "none") for file in files), "short identifier")
+    yield from pair(*(str(file.short or "none") for file in files), "SFI")
     if exactly:
         yield from pair(*(f"{file.rule[0]}:{file.rule[1]}" if file.rule else "none" for file in files), "rule")
     for operation in access.OPERATIONS:

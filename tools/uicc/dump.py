@@ -105,7 +105,7 @@ def shape_of(fcp):
     try:
         return shape_by_parameters(fcp) if fcp[:1] == b"\x62" else shape_by_sim(fcp)
     except (rules.NoRule, IndexError, KeyError):
-        raise Unread("its control parameters can't be read") from None
+        raise Unread("its FCP can't be read") from None
 
 
 def shape_by_parameters(fcp):

@@ -89,7 +89,7 @@ def in_words(tree):
     if tag in (ALWAYS, NEVER):
         return "always" if tag == ALWAYS else "never"
     if tag == BY_KEY:
-        return KEY_NAMES.get(inner[0], f"key {inner[0]:02X}, which no card has")
+        return KEY_NAMES.get(inner[0], f"key reference {inner[0]:02X}, which no card has")
     texts = map(in_words, inner)
     return (" or " if tag == ONE_OF else " and ").join(f"({text})" if " " in text and len(inner) > 1 else text for text in texts)
 
