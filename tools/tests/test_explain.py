@@ -267,6 +267,19 @@ class Explain(unittest.TestCase):
         done = self.explain(day + ".trace", "--script", day + ".script", "--phone")
         self.assertEqual((done.returncode, done.stderr), (0, ""))
 
+    def test_a_file_that_is_made(self):
+        """CREATE FILE names a file by its place alone: 6F50 is EF.CBMIR in 7F20, and nothing in the MF."""
+        with tempfile.TemporaryDirectory() as folder:
+            for df, name in (("7F20", "6F50 EF.CBMIR"), ("7F66", "6F50")):
+                path = os.path.join(folder, df + ".script")
+                with open(path, "w", encoding="ascii") as out:
+                    out.write(f"df {df}\nstart\napdu 00A4000C02{df}\napdu 00E0000010620E8202412183026F50800200048800\n")
+                trace = os.path.join(folder, "trace")
+                with open(trace, "w", encoding="ascii") as out:
+                    out.write(f"> 00A4000C02{df}\n< 9000\n> 00E0000010620E8202412183026F50800200048800\n< 6982\n")
+                shown = self.explain(trace, "--script", path).stdout
+                self.assertIn(f"identifier: {name}\n", shown)
+
     def test_another_script(self):
         """The script of another trace is told, and none of its lines is shown with this one."""
         done = self.explain(os.path.join(EXAMPLES, "pins.trace"), "--script", os.path.join(EXAMPLES, "usim.script"))

@@ -122,6 +122,11 @@ def shown(path, usim=True):
     return f"{text} {entry['name']}" if entry else text
 
 
+def is_adf(word):
+    """Whether a part of a path names an ADF, which no card here has."""
+    return normal(word).startswith("ADF") or word.upper() == "7FFF"
+
+
 def normal(word):
     """A name as it is compared: EF_IMSI, EF.IMSI and ef.imsi are one."""
     return word.replace("_", ".").upper()

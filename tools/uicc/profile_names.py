@@ -49,7 +49,7 @@ def parts_of(name):
 
 def identifier_of(part, folder, whole):
     """The identifier of a file by itself or by its standard name, in a folder where one is told."""
-    if names.normal(part).startswith("ADF") or part.upper() == "7FFF":
+    if names.is_adf(part):
         raise BadProfile(f"[{dump.printable(whole)}] {dump.printable(part)}: a card here has no ADF: the files of a USIM lie in the DF 7F20, as "
                          "[\"7F20/EF_IMSI\"], and those of an ISIM in 7FF2", whole)
     if dump.is_identifier(part):
