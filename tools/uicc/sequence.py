@@ -387,6 +387,11 @@ def act_in(text):
     return said
 
 
+def forgotten(sequences):
+    """The lines of commands after which no response is asked for, as bad ones: whatever a terminal did there would pass."""
+    return [BadLine(one.path, step.line, step.text, UNANSWERED) for one in sequences for step in one.unanswered()]
+
+
 def read(text, path):
     """The sequences in the text of a file. BadSequence, with all its bad lines."""
     reader, bad = Reader(path), []
@@ -403,7 +408,6 @@ def read(text, path):
             bad.append(BadLine(path, number, line, str(fault), isinstance(fault, UnknownWord)))
     if not bad:
         bad += [BadLine(path, one.line, f"sequence {one.name}", "the sequence has no step") for one in reader.sequences if not one.steps]
-        bad += [BadLine(path, step.line, step.text, UNANSWERED) for one in reader.sequences for step in one.unanswered()]
     if not bad and not reader.sequences:
         bad.append(BadLine(path, 1, text.splitlines()[0] if text.splitlines() else "", "the file has no line `sequence NAME`"))
     if bad:

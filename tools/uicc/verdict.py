@@ -5,7 +5,7 @@ import time
 
 from . import decode, grammar, handset, names, tlv
 from .handset import DETAILS, details_of
-from .player import ASKED, FETCHED, MISFETCHED, PROFILED, RESET, RESPONDED, STRAY, TOLD, UNANNOUNCED, Player
+from .player import ASKED, FETCHED, FOR_CARD, MISFETCHED, PROFILED, RESET, RESPONDED, STRAY, TOLD, UNANNOUNCED, Player
 from .process import Ended, NotBuilt
 from .sequence import Act, Give, Poll, Quiet, Respond, Restart, Shown, Step, Tell, has
 from .undertest import Lost, NotBack, Unable, Unsupported, limited, place_of, told, wrong_value
@@ -369,7 +369,7 @@ class Run:
             return "a TERMINAL RESPONSE comes for a command that wasn't fetched, or was answered already"
         self.step = self.step or self._given_with(details)
         name = f"{decode.details_name(details[1])}, number {details[0]}"
-        is_answered = any(heard.kind == RESPONDED and self._details_in(heard.data) == details for heard in self.player.heard)
+        is_answered = any(heard.kind in (RESPONDED, FOR_CARD) and self._details_in(heard.data) == details for heard in self.player.heard)
         return f"a TERMINAL RESPONSE comes for {name}, which was answered already" if is_answered else (
             f"a TERMINAL RESPONSE comes for {name}, which wasn't fetched")
 

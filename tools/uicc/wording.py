@@ -15,8 +15,8 @@ DEVICES = {"keypad": 0x01, "display": 0x02, "earpiece": 0x03, "card": 0x81, "ter
 USUAL_TYPES = (0x81, 0x91)
 UNITS = {"minutes": 0, "seconds": 1, "tenths": 2}
 SEVEN_BIT, EIGHT_BIT, UCS2 = 0x00, 0x04, 0x08
-# how many words a name has at most, and how many names are told that begin as one which is none
-LONGEST_NAME, MOST_HINTS = 5, 3
+# how like a name is that may be meant, and how many such are told
+LIKE, MOST_HINTS = 0.7, 2
 # the value of a text, where there may be none: with a coding, or without
 EMPTY_TEXTS = "|00|04|08"
 
@@ -39,25 +39,40 @@ class UnknownWord(Wrong):
     """A word that is none of a list which is too long to be told with each: `tools/sequence --words` prints it."""
 
 
+def likeness(words, name):
+    """How much of a name the next words are, from 0 to 1."""
+    return difflib.SequenceMatcher(None, " ".join(words[:len(name.split())]).lower(), name.lower()).ratio()
+
+
 def unknown(words, what, known):
-    """What is said where the next words make none of some names: of those the one that is meant, where one is near."""
-    first = words[0]
-    begins = [name for name in known if name.split()[0].lower() == first.lower()]
-    near = begins or [name for count in range(min(len(words), LONGEST_NAME), 0, -1) for name in difflib.get_close_matches(
-        " ".join(words[:count]).lower(), {name.lower(): name for name in known}, 1)]
-    meant = {name.lower(): name for name in known}
+    """What is said where the next words make none of some names: of those the ones that may be meant."""
+    begins = [name for name in known if name.split()[0].lower() == words[0].lower()]
+    near = sorted(begins or [name for name in known if likeness(words, name) >= LIKE], key=lambda name: -likeness(words, name))[:MOST_HINTS]
     # of a name of several words that begins so, as many are told as it has
     count = max((len(name.split()) for name in begins), default=1)
-    hint = f": is {' or '.join(f'`{meant[name.lower()]}`' for name in near[:MOST_HINTS])} meant?" if near else ""
+    hint = f": is {' or '.join(f'`{name}`' for name in near)} meant?" if near else ""
     return UnknownWord(f"`{' '.join(words[:count])}` is no {what}{hint}")
 
 
+def without_comment(line):
+    """A line up to a # that begins a word."""
+    quote, before = None, " "
+    for place, letter in enumerate(line):
+        if letter == "#" and before.isspace() and not quote:
+            return line[:place]
+        if letter in "\"'" and before != "\\":
+            quote = None if quote == letter else quote or letter
+        before = letter
+    return line
+
+
 class Words:
-    """The words of a line that are still to be read; a text in quotes is one."""
+    """The words of a line that are still to be read; a text in quotes is one. What comes after a # at the beginning of a word is a comment:
+    in a word it is a key of the telephone."""
 
     def __init__(self, line):
         try:
-            self.left = shlex.split(line, comments=True)
+            self.left = shlex.split(without_comment(line))
         except ValueError as fault:
             raise Wrong(f"{str(fault).lower()}: quotes come in pairs") from None
 
