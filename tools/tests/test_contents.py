@@ -196,7 +196,7 @@ class Commands(unittest.TestCase):
         ("D011810303270082028182A40101A503005000", ["command details: TIMER MANAGEMENT, number 3, start",
                                                     "device identities: card to terminal", "timer identifier: 1", "timer value: 00:05:00"]),
         ("D01D81030324008202818285045069636B8F0501546578748F0502546F6E65",
-         ["command details: SELECT ITEM, number 3", "device identities: card to terminal", "title: `Pick`", "item: 1 `Text`", "item: 2 `Tone`"]),
+         ["command details: SELECT ITEM, number 3", "device identities: card to terminal", "alpha identifier: `Pick`", "item: 1 `Text`", "item: 2 `Tone`"]),
         ("D00D81030105008202818299020304", ["command details: SET UP EVENT LIST, number 1", "device identities: card to terminal",
                                             "event list: 03 location status, 04 user activity"]),
         ("D00C8103042000820281038E0110", ["command details: PLAY TONE, number 4", "device identities: card to earpiece", "tone: 10 general beep"]),

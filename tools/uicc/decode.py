@@ -307,7 +307,9 @@ def location_text(value, _):
 
 
 def address_text(value, _):
-    return contents.dialled_digits(value[1:], value[0])
+    """A number as it is dialled: with a + before an international one, and with its type where that is another one than usual."""
+    kind = "" if value[0] in (0x81, 0x91) else f" type {value[0]:02X}"
+    return contents.dialled_digits(value[1:], value[0]) + kind
 
 
 def bearer_text(value, _):

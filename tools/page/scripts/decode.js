@@ -218,7 +218,7 @@ const OBJECTS = {
     },
     0x04: ([unit, count]) => `${count} ${["minutes", "seconds", "tenths of a second"][unit]}`,
     0x05: (value) => `\`${printable(value)}\``,
-    0x06: (value) => dialledDigits(value.slice(1), value[0]),
+    0x06: (value) => dialledDigits(value.slice(1), value[0]) + ([0x81, 0x91].includes(value[0]) ? "" : ` type ${hexByte(value[0])}`),
     0x0d: textWords,
     0x0e: ([tone]) => `${hexByte(tone)} ${toolkitName("tones", tone, "unknown")}`,
     0x0f: (value) => (value.length ? `${value[0]} \`${printable(value.slice(1))}\`` : "none"),
