@@ -19,7 +19,7 @@ use std::mem;
 use store_form::{StoreFault, Writes};
 
 /// What is known of the map.
-#[derive(Debug, Drop)]
+#[derive(Drop)]
 pub enum Known {
     /// Nothing: a recovery is due.
     Nothing,
