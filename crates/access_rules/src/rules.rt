@@ -1,7 +1,7 @@
 //! What a rule is asked: an operation, and the keys.
 
 /// An operation on an EF that an access rule may allow (ETSI TS 102 221, 9.2.4 and 11.1).
-#[derive(Clone, Copy, PartialEq, Eq)]
+#[derive(Clone, Copy, Debug, PartialEq, Eq)]
 pub enum Op {
     ReadBinary,
     ReadRecord,
@@ -14,7 +14,7 @@ pub enum Op {
 }
 
 /// The keys PIN1, PIN2 and ADM1 (ETSI TS 102 221, 9.5.1): a field is true where the key's condition is satisfied.
-#[derive(Clone, Copy, PartialEq, Eq)]
+#[derive(Clone, Copy, Debug, PartialEq, Eq)]
 pub struct Verified {
     pub pin1: bool,
     pub pin2: bool,

@@ -5,7 +5,7 @@ ghost use Rattle.std.specs.Result.{result_ok};
 use std::marker::Model;
 
 /// A command in the four cases of the short form.
-#[derive(Drop)]
+#[derive(Debug, Drop)]
 pub struct Command<'a> {
     pub class: u8,
     pub ins: u8,

@@ -4,7 +4,7 @@ use toolkit_commands::Proactive;
 use uicc_types::Octets;
 
 /// What happened to an applet.
-#[derive(Drop)]
+#[derive(Debug, Drop)]
 pub enum Stimulus {
     /// An event that it is registered for, with what the handset tells of it.
     Event { code: u8, body: Octets },
@@ -20,7 +20,7 @@ pub enum Stimulus {
 }
 
 /// What an applet does at a stimulus.
-#[derive(Drop)]
+#[derive(Debug, Drop)]
 pub enum Act {
     /// Nothing more.
     Done,

@@ -2,7 +2,7 @@
 use uicc_types::Octets;
 
 /// A proactive command of the bearer independent protocol.
-#[derive(Drop)]
+#[derive(Debug, Drop)]
 pub enum BipCommand {
     /// Opens a channel with a buffer of this size.
     OpenChannel {

@@ -16,7 +16,7 @@ use store_form::{Store, StoreFault, Writes};
 use uicc_types::Pin8;
 
 /// What a commit sets of a PIN (ETSI TS 102 221, 9.5).
-#[derive(Clone, Copy)]
+#[derive(Clone, Copy, Debug)]
 pub enum PinChange {
     /// How many tries there are, at most 3.
     Tries(u8),

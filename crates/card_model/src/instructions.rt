@@ -3,7 +3,7 @@
 use file_model::{FileCommand, PinCommand, TreeCommand};
 
 /// A command of the card, by what it works on (ETSI TS 102 221, 10.1.2).
-#[derive(Clone, Copy, PartialEq, Eq)]
+#[derive(Clone, Copy, Debug, PartialEq, Eq)]
 pub enum Instruction {
     File(FileCommand),
     Pin(PinCommand),
@@ -13,7 +13,7 @@ pub enum Instruction {
 }
 
 /// A command between the toolkit and the terminal (ETSI TS 102 221, 11.2), or one of those who install applets.
-#[derive(Clone, Copy, PartialEq, Eq)]
+#[derive(Clone, Copy, Debug, PartialEq, Eq)]
 pub enum CatCommand {
     TerminalProfile,
     Fetch,

@@ -6,7 +6,7 @@ use std::array;
 use uicc_types::{FileId, Kept, Pin8, ShortText};
 
 /// A file: the MF, another DF, or an EF (ETSI TS 102 221, 8.2). The fields from `short` on are those of an EF.
-#[derive(Clone, Copy)]
+#[derive(Clone, Copy, Debug)]
 pub struct Node {
     /// Whether there is such a file.
     pub used: bool,
@@ -52,7 +52,7 @@ impl Node {
 }
 
 /// A PIN with its UNBLOCK PIN (ETSI TS 102 221, 9.5).
-#[derive(Clone, Copy)]
+#[derive(Clone, Copy, Debug)]
 pub struct PinSlot {
     /// The key reference: `01`, `81` or `0A`; `00` where there is no such PIN.
     pub key: u8,
@@ -78,7 +78,7 @@ impl PinSlot {
 }
 
 /// A registered applet.
-#[derive(Drop)]
+#[derive(Debug, Drop)]
 pub struct Row {
     /// Whether there is one on this shelf.
     pub used: bool,
@@ -115,7 +115,7 @@ impl Row {
 }
 
 /// All entries of a card by their numbers, the next sequence number, and whether the card is wide.
-#[derive(Drop)]
+#[derive(Debug, Drop)]
 pub struct Loaded {
     /// The files by their numbers. The MF is number 0.
     pub nodes: [Node; NODE_COUNT],

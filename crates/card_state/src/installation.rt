@@ -10,7 +10,7 @@ use crate::sizes::{KEPT_LIMIT, TEXT_LIMIT};
 use uicc_types::{Kept, ShortText};
 
 /// The events, the menu text and the kept bytes of a row that is to be installed.
-#[derive(Drop)]
+#[derive(Debug, Drop)]
 pub struct Installed {
     /// The events, one bit each.
     pub events: u16,

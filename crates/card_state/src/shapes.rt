@@ -1,7 +1,7 @@
 //! The structures of an EF.
 
 /// The structure of an EF and its size (ETSI TS 102 221, 8.2.2).
-#[derive(Clone, Copy, PartialEq, Eq)]
+#[derive(Clone, Copy, Debug, PartialEq, Eq)]
 pub enum Shape {
     /// A list of `size` bytes.
     Transparent { size: u16 },

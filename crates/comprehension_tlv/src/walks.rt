@@ -8,7 +8,7 @@ use crate::objects::{Part, read_object};
 use std::marker::Model;
 
 /// A walk over a list of objects. It hands out the parts in order.
-#[derive(Drop)]
+#[derive(Debug, Drop)]
 pub struct Walk<'a> {
     rest: &'a [u8],
     at: usize,

@@ -7,7 +7,7 @@ use std::marker::Model;
 use uicc_types::{Full, Octets};
 
 /// A list of objects that is being written, at most 255 bytes.
-#[derive(Drop)]
+#[derive(Debug, Drop)]
 pub struct TlvWriter {
     bytes: Octets,
 }

@@ -12,7 +12,7 @@ use uicc_types::{CutAt, FailAt, Plan};
 /// The first `size` bytes of a file as a memory. Each write is handed on to the disk before the call returns. It fails
 /// where the file does, and each call of one without a file is a fault. Besides, it fails and loses power where its plan
 /// says. It tells no contents.
-#[derive(Drop)]
+#[derive(Debug, Drop)]
 pub struct FileEeprom {
     file: Option<File>,
     size: usize,

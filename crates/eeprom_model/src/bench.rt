@@ -12,7 +12,7 @@ use std::marker::Model;
 use uicc_types::{CutAt, FailAt, OutOfMemory, Plan, are_bytes};
 
 /// A memory of bytes in a vector. It fails and loses power exactly where its plan says.
-#[derive(Drop)]
+#[derive(Debug, Drop)]
 pub struct BenchEeprom {
     bytes: Vec<u8>,
     powered: bool,

@@ -5,7 +5,7 @@ use std::io::{Read, Seek, SeekFrom, Write};
 use std::rt::Files;
 
 /// A file that is open as the memory of a card, and what was there before.
-#[derive(Drop)]
+#[derive(Debug, Drop)]
 pub struct Image {
     pub file: File,
     /// How many bytes it had: 0 also where it was made.

@@ -9,7 +9,7 @@ use std::marker::Model;
 use uicc_types::{ByteList, Full, Octets, Shelf};
 
 /// An event for the applet of a shelf: its code, and its body.
-#[derive(Drop)]
+#[derive(Debug, Drop)]
 pub struct KeptTrigger {
     pub shelf: Shelf,
     pub code: u8,

@@ -11,7 +11,7 @@ use card_state::{Loaded, Node, new_df, new_ef, size_for};
 use file_model::NewFile;
 
 /// An entry, and the number of its file.
-#[derive(Clone, Copy)]
+#[derive(Clone, Copy, Debug)]
 pub struct NewEntry {
     pub number: u8,
     pub node: Node,

@@ -5,7 +5,7 @@ use card_state::Shape;
 use uicc_types::FileId;
 
 /// A file that is to be made in the current DF.
-#[derive(Clone, Copy)]
+#[derive(Clone, Copy, Debug)]
 pub enum NewFile {
     Df {
         id: FileId,

@@ -1,7 +1,7 @@
 //! The commands on files and on PINs, by their names.
 
 /// A command on files (ETSI TS 102 221, 11.1).
-#[derive(Clone, Copy, PartialEq, Eq)]
+#[derive(Clone, Copy, Debug, PartialEq, Eq)]
 pub enum FileCommand {
     Select,
     Status,
@@ -10,7 +10,7 @@ pub enum FileCommand {
 }
 
 /// A command on what a file holds, or on its life cycle (ETSI TS 102 221, 11.1.3 to 11.1.8, 11.1.14 and 11.1.15).
-#[derive(Clone, Copy, PartialEq, Eq)]
+#[derive(Clone, Copy, Debug, PartialEq, Eq)]
 pub enum ContentsCommand {
     ReadBinary,
     UpdateBinary,
@@ -23,7 +23,7 @@ pub enum ContentsCommand {
 }
 
 /// A command on PINs (ETSI TS 102 221, 11.1.9 to 11.1.13).
-#[derive(Clone, Copy, PartialEq, Eq)]
+#[derive(Clone, Copy, Debug, PartialEq, Eq)]
 pub enum PinCommand {
     Verify,
     Change,

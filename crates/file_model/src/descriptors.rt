@@ -3,7 +3,7 @@
 use uicc_types::FileId;
 
 /// What is known of a file without its contents (ETSI TS 102 221, 11.1.1.3).
-#[derive(Clone, Copy, PartialEq, Eq)]
+#[derive(Clone, Copy, Debug, PartialEq, Eq)]
 pub struct Descriptor {
     /// Its number among the files of the card. The MF is number 0.
     pub number: u8,
@@ -27,7 +27,7 @@ pub struct Descriptor {
 }
 
 /// A record of an EF_ARR (9.2.7).
-#[derive(Clone, Copy, PartialEq, Eq)]
+#[derive(Clone, Copy, Debug, PartialEq, Eq)]
 pub struct RuleReference {
     pub arr: FileId,
     /// The number of the record, from 1 on.
@@ -35,7 +35,7 @@ pub struct RuleReference {
 }
 
 /// What a file is looked for by.
-#[derive(Clone, Copy, PartialEq, Eq)]
+#[derive(Clone, Copy, Debug, PartialEq, Eq)]
 pub enum Wanted {
     /// The file with this number.
     Number(u8),

@@ -2,7 +2,7 @@
 
 /// What is selected on a logical channel (ETSI TS 102 221, 8.4): the numbers of the current DF and of the current EF, and
 /// the record pointer.
-#[derive(Clone, Copy, PartialEq, Eq)]
+#[derive(Clone, Copy, Debug, PartialEq, Eq)]
 pub struct Selection {
     pub df: u8,
     pub ef: Option<u8>,

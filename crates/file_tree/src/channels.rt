@@ -6,7 +6,7 @@ use file_model::Selection;
 use std::marker::Model;
 
 /// The logical channels 0 to 3 (ETSI TS 102 221, 8.7). The basic channel, 0, is always open.
-#[derive(Drop)]
+#[derive(Debug, Drop)]
 pub struct Channels {
     basic: Selection,
     first: Option<Selection>,

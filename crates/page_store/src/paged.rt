@@ -19,7 +19,7 @@ use std::mem;
 use store_form::{StoreFault, Writes};
 
 /// What is known of the map.
-#[derive(Drop)]
+#[derive(Debug, Drop)]
 pub enum Known {
     /// Nothing: a recovery is due.
     Nothing,

@@ -25,7 +25,7 @@ use update_journal::Journal;
 /// A store of 65,536 bytes on a device of 71,680, over a journal in its first pages. What a contract sees of it is its
 /// device, what it knows of the map, the counts of the program calls that it made and of its commits, and whether the journal takes no recovery to be
 /// due.
-#[derive(Drop)]
+#[derive(Debug, Drop)]
 pub struct PageStore<E: Eeprom> {
     journal: Journal<E>,
     known: Known,

@@ -14,7 +14,7 @@ use std::marker::Model;
 use uicc_types::{ByteList, Full};
 
 /// The page in which each mapped page lies, and the free pages, the one that has been free longest first.
-#[derive(Drop)]
+#[derive(Debug, Drop)]
 pub struct Table {
     entries: [u16; MAPPED],
     free: ArrayVec<u16, FREE>,

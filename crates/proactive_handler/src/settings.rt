@@ -4,7 +4,7 @@ use terminal_profile::Profile;
 use uicc_types::Shelf;
 
 /// The shelf of the applet that runs, the profile that the handset sent, if it sent one, and whether call control began the run.
-#[derive(Clone, Copy)]
+#[derive(Clone, Copy, Debug)]
 pub struct Setting {
     pub shelf: Shelf,
     pub profile: Option<Profile>,

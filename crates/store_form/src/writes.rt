@@ -13,14 +13,14 @@ pub const MOST_PIECES: usize = 4;
 pub const MOST_BYTES: usize = 640;
 
 /// At most four pieces, each bytes with their place, of at most 640 bytes together.
-#[derive(Drop)]
+#[derive(Debug, Drop)]
 pub struct Writes {
     bytes: ByteList<MOST_BYTES>,
     spans: ArrayVec<Span, MOST_PIECES>,
 }
 
 // A piece: its place, and where its bytes stand among all.
-#[derive(Clone, Copy, Default)]
+#[derive(Clone, Copy, Debug, Default)]
 struct Span {
     place: u16,
     start: usize,

@@ -15,7 +15,7 @@ use std::marker::Model;
 use uicc_types::{Answer, StatusWord};
 
 /// What stands between a terminal and a card on a T=0 line. It keeps nothing, or the data and the status of one answer, for GET RESPONSE to fetch.
-#[derive(Drop)]
+#[derive(Debug, Drop)]
 pub struct Link {
     // An answer without data is one of which there is nothing to keep.
     kept: Answer,

@@ -5,7 +5,7 @@ ghost use Rattle.t0_link.specs.Tpdus.{data_count, apdu_of, is_outgoing, is_passe
 use crate::instructions::{FETCH, GET_RESPONSE, MANAGE_CHANNEL, READ_BINARY, READ_RECORD, STATUS};
 
 /// The way of a command's data.
-#[derive(Clone, Copy, PartialEq, Eq)]
+#[derive(Clone, Copy, Debug, PartialEq, Eq)]
 pub enum Transfer {
     /// From the link itself.
     GetResponse,

@@ -10,7 +10,7 @@ use toolkit_commands::Proactive;
 const CONSULTED: usize = 8;
 
 /// What a terminal can do. Bytes that it didn't send are 0.
-#[derive(Clone, Copy)]
+#[derive(Clone, Copy, Debug)]
 pub struct Profile {
     bytes: [u8; CONSULTED],
 }

@@ -5,7 +5,7 @@ use crate::items::Items;
 use uicc_types::{Octets, ShortText};
 
 /// A span of time, as a timer is given it.
-#[derive(Clone, Copy, PartialEq, Eq)]
+#[derive(Clone, Copy, Debug, PartialEq, Eq)]
 pub struct TimeValue {
     pub hours: u8,
     pub minutes: u8,
@@ -13,7 +13,7 @@ pub struct TimeValue {
 }
 
 /// The command details (TS 102 223, 8.6): by them a response names the command that it answers.
-#[derive(Clone, Copy, PartialEq, Eq)]
+#[derive(Clone, Copy, Debug, PartialEq, Eq)]
 pub struct Details {
     pub number: u8,
     /// The type of command.
@@ -23,7 +23,7 @@ pub struct Details {
 
 /// A proactive command (TS 102 223, 6.4) with what the handset needs to know to carry it out. Texts are passed on as
 /// bytes.
-#[derive(Drop)]
+#[derive(Debug, Drop)]
 pub enum Proactive {
     Refresh {
         mode: u8,

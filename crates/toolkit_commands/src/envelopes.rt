@@ -12,7 +12,7 @@ use comprehension_tlv::{TlvFault, find, read_template};
 use uicc_types::Octets;
 
 /// What the handset reports to the card (TS 102 223, 7).
-#[derive(Drop)]
+#[derive(Debug, Drop)]
 pub enum Envelope {
     /// An item of the card's menu was chosen.
     Menu { item: u8 },
@@ -35,7 +35,7 @@ impl From<TlvFault> for BadEnvelope {
 }
 
 /// An envelope, whose bytes stay where they are.
-#[derive(Clone, Copy)]
+#[derive(Clone, Copy, Debug)]
 pub enum EnvelopeRef<'a> {
     /// An item of the card's menu was chosen.
     Menu { item: u8 },

@@ -7,7 +7,7 @@ use std::marker::Model;
 use uicc_types::{Full, ShortText};
 
 /// One item: its identifier and its text, at most 10 bytes.
-#[derive(Drop)]
+#[derive(Debug, Drop)]
 pub struct Item {
     pub id: u8,
     pub text: ShortText,
@@ -46,7 +46,7 @@ impl Default for Item {
 }
 
 /// At most 16 items, in order.
-#[derive(Drop)]
+#[derive(Debug, Drop)]
 pub struct Items {
     list: ArrayVec<Item, 16>,
 }

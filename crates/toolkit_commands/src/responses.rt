@@ -12,7 +12,7 @@ use comprehension_tlv::{Part, TlvFault, walk};
 use uicc_types::Octets;
 
 /// What the handset answered to a command (TS 102 223, 6.8).
-#[derive(Drop)]
+#[derive(Debug, Drop)]
 pub struct Response {
     /// The general result, the first byte of the result object.
     pub result: u8,
@@ -33,7 +33,7 @@ impl From<TlvFault> for Mismatch {
 }
 
 /// What the handset answered to a command; its text stays where it is.
-#[derive(Clone, Copy)]
+#[derive(Clone, Copy, Debug)]
 pub struct ResponseRef<'a> {
     /// The general result, the first byte of the result object.
     pub result: u8,
@@ -44,7 +44,7 @@ pub struct ResponseRef<'a> {
 }
 
 // The values of the first objects that count, and the first item identifier of one byte.
-#[derive(Clone, Copy)]
+#[derive(Clone, Copy, Debug)]
 struct Found<'a> {
     details: Option<&'a [u8]>,
     result: Option<&'a [u8]>,

@@ -63,7 +63,7 @@ impl StatusWord {
 }
 
 /// What the card answers to one command: at most 256 bytes of data, and the status.
-#[derive(Drop)]
+#[derive(Debug, Drop)]
 pub struct Answer {
     pub body: AnswerData,
     pub status: StatusWord,

@@ -7,7 +7,7 @@ use std::default::Default;
 use std::marker::Model;
 
 /// A list of at most `N` bytes.
-#[derive(Drop)]
+#[derive(Debug, Drop)]
 pub struct ByteList<const N: usize> {
     bytes: ArrayVec<u8, N>,
 }

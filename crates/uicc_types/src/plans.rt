@@ -3,7 +3,7 @@ ghost use Rattle.std.specs.Prelude.{◌≡◌, None};
 ghost use Rattle.uicc_types.specs.Counts.{names_fault};
 
 /// A loss of power in a program call.
-#[derive(Clone, Copy, PartialEq, Eq)]
+#[derive(Clone, Copy, Debug, PartialEq, Eq)]
 pub struct CutAt {
     /// The program call in which power is lost, counted from 1 since the plan was set.
     pub call: u32,
@@ -14,7 +14,7 @@ pub struct CutAt {
 }
 
 /// A failure of a program call.
-#[derive(Clone, Copy, PartialEq, Eq)]
+#[derive(Clone, Copy, Debug, PartialEq, Eq)]
 pub struct FailAt {
     /// The program call that fails, counted from 1 since the plan was set.
     pub call: u32,
@@ -23,7 +23,7 @@ pub struct FailAt {
 }
 
 /// The faults that are planned for one command or reset; each at most once.
-#[derive(Clone, Copy, PartialEq, Eq)]
+#[derive(Clone, Copy, Debug, PartialEq, Eq)]
 pub struct Plan {
     pub cut: Option<CutAt>,
     pub fail: Option<FailAt>,

@@ -5,7 +5,7 @@ use crate::byte_lists::{AnswerData, ApduBytes};
 use crate::plans::Plan;
 
 /// One thing that a script does to the card.
-#[derive(Drop)]
+#[derive(Debug, Drop)]
 pub enum Step {
     /// Sends a command.
     Apdu(ApduBytes),
@@ -16,7 +16,7 @@ pub enum Step {
 }
 
 /// One thing that a trace shows of the card.
-#[derive(Drop)]
+#[derive(Debug, Drop)]
 pub enum TraceItem {
     /// A command was sent.
     Command(ApduBytes),

@@ -13,7 +13,7 @@ use store_form::StoreFault;
 use uicc_types::Plan;
 
 /// A device, and how many program calls were made of it, in 64 bits. Nobody else has the device, so none is left out.
-#[derive(Drop)]
+#[derive(Debug, Drop)]
 pub struct CountedDevice<E: Eeprom> {
     eeprom: E,
     programs: u64,

@@ -19,7 +19,7 @@ use uicc_types::Plan;
 
 /// A store on a device of at least 832 bytes. What a contract sees of it is its device, the counts of the program calls that it made of
 /// that and of its commits, and whether it takes no recovery to be due.
-#[derive(Drop)]
+#[derive(Debug, Drop)]
 pub struct Journal<E: Eeprom> {
     counted: CountedDevice<E>,
     commits: u64,
