@@ -3,7 +3,7 @@
 use uicc_types::Plan;
 
 /// One step of a run.
-#[derive(Clone, Copy, Debug)]
+#[derive(Clone, Copy)]
 pub enum Move<'a> {
     /// A command is sent.
     Send(&'a [u8]),
