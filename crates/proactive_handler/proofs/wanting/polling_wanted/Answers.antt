@@ -1,5 +1,6 @@
-use Rattle.std.proofs.Common.{◌≡◌, sym, ◌∙◌, true, false, arith}
+use Rattle.std.proofs.Common.{◌≡◌, sym, ◌∙◌, true, false, arith, rules}
 use Rattle.card_state.specs.States.{rows_of}
+use Rattle.toolkit_commands.proofs.LengthsOfCommandsLemmas.{short_enough}
 use Rattle.proactive_handler.proofs.WantedLemmas.{polls_already, polls_for_nobody, polls_now}
 use Rattle.proactive_handler.proofs.wanting.polling_wanted.Goals as goal
 
@@ -16,3 +17,6 @@ returns-clause-value c =
     let somebody : c.is_heard.result ≡ true = grind (arith, c.if-not-is_heard.false) in
     c.if_allowed.ensures.value
     ∙ polls_now c.args.profile.now c.args.index.now (rows_of c.args.loaded.now) c.args.announced.now c.requires (sym c.polls.ensures ∙ c.if-polls.false) (sym c.is_heard.ensures ∙ somebody)
+
+pub returns-clause-sendable : goal.returns-clause-sendable
+returns-clause-sendable c = search (rules, short_enough)
