@@ -1,10 +1,10 @@
-use Rattle.std.proofs.Common.{◌≡◌, ℕ, List, true, ap, ◌∙◌, nat_eq, ap₂, rules}
+use Rattle.std.proofs.Common.{◌≡◌, ℕ, List, true, ap, ◌∙◌, nat_eq, ap₂, ◌≤◌, length, arith}
 use Rattle.std.specs.Cmp.Lexicographic.{pointwise}
 use Rattle.card_state.specs.States.{rows_of}
 use Rattle.toolkit_commands.specs.declared.commands.Proactive.TheVariants.{SetUpEventList}
 use Rattle.toolkit_commands.proofs.LengthsOfCommandsLemmas.{short_enough}
 use Rattle.toolkit_model.specs.Driving.{if_allowed}
-use Rattle.proactive_handler.proofs.WantedLemmas.{list_known, list_new}
+use Rattle.proactive_handler.proofs.WantedLemmas.{list_known, list_new, sendable_if}
 use Rattle.proactive_handler.proofs.wanting.event_list_wanted.Goals as goal
 
 pub returns-then-eq-clause-value : goal.returns-then-eq-clause-value
@@ -24,4 +24,7 @@ returns-clause-value c =
     c.events_for-events.ensures.value same_is c.if-eq.false
 
 pub returns-clause-sendable : goal.returns-clause-sendable
-returns-clause-sendable c = search (rules, short_enough)
+returns-clause-sendable c =
+    let events : List ℕ = c.from_slice-events.result in
+    let few : length events ≤ 240 = omega (arith, ap length (c.from_slice-events.ensures.value ∙ c.as_slice-3.ensures.value), c.events_for-events.ensures.few) in
+    sendable_if c.if_allowed.result (SetUpEventList events) c.if_allowed.ensures.same (record { proper = tt; short = λ number. short_enough (SetUpEventList events) number few })

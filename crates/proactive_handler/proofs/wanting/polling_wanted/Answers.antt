@@ -1,7 +1,8 @@
-use Rattle.std.proofs.Common.{◌≡◌, sym, ◌∙◌, true, false, arith, rules}
+use Rattle.std.proofs.Common.{◌≡◌, sym, ◌∙◌, true, false, arith}
 use Rattle.card_state.specs.States.{rows_of}
 use Rattle.toolkit_commands.proofs.LengthsOfCommandsLemmas.{short_enough}
-use Rattle.proactive_handler.proofs.WantedLemmas.{polls_already, polls_for_nobody, polls_now}
+use Rattle.toolkit_commands.specs.declared.commands.Proactive.TheVariants.{PollInterval}
+use Rattle.proactive_handler.proofs.WantedLemmas.{polls_already, polls_for_nobody, polls_now, sendable_if}
 use Rattle.proactive_handler.proofs.wanting.polling_wanted.Goals as goal
 
 pub returns-then-polls-clause-value : goal.returns-then-polls-clause-value
@@ -19,4 +20,5 @@ returns-clause-value c =
     ∙ polls_now c.args.profile.now c.args.index.now (rows_of c.args.loaded.now) c.args.announced.now c.requires (sym c.polls.ensures ∙ c.if-polls.false) (sym c.is_heard.ensures ∙ somebody)
 
 pub returns-clause-sendable : goal.returns-clause-sendable
-returns-clause-sendable c = search (rules, short_enough)
+returns-clause-sendable c =
+    sendable_if c.if_allowed.result (PollInterval 30) c.if_allowed.ensures.same (record { proper = tt; short = λ number. short_enough (PollInterval 30) number tt })
