@@ -7,7 +7,6 @@ ghost use Rattle.file_model.specs.Access.{granted_by, record_numbered, ruling_re
 ghost use Rattle.file_model.specs.Holdings.{records_in};
 ghost use Rattle.file_tree.specs.Tables.{IsNumbered};
 
-use crate::laws::is_card_table;
 use access_rules::{Op, Verified, allowed};
 use card_commits::{contents_are_whole, read_record, tables_tell_states};
 use card_state::Loaded;
@@ -57,7 +56,6 @@ fn is_granted<S: Store>(
 {
     // This call is a law, and does nothing.
     tables_tell_states();
-    is_card_table(store, loaded);
     match nearest_ef(loaded, file.parent, rule.arr) {
         Some(arr) if arr.kind == LINEAR => {
             is_granted_by(store, loaded, &arr, rule.number, op, seen)

@@ -12,7 +12,6 @@ ghost use Rattle.binary_commands.specs.Ends.{EndsTry, EndsWell, GivesTried, Pass
 ghost use Rattle.binary_commands.specs.Targets.{IsRefused};
 
 use crate::access::is_allowed;
-use crate::laws::is_card_table;
 use crate::settling::settle;
 use crate::targets::{binary_file, offset_in, pointer_in, worked_on};
 use crate::telling::append;
@@ -121,7 +120,6 @@ fn try_read<S: Store>(
 {
     // This call is a law, and does nothing.
     tables_tell_states();
-    is_card_table(store, loaded);
     match binary_file(loaded, selection, command, command.has_le_alone()) {
         Ok(file) => read_file(store, loaded, selection, seen, command, &file, out),
         Err(status) => Ok(Err(status)),
@@ -187,7 +185,6 @@ fn try_update<S: Store>(
 {
     // This call is a law, and does nothing.
     tables_tell_states();
-    is_card_table(store, loaded);
     match binary_file(loaded, selection, command, command.has_data()) {
         Ok(file) => update_file(store, loaded, selection, seen, command, &file, out),
         Err(status) => Ok(Err(status)),

@@ -4,7 +4,6 @@
 
 mod access;
 mod binaries;
-mod laws;
 mod selecting;
 mod settling;
 mod targets;
@@ -12,7 +11,6 @@ mod telling;
 
 pub use access::is_allowed;
 pub use binaries::{read_binary, update_binary};
-pub use laws::is_card_table;
 pub use selecting::{select, status};
 pub use settling::settle;
 pub use targets::{addressed, is_deactivated, worked_on};

@@ -15,7 +15,6 @@ ghost use Rattle.binary_commands.specs.Commands.{IsSomeCommand, IsInPlace};
 ghost use Rattle.binary_commands.specs.Ends.{EndsWell};
 ghost use Rattle.binary_commands.specs.Targets.{EndsLawfully, IsAnswer, Tells};
 
-use crate::laws::is_card_table;
 use crate::settling::settle;
 use crate::targets::is_deactivated;
 use crate::telling::put_parameters;
@@ -242,7 +241,6 @@ pub fn select<S: Store>(
     ensures unread { IsOk result × (store.new ≡ store.old) × (loaded.new ≡ loaded.old) }
 {
     out.body.clear();
-    is_card_table(store, loaded);
     // This call is a law, and does nothing.
     tables_tell_states();
     let tried = try_select(loaded, selection, command, out);
@@ -273,7 +271,6 @@ pub fn status<S: Store>(
     ensures unread { IsOk result × (store.new ≡ store.old) × (loaded.new ≡ loaded.old) }
 {
     out.body.clear();
-    is_card_table(store, loaded);
     // This call is a law, and does nothing.
     tables_tell_states();
     let tried = try_status(loaded, selection, command, out);

@@ -15,13 +15,13 @@ use Rattle.access_rules.specs.declared.rules.Verified.{Verified}
 use Rattle.card_commits.specs.Rows.{MayInstall}
 use Rattle.card_commits.proofs.KeepsLemmas.{keeps_done}
 use Rattle.applet_trait.specs.Minds.{AppletState, kind_on}
-use Rattle.toolkit_model.specs.Installing.{InstallationsAreAccepted}
 use Rattle.toolkit_model.specs.Sound.{InstalledRowsAreSound}
 use Rattle.toolkit_model.specs.Passing.{ToolkitState}
 use Rattle.toolkit_model.specs.Registry.{is_taken, without_row, installed_row}
 use Rattle.toolkit_model.specs.Steps.{AreRows, Install, IsAccepted}
 use Rattle.toolkit_model.specs.Commands.{installed}
-use Rattle.event_dispatch.specs.Changes.{InstallationsAreFollowed}
+use Rattle.toolkit_model.proofs.InstallationsAreAcceptedLemmas.{installations_accepted}
+use Rattle.event_dispatch.proofs.InstallationsAreFollowedLemmas.{installations_followed}
 use Rattle.event_dispatch.specs.Indexes.{StandsFor}
 use Rattle.applet_registry.specs.Rows.{IsAdmitted}
 use Rattle.proactive_handler.specs.Scenes.{KeepsScene}
@@ -55,10 +55,10 @@ keeps_installed old mid new value result before after =
 pub rows_and_next : (old new : Loaded) (rows : List Row) (next : ℕ) → new ≡ record old { rows = rows; next = next } → new ≡ record old { rows = new.rows; next = new.next }
 rows_and_next old new rows next is = is ∙ (λ i. record old { rows = (sym (ap (λ (t : Loaded). t.rows) is)) i; next = (sym (ap (λ (t : Loaded). t.next) is)) i })
 
-pub index_with : InstallationsAreFollowed → (rows new : List Registration) (row : Registration) (shelf : ℕ) (index later : List (List ℕ)) → row.shelf ≡ shelf → AreRows rows → AreRows new → is_taken rows row ≡ false → new ≡ with_row rows row → StandsFor index rows
+pub index_with : (rows new : List Registration) (row : Registration) (shelf : ℕ) (index later : List (List ℕ)) → row.shelf ≡ shelf → AreRows rows → AreRows new → is_taken rows row ≡ false → new ≡ with_row rows row → StandsFor index rows
     → (AreRows new → StandsFor index (without_row new shelf) → StandsFor later new) → StandsFor later new
-index_with law rows new row shelf index later on_it are are_new free is stands follows =
-    let same : without_row new shelf ≡ rows = ap (λ (n : ℕ). without_row new n) (sym on_it) ∙ ap (λ (r : List Registration). without_row r row.shelf) is ∙ law rows row are free in
+index_with rows new row shelf index later on_it are are_new free is stands follows =
+    let same : without_row new shelf ≡ rows = ap (λ (n : ℕ). without_row new n) (sym on_it) ∙ ap (λ (r : List Registration). without_row r row.shelf) is ∙ installations_followed rows row are free in
     follows are_new (subst (StandsFor index) (sym same) stands)
 
 -- ---- what was tried
@@ -107,12 +107,12 @@ module _ (table : Loaded) (minds : List (Option AppletState)) (tables : StatesAr
       kind = subst (λ (m : List (Option AppletState)). kind_on m shelf ≡ Some row.kind) (sym minds_are) kind_at;
     }
 
-    pub accepted_at : InstallationsAreAccepted → (state : ToolkitState) → state.rows ≡ rows_of table → state.minds ≡ minds → AreRows state.rows → All (λ other. other.sequence < table.next) (rows_of table) → IsAccepted (Install (registration_of shelf row)) state
-    accepted_at law state rows_are minds_are are below =
+    pub accepted_at : (state : ToolkitState) → state.rows ≡ rows_of table → state.minds ≡ minds → AreRows state.rows → All (λ other. other.sequence < table.next) (rows_of table) → IsAccepted (Install (registration_of shelf row)) state
+    accepted_at state rows_are minds_are are below =
         let here = tables table [] in
         let tried = is_tried (state_of table []) (kind_on minds apdu.p2) seen apdu (registration_of apdu.p2 row) is in
         let less : All (λ other. other.sequence < (state_of table []).next_sequence) state.rows =
         subst (λ (n : ℕ). All (λ other. other.sequence < n) state.rows) (sym here.next) (subst (λ (r : List Registration). All (λ other. other.sequence < table.next) r) (sym rows_are) below) in
         subst (λ (n : ℕ). IsAccepted (Install (registration_of n row)) state) (sym same)
-        (law (state_of table []) state apdu.p2 apdu.p1 apdu.body (registration_of apdu.p2 row) (here.rows ∙ sym rows_are) are less
+        (installations_accepted (state_of table []) state apdu.p2 apdu.p1 apdu.body (registration_of apdu.p2 row) (here.rows ∙ sym rows_are) are less
         (subst (λ (m : List (Option AppletState)). installed_row (state_of table []) (kind_on m apdu.p2) apdu.p2 apdu.p1 apdu.body ≡ Ok (registration_of apdu.p2 row)) (sym minds_are) tried.row_is))

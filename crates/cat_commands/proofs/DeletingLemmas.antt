@@ -26,7 +26,7 @@ use Rattle.toolkit_model.specs.Registry.{unless_missing, faulty_if, is_on, row_o
 use Rattle.toolkit_model.specs.Running.{mind_on, with_mind}
 use Rattle.toolkit_model.specs.Driving.{driven}
 use Rattle.toolkit_model.specs.Commands.{unregistering, delete_carried}
-use Rattle.event_dispatch.specs.Commits.{DeletesRow}
+use Rattle.event_dispatch.proofs.CommitsLemmas.{deletes_row}
 use Rattle.proactive_handler.specs.Acts.{with_these_rows}
 use Rattle.proactive_handler.specs.Runs.{StopsAt}
 use Rattle.proactive_handler.specs.Boxes.{kinds_of}
@@ -101,14 +101,14 @@ has_row come tables table idle shelf row may = subst (HasRowOn table) may.on_it 
 
 -- ---- the commit
 
-without_held : DeletesRow → (shelf : ℕ) (rows : List Registration) (stood : Option Persistent) → AllPairs (λ a b. a.shelf < b.shelf) rows → HasRowsOf stood rows → option_map (without_row_on shelf) stood ≡ option_map (with_these_rows (without_row rows shelf)) stood
-without_held law shelf rows None ascend has = refl
-without_held law shelf rows (Some state) ascend has =
+without_held : (shelf : ℕ) (rows : List Registration) (stood : Option Persistent) → AllPairs (λ a b. a.shelf < b.shelf) rows → HasRowsOf stood rows → option_map (without_row_on shelf) stood ≡ option_map (with_these_rows (without_row rows shelf)) stood
+without_held shelf rows None ascend has = refl
+without_held shelf rows (Some state) ascend has =
     let same : state.rows ≡ rows = has state refl in
     ap (λ (r : List Registration). Some (with_these_rows r state))
-    (law state shelf (subst (AllPairs (λ (a b : Registration). a.shelf < b.shelf)) (sym same) ascend) ∙ ap (λ (r : List Registration). without_row r shelf) same)
+    (deletes_row state shelf (subst (AllPairs (λ (a b : Registration). a.shelf < b.shelf)) (sym same) ascend) ∙ ap (λ (r : List Registration). without_row r shelf) same)
 
-module _ (law : DeletesRow) (shelf : ℕ) (old : Scene) (ascend : AllPairs (λ a b. a.shelf < b.shelf) (rows_of old.memory.table)) (has : HasRowsOf (held old.memory) (rows_of old.memory.table)) where
+module _ (shelf : ℕ) (old : Scene) (ascend : AllPairs (λ a b. a.shelf < b.shelf) (rows_of old.memory.table)) (has : HasRowsOf (held old.memory) (rows_of old.memory.table)) where
   -- a fault stopped it
   pub stays_registered : {X : Type 0} (new : Scene) (r : Result X StoreFault) → IsErr r → rows_of new.memory.table ≡ rows_of old.memory.table
       → (held new.memory ≡ held old.memory) ⊎ (held new.memory ≡ option_map (without_row_on shelf) (held old.memory)) → new.memory.commits ≡ old.memory.commits → MovesTo (unregistering shelf (toolkit old)) old new r
@@ -118,7 +118,7 @@ module _ (law : DeletesRow) (shelf : ℕ) (old : Scene) (ascend : AllPairs (λ a
     one_more = omega arith;
     table_is = sym rows;
     stands = ⊎_elim {C = (held new.memory ≡ option_map (with_these_rows (rows_of old.memory.table)) (held old.memory)) ⊎ (held new.memory ≡ option_map (with_these_rows (without_row (rows_of old.memory.table) shelf)) (held old.memory))}
-        (λ before. inl (before ∙ stands_still (held old.memory) (rows_of old.memory.table) has)) (λ behind. inr (behind ∙ without_held law shelf (rows_of old.memory.table) (held old.memory) ascend has)) stands;
+        (λ before. inl (before ∙ stands_still (held old.memory) (rows_of old.memory.table) has)) (λ behind. inr (behind ∙ without_held shelf (rows_of old.memory.table) (held old.memory) ascend has)) stands;
     commits = none;
   }
 
@@ -126,14 +126,14 @@ module _ (law : DeletesRow) (shelf : ℕ) (old : Scene) (ascend : AllPairs (λ a
       → held new.memory ≡ option_map (without_row_on shelf) (held old.memory) → new.memory.commits ≡ raised old.memory.commits → IsDone (unregistering shelf (toolkit old)) old new
   goes new rows session minds stands once = record {
     state_is = λ i. let each : ToolkitState = record { rows = rows i; session = session i; minds = minds i } in each;
-    stands = stands ∙ without_held law shelf (rows_of old.memory.table) (held old.memory) ascend has;
+    stands = stands ∙ without_held shelf (rows_of old.memory.table) (held old.memory) ascend has;
     last_is = refl;
     counts = counts_one (without_row (rows_of old.memory.table) shelf) old.memory new.memory once;
   }
 
 -- the rows of the table, as a card's commit leaves them
-pub rows_without : DeletesRow → (old new : Loaded) (shelf : ℕ) → AllPairs (λ a b. a.shelf < b.shelf) (rows_of old) → rows_of new ≡ (without_row_on shelf (rows_alone old)).rows → rows_of new ≡ without_row (rows_of old) shelf
-rows_without law old new shelf ascend is = is ∙ law (rows_alone old) shelf ascend
+pub rows_without : (old new : Loaded) (shelf : ℕ) → AllPairs (λ a b. a.shelf < b.shelf) (rows_of old) → rows_of new ≡ (without_row_on shelf (rows_alone old)).rows → rows_of new ≡ without_row (rows_of old) shelf
+rows_without old new shelf ascend is = is ∙ deletes_row (rows_alone old) shelf ascend
 
 -- ---- and then the end of the command
 

@@ -16,7 +16,7 @@ use Rattle.card_state.specs.Soundness.{IsSoundRow}
 use Rattle.card_state.specs.Standing.{Agrees, state_in}
 use Rattle.card_state.specs.StateLaws.{StatesAreOfTables}
 use Rattle.card_state.specs.States.{registration_of, rows_of, state_of}
-use Rattle.card_state.specs.SoundnessLaws.{StandingIsSound}
+use Rattle.card_state.proofs.SoundStandsLemmas.{standing_sound}
 use Rattle.card_state.specs.Fitting.{ShareNoCallControl}
 use Rattle.access_rules.specs.declared.rules.Verified.{Verified}
 use Rattle.file_model.specs.Chains.{refused_if}
@@ -113,9 +113,9 @@ state_in_is : (content : List ℕ) → AreBelow (state_in content) → All (λ r
 unfolding state_of
 state_in_is content below = below
 
-pub rows_below : StandingIsSound → (mark : ℕ) (told : Option (List ℕ)) (table : Loaded) → Agrees mark told table → All (λ row. row.sequence < table.next) (rows_of table)
-rows_below law mark told table agrees =
-    let is = law mark agrees.content agrees.state agrees.stands.long agrees.stands.decoded in
+pub rows_below : (mark : ℕ) (told : Option (List ℕ)) (table : Loaded) → Agrees mark told table → All (λ row. row.sequence < table.next) (rows_of table)
+rows_below mark told table agrees =
+    let is = standing_sound mark agrees.content agrees.state agrees.stands.long agrees.stands.decoded in
     subst (λ (t : Loaded). All (λ row. row.sequence < t.next) (rows_of t)) agrees.stands.entries
     (state_in_is agrees.content (subst AreBelow is.0 (λ k d low. (is.1.rows k d low).sequence)))
 

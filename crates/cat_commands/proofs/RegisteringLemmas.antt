@@ -21,7 +21,7 @@ use Rattle.toolkit_model.specs.Passing.{ToolkitState, Passed, passed_rows}
 use Rattle.toolkit_model.specs.Running.{mind_on, with_mind}
 use Rattle.toolkit_model.specs.Driving.{driven}
 use Rattle.toolkit_model.specs.Commands.{registering, installed}
-use Rattle.event_dispatch.specs.Commits.{InstallsRow}
+use Rattle.event_dispatch.proofs.CommitsLemmas.{installs_row}
 use Rattle.proactive_handler.specs.Boxes.{kinds_of}
 use Rattle.proactive_handler.proofs.MovedLemmas.{kinds_stay}
 use Rattle.proactive_handler.specs.Counting.{Counts}
@@ -53,17 +53,17 @@ pub wakes_kind : (minds new : List (Option AppletState)) (shelf kind : ℕ) (kep
     → new ≡ with_mind minds shelf (option_map (λ mind. fresh mind.kind bytes) (mind_on minds shelf)) → kinds_of new ≡ kinds_of minds
 wakes_kind minds new shelf kind kept bytes there same is = ap kinds_of (wakes minds new shelf kind kept bytes there same is) ∙ same_kinds minds shelf kind kept (mind_on minds shelf) refl there
 
-module _ (law : InstallsRow) (old new : Scene) (shelf : ℕ) (row : Row) (table : new.memory.table ≡ record (with_row_at old.memory.table shelf row) { next = old.memory.table.next + 1 })
+module _ (old new : Scene) (shelf : ℕ) (row : Row) (table : new.memory.table ≡ record (with_row_at old.memory.table shelf row) { next = old.memory.table.next + 1 })
     (rows : rows_of new.memory.table ≡ (with_row_installed (registration_of shelf row) (rows_alone old.memory.table)).rows) where
   pub rows_with : rows_of new.memory.table ≡ with_row (rows_of old.memory.table) (registration_of shelf row)
-  rows_with = rows ∙ law (rows_alone old.memory.table) (registration_of shelf row)
+  rows_with = rows ∙ installs_row (rows_alone old.memory.table) (registration_of shelf row)
 
   told_with : (state : Persistent) → IsTold old.memory.table state → IsTold new.memory.table (with_row_installed (registration_of shelf row) state)
   unfolding descriptors_of descriptors_in pins_of
   told_with state told = record {
     files = told.files ∙ sym (ap descriptors_of table);
     pins = told.pins ∙ sym (ap pins_of table);
-    rows = law state (registration_of shelf row) ∙ ap (λ (r : List Registration). with_row r (registration_of shelf row)) told.rows ∙ sym rows_with;
+    rows = installs_row state (registration_of shelf row) ∙ ap (λ (r : List Registration). with_row r (registration_of shelf row)) told.rows ∙ sym rows_with;
     next = ap (λ (n : ℕ). n + 1) told.next ∙ sym (ap (λ (t : Loaded). t.next) table);
     wide = told.wide ∙ sym (ap (λ (t : Loaded). t.wide) table);
   }
@@ -80,7 +80,7 @@ module _ (law : InstallsRow) (old new : Scene) (shelf : ℕ) (row : Row) (table 
 
 -- ---- what a card comes to
 
-module _ (law : InstallsRow) (row : Registration) (old : Scene) (tells : Tells old) where
+module _ (row : Registration) (old : Scene) (tells : Tells old) where
   step : Passed
   step = registering row (toolkit old)
 
@@ -90,7 +90,7 @@ module _ (law : InstallsRow) (row : Registration) (old : Scene) (tells : Tells o
   -- a state with the row, in the words of what a card comes to
   with_it : (state : Persistent) → IsTold old.memory.table state → with_row_installed row state ≡ with_rows state (old.memory.table.next + 1) (with_row (rows_of old.memory.table) row)
   with_it state told =
-      ap (λ (r : List Registration). with_rows state (state.next_sequence + 1) r) (law state row ∙ ap (λ (r : List Registration). with_row r row) told.rows)
+      ap (λ (r : List Registration). with_rows state (state.next_sequence + 1) r) (installs_row state row ∙ ap (λ (r : List Registration). with_row r row) told.rows)
       ∙ ap (λ (n : ℕ). with_rows state (n + 1) (with_row (rows_of old.memory.table) row)) told.next
 
   passed_is : passed_rows outcome.passed.log ≡ with_row (rows_of old.memory.table) row ∷ passed_rows (driven step.state).log

@@ -22,8 +22,8 @@ use applet_trait::Applet;
 use card_commits::{remove_row, tables_tell_states};
 use card_state::sizes::ROW_COUNT;
 use card_state::{Loaded, states_are_of_entries};
-use event_dispatch::{Index, commits_are_those_of_sessions};
-use proactive_handler::{Session, drive_in_place, rows_are_listed, sessions_are_served};
+use event_dispatch::Index;
+use proactive_handler::{Session, drive_in_place, sessions_are_served};
 use store_form::{Store, StoreFault};
 use toolkit_model::sessions_stay_in_order;
 use uicc_types::{Answer, Shelf, StatusWord};
@@ -87,8 +87,6 @@ fn unregister<S: Store, B: Applet>(
 {
     // These calls are laws, and do nothing.
     tables_tell_states();
-    rows_are_listed();
-    commits_are_those_of_sessions();
     sessions_are_served();
     remove_row(store, loaded, shelf)?;
     index.gone(shelf);

@@ -24,11 +24,11 @@ use apdu_form::Command;
 use applet_trait::{Applet, kind_on};
 use card_commits::{install_row, tables_tell_states};
 use card_state::sizes::ROW_COUNT;
-use card_state::{Loaded, Row, standing_is_sound, states_are_of_entries};
-use event_dispatch::{Index, commits_are_those_of_sessions, installations_are_followed};
-use proactive_handler::{Session, drive_in_place, rows_are_listed, sessions_are_served};
+use card_state::{Loaded, Row, states_are_of_entries};
+use event_dispatch::Index;
+use proactive_handler::{Session, drive_in_place, sessions_are_served};
 use store_form::{Store, StoreFault};
-use toolkit_model::{installations_are_accepted, installed_rows_are_sound, sessions_stay_in_order};
+use toolkit_model::{installed_rows_are_sound, sessions_stay_in_order};
 use uicc_types::{Answer, Shelf, StatusWord};
 
 // P1 is a priority, and P2 a shelf.
@@ -102,11 +102,8 @@ fn register<S: Store, B: Applet>(
         (scene (memory S.Store store.old loaded.old) index.old session.old (minds_of B.mind cast.old)))
         (scene (memory S.Store store.new loaded.new) index.new session.new (minds_of B.mind cast.new)) result }
 {
-    // These calls are laws, and do nothing.
-    rows_are_listed();
+    // This call is a law, and does nothing.
     states_are_of_entries();
-    commits_are_those_of_sessions();
-    installations_are_followed();
     let kept = row.kept.copy();
     install_row(store, loaded, shelf, row)?;
     index.installed(loaded, shelf);
@@ -143,9 +140,8 @@ fn add<S: Store, B: Applet>(
         (scene (memory S.Store store.old loaded.old) index.old session.old (minds_of B.mind cast.old)))
         (scene (memory S.Store store.new loaded.new) index.new session.new (minds_of B.mind cast.new)) result }
 {
-    // These calls are laws, and do nothing.
+    // This call is a law, and does nothing.
     tables_tell_states();
-    commits_are_those_of_sessions();
     register(store, loaded, index, cast, session, shelf, row)?;
     drive_in_place(store, loaded, index, cast, session)
 }
@@ -187,9 +183,7 @@ pub fn install<S: Store, B: Applet>(
     tables_tell_states();
     sessions_are_served();
     sessions_stay_in_order();
-    installations_are_accepted();
     installed_rows_are_sound();
-    standing_is_sound();
     states_are_of_entries();
     out.body.clear();
     match try_install(loaded, cast, seen, command) {

@@ -1,10 +1,10 @@
 mod AreListedLemmas
-mod ChangesAreFollowedLemmas
+pub mod ChangesAreFollowedLemmas
 mod ComesInLemmas
-mod CommitsAreChangesLemmas
+pub mod CommitsLemmas
 mod FramesLemmas
 mod InsertLemmas
-mod InstallationsAreFollowedLemmas
+pub mod InstallationsAreFollowedLemmas
 mod IsTargetLemmas
 mod LeftByLemmas
 mod PositionFromLemmas

@@ -16,7 +16,6 @@ use Rattle.toolkit_model.specs.Order.{is_for, in_order, trigger_order, targets}
 use Rattle.toolkit_model.specs.Registry.{without_row, without_code}
 use Rattle.toolkit_model.specs.Steps.{AreRows}
 use Rattle.event_dispatch.specs.Indexes.{targets_in, StandsFor, left_by}
-use Rattle.event_dispatch.specs.Targets.{AreOrdered}
 use Rattle.event_dispatch.proofs.RowPlacedLemmas.{taken_second}
 use Rattle.event_dispatch.proofs.WithoutCodeLemmas.{targets_left, targets_cleared, targets_of_others}
 
@@ -70,11 +69,11 @@ set_beside lists code other at shelves is far = at_bit lists at shelves (bit_of 
 
 -- ---- what it stands for
 
-pub cleared_stands : AreOrdered → (rows : List Registration) (s code : ℕ) (lists changed : List (List ℕ)) → AreRows rows → StandsFor lists rows
+pub cleared_stands : (rows : List Registration) (s code : ℕ) (lists changed : List (List ℕ)) → AreRows rows → StandsFor lists rows
     → targets_in changed code ≡ left_by s (targets_in lists code) → ((other : ℕ) → other ≢ code → targets_in changed other ≡ targets_in lists other) → StandsFor changed (without_code rows s code)
-cleared_stands law rows s code lists changed are stands here beside other =
+cleared_stands rows s code lists changed are stands here beside other =
     ⊎_elim {C = targets_in changed other ≡ targets (without_code rows s code) other}
-    (λ same. subst (λ (n : ℕ). targets_in changed n ≡ targets (without_code rows s code) n) (sym same) (here ∙ ap (left_by s) (stands code) ∙ sym (targets_cleared law rows s code are)))
+    (λ same. subst (λ (n : ℕ). targets_in changed n ≡ targets (without_code rows s code) n) (sym same) (here ∙ ap (left_by s) (stands code) ∙ sym (targets_cleared rows s code are)))
     (λ far. beside other far ∙ stands other ∙ sym (targets_of_others rows s code other far))
     (cases_eq other code)
 
@@ -86,8 +85,8 @@ each_left s lists (Some bit) = at lists bit where
   at (x ∷ xs) zero = refl
   at (x ∷ xs) (suc bit) = at xs bit
 
-pub left_stands : AreOrdered → (rows : List Registration) (s : ℕ) (lists : List (List ℕ)) → AreRows rows → StandsFor lists rows → StandsFor (map (left_by s) lists) (without_row rows s)
-left_stands law rows s lists are stands code = each_left s lists (bit_of code) ∙ ap (left_by s) (stands code) ∙ sym (targets_left law rows s code are)
+pub left_stands : (rows : List Registration) (s : ℕ) (lists : List (List ℕ)) → AreRows rows → StandsFor lists rows → StandsFor (map (left_by s) lists) (without_row rows s)
+left_stands rows s lists are stands code = each_left s lists (bit_of code) ∙ ap (left_by s) (stands code) ∙ sym (targets_left rows s code are)
 
 -- ---- one that is built anew
 

@@ -9,8 +9,8 @@ use Rattle.card_state.specs.Persistent.{Registration}
 use Rattle.toolkit_model.specs.Order.{is_for, comes_before, row_placed, in_order, trigger_order, targets}
 use Rattle.toolkit_model.specs.Registry.{is_on, without_row, without_code, with_kept}
 use Rattle.toolkit_model.specs.Steps.{AreRows}
+use Rattle.toolkit_model.proofs.TriggerOrderLemmas.{order_is_exact}
 use Rattle.event_dispatch.specs.Indexes.{left_by}
-use Rattle.event_dispatch.specs.Targets.{AreOrdered}
 use Rattle.event_dispatch.proofs.RowPlacedLemmas.{taken_first, taken_second, is_other, left_in_order}
 
 abbrev pub shelf_of : Registration → ℕ
@@ -38,8 +38,8 @@ left_once s (row ∷ rows) once =
     ap (map shelf_of) (taken_first (is_other s row) (row ∷ filter (is_other s) rows) (filter (is_other s) rows) (not_from_false (row.shelf == s) h))
     ∙ ap (λ (ys : List ℕ). row.shelf ∷ ys) (left_once s rows (pairs_tail (λ a b. a.shelf ≢ b.shelf) row rows once)))
 
-pub targets_left : AreOrdered → (rows : List Registration) (s code : ℕ) → AreRows rows → targets (without_row rows s) code ≡ left_by s (targets rows code)
-targets_left law rows s code are = ap (map shelf_of) (left_in_order (is_other s) law code rows are) ∙ left_once s (trigger_order rows code) (law rows code are).once
+pub targets_left : (rows : List Registration) (s code : ℕ) → AreRows rows → targets (without_row rows s) code ≡ left_by s (targets rows code)
+targets_left rows s code are = ap (map shelf_of) (left_in_order (is_other s) code rows are) ∙ left_once s (trigger_order rows code) (order_is_exact rows code are).once
 
 -- ---- a row that is registered for a code no longer
 
@@ -80,9 +80,9 @@ registered_less : (s code : ℕ) (rows : List Registration) → filter (is_for c
 registered_less s code [] = refl
 registered_less s code (row ∷ rows) = cleared_as_gone code row (without_code rows s code) (without_row rows s) (registered_less s code rows) (is_on s row)
 
-pub targets_cleared : AreOrdered → (rows : List Registration) (s code : ℕ) → AreRows rows → targets (without_code rows s code) code ≡ left_by s (targets rows code)
+pub targets_cleared : (rows : List Registration) (s code : ℕ) → AreRows rows → targets (without_code rows s code) code ≡ left_by s (targets rows code)
 unfolding trigger_order
-targets_cleared law rows s code are = ap (λ (rows : List Registration). map shelf_of (in_order rows)) (registered_less s code rows) ∙ targets_left law rows s code are
+targets_cleared rows s code are = ap (λ (rows : List Registration). map shelf_of (in_order rows)) (registered_less s code rows) ∙ targets_left rows s code are
 
 -- ---- rows that change in nothing that their order rests on
 

@@ -2,8 +2,6 @@
 ghost use Rattle.event_dispatch.specs.Changes.{RegistrationsAreFollowed, InstallationsAreFollowed, ChangesAreFollowed};
 ghost use Rattle.event_dispatch.specs.Committed.{CommitsAreChanges};
 
-use crate::laws::commits_are_those_of_sessions;
-
 /// Where the row of a shelf is registered for a code that it wasn't registered for, `Index::added` makes an index of the rows as they
 /// were one of the rows as they are.
 pub fn registrations_are_followed()
@@ -26,6 +24,4 @@ pub fn changes_are_followed()
 /// what that change makes of them.
 pub fn commits_are_changes()
     ensures { CommitsAreChanges }
-{
-    commits_are_those_of_sessions();
-}
+{}

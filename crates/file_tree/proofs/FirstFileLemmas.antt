@@ -15,7 +15,8 @@ use Rattle.file_model.specs.declared.descriptors.Wanted.{Wanted}
 use Rattle.file_model.specs.declared.descriptors.Wanted.TheVariants.{Number, Named, Child, ChildDf, Short}
 use Rattle.file_model.specs.Selections.{chosen_by_identifier, parent_of}
 use Rattle.file_model.specs.Files.{df_descriptor, ef_descriptor, descriptor_of, descriptor_if, descriptors_of, is_df, is_ef, is_wanted, lies_in, file_found}
-use Rattle.file_model.specs.Laws.{FindsAmongEntries, FindsInFiveSearches, NumbersAreEntries}
+use Rattle.file_model.specs.Laws.{FindsInFiveSearches}
+use Rattle.file_model.proofs.NumbersAreEntriesLemmas.{number_told, finds_among_entries, numbers_are_entries}
 use Rattle.file_tree.specs.Tables.{AsksForId, HasNoneBetween, AsksForNumber, AsksForShort, IsNumbered, is_there_and_wanted}
 
 -- where none passes, nothing is found
@@ -46,7 +47,7 @@ NonePasses nodes wanted n = (k : ℕ) → k < n → passes wanted k (entry_at no
 at_entry : (nodes : List Node) (k : ℕ) → k < length nodes → get_or (enumerate_from 0 nodes) k (0, unused_node) ≡ (k, entry_at nodes k)
 at_entry nodes k low = get_or-enumerate_from 0 nodes k (0, unused_node) low ∙ ap (λ (n : ℕ). (n, entry_at nodes k)) (omega arith)
 
-module _ (loaded : Loaded) (wanted : Wanted) (law : FindsAmongEntries) where
+module _ (loaded : Loaded) (wanted : Wanted) where
   abbrev test : ℕ × Node → Bool
   test entry = passes wanted entry.0 entry.1
 
@@ -56,7 +57,7 @@ module _ (loaded : Loaded) (wanted : Wanted) (law : FindsAmongEntries) where
   pub entry_found : (n : ℕ) → NonePasses loaded.nodes wanted n → n < length loaded.nodes → passes wanted n (entry_at loaded.nodes n) ≡ true
       → file_found (descriptors_of loaded) wanted ≡ Some (descriptor_of n (entry_at loaded.nodes n))
   entry_found n none low pass =
-      law loaded wanted
+      finds_among_entries loaded wanted
       ∙ ap (option_map told)
       (first_passes test (enumerate_from 0 loaded.nodes) (0, unused_node) n
       (λ k less. ap test (at_entry loaded.nodes k (omega (arith, less, low))) ∙ none k less)
@@ -66,7 +67,7 @@ module _ (loaded : Loaded) (wanted : Wanted) (law : FindsAmongEntries) where
 
   pub no_entry_found : (n : ℕ) → NonePasses loaded.nodes wanted n → length loaded.nodes ≤ n → file_found (descriptors_of loaded) wanted ≡ None
   no_entry_found n none all =
-      law loaded wanted
+      finds_among_entries loaded wanted
       ∙ ap (option_map told)
       (none_found test (enumerate_from 0 loaded.nodes) (0, unused_node)
       (λ k low. let less : k < length loaded.nodes = omega (arith, low, length-enumerate_from 0 loaded.nodes) in
@@ -75,21 +76,13 @@ module _ (loaded : Loaded) (wanted : Wanted) (law : FindsAmongEntries) where
 pub has_entry : (loaded : Loaded) (n : ℕ) → n < length loaded.nodes → (entry_at loaded.nodes n).used ≡ true → HasNode loaded n (entry_at loaded.nodes n)
 has_entry loaded n low used = record { there = slice_get-get_or loaded.nodes n unused_node low; used = used }
 
-number_told : (n : ℕ) (node : Node) → (descriptor_of n node).number ≡ n
-unfolding descriptor_of
-number_told n node = either (node.kind == df_kind)
-  where
-    either : (b : Bool) → (cond b (df_descriptor n node) (ef_descriptor n node)).number ≡ n
-    either true = refl
-    either false = refl
-
 -- the file of an entry is found by its number
-pub entry_numbered : (loaded : Loaded) (n : ℕ) → NumbersAreEntries → n < length loaded.nodes → (entry_at loaded.nodes n).used ≡ true
+pub entry_numbered : (loaded : Loaded) (n : ℕ) → n < length loaded.nodes → (entry_at loaded.nodes n).used ≡ true
     → IsNumbered (descriptors_of loaded) (descriptor_of n (entry_at loaded.nodes n))
-entry_numbered loaded n law low used =
+entry_numbered loaded n low used =
     let node : Node = entry_at loaded.nodes n in
     ap (λ (k : ℕ). file_found (descriptors_of loaded) (Number k)) (number_told n node)
-    ∙ law loaded n
+    ∙ numbers_are_entries loaded n
     ∙ ap (option_and_then (descriptor_if n)) (slice_get-get_or loaded.nodes n unused_node low)
     ∙ cond-true node.used (Some (descriptor_of n node)) None used
 
@@ -139,9 +132,9 @@ pub none_before : (nodes : List Node) (wanted : Wanted) (id n : ℕ) → AsksFor
 none_before nodes wanted id n only none k low = id_fails wanted k id (entry_at nodes k) only (none k (omega arith) low)
 
 -- and where no entry has it, no such file is found
-pub absent : (loaded : Loaded) (wanted : Wanted) (law : FindsAmongEntries) (id n : ℕ) → AsksForId wanted id → HasNoneBetween loaded.nodes id 0 n → length loaded.nodes ≤ n
+pub absent : (loaded : Loaded) (wanted : Wanted) (id n : ℕ) → AsksForId wanted id → HasNoneBetween loaded.nodes id 0 n → length loaded.nodes ≤ n
     → file_found (descriptors_of loaded) wanted ≡ None
-absent loaded wanted law id n only none all = no_entry_found loaded wanted law n (none_before loaded.nodes wanted id n only none) all
+absent loaded wanted id n only none all = no_entry_found loaded wanted n (none_before loaded.nodes wanted id n only none) all
 
 both_fail : (first second : Bool) → second ≡ false → (first && second) ≡ false
 both_fail true second isnt = isnt
@@ -157,18 +150,18 @@ child_df_asks : (df : ℕ) (id : FileId) → AsksForId (ChildDf df id) id.0
 child_df_asks df id file other = both_fail (lies_in df file && is_df file) (file.id.0 == id.0) (ne_eqb file.id.0 id.0 other)
 
 -- nor is one chosen by it
-pub none_chosen : (loaded : Loaded) (df : ℕ) (id : FileId) (n : ℕ) → FindsAmongEntries → FindsInFiveSearches → HasNoneBetween loaded.nodes id.0 0 n → length loaded.nodes ≤ n
+pub none_chosen : (loaded : Loaded) (df : ℕ) (id : FileId) (n : ℕ) → FindsInFiveSearches → HasNoneBetween loaded.nodes id.0 0 n → length loaded.nodes ≤ n
     → chosen_by_identifier (descriptors_of loaded) df id ≡ None
-none_chosen loaded df id n entries five none all =
+none_chosen loaded df id n five none all =
     let files : List Descriptor = descriptors_of loaded in
     let above : ℕ = parent_of files df in
     five files df id
     ∙ rw (
-      absent loaded (Named 0 id) entries id.0 n (named_asks 0 id) none all,
-      absent loaded (Named df id) entries id.0 n (named_asks df id) none all,
-      absent loaded (Child df id) entries id.0 n (child_asks df id) none all,
-      absent loaded (Named above id) entries id.0 n (named_asks above id) none all,
-      absent loaded (ChildDf above id) entries id.0 n (child_df_asks above id) none all,
+      absent loaded (Named 0 id) id.0 n (named_asks 0 id) none all,
+      absent loaded (Named df id) id.0 n (named_asks df id) none all,
+      absent loaded (Child df id) id.0 n (child_asks df id) none all,
+      absent loaded (Named above id) id.0 n (named_asks above id) none all,
+      absent loaded (ChildDf above id) id.0 n (child_df_asks above id) none all,
     ) refl
 
 -- ---- by a short file identifier

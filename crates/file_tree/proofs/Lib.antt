@@ -1,3 +1,4 @@
 mod ChosenByPathLemmas
 mod FirstFileLemmas
+pub mod IsCardTableLemmas
 mod MayBeSelectedLemmas

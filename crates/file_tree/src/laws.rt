@@ -3,7 +3,7 @@ ghost use Rattle.file_model.specs.Files.{descriptors_of};
 ghost use Rattle.file_model.specs.Selections.{IsSelection};
 ghost use Rattle.file_tree.specs.Tables.{IsCardTable, HaveParentsFirst, MayBeSelected, HaveShortIds};
 
-use card_state::{Loaded, standing_is_sound};
+use card_state::Loaded;
 use file_model::{Selection, files_are_found};
 
 /// Each file but the MF lies in a DF with a smaller number.
@@ -11,7 +11,6 @@ pub fn parents_come_first(loaded: &Loaded)
     requires { IsCardTable loaded.now }
     ensures { HaveParentsFirst (descriptors_of loaded.now) }
 {
-    standing_is_sound();
     files_are_found();
 }
 
@@ -20,7 +19,6 @@ pub fn files_may_be_selected(loaded: &Loaded)
     requires { IsCardTable loaded.now }
     ensures { MayBeSelected (descriptors_of loaded.now) }
 {
-    standing_is_sound();
     files_are_found();
 }
 
@@ -29,7 +27,6 @@ pub fn short_identifiers_fit(loaded: &Loaded)
     requires { IsCardTable loaded.now }
     ensures { HaveShortIds (descriptors_of loaded.now) }
 {
-    standing_is_sound();
     files_are_found();
 }
 
@@ -38,6 +35,5 @@ pub fn start_is_lawful(loaded: &Loaded)
     requires { IsCardTable loaded.now }
     ensures { IsSelection (descriptors_of loaded.now) Selection.AT_START }
 {
-    standing_is_sound();
     files_are_found();
 }

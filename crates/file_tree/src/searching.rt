@@ -6,8 +6,8 @@ ghost use Rattle.file_tree.specs.Tables.{AsksForId, AsksForNumber, AsksForShort,
 use crate::describing::descriptor_of;
 use card_state::kinds::{self, DF};
 use card_state::sizes::NODE_COUNT;
-use card_state::{Loaded, Node, standing_files_hold};
-use file_model::{Descriptor, Wanted, files_are_found};
+use card_state::{Loaded, Node};
+use file_model::{Descriptor, Wanted};
 use uicc_types::FileId;
 
 #[tactic(auto, unfolding(file_model::specs::Files::descriptor_of))]
@@ -61,9 +61,6 @@ pub fn only_file(loaded: &Loaded, wanted: Wanted, number: u8) -> Option<Descript
     ensures value { result ≡ file_found (descriptors_of loaded.now) wanted }
     ensures numbered { IfSome result (IsNumbered (descriptors_of loaded.now)) }
 {
-    // These calls are laws, and do nothing.
-    standing_files_hold();
-    files_are_found();
     has_all_nodes(loaded);
     if usize::from(number) >= NODE_COUNT {
         return None;
@@ -140,9 +137,6 @@ pub fn first_by_id(loaded: &Loaded, wanted: Wanted, id: FileId, from: u8) -> Opt
     ensures value { result ≡ file_found (descriptors_of loaded.now) wanted }
     ensures numbered { IfSome result (IsNumbered (descriptors_of loaded.now)) }
 {
-    // These calls are laws, and do nothing.
-    standing_files_hold();
-    files_are_found();
     has_all_nodes(loaded);
     for number in from..NODE_COUNT as u8 {
         let node = node_at(loaded, number);
@@ -161,9 +155,6 @@ fn first_by_short(loaded: &Loaded, wanted: Wanted, short: u8) -> Option<Descript
     ensures value { result ≡ file_found (descriptors_of loaded.now) wanted }
     ensures numbered { IfSome result (IsNumbered (descriptors_of loaded.now)) }
 {
-    // These calls are laws, and do nothing.
-    standing_files_hold();
-    files_are_found();
     has_all_nodes(loaded);
     for number in 0..NODE_COUNT as u8 {
         let node = node_at(loaded, number);

@@ -1,3 +1,4 @@
+mod GuardedLemmas
 mod IsTriedLemmas
 mod OutcomesLemmas
 mod PinFoundLemmas

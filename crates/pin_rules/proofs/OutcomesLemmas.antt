@@ -21,6 +21,7 @@ use Rattle.pin_rules.specs.declared.trials.Trial.{Trial}
 use Rattle.pin_rules.specs.declared.trials.Trial.TheVariants.{Tell, Present, Unblock}
 use Rattle.pin_rules.specs.Outcomes.{IsCarriedOut, StandsLast, state_after, IsPinCutShort, LeavesOneLess}
 use Rattle.pin_rules.specs.Trials.{outcome_of, meaning_of, comes_to, IsTrial, OnlyTells}
+use Rattle.pin_rules.proofs.GuardedLemmas.{guarded}
 use Rattle.pin_rules.proofs.PresentPinLemmas.{IsOneOf}
 
 -- a state after so many of the commits is one that is passed
@@ -113,13 +114,13 @@ module _ (pins : List Pin) (verified : Verified) (apdu : Apdu) where
   commits_once table (Present held change verifies) tries lawful few some is = presented_once (bytes_eq (value_presented apdu) held.pin.value.0) _ _ _ tries _ few is
   commits_once table (Unblock held value) tries lawful few some is = presented_once (bytes_eq (value_presented apdu) held.pin.unblock.0) _ _ _ tries _ few is
 
-  pub one_less : (command : PinCommand) (table : Loaded) (tried : Result Trial StatusWord) (status : StatusWord) (marks : Verified) (after : List Pin) → IfOk (pin_outcome command pins verified apdu) (IsGuarded (guard_of command) pins apdu.p2)
+  pub one_less : (command : PinCommand) (table : Loaded) (tried : Result Trial StatusWord) (status : StatusWord) (marks : Verified) (after : List Pin)
       → pin_outcome command pins verified apdu ≡ meaning_of pins verified apdu tried → IfOk tried (IsTrial table apdu) → IfErr tried (λ s. 0x6700 ≤ s.0)
       → IsCarriedOut (comes_to pins verified apdu tried) pins status marks after → LeavesOneLess command apdu status pins after
-  one_less command table (Err refused) status marks after guarded means lawful usual come tries few some tells = absurd (omega (arith, few, usual, ap (λ (s : StatusWord). s.0) (sym come.status_is ∙ tells)))
-  one_less command table (Ok trial) status marks after guarded means lawful usual come tries few some tells =
+  one_less command table (Err refused) status marks after means lawful usual come tries few some tells = absurd (omega (arith, few, usual, ap (λ (s : StatusWord). s.0) (sym come.status_is ∙ tells)))
+  one_less command table (Ok trial) status marks after means lawful usual come tries few some tells =
       let outcome : PinOutcome = outcome_of pins verified apdu trial in
-      let guards = subst (λ (r : Result PinOutcome StatusWord). IfOk r (IsGuarded (guard_of command) pins apdu.p2)) means guarded in
+      let guards = subst (λ (r : Result PinOutcome StatusWord). IfOk r (IsGuarded (guard_of command) pins apdu.p2)) means (guarded command pins verified apdu) in
       let told : outcome.status ≡ tries_left tries = sym come.status_is ∙ tells in
       let once = commits_once table trial tries lawful few some told in
       let last : last_of pins outcome.passed ≡ once.0 = ap (last_of pins) once.1 in (

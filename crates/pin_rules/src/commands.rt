@@ -14,7 +14,7 @@ use access_rules::Verified;
 use apdu_form::Command;
 use card_commits::tables_tell_states;
 use card_state::Loaded;
-use file_model::{PinCommand, pins_are_guarded};
+use file_model::PinCommand;
 use store_form::{Store, StoreFault};
 use uicc_types::{Answer, StatusWord};
 
@@ -82,9 +82,8 @@ pub fn named_pin_command<S: Store>(
     ensures ends { AnswersPins (memory S.Store store.old loaded.old) (memory S.Store store.new loaded.new)
         out.new result }
 {
-    // These calls are laws, and do nothing.
+    // This call is a law, and does nothing.
     tables_tell_states();
-    pins_are_guarded();
     out.body.clear();
     let tried = trial_of(pin, loaded, command);
     out.status = carry_out(store, loaded, verified, command, tried)?;

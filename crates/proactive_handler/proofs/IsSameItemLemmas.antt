@@ -11,8 +11,8 @@ use Rattle.card_state.specs.Sections.{has_text}
 use Rattle.toolkit_commands.specs.declared.items.Item.{Item}
 use Rattle.toolkit_commands.specs.declared.commands.Proactive.{Proactive}
 use Rattle.toolkit_commands.specs.declared.commands.Proactive.TheVariants.{SetUpMenu}
-use Rattle.toolkit_commands.specs.Table.{spelled}
-use Rattle.toolkit_commands.specs.Matching.{IsShort, AreBounded}
+use Rattle.toolkit_commands.specs.Matching.{AreBounded}
+use Rattle.toolkit_commands.proofs.LengthsOfCommandsLemmas.{short_enough}
 use Rattle.toolkit_model.specs.Orderly.{CanBeSent}
 use Rattle.toolkit_model.specs.Registry.{item_of, menu_of}
 use Rattle.toolkit_model.specs.Driving.{is_same_item, menu_title}
@@ -30,15 +30,12 @@ pub same_items : (a b : List Item) (same : Bool) → (IsTrue same ↔ (a ≡ b))
 same_items a b same tells =
     same_from_decides same (pointwise is_same_item a b) (tells.0, tells.1) (slice_eq-Decides {E = is_same_item} item_decides a b (pointwise is_same_item a b) refl)
 
--- a law of the table of commands: which spellings are short
-abbrev pub ShortFits : Type 0
-ShortFits = (command : Proactive) (number : ℕ) → IsShort command → length (spelled command number) ≤ 255
-
-pub menu_sent : ShortFits → (rows : List Registration) → All (λ row. length row.text ≤ 10) rows → count_by has_text rows ≤ 16 → CanBeSent (SetUpMenu menu_title (menu_of rows))
-menu_sent short rows texts few =
+-- the menu can be sent: its title and its items are short, and few
+pub menu_sent : (rows : List Registration) → All (λ row. length row.text ≤ 10) rows → count_by has_text rows ≤ 16 → CanBeSent (SetUpMenu menu_title (menu_of rows))
+menu_sent rows texts few =
     let bounded : AreBounded menu_title (menu_of rows) = record {
       title_length = lit≤ tt;
       text_lengths = All-map (λ item. length item.text ≤ 10) item_of (filter has_text rows) (All-filter has_text (λ row. length row.text ≤ 10) rows texts);
       count = omega (arith, length-map (filter has_text rows) item_of, length-filter has_text rows, few);
     } in
-    record { proper = tt; short = λ number. short (SetUpMenu menu_title (menu_of rows)) number bounded }
+    record { proper = tt; short = λ number. short_enough (SetUpMenu menu_title (menu_of rows)) number bounded }

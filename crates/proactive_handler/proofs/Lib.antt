@@ -19,7 +19,7 @@ pub mod MovedLemmas
 mod OutstandingLemmas
 mod PendingLemmas
 mod ReachedLemmas
-mod RowsAreListedLemmas
+pub mod RowsAreListedLemmas
 mod RunOfRowLemmas
 mod RunOnLemmas
 pub mod ScenesLemmas

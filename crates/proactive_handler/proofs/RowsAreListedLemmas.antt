@@ -5,7 +5,7 @@ use Rattle.card_state.specs.Persistent.{Persistent}
 use Rattle.card_state.specs.Soundness.{IsSound}
 use Rattle.card_state.specs.Standing.{state_in}
 use Rattle.card_state.specs.States.{rows_of, state_of}
-use Rattle.card_state.specs.SoundnessLaws.{StandingIsSound}
+use Rattle.card_state.proofs.SoundStandsLemmas.{standing_sound}
 use Rattle.event_dispatch.specs.Changes.{AreListed}
 use Rattle.proactive_handler.specs.Rows.{RowsAreListed}
 
@@ -24,7 +24,7 @@ rows_in : (content : List ℕ) → (state_in content).rows ≡ rows_of (table_of
 unfolding state_of
 rows_in content = refl
 
-pub rows_listed : StandingIsSound → RowsAreListed
-rows_listed law mark told table agrees =
-    let is = law mark agrees.content agrees.state agrees.stands.long agrees.stands.decoded in
+pub rows_listed : RowsAreListed
+rows_listed mark told table agrees =
+    let is = standing_sound mark agrees.content agrees.state agrees.stands.long agrees.stands.decoded in
     subst AreListed (ap (λ (s : Persistent). s.rows) is.0 ∙ rows_in agrees.content ∙ ap rows_of agrees.stands.entries) (sound_listed agrees.state is.1)

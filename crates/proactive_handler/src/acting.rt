@@ -19,7 +19,6 @@ use card_state::{Loaded, states_are_of_entries};
 use event_dispatch::Index;
 use store_form::{Store, StoreFault};
 use timer_table::Timers;
-use toolkit_commands::lengths_of_commands;
 use uicc_types::Shelf;
 
 /// How many acts a run has, at most.
@@ -76,9 +75,8 @@ fn run_on<S: Store, B: Applet>(
     ensures keeps { KeepsRows (memory S.Store store.old loaded.old)
         (memory S.Store store.new loaded.new) index.new result }
 {
-    // These calls are laws, and do nothing.
+    // This call is a law, and does nothing.
     tables_tell_states();
-    lengths_of_commands();
     if acts == 0 {
         wake(loaded, applet, at.shelf);
         return Ok(RunEnd {

@@ -9,7 +9,7 @@ ghost use Rattle.proactive_handler.specs.Acts.{setting_of};
 
 use crate::settings::Setting;
 use timer_table::Timers;
-use toolkit_commands::{Proactive, lengths_of_commands, spell};
+use toolkit_commands::{Proactive, spell};
 use uicc_types::Shelf;
 
 /// The modes of a REFRESH that an applet may ask for: initialization of the application, and a reset of the card (ETSI TS 102
@@ -79,12 +79,11 @@ fn is_spelled(command: &Proactive) -> bool
 }
 
 // Whether it fits the 255 bytes that a length can say. Most commands do whose bytes need not be made to see it.
+#[tactic(auto, using(toolkit_commands::proofs::LengthsOfCommandsLemmas::short_enough))]
 fn is_short(command: &Proactive) -> bool
     requires { HasWritableTime command.now }
     ensures { result ≡ is_short command.now }
 {
-    // This call is a law, and does nothing.
-    lengths_of_commands();
     has_short_text(command) || is_spelled(command)
 }
 

@@ -13,13 +13,10 @@ ghost use Rattle.proactive_handler.specs.Acts.{Carries, stage};
 ghost use Rattle.proactive_handler.specs.Runs.{MayRun};
 
 use crate::endings::{Next, Reply};
-use crate::laws::rows_are_listed;
 use applet_trait::numbers::MOST_KEPT;
 use card_commits::tables_tell_states;
 use card_state::{Loaded, states_are_of_entries};
-use event_dispatch::{
-    Index, changes_are_followed, commits_are_those_of_sessions, registrations_are_followed,
-};
+use event_dispatch::Index;
 use store_form::{Store, StoreFault};
 use uicc_types::Shelf;
 
@@ -43,11 +40,8 @@ pub(crate) fn keep<S: Store>(
     ensures same { OnErr result (loaded.new ≡ loaded.old) }
     ensures keeps { Keeps (memory S.Store store.old loaded.old) (memory S.Store store.new loaded.new) result }
 {
-    // These calls are laws, and do nothing.
+    // This call is a law, and does nothing.
     tables_tell_states();
-    commits_are_those_of_sessions();
-    rows_are_listed();
-    changes_are_followed();
     if bytes.len() > MOST_KEPT {
         return Ok(Next::Told(Reply::Refused));
     }
@@ -77,10 +71,6 @@ fn commit_registration<S: Store>(
     // These calls are laws, and do nothing.
     tables_tell_states();
     states_are_of_entries();
-    commits_are_those_of_sessions();
-    registrations_are_followed();
-    rows_are_listed();
-    changes_are_followed();
     card_commits::register(store, loaded, shelf, code)?;
     index.added(loaded, shelf, code);
     Ok(Next::Told(Reply::Went))
@@ -139,11 +129,8 @@ fn commit_deregistration<S: Store>(
     ensures same { OnErr result (loaded.new ≡ loaded.old) }
     ensures keeps { Keeps (memory S.Store store.old loaded.old) (memory S.Store store.new loaded.new) result }
 {
-    // These calls are laws, and do nothing.
+    // This call is a law, and does nothing.
     tables_tell_states();
-    commits_are_those_of_sessions();
-    rows_are_listed();
-    changes_are_followed();
     card_commits::deregister(store, loaded, shelf, code)?;
     index.removed(shelf, code);
     Ok(Next::Told(Reply::Went))

@@ -8,7 +8,6 @@ ghost use Rattle.proactive_handler.specs.Steps.{scene, Moves};
 ghost use Rattle.proactive_handler.specs.Reached.{TurnsOnly};
 ghost use Rattle.proactive_handler.specs.Scenes.{IsInService, KeepsScene};
 
-use crate::laws::rows_are_listed;
 use crate::running::run_alone;
 use crate::session::Session;
 use applet_trait::{Applet, Stimulus};
@@ -111,9 +110,8 @@ pub fn drive_in_place<S: Store, B: Applet>(
 {
     let late = Late::MOST - session.late_free();
     catch_up(store, loaded, index, cast, session, late)?;
-    // These calls are laws, and do nothing.
+    // This call is a law, and does nothing.
     tables_tell_states();
-    rows_are_listed();
     session.settle(loaded, index);
     Ok(())
 }

@@ -2,7 +2,7 @@
 ghost use Rattle.proactive_handler.specs.Rows.{RowsAreListed};
 ghost use Rattle.proactive_handler.specs.Serving.{SessionsAreServed};
 
-use card_state::{standing_is_sound, states_are_of_entries};
+use card_state::states_are_of_entries;
 
 /// A session over the registrations of a table is one whose applets can run over that table: this is so between two commands.
 pub fn sessions_are_served()
@@ -15,6 +15,4 @@ pub fn sessions_are_served()
 /// are short and fit the menu, and they are registered for events alone.
 pub fn rows_are_listed()
     ensures { RowsAreListed }
-{
-    standing_is_sound();
-}
+{}

@@ -13,7 +13,7 @@ use card_state::Loaded;
 use card_state::sizes::MENU_LIMIT;
 use event_dispatch::Index;
 use terminal_profile::Profile;
-use toolkit_commands::{Proactive, lengths_of_commands};
+use toolkit_commands::Proactive;
 use uicc_types::events::{
     CALL_CONNECTED, CALL_DISCONNECTED, CHANNEL_STATUS, DATA_AVAILABLE, IDLE_SCREEN,
     LANGUAGE_SELECTION, LOCATION_STATUS, MT_CALL, STATUS_COMMAND, USER_ACTIVITY,
@@ -108,8 +108,6 @@ fn event_list_wanted(
     ensures value { result ≡ event_list_wanted profile.now (rows_of loaded.now) announced.now }
     ensures sendable { IfSome result CanBeSent }
 {
-    // This call is a law, and does nothing.
-    lengths_of_commands();
     let events = events_for(profile, index);
     if events.as_slice() == announced.events().as_slice() {
         return None;
@@ -125,8 +123,6 @@ fn menu_wanted(profile: &Profile, announced: &Announced, loaded: &Loaded) -> Opt
     ensures value { result ≡ menu_wanted profile.now (rows_of loaded.now) announced.now }
     ensures sendable { IfSome result CanBeSent }
 {
-    // This call is a law, and does nothing.
-    lengths_of_commands();
     let items = menu(loaded);
     if items.is_same(announced.menu()) {
         return None;
@@ -146,8 +142,6 @@ fn polling_wanted(
     ensures value { result ≡ polling_wanted profile.now (rows_of loaded.now) announced.now }
     ensures sendable { IfSome result CanBeSent }
 {
-    // This call is a law, and does nothing.
-    lengths_of_commands();
     if announced.polls() {
         return None;
     }

@@ -19,7 +19,7 @@ use crate::holding::record_of;
 use crate::targets::{Demand, LONGEST_INCREASED, Structure, record_file};
 use access_rules::{Op, Verified};
 use apdu_form::Command;
-use binary_commands::{append, is_allowed, is_card_table, settle, worked_on};
+use binary_commands::{append, is_allowed, settle, worked_on};
 use card_commits::{tables_tell_states, write_newest_record};
 use card_state::Loaded;
 use file_model::{Descriptor, Selection};
@@ -180,7 +180,6 @@ fn try_increase<S: Store>(
 {
     // This call is a law, and does nothing.
     tables_tell_states();
-    is_card_table(store, loaded);
     match file_to_increase(loaded, selection, command) {
         Ok(file) => increase_file(store, loaded, selection, seen, command, &file, out),
         Err(status) => Ok(Err(status)),

@@ -3,7 +3,7 @@ ghost use Rattle.file_model.specs.Files.{descriptors_of};
 ghost use Rattle.file_tree.specs.Tables.{IsCardTable};
 ghost use Rattle.record_commands.specs.Tables.{HaveRecords};
 
-use card_state::{Loaded, standing_is_sound};
+use card_state::Loaded;
 use file_model::files_are_found;
 
 /// A file with records has at least one.
@@ -11,6 +11,5 @@ pub fn records_are_there(loaded: &Loaded)
     requires { IsCardTable loaded.now }
     ensures { HaveRecords (descriptors_of loaded.now) }
 {
-    standing_is_sound();
     files_are_found();
 }

@@ -16,7 +16,7 @@ ghost use Rattle.record_commands.specs.Tables.{KeepsOtherFiles};
 
 use access_rules::{Op, Verified};
 use apdu_form::Command;
-use binary_commands::{addressed, is_allowed, is_card_table, settle};
+use binary_commands::{addressed, is_allowed, settle};
 use card_commits::{tables_tell_states, write_life};
 use card_state::Loaded;
 use card_state::kinds::{ACTIVATED, DEACTIVATED};
@@ -114,7 +114,6 @@ fn try_change<S: Store>(
 {
     // This call is a law, and does nothing.
     tables_tell_states();
-    is_card_table(store, loaded);
     match life_file(loaded, selection, command) {
         Ok(file) => change_file(store, loaded, selection, seen, change, &file, out),
         Err(status) => Ok(Err(status)),

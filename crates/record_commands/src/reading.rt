@@ -17,7 +17,7 @@ use crate::numbering::number_to_read;
 use crate::targets::{Demand, Structure, has_parameters, record_file, selection_after, short_in};
 use access_rules::{Op, Verified};
 use apdu_form::Command;
-use binary_commands::{is_allowed, is_card_table, settle};
+use binary_commands::{is_allowed, settle};
 use card_commits::tables_tell_states;
 use card_state::Loaded;
 use file_model::{Descriptor, Selection};
@@ -98,7 +98,6 @@ fn try_read<S: Store>(
 {
     // This call is a law, and does nothing.
     tables_tell_states();
-    is_card_table(store, loaded);
     match file_to_read(loaded, selection, command) {
         Ok(file) => read_file(store, loaded, selection, seen, command, &file, out),
         Err(status) => Ok(Err(status)),

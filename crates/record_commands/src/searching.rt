@@ -19,7 +19,7 @@ use crate::numbering::absolute_record;
 use crate::targets::{Demand, Structure, mode_in, pointer_before, record_file, short_in};
 use access_rules::{Op, Verified};
 use apdu_form::Command;
-use binary_commands::{is_allowed, is_card_table, settle, worked_on};
+use binary_commands::{is_allowed, settle, worked_on};
 use card_commits::tables_tell_states;
 use card_state::Loaded;
 use file_model::{Descriptor, Selection};
@@ -327,7 +327,6 @@ fn try_search<S: Store>(
 {
     // This call is a law, and does nothing.
     tables_tell_states();
-    is_card_table(store, loaded);
     match file_to_search(loaded, selection, command) {
         Ok(file) => search_file(store, loaded, selection, seen, command, &file, out),
         Err(status) => Ok(Err(status)),

@@ -21,7 +21,7 @@ use crate::targets::{
 };
 use access_rules::{Op, Verified};
 use apdu_form::Command;
-use binary_commands::{is_allowed, is_card_table, settle};
+use binary_commands::{is_allowed, settle};
 use card_commits::{tables_tell_states, write_newest_record, write_record};
 use card_state::Loaded;
 use file_model::{Descriptor, Selection};
@@ -131,7 +131,6 @@ fn try_update<S: Store>(
 {
     // This call is a law, and does nothing.
     tables_tell_states();
-    is_card_table(store, loaded);
     match file_to_update(loaded, selection, command) {
         Ok(file) => update_file(store, loaded, selection, seen, command, &file, out),
         Err(status) => Ok(Err(status)),

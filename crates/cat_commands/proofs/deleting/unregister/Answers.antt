@@ -19,7 +19,7 @@ use Rattle.cat_commands.proofs.deleting.unregister.Goals as goal
 
 pub returns-in_err-remove_row-clause-moves : goal.returns-in_err-remove_row-clause-moves
 returns-in_err-remove_row-clause-moves g c =
-    stays_registered c.commits_are_those_of_sessions.ensures.deleted c.args.shelf.0 (scene (memory g.S.Store c.args.store.now c.args.loaded.now) c.args.index.now c.args.session.now (minds_of g.B.Applet.mind c.args.cast.now)) c.requires.rests.order.rows.shelves (has_rows c.tables_tell_states.ensures _ _ c.args.loaded.now c.requires.rests.mounted.agrees)
+    stays_registered c.args.shelf.0 (scene (memory g.S.Store c.args.store.now c.args.loaded.now) c.args.index.now c.args.session.now (minds_of g.B.Applet.mind c.args.cast.now)) c.requires.rests.order.rows.shelves (has_rows c.tables_tell_states.ensures _ _ c.args.loaded.now c.requires.rests.mounted.agrees)
     (scene (memory g.S.Store c.remove_row.new.store c.remove_row.new.loaded) c.args.index.now c.args.session.now (minds_of g.B.Applet.mind c.args.cast.now)) c.from_residual.result c.from_residual.ensures.0 (ap rows_of c.in_err-remove_row.ensures.kept) c.in_err-remove_row.ensures.committed.whole c.in_err-remove_row.ensures.committed.commits
 
 pub returns-in_err-remove_row-clause-keeps : goal.returns-in_err-remove_row-clause-keeps
@@ -31,8 +31,8 @@ returns-in_err-remove_row-clause-keeps g c =
 
 pub returns-clause-moves : goal.returns-clause-moves
 returns-clause-moves g c =
-    goes c.commits_are_those_of_sessions.ensures.deleted c.args.shelf.0 (scene (memory g.S.Store c.args.store.now c.args.loaded.now) c.args.index.now c.args.session.now (minds_of g.B.Applet.mind c.args.cast.now)) c.requires.rests.order.rows.shelves (has_rows c.tables_tell_states.ensures _ _ c.args.loaded.now c.requires.rests.mounted.agrees)
-    (scene (memory g.S.Store c.remove_row.new.store c.remove_row.new.loaded) c.gone.new.self c.released.new.self (minds_of g.B.Applet.mind c.take_out.new.cast)) (rows_without c.commits_are_those_of_sessions.ensures.deleted c.args.loaded.now c.remove_row.new.loaded c.args.shelf.0 c.requires.rests.order.rows.shelves c.in_ok-remove_row.ensures.rows) c.released.ensures c.take_out.ensures.minds c.in_ok-remove_row.ensures.committed.ok c.in_ok-remove_row.ensures.committed.commits
+    goes c.args.shelf.0 (scene (memory g.S.Store c.args.store.now c.args.loaded.now) c.args.index.now c.args.session.now (minds_of g.B.Applet.mind c.args.cast.now)) c.requires.rests.order.rows.shelves (has_rows c.tables_tell_states.ensures _ _ c.args.loaded.now c.requires.rests.mounted.agrees)
+    (scene (memory g.S.Store c.remove_row.new.store c.remove_row.new.loaded) c.gone.new.self c.released.new.self (minds_of g.B.Applet.mind c.take_out.new.cast)) (rows_without c.args.loaded.now c.remove_row.new.loaded c.args.shelf.0 c.requires.rests.order.rows.shelves c.in_ok-remove_row.ensures.rows) c.released.ensures c.take_out.ensures.minds c.in_ok-remove_row.ensures.committed.ok c.in_ok-remove_row.ensures.committed.commits
 
 pub returns-clause-keeps : goal.returns-clause-keeps
 returns-clause-keeps g c =
@@ -46,7 +46,7 @@ returns-clause-keeps g c =
           c.requires.may_go.idle c.requires.rests.order.session.late (ap (λ (s : SessionState). s.out) c.released.ensures) (ap (λ (s : SessionState). s.waiting) c.released.ensures) (ap (λ (s : SessionState). s.late) c.released.ensures)
           (c.sessions_are_served.ensures c.args.loaded.now c.args.session.now c.requires.rests.order.session.underway);
       rows_stay = λ other apart there. has_beside c.args.loaded.now c.remove_row.new.loaded c.args.shelf.0 unused_row other (ap (λ (t : Loaded). t.rows) c.in_ok-remove_row.ensures.table) apart there;
-      indexed = subst (StandsFor c.gone.new.self) (sym (rows_without c.commits_are_those_of_sessions.ensures.deleted c.args.loaded.now c.remove_row.new.loaded c.args.shelf.0 c.requires.rests.order.rows.shelves c.in_ok-remove_row.ensures.rows)) (c.gone.ensures (rows_of c.args.loaded.now) c.requires.rests.order.rows c.requires.rests.indexed);
+      indexed = subst (StandsFor c.gone.new.self) (sym (rows_without c.args.loaded.now c.remove_row.new.loaded c.args.shelf.0 c.requires.rests.order.rows.shelves c.in_ok-remove_row.ensures.rows)) (c.gone.ensures (rows_of c.args.loaded.now) c.requires.rests.order.rows c.requires.rests.indexed);
       table = rows_alone_differ c.args.loaded.now c.remove_row.new.loaded _ c.in_ok-remove_row.ensures.table;
       kept = tt;
       keeps = keeps_done old.memory new.memory _ _ c.in_ok-remove_row.ensures.committed.keeps;

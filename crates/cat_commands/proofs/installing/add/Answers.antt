@@ -15,13 +15,13 @@ pub returns-in_err-register-clause-comes : goal.returns-in_err-register-clause-c
 returns-in_err-register-clause-comes g c =
     let old = (scene (memory g.S.Store c.args.store.now c.args.loaded.now) c.args.index.now c.args.session.now (minds_of g.B.Applet.mind c.args.cast.now)) in
     let new = (scene (memory g.S.Store c.register.new.store c.register.new.loaded) c.register.new.index c.register.new.session (minds_of g.B.Applet.mind c.register.new.cast)) in
-    cut_err _ old new c.from_residual.result c.from_residual.ensures.0 (not_installed c.commits_are_those_of_sessions.ensures.installed (registration_of c.args.shelf.0 c.args.row) old (tells_here c.tables_tell_states.ensures old c.requires.service.mounted) new c.in_err-register.ensures.registers)
+    cut_err _ old new c.from_residual.result c.from_residual.ensures.0 (not_installed (registration_of c.args.shelf.0 c.args.row) old (tells_here c.tables_tell_states.ensures old c.requires.service.mounted) new c.in_err-register.ensures.registers)
 
 pub returns-clause-comes : goal.returns-clause-comes
 returns-clause-comes g c =
     let old = (scene (memory g.S.Store c.args.store.now c.args.loaded.now) c.args.index.now c.args.session.now (minds_of g.B.Applet.mind c.args.cast.now)) in
     let mid = (scene (memory g.S.Store c.register.new.store c.register.new.loaded) c.register.new.index c.register.new.session (minds_of g.B.Applet.mind c.register.new.cast)) in
-    then_installed c.commits_are_those_of_sessions.ensures.installed (registration_of c.args.shelf.0 c.args.row) old (tells_here c.tables_tell_states.ensures old c.requires.service.mounted) mid c.in_ok-register.ensures.registers (scene (memory g.S.Store c.drive_in_place.new.store c.drive_in_place.new.loaded) c.drive_in_place.new.index c.drive_in_place.new.session (minds_of g.B.Applet.mind c.drive_in_place.new.cast)) c.drive_in_place.result
+    then_installed (registration_of c.args.shelf.0 c.args.row) old (tells_here c.tables_tell_states.ensures old c.requires.service.mounted) mid c.in_ok-register.ensures.registers (scene (memory g.S.Store c.drive_in_place.new.store c.drive_in_place.new.loaded) c.drive_in_place.new.index c.drive_in_place.new.session (minds_of g.B.Applet.mind c.drive_in_place.new.cast)) c.drive_in_place.result
     (tells_here c.tables_tell_states.ensures mid c.in_ok-register.ensures.keeps.keeps.mounted) c.drive_in_place.ensures.keeps.table c.drive_in_place.ensures.moves
 
 pub returns-clause-keeps : goal.returns-clause-keeps

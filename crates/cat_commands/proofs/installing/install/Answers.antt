@@ -20,7 +20,7 @@ add-requires-clause-service g c =
 
 pub add-requires-clause-installable : goal.add-requires-clause-installable
 add-requires-clause-installable g c =
-    installable_at c.args.loaded.now (minds_of g.B.Applet.mind c.args.cast.now) c.states_are_of_entries.ensures.tables c.args.seen.now c.args.command.now c.in-Ok.row (sym (c.try_install.ensures.value []) ∙ ap (registration_for c.args.command.now.p2) c.in-Ok.is) c.command.inside.p2 (ap (λ (a : Apdu). a.p2) c.command.view_is) c.installed_rows_are_sound.ensures c.in-Ok.ensures.known (scene (memory g.S.Store c.args.store.now c.args.loaded.now) c.args.index.now c.args.session.now (minds_of g.B.Applet.mind c.args.cast.now)) refl refl (rows_below c.standing_is_sound.ensures.sound _ _ c.args.loaded.now c.requires.rests.mounted.agrees) c.in-Ok.ensures.used c.in-Ok.ensures.events c.in-Ok.ensures.admitted
+    installable_at c.args.loaded.now (minds_of g.B.Applet.mind c.args.cast.now) c.states_are_of_entries.ensures.tables c.args.seen.now c.args.command.now c.in-Ok.row (sym (c.try_install.ensures.value []) ∙ ap (registration_for c.args.command.now.p2) c.in-Ok.is) c.command.inside.p2 (ap (λ (a : Apdu). a.p2) c.command.view_is) c.installed_rows_are_sound.ensures c.in-Ok.ensures.known (scene (memory g.S.Store c.args.store.now c.args.loaded.now) c.args.index.now c.args.session.now (minds_of g.B.Applet.mind c.args.cast.now)) refl refl (rows_below _ _ c.args.loaded.now c.requires.rests.mounted.agrees) c.in-Ok.ensures.used c.in-Ok.ensures.events c.in-Ok.ensures.admitted
 
 pub returns-in_err-add-in-Ok-clause-carries : goal.returns-in_err-add-in-Ok-clause-carries
 returns-in_err-add-in-Ok-clause-carries g c =
@@ -46,7 +46,7 @@ returns-in_ok-add-in-Ok-clause-ends g c =
     ends_done _ new tt refl
     (order_after c.sessions_stay_in_order.ensures (Install (registration_of c.command.inside.p2 c.in-Ok.row)) (toolkit old) (toolkit new) c.requires.rests.order
     (accepted_at c.args.loaded.now (minds_of g.B.Applet.mind c.args.cast.now) c.states_are_of_entries.ensures.tables c.args.seen.now c.args.command.now c.in-Ok.row (sym (c.try_install.ensures.value []) ∙ ap (registration_for c.args.command.now.p2) c.in-Ok.is) c.command.inside.p2 (ap (λ (a : Apdu). a.p2) c.command.view_is) c.installed_rows_are_sound.ensures c.in-Ok.ensures.known
-    c.installations_are_accepted.ensures (toolkit old) refl refl c.requires.rests.order.rows (rows_below c.standing_is_sound.ensures.sound _ _ c.args.loaded.now c.requires.rests.mounted.agrees))
+    (toolkit old) refl refl c.requires.rests.order.rows (rows_below _ _ c.args.loaded.now c.requires.rests.mounted.agrees))
     c.in_ok-add-in-Ok.ensures.comes.toolkit_is)
 
 pub returns-in-Err-clause-carries : goal.returns-in-Err-clause-carries

@@ -8,6 +8,7 @@ use Rattle.card_commits.specs.Entries.{HasRowOn}
 use Rattle.applet_trait.specs.Minds.{AppletState, minds_of}
 use Rattle.toolkit_model.specs.Running.{mind_on}
 use Rattle.proactive_handler.specs.Steps.{scene}
+use Rattle.proactive_handler.proofs.RowsAreListedLemmas.{rows_listed}
 use Rattle.cat_commands.proofs.HasRowOnLemmas.{has_set, served_on}
 use Rattle.cat_commands.proofs.RegisteringLemmas.{wakes, wakes_kind, rows_with, registered_so, with_row_has}
 use Rattle.cat_commands.proofs.AppletInstalledLemmas.{rows_and_next, index_with, keeps_beside}
@@ -16,7 +17,7 @@ use Rattle.cat_commands.proofs.installing.register.Goals as goal
 
 pub returns-clause-registers : goal.returns-clause-registers
 returns-clause-registers g c =
-    registered_so c.commits_are_those_of_sessions.ensures.installed (scene (memory g.S.Store c.args.store.now c.args.loaded.now) c.args.index.now c.args.session.now (minds_of g.B.Applet.mind c.args.cast.now)) (scene (memory g.S.Store c.install_row.new.store c.install_row.new.loaded) c.installed.new.self c.args.session.now (minds_of g.B.Applet.mind c.wake.new.cast))
+    registered_so (scene (memory g.S.Store c.args.store.now c.args.loaded.now) c.args.index.now c.args.session.now (minds_of g.B.Applet.mind c.args.cast.now)) (scene (memory g.S.Store c.install_row.new.store c.install_row.new.loaded) c.installed.new.self c.args.session.now (minds_of g.B.Applet.mind c.wake.new.cast))
     c.args.shelf.0 c.args.row c.in_ok-install_row.ensures.table c.in_ok-install_row.ensures.rows refl
     (wakes (minds_of g.B.Applet.mind c.args.cast.now) (minds_of g.B.Applet.mind c.wake.new.cast) c.args.shelf.0 c.args.row.kind c.args.row.kept c.copy-kept.result c.requires.installable.kind c.copy-kept.ensures c.wake.ensures.minds) c.in_ok-install_row.ensures.committed.ok c.in_ok-install_row.ensures.committed.commits
 
@@ -25,7 +26,7 @@ returns-clause-keeps g c =
     let old = (scene (memory g.S.Store c.args.store.now c.args.loaded.now) c.args.index.now c.args.session.now (minds_of g.B.Applet.mind c.args.cast.now)) in
     let new = (scene (memory g.S.Store c.install_row.new.store c.install_row.new.loaded) c.installed.new.self c.args.session.now (minds_of g.B.Applet.mind c.wake.new.cast)) in
     let row : Registration = registration_of c.args.shelf.0 c.args.row in
-    let rows = rows_with c.commits_are_those_of_sessions.ensures.installed old new c.args.shelf.0 c.args.row c.in_ok-install_row.ensures.table c.in_ok-install_row.ensures.rows in
+    let rows = rows_with old new c.args.shelf.0 c.args.row c.in_ok-install_row.ensures.table c.in_ok-install_row.ensures.rows in
     let there : Contains (rows_of c.install_row.new.loaded) row = subst (λ (list : List Registration). Contains list row) (sym rows) (with_row_has (rows_of c.args.loaded.now) row) in
     let has : HasRowOn c.install_row.new.loaded c.args.shelf.0 = contained_has c.states_are_of_entries.ensures.from.rows c.states_are_of_entries.ensures.tables c.install_row.new.loaded row there in
     record {
@@ -35,8 +36,8 @@ returns-clause-keeps g c =
           ∙ get_or-set_other (minds_of g.B.Applet.mind c.args.cast.now) c.args.shelf.0 other _ None (λ same. none (subst (λ (at : ℕ). HasRowOn c.install_row.new.loaded at) (sym same) has));
       served = served_on c.args.loaded.now c.install_row.new.loaded c.args.session.now (λ other there. has_set c.args.loaded.now c.install_row.new.loaded c.args.shelf.0 c.args.row other (ap (λ (t : Loaded). t.rows) c.in_ok-install_row.ensures.table) c.requires.installable.row_is.used there) c.requires.service.served;
       rows_stay = λ other there. has_set c.args.loaded.now c.install_row.new.loaded c.args.shelf.0 c.args.row other (ap (λ (t : Loaded). t.rows) c.in_ok-install_row.ensures.table) c.requires.installable.row_is.used there;
-      indexed = index_with c.installations_are_followed.ensures (rows_of c.args.loaded.now) (rows_of c.install_row.new.loaded) row c.args.shelf.0 c.args.index.now c.installed.new.self refl
-          (c.rows_are_listed.ensures _ _ c.args.loaded.now c.requires.service.mounted.agrees).rows_are (c.rows_are_listed.ensures _ _ c.install_row.new.loaded c.in_ok-install_row.ensures.committed.keeps.mounted.agrees).rows_are
+      indexed = index_with (rows_of c.args.loaded.now) (rows_of c.install_row.new.loaded) row c.args.shelf.0 c.args.index.now c.installed.new.self refl
+          (rows_listed _ _ c.args.loaded.now c.requires.service.mounted.agrees).rows_are (rows_listed _ _ c.install_row.new.loaded c.in_ok-install_row.ensures.committed.keeps.mounted.agrees).rows_are
           c.requires.installable.free rows c.requires.service.indexed c.installed.ensures;
       table = rows_and_next c.args.loaded.now c.install_row.new.loaded _ _ c.in_ok-install_row.ensures.table;
       kept = tt;

@@ -4,5 +4,5 @@ use Rattle.file_tree.proofs.finding.chosen_by_identifier.Goals as goal
 
 pub returns-then-from-eq-NODE_COUNT-clause-value : goal.returns-then-from-eq-NODE_COUNT-clause-value
 returns-then-from-eq-NODE_COUNT-clause-value c =
-    sym (none_chosen c.args.loaded.now c.args.df c.args.id c.first_with-from.result c.files_are_found.ensures.entries c.files_are_found.ensures.identifier c.first_with-from.ensures.before
+    sym (none_chosen c.args.loaded.now c.args.df c.args.id c.first_with-from.result c.files_are_found.ensures.identifier c.first_with-from.ensures.before
     (omega (arith, c.has_all_nodes.ensures, c.from.ensures, c.if-from-eq-NODE_COUNT.true)))

@@ -40,7 +40,7 @@ returns-clause-performs g c =
 pub returns-clause-guessed : goal.returns-clause-guessed
 returns-clause-guessed g c =
     one_less (pins_of c.args.loaded.now) c.args.verified.now c.args.command.now c.args.pin c.args.loaded.now c.trial_of-tried.result c.in_ok-out.field-0 c.carry_out.new.verified (pins_of c.carry_out.new.loaded)
-    (c.pins_are_guarded.ensures c.args.pin (pins_of c.args.loaded.now) c.args.verified.now c.args.command.now) (c.trial_of-tried.ensures.means c.args.verified.now) c.trial_of-tried.ensures.lawful c.trial_of-tried.ensures.usual c.in_ok-out.ensures.tried.comes
+    (c.trial_of-tried.ensures.means c.args.verified.now) c.trial_of-tried.ensures.lawful c.trial_of-tried.ensures.usual c.in_ok-out.ensures.tried.comes
 
 pub returns-clause-still : goal.returns-clause-still
 returns-clause-still g c = λ none.

@@ -4,6 +4,7 @@ use Rattle.std.specs.Option.{option_or}
 use Rattle.card_state.specs.States.{rows_of}
 use Rattle.card_state.specs.Memory.{memory}
 use Rattle.toolkit_commands.specs.declared.commands.Proactive.{Proactive}
+use Rattle.toolkit_commands.proofs.LengthsOfCommandsLemmas.{same_length}
 use Rattle.applet_trait.specs.declared.stimuli.Stimulus.{Stimulus}
 use Rattle.applet_trait.specs.Minds.{AppletState}
 use Rattle.toolkit_model.specs.Orderly.{CanBeSent}
@@ -52,7 +53,7 @@ returns-in-Sent-clause-sendable g t c =
     subst (λ (sent : Option Proactive). IfSome sent CanBeSent) (sym (as_sent (command_of c.step_into.new.does) c.sends.result c.sends.ensures))
     (each_sent (command_of c.step_into.new.does) (λ command some. can_be_sent (setting_of c.args.at.now) c.args.stimulus.now c.args.acts (c.args.acts - 1) (omega (arith, c.if-acts-eq0.false))
     (stage (memory g.S.Store c.args.store.now c.args.loaded.now) c.args.timers.now (g.B.Applet.mind c.args.applet.now)) c.step_into.new.does (g.B.Applet.mind c.step_into.new.self) c.step_into.ensures.acted c.step_into.ensures.moved
-    (stage (memory g.S.Store c.carry_out.new.store c.carry_out.new.loaded) c.carry_out.new.timers (g.B.Applet.mind c.step_into.new.self)) (after c.step_into.new.does c.in_ok-carry_out.field-0) (c.in_ok-carry_out.ensures.carries (g.B.Applet.mind c.step_into.new.self)) (ap (λ (n : Next). told_of (after c.step_into.new.does n)) c.in-Sent.is ∙ tells_told None (command_of c.step_into.new.does)) command (ap (after c.step_into.new.does) c.in-Sent.is ∙ ap (next_of None) some) c.lengths_of_commands.ensures.any_number (c.step_into.ensures.proper c.requires.one_of_eight)))
+    (stage (memory g.S.Store c.carry_out.new.store c.carry_out.new.loaded) c.carry_out.new.timers (g.B.Applet.mind c.step_into.new.self)) (after c.step_into.new.does c.in_ok-carry_out.field-0) (c.in_ok-carry_out.ensures.carries (g.B.Applet.mind c.step_into.new.self)) (ap (λ (n : Next). told_of (after c.step_into.new.does n)) c.in-Sent.is ∙ tells_told None (command_of c.step_into.new.does)) command (ap (after c.step_into.new.does) c.in-Sent.is ∙ ap (next_of None) some) same_length (c.step_into.ensures.proper c.requires.one_of_eight)))
 
 pub returns-in-Sent-clause-exact : goal.returns-in-Sent-clause-exact
 returns-in-Sent-clause-exact g t c =

@@ -6,10 +6,12 @@ use Rattle.card_state.specs.States.{rows_of}
 use Rattle.card_commits.specs.Rows.{rows_alone}
 use Rattle.applet_trait.specs.declared.stimuli.Act.TheVariants.{Deregister}
 use Rattle.toolkit_model.specs.Registry.{without_code}
+use Rattle.event_dispatch.proofs.CommitsLemmas.{deregisters_code}
 use Rattle.proactive_handler.proofs.StandsForLemmas.{removed_follows, rows_alone_differ}
 use Rattle.proactive_handler.proofs.CarriedLemmas.{deregister_goes}
 use Rattle.proactive_handler.proofs.HasRowOnLemmas.{rows_stay, rows_as_before}
 use Rattle.proactive_handler.proofs.WithTheseRowsLemmas.{registers_less, commit_stands, commit_stops}
+use Rattle.proactive_handler.proofs.RowsAreListedLemmas.{rows_listed}
 use Rattle.proactive_handler.proofs.changes.commit_deregistration.Goals as goal
 
 pub returns-in_err-deregister-clause-carries : goal.returns-in_err-deregister-clause-carries
@@ -22,7 +24,7 @@ returns-in_err-deregister-clause-table g c = rows_alone_differ c.args.loaded.now
 pub returns-clause-carries : goal.returns-clause-carries
 returns-clause-carries g c = λ at timers mind here.
     commit_stands c.tables_tell_states.ensures (memory g.S.Store c.args.store.now c.args.loaded.now) c.requires.may_run.mounted.agrees at (Deregister c.args.code) timers mind (without_code_committed c.args.shelf.0 c.args.code) (λ (rows : List Registration). without_code rows c.args.shelf.0 c.args.code) (registers_less c.args.shelf.0 c.args.code) (deregister_goes at _ c.args.shelf.0 here c.args.code c.requires.changes) (memory g.S.Store c.deregister.new.store c.deregister.new.loaded) c.in_ok-deregister.ensures.committed.ok c.in_ok-deregister.ensures.committed.commits
-    (c.in_ok-deregister.ensures.rows ∙ c.commits_are_those_of_sessions.ensures.deregistered (rows_alone c.args.loaded.now) c.args.shelf.0 c.args.code)
+    (c.in_ok-deregister.ensures.rows ∙ deregisters_code (rows_alone c.args.loaded.now) c.args.shelf.0 c.args.code)
 
 pub returns-clause-table : goal.returns-clause-table
 returns-clause-table g c = rows_alone_differ c.args.loaded.now c.deregister.new.loaded _ c.in_ok-deregister.ensures.table
@@ -34,5 +36,5 @@ pub returns-in_err-deregister-clause-rows_stay : goal.returns-in_err-deregister-
 returns-in_err-deregister-clause-rows_stay g c = rows_as_before c.args.loaded.now c.deregister.new.loaded c.in_err-deregister.ensures.kept
 
 pub returns-clause-indexed : goal.returns-clause-indexed
-returns-clause-indexed g c = removed_follows (rows_of c.args.loaded.now) (rows_of c.deregister.new.loaded) c.args.shelf.0 (c.rows_are_listed.ensures _ _ c.args.loaded.now c.requires.may_run.mounted.agrees) c.args.code c.args.index.now c.removed.new.self c.requires.may_run.indexed
-    (c.in_ok-deregister.ensures.rows ∙ c.commits_are_those_of_sessions.ensures.deregistered (rows_alone c.args.loaded.now) c.args.shelf.0 c.args.code) c.removed.ensures
+returns-clause-indexed g c = removed_follows (rows_of c.args.loaded.now) (rows_of c.deregister.new.loaded) c.args.shelf.0 (rows_listed _ _ c.args.loaded.now c.requires.may_run.mounted.agrees) c.args.code c.args.index.now c.removed.new.self c.requires.may_run.indexed
+    (c.in_ok-deregister.ensures.rows ∙ deregisters_code (rows_alone c.args.loaded.now) c.args.shelf.0 c.args.code) c.removed.ensures

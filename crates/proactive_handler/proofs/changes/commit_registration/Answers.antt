@@ -7,10 +7,12 @@ use Rattle.card_state.specs.States.{rows_of}
 use Rattle.card_commits.specs.Rows.{rows_alone}
 use Rattle.applet_trait.specs.declared.stimuli.Act.TheVariants.{Register}
 use Rattle.toolkit_model.specs.Registry.{with_code}
+use Rattle.event_dispatch.proofs.CommitsLemmas.{registers_code}
 use Rattle.proactive_handler.proofs.StandsForLemmas.{added_follows, rows_alone_differ}
 use Rattle.proactive_handler.proofs.CarriedLemmas.{register_goes}
 use Rattle.proactive_handler.proofs.HasRowOnLemmas.{row_shown, rows_stay, rows_as_before, registered_there, may_register}
 use Rattle.proactive_handler.proofs.WithTheseRowsLemmas.{registers_more, commit_stands, commit_stops}
+use Rattle.proactive_handler.proofs.RowsAreListedLemmas.{rows_listed}
 use Rattle.proactive_handler.proofs.changes.commit_registration.Goals as goal
 
 pub register-requires-clause-event : goal.register-requires-clause-event
@@ -26,7 +28,7 @@ returns-in_err-register-clause-table g c = rows_alone_differ c.args.loaded.now c
 pub returns-clause-carries : goal.returns-clause-carries
 returns-clause-carries g c = λ at timers mind here.
     commit_stands c.tables_tell_states.ensures (memory g.S.Store c.args.store.now c.args.loaded.now) c.requires.may_run.mounted.agrees at (Register c.args.code) timers mind (with_code_committed c.args.shelf.0 c.args.code) (λ (rows : List Registration). with_code rows c.args.shelf.0 c.args.code) (registers_more c.args.shelf.0 c.args.code) (register_goes at _ c.args.shelf.0 here c.args.code c.requires.changes) (memory g.S.Store c.register.new.store c.register.new.loaded) c.in_ok-register.ensures.committed.ok c.in_ok-register.ensures.committed.commits
-    (c.in_ok-register.ensures.rows ∙ c.commits_are_those_of_sessions.ensures.registered (rows_alone c.args.loaded.now) c.args.shelf.0 c.args.code)
+    (c.in_ok-register.ensures.rows ∙ registers_code (rows_alone c.args.loaded.now) c.args.shelf.0 c.args.code)
 
 pub returns-clause-table : goal.returns-clause-table
 returns-clause-table g c = rows_alone_differ c.args.loaded.now c.register.new.loaded _ c.in_ok-register.ensures.table
@@ -38,6 +40,6 @@ pub returns-in_err-register-clause-rows_stay : goal.returns-in_err-register-clau
 returns-in_err-register-clause-rows_stay g c = rows_as_before c.args.loaded.now c.register.new.loaded c.in_err-register.ensures.kept
 
 pub returns-clause-indexed : goal.returns-clause-indexed
-returns-clause-indexed g c = added_follows (rows_of c.args.loaded.now) (rows_of c.register.new.loaded) c.args.shelf.0 (c.rows_are_listed.ensures _ _ c.args.loaded.now c.requires.may_run.mounted.agrees) c.args.code c.args.index.now c.added.new.self c.requires.may_run.indexed c.registrations_are_followed.ensures
-    (c.in_ok-register.ensures.rows ∙ c.commits_are_those_of_sessions.ensures.registered (rows_alone c.args.loaded.now) c.args.shelf.0 c.args.code)
+returns-clause-indexed g c = added_follows (rows_of c.args.loaded.now) (rows_of c.register.new.loaded) c.args.shelf.0 (rows_listed _ _ c.args.loaded.now c.requires.may_run.mounted.agrees) c.args.code c.args.index.now c.added.new.self c.requires.may_run.indexed
+    (c.in_ok-register.ensures.rows ∙ registers_code (rows_alone c.args.loaded.now) c.args.shelf.0 c.args.code)
     (registered_there (rows_of c.args.loaded.now) c.args.shelf.0 (row_shown c.args.loaded.now c.args.shelf.0 c.states_are_of_entries.ensures.tables c.states_are_of_entries.ensures.rows c.requires.may_run.row)) c.requires.changes c.added.ensures.here c.added.ensures.others

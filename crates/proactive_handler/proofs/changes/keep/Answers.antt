@@ -9,10 +9,12 @@ use Rattle.card_commits.specs.Rows.{rows_alone}
 use Rattle.applet_trait.specs.declared.stimuli.Stimulus.TheVariants.{Refused}
 use Rattle.applet_trait.specs.declared.stimuli.Act.TheVariants.{Keep}
 use Rattle.toolkit_model.specs.Registry.{with_kept}
+use Rattle.event_dispatch.proofs.CommitsLemmas.{keeps_bytes}
 use Rattle.proactive_handler.proofs.StandsForLemmas.{kept_follows, rows_alone_differ}
 use Rattle.proactive_handler.proofs.CarriedLemmas.{keep_goes, keep_fails}
 use Rattle.proactive_handler.proofs.HasRowOnLemmas.{rows_stay, rows_as_before}
 use Rattle.proactive_handler.proofs.WithTheseRowsLemmas.{keeps, rests_so, commit_stands, commit_stops}
+use Rattle.proactive_handler.proofs.RowsAreListedLemmas.{rows_listed}
 use Rattle.proactive_handler.proofs.changes.keep.Goals as goal
 
 pub returns-then-bytes-gt-MOST_KEPT-clause-carries : goal.returns-then-bytes-gt-MOST_KEPT-clause-carries
@@ -29,7 +31,7 @@ returns-in_err-keep_bytes-clause-table g c = rows_alone_differ c.args.loaded.now
 pub returns-clause-carries : goal.returns-clause-carries
 returns-clause-carries g c = λ at timers mind here.
     commit_stands c.tables_tell_states.ensures (memory g.S.Store c.args.store.now c.args.loaded.now) c.requires.mounted.agrees at (Keep c.args.bytes.now) timers mind (with_kept_committed c.args.shelf.0 c.args.bytes.now) (λ (rows : List Registration). with_kept rows c.args.shelf.0 c.args.bytes.now) (keeps c.args.shelf.0 c.args.bytes.now) (keep_goes at _ c.args.shelf.0 here c.args.bytes.now (grind (arith, nat_tests))) (memory g.S.Store c.keep_bytes.new.store c.keep_bytes.new.loaded) c.in_ok-keep_bytes.ensures.committed.ok c.in_ok-keep_bytes.ensures.committed.commits
-    (c.in_ok-keep_bytes.ensures.rows ∙ c.commits_are_those_of_sessions.ensures.kept (rows_alone c.args.loaded.now) c.args.shelf.0 c.args.bytes.now)
+    (c.in_ok-keep_bytes.ensures.rows ∙ keeps_bytes (rows_alone c.args.loaded.now) c.args.shelf.0 c.args.bytes.now)
 
 pub returns-clause-table : goal.returns-clause-table
 returns-clause-table g c = rows_alone_differ c.args.loaded.now c.keep_bytes.new.loaded _ c.in_ok-keep_bytes.ensures.table
@@ -41,5 +43,5 @@ pub returns-in_err-keep_bytes-clause-rows_stay : goal.returns-in_err-keep_bytes-
 returns-in_err-keep_bytes-clause-rows_stay g c = rows_as_before c.args.loaded.now c.keep_bytes.new.loaded c.in_err-keep_bytes.ensures.kept
 
 pub returns-clause-indexed : goal.returns-clause-indexed
-returns-clause-indexed g c = kept_follows (rows_of c.args.loaded.now) (rows_of c.keep_bytes.new.loaded) c.args.shelf.0 (c.rows_are_listed.ensures _ _ c.args.loaded.now c.requires.mounted.agrees) c.changes_are_followed.ensures c.args.bytes.now
-    (c.in_ok-keep_bytes.ensures.rows ∙ c.commits_are_those_of_sessions.ensures.kept (rows_alone c.args.loaded.now) c.args.shelf.0 c.args.bytes.now)
+returns-clause-indexed g c = kept_follows (rows_of c.args.loaded.now) (rows_of c.keep_bytes.new.loaded) c.args.shelf.0 (rows_listed _ _ c.args.loaded.now c.requires.mounted.agrees) c.args.bytes.now
+    (c.in_ok-keep_bytes.ensures.rows ∙ keeps_bytes (rows_alone c.args.loaded.now) c.args.shelf.0 c.args.bytes.now)

@@ -9,6 +9,7 @@ use Rattle.proactive_handler.specs.Steps.{toolkit, scene}
 use Rattle.proactive_handler.proofs.MovedLemmas.{has_rows}
 use Rattle.proactive_handler.proofs.CaughtUpLemmas.{driven_stops, driven_done, driven_leaves, driven_left}
 use Rattle.proactive_handler.proofs.IsSessionServedLemmas.{settled_served}
+use Rattle.proactive_handler.proofs.RowsAreListedLemmas.{rows_listed}
 use Rattle.proactive_handler.proofs.driving.drive_in_place.Goals as goal
 
 pub returns-in_err-catch_up-clause-moves : goal.returns-in_err-catch_up-clause-moves
@@ -16,6 +17,12 @@ returns-in_err-catch_up-clause-moves g c =
     driven_stops _ (scene (memory g.S.Store c.args.store.now c.args.loaded.now) c.args.index.now c.args.session.now (minds_of g.B.Applet.mind c.args.cast.now))
     (scene (memory g.S.Store c.catch_up.new.store c.catch_up.new.loaded) c.catch_up.new.index c.catch_up.new.session (minds_of g.B.Applet.mind c.catch_up.new.cast))
     (omega (arith, c.late_free-late.ensures.value, c.late_free-late.ensures.few)) c.from_residual.result c.from_residual.ensures.0 c.in_err-catch_up.ensures.moves
+
+pub settle-requires-clause-few : goal.settle-requires-clause-few
+settle-requires-clause-few g c = (rows_listed _ _ c.catch_up.new.loaded c.in_ok-catch_up.ensures.keeps.keeps.mounted.agrees).rows_are.few_texts
+
+pub settle-requires-clause-texts : goal.settle-requires-clause-texts
+settle-requires-clause-texts g c = (rows_listed _ _ c.catch_up.new.loaded c.in_ok-catch_up.ensures.keeps.keeps.mounted.agrees).rows_are.texts
 
 pub returns-clause-moves : goal.returns-clause-moves
 returns-clause-moves g c =

@@ -26,4 +26,4 @@ pub returns-clause-sendable : goal.returns-clause-sendable
 returns-clause-sendable c =
     sendable_if c.if_allowed.result (SetUpMenu c.from_slice-title.result c.menu-items.result) c.if_allowed.ensures.same
     (subst CanBeSent (ap₂ SetUpMenu (sym c.from_slice-title.ensures.value) (sym c.menu-items.ensures))
-    (menu_sent c.lengths_of_commands.ensures.short (rows_of c.args.loaded.now) c.requires.texts c.requires.few))
+    (menu_sent (rows_of c.args.loaded.now) c.requires.texts c.requires.few))

@@ -1,6 +1,8 @@
 use Rattle.std.proofs.Common.{◌≡◌, sym, ◌∙◌, true, false, arith}
 use Rattle.card_state.specs.States.{rows_of}
-use Rattle.proactive_handler.proofs.WantedLemmas.{polls_already, polls_for_nobody, polls_now}
+use Rattle.toolkit_commands.proofs.LengthsOfCommandsLemmas.{short_enough}
+use Rattle.toolkit_commands.specs.declared.commands.Proactive.TheVariants.{PollInterval}
+use Rattle.proactive_handler.proofs.WantedLemmas.{polls_already, polls_for_nobody, polls_now, sendable_if}
 use Rattle.proactive_handler.proofs.wanting.polling_wanted.Goals as goal
 
 pub returns-then-polls-clause-value : goal.returns-then-polls-clause-value
@@ -16,3 +18,7 @@ returns-clause-value c =
     let somebody : c.is_heard.result ≡ true = grind (arith, c.if-not-is_heard.false) in
     c.if_allowed.ensures.value
     ∙ polls_now c.args.profile.now c.args.index.now (rows_of c.args.loaded.now) c.args.announced.now c.requires (sym c.polls.ensures ∙ c.if-polls.false) (sym c.is_heard.ensures ∙ somebody)
+
+pub returns-clause-sendable : goal.returns-clause-sendable
+returns-clause-sendable c =
+    sendable_if c.if_allowed.result (PollInterval 30) c.if_allowed.ensures.same (record { proper = tt; short = λ number. short_enough (PollInterval 30) number tt })
