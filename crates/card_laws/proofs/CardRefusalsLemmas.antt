@@ -1,8 +1,8 @@
 -- What a card refuses a command with is the status of the first condition that holds.
-use Rattle.std.proofs.Common.{◌≡◌, ℕ, ◌+◌, ◌-◌, ◌≤◌, Bool, true, false, cond, List, [], ◌∷◌, ◌++◌, length, Option, Some, None, Result, Ok, Err, refl, sym, ◌∙◌, ap, subst, inl, inr, arith, not, ◌&&◌, ◌||◌, ◌==◌, ◌/◌, nat_le, if◌then◌else◌, is_none, find, option_map, unwrap_or, All, Contains, IfSome, MatchResult, bytes_eq}
+use Rattle.std.proofs.Common.{◌≡◌, ℕ, ◌+◌, ◌≤◌, Bool, true, false, cond, List, [], ◌∷◌, ◌++◌, length, Option, Some, None, Result, Ok, Err, refl, sym, ◌∙◌, ap, subst, inl, inr, arith, not, ◌&&◌, ◌||◌, ◌==◌, ◌/◌, if◌then◌else◌, is_none, find, option_map, All, Contains, IfSome, MatchResult}
 use Rattle.std.specs.Prelude.{⊤}
 use Rattle.std.specs.List.{list_all}
-use Rattle.std.proofs.lemmas.Bool.{false≢true, eq-eqb, ne_eqb, eqb-true, not-true, or_parts}
+use Rattle.std.proofs.lemmas.Bool.{false≢true, ne_eqb, not-true}
 use Rattle.std.proofs.lemmas.List.Elements.{All-contains, All-head, All-tail}
 use Rattle.list_laws.proofs.FindLemmas.{find_Some}
 use Rattle.uicc_types.specs.Told.{AreBytes}
@@ -11,7 +11,7 @@ use Rattle.uicc_types.specs.declared.answers.TheConstants.StatusWord.{DONE, END_
 use Rattle.access_rules.specs.declared.rules.Verified.{Verified}
 use Rattle.apdu_form.specs.Classes.{channel_of}
 use Rattle.apdu_form.specs.Fields.{has_no_data}
-use Rattle.apdu_form.specs.Model.{Apdu, IsCommand, command_in}
+use Rattle.apdu_form.specs.Model.{Apdu, IsCommand}
 use Rattle.card_state.specs.Persistent.{Persistent, Pin, Registration}
 use Rattle.card_state.specs.Soundness.{IsSoundPin}
 use Rattle.file_model.specs.Chains.{and_given, given, refused_if}
@@ -42,17 +42,17 @@ use Rattle.card_model.proofs.IsLawfulAnswerLemmas.{not_carried}
 use Rattle.card_model.proofs.RowNamedLemmas.{all_hold}
 use Rattle.card_model.proofs.ToldPendingLemmas.{pending_few, told_done}
 use Rattle.card_model.proofs.TriedLemmas.{command_is}
-use Rattle.card_model.specs.Answers.{Answered, answer, answer_of, carried_out, carried_with, cut_answer, event_told, is_carried_out, is_status, on_channels, on_files, on_pins, on_toolkit, on_trees, refusal, seen_by, selection_on, settled, told_pending, tried, with_pending}
-use Rattle.card_model.specs.Instructions.{InstructionRow, instruction_tried, is_known}
+use Rattle.card_model.specs.Answers.{Answered, answer, answer_of, carried_out, carried_with, cut_answer, event_told, is_carried_out, is_status, on_channels, on_files, on_pins, on_toolkit, on_trees, refusal, seen_by, selection_on, settled, told_pending, tried}
+use Rattle.card_model.specs.Instructions.{instruction_tried, is_known}
 use Rattle.card_model.specs.States.{CardState, IsGood}
 use Rattle.card_model.specs.Toolkit.{ToolkitOutcome, applet_deleted, applet_installed, command_fetched, envelope_taken, profile_taken, response_taken, row_or_status, row_status, toolkit_outcome}
 use Rattle.card_model.specs.declared.instructions.CatCommand.{CatCommand}
 use Rattle.card_model.specs.declared.instructions.CatCommand.TheVariants as CatCommands
 use Rattle.card_model.specs.declared.instructions.Instruction.{Instruction}
 use Rattle.card_model.specs.declared.instructions.Instruction.TheVariants.{File, ManageChannel, Pin as OnPin, Toolkit, Tree}
-use Rattle.card_laws.specs.CardRefusals.{closes_channel, first_of, has_channel_length, opens_channel, refusals_in_order, refusals_of, refusals_of_change_pin, refusals_of_disable_pin, refusals_of_enable_pin, refusals_of_manage_channel, refusals_of_unblock_pin, refusals_of_verify_pin, refusals_on_files, refusals_on_pins, refusals_on_toolkit, refusals_on_trees}
-use Rattle.card_laws.specs.CardRefusalLaws.{ConditionsRefuse, IsAnsweredSo, RefusesInOrder}
-use Rattle.card_laws.specs.Lawful.{AnswersAreLawful, RefusalsChangeTriesAndMarkAlone}
+use Rattle.card_laws.specs.CardRefusals.{closes_channel, first_of, opens_channel, refusals_in_order, refusals_of, refusals_of_change_pin, refusals_of_disable_pin, refusals_of_enable_pin, refusals_of_manage_channel, refusals_of_unblock_pin, refusals_of_verify_pin, refusals_on_files, refusals_on_pins, refusals_on_toolkit, refusals_on_trees}
+use Rattle.card_laws.specs.CardRefusalLaws.{ConditionsRefuse, RefusesInOrder}
+use Rattle.card_laws.specs.Lawful.{RefusalsChangeTriesAndMarkAlone}
 use Rattle.card_laws.specs.RefusalLaws.{DoesNotHold, IsFirst, IsTestedBy}
 use Rattle.card_laws.specs.Refusals.{Refusal, of_found}
 use Rattle.card_laws.specs.ToolkitLaws.{AnswersLeaveGoodCards}

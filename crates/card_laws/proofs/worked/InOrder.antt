@@ -1,13 +1,12 @@
 -- What a card refuses commands for, worked out from their bytes: most of them have two causes, of which the first in the written order counts.
-use Rattle.std.proofs.Common.{◌≡◌, ℕ, Bool, true, false, List, [], ◌∷◌, ◌++◌, map, replicate, Option, Some, None, refl, option_map}
+use Rattle.std.proofs.Common.{◌≡◌, ℕ, true, false, List, [], ◌∷◌, ◌++◌, map, replicate, Option, Some, None, refl, option_map}
 use Rattle.apdu_form.specs.Model.{command_in, fields_in}
-use Rattle.card_state.specs.Persistent.{Persistent, Pin}
+use Rattle.card_state.specs.Persistent.{Pin}
 use Rattle.card_state.specs.Soundness.{mf}
 use Rattle.file_model.specs.Access.{keys_seen}
 use Rattle.file_model.specs.Files.{descriptor_in, descriptors_in, file_found}
 use Rattle.file_model.specs.Pins.{pin_found}
 use Rattle.file_model.specs.Selections.{chosen, chosen_by_identifier}
-use Rattle.toolkit_commands.specs.Envelopes.{envelope_in, envelope_of, value_in}
 use Rattle.toolkit_model.specs.Commands.{woken_boxes}
 use Rattle.toolkit_model.specs.Orderly.{asks}
 use Rattle.card_model.specs.States.{CardState, nothing_verified, woken}
