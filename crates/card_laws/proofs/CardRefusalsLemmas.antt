@@ -1,5 +1,5 @@
 -- What a card refuses a command with is the status of the first condition that holds.
-use Rattle.std.proofs.Common.{◌≡◌, ℕ, ◌+◌, ◌≤◌, Bool, true, false, cond, List, [], ◌∷◌, ◌++◌, length, Option, Some, None, Result, Ok, Err, refl, sym, ◌∙◌, ap, subst, inl, inr, arith, not, ◌&&◌, ◌||◌, ◌==◌, ◌/◌, if◌then◌else◌, is_none, find, option_map, All, Contains, IfSome, MatchResult}
+use Rattle.std.proofs.Common.{◌≡◌, ℕ, zero, suc, ◌+◌, ◌≤◌, Bool, true, false, cond, List, [], ◌∷◌, ◌++◌, length, Option, Some, None, Result, Ok, Err, refl, sym, ◌∙◌, ap, subst, inl, inr, arith, not, ◌&&◌, ◌||◌, ◌==◌, ◌/◌, if◌then◌else◌, is_none, find, option_map, All, Contains, IfSome, MatchResult}
 use Rattle.std.specs.Prelude.{⊤}
 use Rattle.std.specs.List.{list_all}
 use Rattle.std.proofs.lemmas.Bool.{false≢true, ne_eqb, not-true}
@@ -11,7 +11,7 @@ use Rattle.uicc_types.specs.declared.answers.TheConstants.StatusWord.{DONE, END_
 use Rattle.access_rules.specs.declared.rules.Verified.{Verified}
 use Rattle.apdu_form.specs.Classes.{channel_of}
 use Rattle.apdu_form.specs.Fields.{has_no_data}
-use Rattle.apdu_form.specs.Model.{Apdu, IsCommand}
+use Rattle.apdu_form.specs.Model.{Apdu, IsCommand, cut_to}
 use Rattle.card_state.specs.Persistent.{Persistent, Pin, Registration}
 use Rattle.card_state.specs.Soundness.{IsSoundPin}
 use Rattle.file_model.specs.Chains.{and_given, given, refused_if}
@@ -41,7 +41,7 @@ use Rattle.card_model.proofs.AnswersLemmas.{channel_low, selected_is}
 use Rattle.card_model.proofs.IsLawfulAnswerLemmas.{not_carried}
 use Rattle.card_model.proofs.RowNamedLemmas.{all_hold}
 use Rattle.card_model.proofs.ToldPendingLemmas.{pending_few, told_done}
-use Rattle.card_model.proofs.TriedLemmas.{command_is}
+use Rattle.card_model.proofs.TriedLemmas.{all_so, command_is}
 use Rattle.card_model.specs.Answers.{Answered, answer, answer_of, carried_out, carried_with, cut_answer, event_told, is_carried_out, is_status, on_channels, on_files, on_pins, on_toolkit, on_trees, refusal, seen_by, selection_on, settled, told_pending, tried}
 use Rattle.card_model.specs.Instructions.{instruction_tried, is_known}
 use Rattle.card_model.specs.States.{CardState, IsGood}
@@ -57,6 +57,7 @@ use Rattle.card_laws.specs.RefusalLaws.{DoesNotHold, IsFirst, IsTestedBy}
 use Rattle.card_laws.specs.Refusals.{Refusal, of_found}
 use Rattle.card_laws.specs.ToolkitLaws.{AnswersLeaveGoodCards}
 use Rattle.card_laws.proofs.IsStatusLemmas.{few_fetched}
+use Rattle.card_laws.proofs.TakenLemmas.{of_running}
 use Rattle.card_laws.proofs.RefusalLawsLemmas.{activate_refused, create_refused, deactivate_refused, delete_refused, increase_refused, read_binary_refused, read_record_refused, resize_refused, search_record_refused, select_refused, status_refused, update_binary_refused, update_record_refused}
 
 -- ---- the first condition that holds
@@ -440,11 +441,75 @@ answer_refuses card bytes good is =
 pub refuses_in_order : FilesAreLawful → TreesAreLawful → AnswersLeaveGoodCards → RefusesInOrder
 refuses_in_order files trees stay card bytes good are = answer_refuses card bytes (stay is_known card bytes refl good are).0 (tried_in_order files trees card good bytes are)
 
+-- ---- no data
+
+-- what is answered with a status of a refusal has no data
+abbrev Bare : Result Answered StatusWord → Type 0
+Bare result = MatchResult result (λ answered. Refuses answered.status → answered.body ≡ []) (λ status. ⊤)
+
+bare_made : {X : Type 0} (word : X → StatusWord) (f : X → Answered) (result : Result X StatusWord) → ((x : X) → (f x).status ≡ word x) → MatchResult result (λ x. is_carried_out (word x) ≡ true) Refuses
+    → Bare (and_given result (λ x. Ok (f x)))
+unfolding and_given
+bare_made word f (Err status) same is = tt
+bare_made word f (Ok x) same is = λ refuses. absurd (false≢true (sym refuses ∙ ap is_carried_out (same x) ∙ is))
+
+bare_so : {X : Type 0} (f : X → Answered) (result : Result X StatusWord) → ((x : X) → Refuses (f x).status → (f x).body ≡ []) → Bare (and_given result (λ x. Ok (f x)))
+unfolding and_given
+bare_so f (Err status) so = tt
+bare_so f (Ok x) so = so x
+
+bare_told : (is_event : Bool) (result : Result Answered StatusWord) → Bare result → Bare (and_given result (λ answered. Ok (event_told is_event answered)))
+unfolding and_given
+bare_told is_event (Err status) bare = tt
+bare_told true (Ok answered) bare = bare
+bare_told false (Ok answered) bare = bare
+
+cut_none : (expected : Option ℕ) → cut_to expected [] ≡ []
+cut_none None = refl
+cut_none (Some zero) = refl
+cut_none (Some (suc most)) = refl
+
+bare_cut : (expected : Option ℕ) (result : Result Answered StatusWord) → Bare result → Bare (and_given result (λ answered. Ok (cut_answer expected answered)))
+unfolding and_given
+bare_cut expected (Err status) bare = tt
+bare_cut expected (Ok answered) bare = λ refuses. ap (cut_to expected) (bare refuses) ∙ cut_none expected
+
+bare_settled : (card : CardState) (result : Result Answered StatusWord) → Bare result → Refuses (settled card result).status → (settled card result).body ≡ []
+bare_settled card (Err status) bare refuses = refl
+bare_settled card (Ok answered) bare refuses = bare refuses
+
+module _ (files : FilesAreLawful) (card : CardState) (good : IsGood card) (bytes : List ℕ) (are : AreBytes bytes) where
+  carried_bare : (apdu : Apdu) → IsCommand bytes apdu → (instruction : Instruction) → Bare (carried_out instruction card apdu)
+  unfolding carried_out
+  carried_bare apdu is (File command) =
+      bare_made file_word (on_files card (channel_of apdu.class)) _ (λ outcome. refl) (lawful_file card _ (
+      files command bytes apdu card.persistent (seen_by card) (selection_on card (channel_of apdu.class)) is good.sound (selected_is card good (channel_of apdu.class) (channel_low apdu.class))))
+  carried_bare apdu is (OnPin command) = bare_so (on_pins card) _ (λ outcome refuses. refl)
+  carried_bare apdu is ManageChannel = bare_so (on_channels card) _ (λ outcome refuses. absurd (false≢true (sym refuses)))
+  carried_bare apdu is (Toolkit command) = bare_so (on_toolkit card) _ (λ outcome refuses. absurd (false≢true (sym refuses)))
+  carried_bare apdu is (Tree command) = bare_so (on_trees card) _ (λ outcome refuses. refl)
+
+  tried_bare : Bare (tried is_known card bytes)
+  tried_bare =
+      of_running is_known card bytes refl Bare (all_so _ (λ status. tt)) (λ apdu instruction read.
+      bare_cut apdu.expected _ (bare_told (is_status instruction) _ (carried_bare apdu (command_is bytes apdu are read.read) instruction)))
+
+  no_data : IsGood (answer card bytes).state → (status : StatusWord) → refusal is_known card bytes ≡ Some status → (answer card bytes).body ≡ []
+  unfolding refusal answer_of
+  no_data left status is =
+      let answered : Answered = settled card (tried is_known card bytes) in
+      let same = told_alike (pending answered.state.session) answered.status (pending_few answered.state.session left.session.underway.out_sendable) in
+      bare_settled card (tried is_known card bytes) tried_bare (not_carried (is_carried_out answered.status) answered.status status (sym same ∙ is)).0
+
 status_told : (card : CardState) (bytes : List ℕ) (status : StatusWord) → refusal is_known card bytes ≡ Some status → (answer card bytes).status ≡ status
 unfolding refusal
 status_told card bytes status is = (not_carried (is_carried_out (answer card bytes).status) (answer card bytes).status status is).1
 
-pub conditions_refuse : RefusesInOrder → RefusalsChangeTriesAndMarkAlone → ConditionsRefuse
-conditions_refuse in_order keep card bytes status good are first =
+pub conditions_refuse : FilesAreLawful → AnswersLeaveGoodCards → RefusesInOrder → RefusalsChangeTriesAndMarkAlone → ConditionsRefuse
+conditions_refuse files stay in_order keep card bytes status good are first =
     let is : refusal is_known card bytes ≡ Some status = in_order card bytes good are ∙ first in
-    record { status_is = status_told card bytes status is; keeps = keep is_known card bytes status good are is }
+    record {
+      status_is = status_told card bytes status is;
+      body = no_data files card good bytes are (stay is_known card bytes refl good are).0 status is;
+      keeps = keep is_known card bytes status good are is;
+    }

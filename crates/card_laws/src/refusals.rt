@@ -57,7 +57,7 @@ pub fn what_is_done_was_allowed()
 
 /// All that a card can be told has one list of conditions, each with its status, in the written order: the form, the class, the channel and
 /// the instruction, and then those of the command. A good card refuses a command with the status of the first that holds, and refuses
-/// none for which no condition holds. A refusal changes nothing, or the tries and the mark of the key that the command names.
+/// none for which no condition holds. A refusal has no data and changes nothing, or the tries and the mark of the key that the command names.
 pub fn cards_refuse_in_order()
     ensures order { RefusesInOrder }
     ensures keeps { ConditionsRefuse }
