@@ -1,7 +1,9 @@
 """Why a card refuses a command: which condition wasn't met, and of what there is no room."""
+import os
+import re
 import unittest
 
-import common  # noqa: F401 (the path)
+from common import TOOLS
 from uicc import decode, follow, lint, process, refusals, trace
 
 HEAD = """pin 01 31323334FFFFFFFF on 3132333435363738
@@ -132,6 +134,65 @@ class Shorts(unittest.TestCase):
             follower = follow.Follower()
             follower.current[0] = ((folder,) if folder else (), None)
             self.assertEqual(follower.target(decode.Apdu(bytes.fromhex(command))), path, command)
+
+
+class Tables(unittest.TestCase):
+    """The tables of refusals are those of the definitions, which have a list of conditions for each command."""
+    TOP = os.path.dirname(TOOLS)
+    LISTS = [os.path.join("crates", "card_laws", "specs", name) for name in ("Refusals.antt", "CardRefusals.antt")]
+    # of which command a list is, where its name doesn't say so
+    NAMED = {"DEACTIVATE FILE": "life_cycle", "ACTIVATE FILE": "life_cycle", "CREATE FILE": "create", "DELETE FILE": "delete",
+             "RESIZE FILE": "resize", "DELETE": "delete_applet"}
+    CODE = re.compile(r"\b(?:[0-9A-F]{4}|6[3C]C?X+)\b")
+
+    def page(self, *path):
+        with open(os.path.join(self.TOP, *path), encoding="utf-8") as text:
+            return text.read()
+
+    def setUp(self):
+        words = dict(re.findall(r"pub const (\w+): StatusWord = StatusWord\(0x(\w+)\);", self.page("crates", "uicc_types", "src", "answers.rt")))
+        self.words = {**words, "tries_left": "63CX", "other_length": "6CXX"}
+        text = "\n".join(self.page(path) for path in self.LISTS)
+        self.lists = {name: self.listed(body) for name, body in re.findall(r"^refusals_(?:of_)?(\w+) [^=\n]*=\n((?:    .*\n)+)", text, re.MULTILINE)}
+
+    def listed(self, body):
+        """The status words of a list, in order."""
+        codes = []
+        for line in body.splitlines():
+            word = re.search(r", ([A-Z_]+|tries_left|other_length)\b[^,]*\)$", line)
+            if word:
+                codes.append(self.words[word[1]])
+            elif "of_key " in line:
+                codes.append(self.words["REFERENCE_NOT_FOUND"])
+            elif "of_file " in line:
+                codes += [self.words["NO_CURRENT_FILE"]] + [self.words["FILE_NOT_FOUND"]] * (" None " not in line)
+        return codes
+
+    def told(self, page, heading):
+        """The rows of the table with this heading: the commands, and the status words of the last column."""
+        lines = self.page("docs", page).splitlines()
+        at = lines.index(heading) + 2
+        while lines[at].startswith("|"):
+            cells = lines[at].strip("| ").split(" | ")
+            yield from ((name, self.CODE.findall(cells[-1])) for name in cells[0].split(", "))
+            at += 1
+
+    def list_of(self, name):
+        return self.lists[self.NAMED.get(name, name.lower().replace(" ", "_"))]
+
+    def test_each_command(self):
+        rows = dict(self.told("SCRIPT.md", "| command | refused with, in this order |"))
+        first = rows.pop("each command")
+        self.assertEqual(first[:-2], self.lists["in_order"])
+        self.assertEqual({self.NAMED.get(name, name.lower().replace(" ", "_")) for name in rows} | {"in_order"}, set(self.lists))
+        for name, codes in rows.items():
+            with self.subTest(name=name):
+                self.assertEqual(first[-2:] + codes, self.list_of(name))
+
+    def test_commands_on_folders(self):
+        for name, codes in self.told("CARDS.md", "| command | does | refused, in this order |"):
+            with self.subTest(name=name):
+                self.assertEqual(["6A86", *codes], self.list_of(name))
 
 
 if __name__ == "__main__":

@@ -4,6 +4,7 @@ mod AllTriesLemmas
 mod AreEventsWantedLemmas
 mod AreOfKnownKindsLemmas
 mod BoxesLeftLemmas
+mod CardRefusalsLemmas
 mod EventsInLemmas
 mod FaultsAreSeenLemmas
 mod FcpAreObjectsLemmas

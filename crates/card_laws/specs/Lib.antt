@@ -1,5 +1,7 @@
 pub mod Acting
 pub mod Announcing
+pub mod CardRefusalLaws
+pub mod CardRefusals
 pub mod Commits
 pub mod FaultLaws
 pub mod Faults

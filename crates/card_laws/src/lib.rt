@@ -15,8 +15,8 @@ mod toolkit_laws;
 pub use faults::{faults_are_seen, power_lasts, runs_are_one, undisturbed_runs_show_no_fault};
 pub use guesses::guesses_are_bounded;
 pub use refusals::{
-    files_are_made_by_leave, the_first_condition_refuses, the_first_condition_refuses_on_files,
-    what_is_done_was_allowed,
+    cards_refuse_in_order, files_are_made_by_leave, the_first_condition_refuses,
+    the_first_condition_refuses_on_files, what_is_done_was_allowed,
 };
 pub use rereading::{what_is_put_is_read, what_is_told_is_read, what_stands_fits};
 pub use sending::{commands_are_numbered, events_are_asked_for};

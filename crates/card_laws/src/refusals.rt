@@ -7,8 +7,12 @@ ghost use Rattle.file_model.specs.Binaries.{binary_read, binary_updated, short_i
 ghost use Rattle.file_model.specs.LifeCycles.{file_activated, file_deactivated};
 ghost use Rattle.file_model.specs.Records.{increased, record_read, record_updated, searched, short_in_p2, short_to_increase};
 ghost use Rattle.file_model.specs.Selecting.{file_selected, status_told};
+ghost use Rattle.card_laws.specs.CardRefusalLaws.{ConditionsRefuse, RefusesInOrder};
 ghost use Rattle.card_laws.specs.RefusalLaws.{IsDoneByAdm, IsDoneByLeave, IsDoneByRule, IsRefusedFor, IsTreeRefusedFor};
 ghost use Rattle.card_laws.specs.Refusals.{refusals_of_create, refusals_of_delete, refusals_of_increase, refusals_of_life_cycle, refusals_of_read_binary, refusals_of_read_record, refusals_of_resize, refusals_of_search_record, refusals_of_select, refusals_of_status, refusals_of_update_binary, refusals_of_update_record};
+
+use crate::toolkit_laws::{answers_with_applets_are_lawful, cards_stay_good};
+use file_model::{commands_on_files_are_lawful, commands_on_trees_are_lawful};
 
 /// Each of these commands has a list of conditions with their status, and is refused with that of the first that holds; where none
 /// holds it is carried out.
@@ -50,3 +54,17 @@ pub fn what_is_done_was_allowed()
     ensures deactivate { IsDoneByRule Deactivate file_deactivated }
     ensures activate { IsDoneByRule Activate file_activated }
 {}
+
+/// All that a card can be told has one list of conditions, each with its status, in the written order: the form, the class, the channel and
+/// the instruction, and then those of the command. A good card refuses a command with the status of the first that holds, and refuses
+/// none for which no condition holds. A refusal has no data and changes nothing, or the tries and the mark of the key that the command names.
+pub fn cards_refuse_in_order()
+    ensures order { RefusesInOrder }
+    ensures keeps { ConditionsRefuse }
+{
+    // These calls are laws, and do nothing.
+    commands_on_files_are_lawful();
+    commands_on_trees_are_lawful();
+    cards_stay_good();
+    answers_with_applets_are_lawful();
+}
