@@ -11,7 +11,7 @@ use Rattle.uicc_run.specs.Causes.{IsSeenCause}
 use Rattle.uicc_run.specs.Endings.{HasFailed, status_for}
 use Rattle.uicc_run.specs.Headline.{Closes, Traces}
 use Rattle.uicc_run.specs.Loading.{AskToLoad, IsFixedCard, LoadsFrom, TracesLoad}
-use Rattle.uicc_run.specs.Opening.{RunsFrom}
+use Rattle.uicc_run.specs.Opening.{IsToRead, RunsFrom}
 use Rattle.uicc_run.specs.Pages.{AsksFor, IsNoUse, Shows}
 use Rattle.uicc_run.specs.Playing.{Given}
 use Rattle.uicc_run.specs.Running.{EndsByCard, EndsByScript}
@@ -35,16 +35,12 @@ pub record HasTrace (given : Given) (told : Bool) (words : List (List ℕ)) (see
   pub trace : Traces given told seen.left (record { held = held; taken = seen.taken; meter = meter; boxes = boxes }) seen.status
       (IsSeenCause words seen given.meter meter)
 
--- What is said of a script's lines over any memory, an image too, which tells nothing.
-pub record KeepsToScript (given : Given) (words : List (List ℕ)) (seen : Seen) : Type 0 where
-  pub has : HasTrace given false words seen
-  pub ends : EndsByScript given words seen
-  pub taken : IsTaken (MOST_BYTES + 1) given.text seen.left
-
--- so it is with whatever a run is given
-abbrev pub KeepsToScripts : List (List ℕ) → ℕ → World → World → Type 0
-KeepsToScripts words status before after =
-    (given : Given) → RunsFrom given false words before → KeepsToScript given words (seen status before after)
+-- What is said of a script's lines over any memory, an image too, which tells nothing: the trace, where the sink tells what it has taken; by
+-- the script alone, over any sink, which status comes; and how many bytes of it are taken at most.
+pub record KeepsToScripts (words : List (List ℕ)) (status : ℕ) (before after : World) : Type 0 where
+  pub trace : (given : Given) → RunsFrom given false words before → HasTrace given false words (seen status before after)
+  pub script : (given : Given) → IsToRead given words before → EndsByScript given words (seen status before after)
+  pub taken : (text : List ℕ) → before.left ≡ Some text → IsTaken (MOST_BYTES + 1) text after.left
 
 -- What is said of it over a memory whose bytes were told, so that a card that can't be opened is refused, with why, and only then.
 pub record HasRun (given : Given) (words : List (List ℕ)) (seen : Seen) : Type 0 where
