@@ -22,11 +22,11 @@ use Rattle.uicc_run.specs.declared.endings.Ending.TheVariants.{Usage, EepromFail
 
 -- ---- which scripts end with which status
 
--- By the script alone, over any memory and any sink. Where neither the source nor the sink failed and the run doesn't end for its memory, a
--- good script is carried out to its end, and another one up to its first bad line, or the first for which there is no room, whose number is
--- then the last of the trace; if there is memory to begin with, and the card can be opened, of which nothing is known over a memory that tells
--- nothing. Status 0 comes only for a good script, which is read to its end then; 2 and 8 only so; and 7 only where `start` comes after good
--- lines.
+-- By the script alone, over any memory and any sink. Where neither the source nor the sink failed and the run doesn't end for its memory: a
+-- good script ends with 0; another one with 2 for its first bad line, or with 8 for the first for which there is no room, and the trace then
+-- ends with its number; or either for want of memory, with 5; or, where `start` comes after good lines, with 7, of which no more is known by the
+-- script alone. Status 0 comes only for a good script, which is read to its end then; 2 and 8 only so; and 7 only where `start` comes after
+-- good lines.
 pub record EndsByScript (given : Given) (words : List (List ℕ)) (seen : Seen) : Type 0 where
   pub good_over_any : AskForRun words → IsUndisturbed seen → IsGoodScript given → (seen.status ≡ 0) ⊎ (seen.status ≡ 5) ⊎ (seen.status ≡ 7)
   pub bad_over_any : AskForRun words → IsUndisturbed seen → (found : LineList) → IsFirstBad given found
@@ -84,10 +84,10 @@ pub record HasCauses (status : ℕ) (before after : World) : Type 0 where
 
 -- ---- the three parts of what `run` owes
 
--- What was carried out, and what the sink has of it. Of a script for a card, be it made, opened or served by a handset: where script, sink and
--- memory tell their bytes the trace is that of the abstract card, and the memory holds at the end what that card does; over any memory, also
--- one that tells nothing, as an image, it shows what the card's power allows. Where sink and memory tell theirs: a long run comes to the counts
--- of a trace that its lines have on its card. Where the script and the sink do: of the channels of a terminal the trace is that of the script's
+-- What was carried out, and what the sink has of it. Of a script for a card, be it made, opened or served by a handset, where script and sink
+-- tell their bytes: where the memory does too, the trace is that of the abstract card, and the memory holds at the end what that card does; over
+-- a memory that tells none, as an image, it shows what the card's power allows. Where sink and memory tell theirs: a long run comes to the
+-- counts of a trace that its lines have on its card. Where the script does: of the channels of a terminal the trace is that of the script's
 -- lines, and on each channel the card got the first of the bytes that it gave, in order.
 pub record HasTraces (words : List (List ℕ)) (status : ℕ) (before after : World) (MemoryIsSame BoxesAreSame : Type 0) : Type 0 where
   pub trace : (given : Given) (told : Bool) → RunsFrom given told words before
