@@ -178,14 +178,14 @@ pub record EndsLoad (ending : Ending) (memory memory_then : Meter) (MemoryIsSame
   pub boxes : IsUnopened ending → BoxesAreSame
   pub memory_cause : status_for ending ≡ 6 → HasFailed memory memory_then
 
--- A long run before its last line: it writes nothing and reads nothing. Its memory tells its bytes; where there was none for the rest of
--- it, it is as it was, or holds just the card of such a run.
+-- A long run before its last line: it writes nothing and reads nothing. Where there was no memory for the rest of it, the device is as it was,
+-- or holds just the card of such a run.
 pub record LoadsUntold (words : List (List ℕ)) (ending : Ending) (before after : World) (ScriptIsSame TraceIsSame MemoryIsSame : Type 0) : Type 0 where
-  pub load : (given : Given) (start count : ℕ) (taken : Option (List ℕ)) → LoadsFrom given start count words before
-      → ComesToLoad given start count ending (record (left_in given.pages after) { taken = taken })
-  pub load_unwritten : (given : Given) (start count : ℕ) → LoadsFrom given start count words before → TraceIsSame
+  pub load : (given : Given) (told : Bool) (start count : ℕ) (taken : Option (List ℕ)) → LoadsFrom given told start count words before
+      → ComesToLoad given told start count ending (record (left_in given.pages after) { taken = taken })
+  pub load_unwritten : (start count : ℕ) → AskToLoad words start count → TraceIsSame
   pub load_unread : (start count : ℕ) → AskToLoad words start count → ScriptIsSame
-  pub load_no_memory : (given : Given) (start count : ℕ) → LoadsFrom given start count words before → ending ≡ NoMemory
+  pub load_no_memory : (given : Given) (told : Bool) (start count : ℕ) → LoadsFrom given told start count words before → ending ≡ NoMemory
       → MemoryIsSame ⊎ HoldsFixed given (content_in given.pages after.contents)
 
 -- the same of a store with this mark, by the card that was described, if one was

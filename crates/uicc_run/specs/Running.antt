@@ -1,5 +1,5 @@
 -- What a run owes its caller, by its words, its status and what is seen of it before and after it. Each field is a fact of its own.
-use Rattle.std.specs.Prelude.{◌≡◌, ◌⊎◌, ◌+◌, ◌≤◌, ℕ, Bool, true, List, [], Option, Some, is_some}
+use Rattle.std.specs.Prelude.{◌≡◌, ◌⊎◌, ◌+◌, ◌≤◌, ℕ, Bool, true, false, List, [], Option, Some, is_some}
 use Rattle.std.specs.Io.KnownBytes.{append_known}
 use Rattle.uicc_types.specs.Counts.{CountsFailure, Rose}
 use Rattle.byte_streams.specs.Lines.{LineList}
@@ -49,10 +49,11 @@ pub record EndsByCard (given : Given) (words : List (List ℕ)) (seen : Seen) : 
       → ((seen.status ≡ 7) × TellsWhy given why seen.taken) ⊎ (seen.status ≡ 5)
   pub no_card_only : seen.status ≡ 7 → RefusesAndTells given seen.taken
 
--- A long run is carried out to its end, where each of its rows has its box and nothing fails.
+-- A long run is carried out to its end, where each of its rows has its box and nothing fails, if there is memory; over a memory that tells
+-- nothing it may end with 7.
 pub record LoadsToEnd (words : List (List ℕ)) (status : ℕ) (before after : World) : Type 0 where
-  pub load_complete : (given : Given) (start count : ℕ) (card : Persistent) → LoadsFrom given start count words before
-      → IsUndisturbed (seen status before after) → IsFixedCard given.boxes card → (status ≡ 0) ⊎ (status ≡ 5)
+  pub load_complete : (given : Given) (told : Bool) (start count : ℕ) (card : Persistent) → LoadsFrom given told start count words before
+      → IsUndisturbed (seen status before after) → IsFixedCard given.boxes card → (status ≡ 0) ⊎ (status ≡ 5) ⊎ ((status ≡ 7) × (told ≡ false))
 
 -- Statuses of the channels of a terminal: 0 to 5, of which 0 and 2 come as for a card.
 pub record ServesToEnd (words : List (List ℕ)) (status : ℕ) (before after : World) : Type 0 where
@@ -86,14 +87,15 @@ pub record HasCauses (status : ℕ) (before after : World) : Type 0 where
 
 -- What was carried out, and what the sink has of it. Of a script for a card, be it made, opened or served by a handset, where script and sink
 -- tell their bytes: where the memory does too, the trace is that of the abstract card, and the memory holds at the end what that card does; over
--- a memory that tells none, as an image, it shows what the card's power allows. Where sink and memory tell theirs: a long run comes to the
--- counts of a trace that its lines have on its card. Where the script does: of the channels of a terminal the trace is that of the script's
--- lines, and on each channel the card got the first of the bytes that it gave, in order.
+-- a memory that tells none, as an image, it shows what the card's power allows. A long run comes to the counts of a trace that its lines have
+-- on its card, or, over a memory that tells nothing, of one that they have on a card with power. Where the script tells its bytes: of the
+-- channels of a terminal the trace is that of the script's lines, and on each channel the card got the first of the bytes that it gave, in
+-- order.
 pub record HasTraces (words : List (List ℕ)) (status : ℕ) (before after : World) (MemoryIsSame BoxesAreSame : Type 0) : Type 0 where
   pub trace : (given : Given) (told : Bool) → RunsFrom given told words before
       → Traces given told after.left (left_in given.pages after) status (IsCaused given words before after MemoryIsSame BoxesAreSame)
-  pub load : (given : Given) (start count : ℕ) → LoadsFrom given start count words before
-      → TracesLoad given start count (left_in given.pages after) status (IsLoadCaused given before after MemoryIsSame BoxesAreSame)
+  pub load : (given : Given) (told : Bool) (start count : ℕ) → LoadsFrom given told start count words before
+      → TracesLoad given told start count before.taken (left_in given.pages after) status (IsLoadCaused given before after MemoryIsSame BoxesAreSame)
   pub bip : (text : List ℕ) → AskForBip words → before.left ≡ Some text → TracesBip text before.taken (seen status before after)
 
 -- Which scripts end with which status: over any memory and any sink, and by what the memory holds, where both tell their bytes. That words in
