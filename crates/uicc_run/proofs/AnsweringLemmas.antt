@@ -40,9 +40,9 @@ module _ {MemoryIsSame BoxesAreSame : Type 0} (given : Given) (status : ℕ) (be
     closes = traces.closes;
   }
 
-  pub load_gone : (start count : ℕ) → before.meter ≡ given.meter → TracesLoad given start count (left_in given.pages after) status (IsLoadCaused given before after MemoryIsSame BoxesAreSame)
-      → TracesLoad given start count (left_in given.pages after) status (λ ending. status_for ending ≡ 6 → HasFailed given.meter after.meter)
-  load_gone start count was traces = record {
+  pub load_gone : (told : Bool) (start count : ℕ) → before.meter ≡ given.meter → TracesLoad given told start count before.taken (left_in given.pages after) status (IsLoadCaused given before after MemoryIsSame BoxesAreSame)
+      → TracesLoad given told start count before.taken (left_in given.pages after) status (λ ending. status_for ending ≡ 6 → HasFailed given.meter after.meter)
+  load_gone told start count was traces = record {
     ending = traces.ending;
     cause = λ six. subst (λ m. HasFailed m after.meter) was (traces.cause.eeprom_failed six);
     comes = traces.comes;
@@ -143,9 +143,8 @@ module _ (seen : Seen) (before : Option (List ℕ)) where
   has_no_device given words closed sunk begun unread closes =
       unbegun_run given words seen (wanting_status seen closed) (λ asks sound. wants_so seen closed sunk sound) (no_device given true words begun unread closes)
 
-  pub loads_no_device : (given : Given) (start count : ℕ) → IsClosed NoMemory seen → HasSunk NoMemory seen → before ≡ Some given.before
-      → Closes NoMemory before seen.taken seen.status → HasLoaded given start count seen
-  loads_no_device given start count closed sunk begun closes = record {
+  pub loads_no_device : (given : Given) (told : Bool) (start count : ℕ) → IsClosed NoMemory seen → HasSunk NoMemory seen → Closes NoMemory before seen.taken seen.status → HasLoaded given told start count before seen
+  loads_no_device given told start count closed sunk closes = record {
     held = result_ok given.memory;
     meter = given.meter;
     boxes = given.boxes;
@@ -153,9 +152,9 @@ module _ (seen : Seen) (before : Option (List ℕ)) where
       ending = NoMemory;
       cause = λ is. absurd (omega arith);
       comes = still given.meter;
-      closes = subst (λ b. Closes NoMemory b seen.taken seen.status) begun closes;
+      closes = closes;
     };
-    complete = λ card sound fixed. inr (wants_so seen closed sunk sound);
+    complete = λ card sound fixed. inr (inl (wants_so seen closed sunk sound));
   }
 
   pub no_words : (given : Given) (told : Bool) (words : List (List ℕ)) → (AskForRun words → ⊥) → before ≡ Some given.before → Closes Usage before seen.taken seen.status → HasTrace given told words seen
@@ -168,8 +167,8 @@ module _ (seen : Seen) (before : Option (List ℕ)) where
       → Closes Usage before seen.taken seen.status → HasRun given words seen
   has_no_words given words none closed begun closes = unbegun_run given words seen (usage_status seen closed) (λ asks sound. absurd (none asks)) (no_words given true words none begun closes)
 
-pub loads_run : (given : Given) (start count : ℕ) (words : List (List ℕ)) (before : World) → LoadsFrom given start count words before → AskForRun words
-loads_run given start count words before from = (record { mode = Load start count; devices = from.devices }, from.words_are)
+pub loads_run : (given : Given) (told : Bool) (start count : ℕ) (words : List (List ℕ)) (before : World) → LoadsFrom given told start count words before → AskForRun words
+loads_run given told start count words before from = (record { mode = Load start count; devices = from.devices }, from.words_are)
 
 -- a run is made over some devices
 pub asks_for_devices : (words : List (List ℕ)) → ((found : Devices) → IsMadeFor words found → ⊥) → AskForRun words → ⊥
@@ -193,7 +192,7 @@ size_given given words made size found same asked =
     let wish = asked found.so.asked found.so.words_are in
     ap size_of wish.store_is ∙ ap (λ d. size_of d.pages) (sym found.so.devices) ∙ sym same
 
-pub load_size_given : (given : Given) (start count : ℕ) (words : List (List ℕ)) (made : Devices) (size : ℕ) (before : World) → IsOnly (IsMadeFor words) made → size ≡ size_of made.pages
-    → LoadsFrom given start count words before → size_of given.pages ≡ size
-load_size_given given start count words made size before found same from =
+pub load_size_given : (given : Given) (told : Bool) (start count : ℕ) (words : List (List ℕ)) (made : Devices) (size : ℕ) (before : World) → IsOnly (IsMadeFor words) made → size ≡ size_of made.pages
+    → LoadsFrom given told start count words before → size_of given.pages ≡ size
+load_size_given given told start count words made size before found same from =
     ap size_of from.store_is ∙ ap (λ d. size_of d.pages) (made_alone words made (record { mode = Load start count; devices = from.devices }) found from.words_are) ∙ sym same

@@ -63,15 +63,15 @@ module _ (words : List (List ℕ)) (status : ℕ) (before after : World) (ending
     no_card_only = no_card_only given from;
   }
 
-  pub statuses_so : ((given : Given) (start count : ℕ) → LoadsFrom given start count words before → (leaves : Leaves) × ComesToLoad given start count ending leaves) → ServesToEnd words status before after → HasStatuses words status before after
+  pub statuses_so : ((given : Given) (told : Bool) (start count : ℕ) → LoadsFrom given told start count words before → (leaves : Leaves) × ComesToLoad given told start count ending leaves) → ServesToEnd words status before after → HasStatuses words status before after
   statuses_so loads channels = record {
     script = by_script;
     card = by_card;
     usage = usage;
     load = record {
-      load_complete = λ given start count card from sound fixed.
-          let loaded = loads given start count from in
-          load_completes given start count card ending loaded.0 status fixed loaded.1 is_its (λ four. sound.sink_sound (causes.sink_failed.rose four)) sound.memory_sound;
+      load_complete = λ given told start count card from sound fixed.
+          let loaded = loads given told start count from in
+          load_completes given told start count card ending loaded.0 status fixed loaded.1 is_its (λ four. sound.sink_sound (causes.sink_failed.rose four)) sound.memory_sound;
     };
     bip = channels;
     causes = causes;

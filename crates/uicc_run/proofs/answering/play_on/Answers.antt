@@ -40,4 +40,4 @@ pub returns-in-None-clause-load : goal.returns-in-None-clause-load
 returns-in-None-clause-load g c = λ none given start count from.
     let over = outside g.R.Source g.W.Sink c.args.script.now c.args.output.now (minds_of g.B.Applet.mind c.args.cast.items) in
     c.play_on_bench.ensures.load given start count
-    (subst (λ size. LoadsFrom given start count (map string_bytes c.args.words.now) (over_bench size over)) (load_size_given given start count _ c.args.made _ _ c.requires.used c.device_size-size.ensures from) from)
+    (subst (λ size. LoadsFrom given true start count (map string_bytes c.args.words.now) (over_bench size over)) (load_size_given given true start count _ c.args.made _ _ c.requires.used c.device_size-size.ensures from) from)

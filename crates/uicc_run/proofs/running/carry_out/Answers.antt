@@ -116,55 +116,55 @@ returns-in_default-clause-usage g c = record {
 
 pub returns-in_default-clause-load : goal.returns-in_default-clause-load
 returns-in_default-clause-load g c = record {
-  load = λ given start count taken from. absurd (c.in_default.ensures (record { mode = Load start count; devices = from.devices }) from.words_are);
-  load_unwritten = λ given start count from. absurd (c.in_default.ensures (record { mode = Load start count; devices = from.devices }) from.words_are);
+  load = λ given told start count taken from. absurd (c.in_default.ensures (record { mode = Load start count; devices = from.devices }) from.words_are);
+  load_unwritten = λ start count asks. absurd (c.in_default.ensures (record { mode = Load start count; devices = asks.0 }) asks.1);
   load_unread = λ start count asks. absurd (c.in_default.ensures (record { mode = Load start count; devices = asks.0 }) asks.1);
-  load_no_memory = λ given start count from wants. absurd (c.in_default.ensures (record { mode = Load start count; devices = from.devices }) from.words_are);
+  load_no_memory = λ given told start count from wants. absurd (c.in_default.ensures (record { mode = Load start count; devices = from.devices }) from.words_are);
 }
 
 pub returns-in-Ok-clause-load : goal.returns-in-Ok-clause-load
 returns-in-Ok-clause-load g c = record {
-  load = λ given start count taken from. absurd (not_load start count from.devices c.in-Some.asked (c.in-Some.ensures.only (record { mode = Load start count; devices = from.devices }) from.words_are) c.in-Play.is);
-  load_unwritten = λ given start count from. absurd (not_load start count from.devices c.in-Some.asked (c.in-Some.ensures.only (record { mode = Load start count; devices = from.devices }) from.words_are) c.in-Play.is);
+  load = λ given told start count taken from. absurd (not_load start count from.devices c.in-Some.asked (c.in-Some.ensures.only (record { mode = Load start count; devices = from.devices }) from.words_are) c.in-Play.is);
+  load_unwritten = λ start count asks. absurd (not_load start count asks.0 c.in-Some.asked (c.in-Some.ensures.only (record { mode = Load start count; devices = asks.0 }) asks.1) c.in-Play.is);
   load_unread = λ start count asks. absurd (not_load start count asks.0 c.in-Some.asked (c.in-Some.ensures.only (record { mode = Load start count; devices = asks.0 }) asks.1) c.in-Play.is);
-  load_no_memory = λ given start count from wants. absurd (not_load start count from.devices c.in-Some.asked (c.in-Some.ensures.only (record { mode = Load start count; devices = from.devices }) from.words_are) c.in-Play.is);
+  load_no_memory = λ given told start count from wants. absurd (not_load start count from.devices c.in-Some.asked (c.in-Some.ensures.only (record { mode = Load start count; devices = from.devices }) from.words_are) c.in-Play.is);
 }
 
 pub returns-in-Err-clause-load : goal.returns-in-Err-clause-load
 returns-in-Err-clause-load g c = record {
-  load = λ given start count taken from. absurd (not_load start count from.devices c.in-Some.asked (c.in-Some.ensures.only (record { mode = Load start count; devices = from.devices }) from.words_are) c.in-Play.is);
-  load_unwritten = λ given start count from. absurd (not_load start count from.devices c.in-Some.asked (c.in-Some.ensures.only (record { mode = Load start count; devices = from.devices }) from.words_are) c.in-Play.is);
+  load = λ given told start count taken from. absurd (not_load start count from.devices c.in-Some.asked (c.in-Some.ensures.only (record { mode = Load start count; devices = from.devices }) from.words_are) c.in-Play.is);
+  load_unwritten = λ start count asks. absurd (not_load start count asks.0 c.in-Some.asked (c.in-Some.ensures.only (record { mode = Load start count; devices = asks.0 }) asks.1) c.in-Play.is);
   load_unread = λ start count asks. absurd (not_load start count asks.0 c.in-Some.asked (c.in-Some.ensures.only (record { mode = Load start count; devices = asks.0 }) asks.1) c.in-Play.is);
-  load_no_memory = λ given start count from wants. absurd (not_load start count from.devices c.in-Some.asked (c.in-Some.ensures.only (record { mode = Load start count; devices = from.devices }) from.words_are) c.in-Play.is);
+  load_no_memory = λ given told start count from wants. absurd (not_load start count from.devices c.in-Some.asked (c.in-Some.ensures.only (record { mode = Load start count; devices = from.devices }) from.words_are) c.in-Play.is);
 }
 
 pub returns-in-Open-clause-load : goal.returns-in-Open-clause-load
 returns-in-Open-clause-load g c = record {
-  load = λ given start count taken from. absurd (not_load_open start count from.devices c.in-Some.asked (c.in-Some.ensures.only (record { mode = Load start count; devices = from.devices }) from.words_are) c.in-Open.is);
-  load_unwritten = λ given start count from. absurd (not_load_open start count from.devices c.in-Some.asked (c.in-Some.ensures.only (record { mode = Load start count; devices = from.devices }) from.words_are) c.in-Open.is);
+  load = λ given told start count taken from. absurd (not_load_open start count from.devices c.in-Some.asked (c.in-Some.ensures.only (record { mode = Load start count; devices = from.devices }) from.words_are) c.in-Open.is);
+  load_unwritten = λ start count asks. absurd (not_load_open start count asks.0 c.in-Some.asked (c.in-Some.ensures.only (record { mode = Load start count; devices = asks.0 }) asks.1) c.in-Open.is);
   load_unread = λ start count asks. absurd (not_load_open start count asks.0 c.in-Some.asked (c.in-Some.ensures.only (record { mode = Load start count; devices = asks.0 }) asks.1) c.in-Open.is);
-  load_no_memory = λ given start count from wants. absurd (not_load_open start count from.devices c.in-Some.asked (c.in-Some.ensures.only (record { mode = Load start count; devices = from.devices }) from.words_are) c.in-Open.is);
+  load_no_memory = λ given told start count from wants. absurd (not_load_open start count from.devices c.in-Some.asked (c.in-Some.ensures.only (record { mode = Load start count; devices = from.devices }) from.words_are) c.in-Open.is);
 }
 
 pub returns-in-Load-clause-load : goal.returns-in-Load-clause-load
 returns-in-Load-clause-load g c = record {
-  load = λ given start count taken from.
+  load = λ given told start count taken from.
       let same = c.in-Some.ensures.only (record { mode = Load start count; devices = from.devices }) from.words_are in
-      the_load given start count c.in-Load.start c.in-Load.count from.devices c.in-Some.asked c.load.result.0 _ same c.in-Load.is
-      (c.load.ensures.comes given _ taken (from.store_is ∙ ap (λ r. r.devices.pages) same) from.others_are);
-  load_unwritten = λ given start count from. refl;
+      the_load given told start count c.in-Load.start c.in-Load.count from.devices c.in-Some.asked c.load.result.0 _ same c.in-Load.is
+      (c.load.ensures.comes given told taken (from.store_is ∙ ap (λ r. r.devices.pages) same) from.over);
+  load_unwritten = λ start count asks. refl;
   load_unread = λ start count asks. refl;
-  load_no_memory = λ given start count from wants.
+  load_no_memory = λ given told start count from wants.
       let same = c.in-Some.ensures.only (record { mode = Load start count; devices = from.devices }) from.words_are in
-      c.load.ensures.no_memory given (from.store_is ∙ ap (λ r. r.devices.pages) same) from.others_are.boxes_are wants;
+      c.load.ensures.no_memory given (from.store_is ∙ ap (λ r. r.devices.pages) same) from.over.boxes_are wants;
 }
 
 pub returns-in-Bip-clause-load : goal.returns-in-Bip-clause-load
 returns-in-Bip-clause-load g c = record {
-  load = λ given start count taken from. absurd (not_load_bip start count from.devices c.in-Some.asked (c.in-Some.ensures.only (record { mode = Load start count; devices = from.devices }) from.words_are) c.in-Bip.is);
-  load_unwritten = λ given start count from. absurd (not_load_bip start count from.devices c.in-Some.asked (c.in-Some.ensures.only (record { mode = Load start count; devices = from.devices }) from.words_are) c.in-Bip.is);
+  load = λ given told start count taken from. absurd (not_load_bip start count from.devices c.in-Some.asked (c.in-Some.ensures.only (record { mode = Load start count; devices = from.devices }) from.words_are) c.in-Bip.is);
+  load_unwritten = λ start count asks. absurd (not_load_bip start count asks.0 c.in-Some.asked (c.in-Some.ensures.only (record { mode = Load start count; devices = asks.0 }) asks.1) c.in-Bip.is);
   load_unread = λ start count asks. absurd (not_load_bip start count asks.0 c.in-Some.asked (c.in-Some.ensures.only (record { mode = Load start count; devices = asks.0 }) asks.1) c.in-Bip.is);
-  load_no_memory = λ given start count from wants. inl refl;
+  load_no_memory = λ given told start count from wants. inl refl;
 }
 
 -- ---- the channels of a terminal

@@ -63,23 +63,23 @@ returns g c =
           comes = c.carry_out-ending.ensures.comes given told from;
           closes = c.close.ensures.closed;
         };
-        load = λ given start count from.
-            let unwritten = c.carry_out-ending.ensures.load.load_unwritten given start count from in
+        load = λ given told start count from.
+            let unwritten = c.carry_out-ending.ensures.load.load_unwritten start count (from.devices, from.words_are) in
             record {
               ending = ending;
               cause = record {
                 eeprom_failed = c.carry_out-ending.ensures.ends.memory_cause;
                 untouched = c.carry_out-ending.ensures.ends.untouched;
                 boxes_kept = c.carry_out-ending.ensures.ends.boxes;
-                no_memory = c.carry_out-ending.ensures.load.load_no_memory given start count from;
+                no_memory = c.carry_out-ending.ensures.load.load_no_memory given told start count from;
               };
-              comes = c.carry_out-ending.ensures.load.load given start count after.taken from;
-              closes = subst (λ t. Closes ending t after.taken status) (ap g.W.Sink.taken unwritten ∙ from.others_are.before_is) c.close.ensures.closed;
+              comes = c.carry_out-ending.ensures.load.load given told start count after.taken from;
+              closes = subst (λ t. Closes ending t after.taken status) (ap g.W.Sink.taken unwritten) c.close.ensures.closed;
             };
         bip = bip;
       };
       statuses = statuses_so words status before after ending put c.close.ensures.closed c.close.ensures.status c.carry_out-ending.ensures.reads c.carry_out-ending.ensures.comes
-          c.carry_out-ending.ensures.usage.usage usage causes (λ given start count from. (_, c.carry_out-ending.ensures.load.load given start count after.taken from))
+          c.carry_out-ending.ensures.usage.usage usage causes (λ given told start count from. (_, c.carry_out-ending.ensures.load.load given told start count after.taken from))
           (serves_to_end words status before after bip (λ asks. status_low _ status c.close.ensures.status (c.carry_out-ending.ensures.bip asks).low) causes.source_failed.rose causes.sink_failed.rose);
       stays = record {
         untouched = grind (arith, common_steps);
