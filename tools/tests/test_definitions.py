@@ -136,6 +136,27 @@ macro_rules! made {
         (("byte_streams", "Lines", "LineList"), ("crates/phone_runs/specs/Lines.antt", "AreServed", "")),
     ]
 
+    # what stands with a definition, by its name
+    TEXTS = {"is_off": ["-- one line", "-- and another", "abbrev pub is_off : Bool", "is_off = true"], "bare": ["unfoldable pub bare : ℕ"],
+             "IsRun": ["pub record IsRun (a : ℕ) : Type 0 where", "  pub given : ℕ"], "◌>>=◌": ["abbrev pub ◌>>=◌ : ℕ"]}
+    # definitions that a clause of a run or of the program reaches, and some that only other clauses and proofs cite
+    REACHED = [("uicc_run", "Running", "RunsAsAsked"), ("card_model", "Answers", "answer"), ("handset_model", "Legal", "IsLegal"),
+               ("boxed_applets", "Casts", "program_boxes")]
+    OTHERS = [("uicc_run", "Making", "IsMade"), ("script_reader", "Behind", "LinesReadTo"), ("card_core", "Parts", "CardParts")]
+
+    def test_text_of(self):
+        named = {one.name: one for one in sources.declared_by_spec("a", "crates/a/specs/B.antt", self.SPEC)}
+        with mock.patch.object(sources, "lines_of", return_value=self.SPEC):
+            for name, wanted in self.TEXTS.items():
+                self.assertEqual(sources.text_of(named[name]), wanted)
+
+    def test_of_theorem(self):
+        found = {(one.crate, one.home, one.name) for one in sources.of_theorem()}
+        for one in self.REACHED:
+            self.assertIn(one, found)
+        for one in self.OTHERS:
+            self.assertNotIn(one, found)
+
     def test_citations(self):
         cited = sources.citations()
         for key, place in self.CITED:

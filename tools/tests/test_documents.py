@@ -193,11 +193,16 @@ class Trials(unittest.TestCase):
         ("`tools/lint [--phone | --open] SCRIPT..` `tools/lint --x`", [":1: tools/lint knows no --x"]),
         ("[a](none.md)\n[b](#there)\n[c](#not-there)\n# There", [":1: the link none.md", ":3: the link #not-there"]),
         ("[a](https://example.org)", []),
-        ("| `toolkit_model`: `Timers`, `lib` | 0 |\n| together | 0 |", [":1: 0 lines are told, and", ":2: 0 lines are told, and"]),
+        ("| `toolkit_model`: `Order`, `lib`; `uicc_run`: `Running` | 0 |\n| together | 0 |", [":1: 0 lines are told, and", ":2: 0 lines are told, and"]),
     ]
     # how many lines a page has, and whether that is its length
     LENGTHS = [("crates/uicc_types/README.md", 4, False), ("crates/uicc_types/README.md", 5, True), ("README.md", documents.LENGTHS["README.md"][1] + 1, False),
                ("docs/CASES.md", 1000, True)]
+
+    def test_unlisted(self):
+        """A module that has something to read and stands in no row."""
+        self.assertEqual(documents.unlisted(documents.lines_to_read().keys() - {("uicc_run", "Running")}), [("uicc_run", "Running")])
+        self.assertNotIn(("uicc_run", "Making"), documents.lines_to_read())
 
     def setUp(self):
         self.folder = self.enterContext(tempfile.TemporaryDirectory())

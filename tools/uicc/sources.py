@@ -23,6 +23,9 @@ USE = re.compile(r"^\s*(pub |ghost )?use Rattle\.([\w.]+?)(?:\.\{(.*)\})?(?: as 
 WORD = re.compile(r"[A-Za-z_]\w*")
 CITED = ("record", "data", "definition", "struct", "enum", "trait", "const")
 
+# the functions whose clauses are the theorem: a run, what the program answers, and the program itself
+THEOREM = (("uicc_run", "run"), ("uicc_run", "answer"), ("uicc_program", "serve"))
+
 
 @dataclasses.dataclass(frozen=True)
 class Declared:
@@ -219,3 +222,35 @@ def citations():
                     if key in known and item and item != word:
                         found.setdefault(key, {})[(path, item, clause)] = True
     return {key: list(where) for key, where in found.items()}
+
+
+@functools.cache
+def of_theorem(functions=THEOREM):
+    """The definitions of specs/ that the clauses of these functions, each a crate and a name, cite, and those that these cite in turn."""
+    cites, todo = {}, []
+    for key, where in citations().items():
+        for path, item, clause in where:
+            crate, folder = path.split("/")[1:3]
+            if folder == "specs":
+                cites.setdefault((crate, module_of(path), item), []).append(key)
+            elif clause and (crate, item) in functions:
+                todo.append(key)
+    found = set()
+    while todo:
+        key = todo.pop()
+        if key not in found:
+            found.add(key)
+            todo += cites.get(key, [])
+    return [one for one in definitions() if one.home != "declared" and (one.crate, one.home, one.name) in found]
+
+
+def text_of(one):
+    """The lines of a definition of specs/, with the comment above it."""
+    lines = lines_of(one.path)
+    first = one.line - 1
+    while first and lines[first - 1].strip().startswith("--") and not lines[first - 1].strip().startswith("-- ----"):
+        first -= 1
+    last = one.line
+    while last < len(lines) and lines[last].strip():
+        last += 1
+    return lines[first:last]

@@ -168,7 +168,6 @@ ends_serving text opening given script left left_then end phone parts taken wait
   legal = legal given.first serving.at.card serving.log serving.at.run serving.rests;
   of_card = of_the_card given.first serving.at.card serving.log serving.at.run;
   cause = cause serving.found serving.follows;
-  seen = serving.at.seen;
   stands = stands_seen parts taken waiting serving.at.card (shown serving.log) serving.at.seen serving.at.rests;
   written = serving.at.written;
   counted = serving.at.counted;

@@ -16,7 +16,7 @@ use Rattle.card_model.specs.Runs.{plan_given}
 use Rattle.handset_model.specs.Legal.{IsLegal}
 use Rattle.handset_model.specs.Rules.{asked}
 use Rattle.handset_model.specs.declared.known.Duty.TheVariants.{Rest}
-use Rattle.run_steps.specs.Stepping.{IsSeen, Moment, Stands}
+use Rattle.run_steps.specs.Stepping.{Moment, Stands}
 use Rattle.run_steps.specs.Views.{CardView, RunShows}
 use Rattle.run_steps.specs.declared.steps.StepEnd.{StepEnd}
 use Rattle.run_steps.specs.declared.steps.StepEnd.TheVariants as step_end
@@ -58,8 +58,10 @@ told_back played = reverse (phone_lines played)
 
 -- ---- how it ends
 
--- The lines ended so: all of them were carried out, the trace is one that the rules of the handset ask for by them, and the sink has taken
--- it. The device has counted what is seen of the card in it.
+-- No more lines are carried out, for this cause. Those that were read after `start` were, each in its place, and the handset rests after them.
+-- What happened is a run of the handset and the card; its trace is one that the rules of the handset ask for by these lines, and the sink has
+-- taken all of it. The device counted just what is seen of the card in it, and was given just the plans that were due. Where the card itself is
+-- known, the memory stands for what it holds.
 pub record PhoneEnds (text : List ℕ) (opening : List ScriptLine) (given : Beginning) (left : Option (List ℕ)) (end : PlayEnd) (now : Moment) : Type 0 where
   pub found : LineList
   pub played : List ScriptLine
@@ -72,14 +74,13 @@ pub record PhoneEnds (text : List ℕ) (opening : List ScriptLine) (given : Begi
   pub legal : IsLegal (heard (log_lines log)) (trace log)
   pub of_card : RunShows given.first (steps log) (shown log) card
   pub cause : StopsReading may_be_heard text found left end
-  pub seen : IsSeen card now
   pub stands : Stands card (shown log) now
   pub written : now.taken ≡ Some (given.before ++ entries_text (trace log))
   pub counted : IsCounted given.meter now.meter (plan_given (steps log)) (shown log)
 
--- The run ended while this was carried out which the lines told the handset, of which the last is the one that ended it; or in
--- the handset's start, before any line. What the sink has taken is the beginning of a trace that the rules of the handset ask for, and that
--- trace without its notes is that of a run of the card itself, whose memory stands for what it holds at its end.
+-- The run ended in what the handset did by these lines, or in its start, before any line: the sink failed, or the memory in a reset. What the
+-- sink has taken is the beginning of a trace that the rules of the handset ask for. Where the card itself is known, that trace without its
+-- notes, and without the line of a command that the card was not sent, is that of a run of it, and the memory stands for what it holds then.
 pub record StopsAmid (text : List ℕ) (opening : List ScriptLine) (given : Beginning) (end : StepEnd) (now : Moment) : Type 0 where
   pub found : LineList
   pub more : LineList

@@ -61,8 +61,9 @@ Stands card shown now = Known (λ machine. CardStands machine shown now) (λ on.
 
 -- ---- a step
 
--- What a step has shown, and how the card is seen then, where the sink fails in the last line of it. Where that is the line of
--- a command, the card was sent nothing and is as it was, and no plan was set.
+-- What a step was to show up to the line in which the sink fails, that line included; which plans were set, of those that were due; and how
+-- the card is seen then. Of a command it is the command's own line, with the card as it was and no plan set, or all that the command shows; of a
+-- reset all that it shows, be the memory's failure the end of it. The step of a plan shows nothing, so the sink fails in none.
 abbrev pub BreaksOff : CardView → Step → List TraceItem → List Plan → List Plan → CardView → Type 0
 BreaksOff old (step.Apdu apdu) items due set new =
     ((items ≡ item.Command apdu ∷ []) × (new ≡ old) × (set ≡ [])) ⊎ (StepShows old (step.Apdu apdu) items new × (set ≡ due))

@@ -2,20 +2,20 @@
 use Rattle.std.proofs.Common.{◌≡◌, ℕ, Bool, true, false, List, [], Option, Some, None, refl, sym, ap, ◌∙◌, inl, inr, arith, subst, ◌⊎◌}
 use Rattle.std.specs.Result.{result_ok}
 use Rattle.uicc_types.specs.Counts.{Meter, Rose}
-use Rattle.byte_streams.proofs.ReadingLemmas.{IsTaken-none}
 use Rattle.script_form.specs.Reads.{IsOnly}
 use Rattle.card_model.specs.Counts.{IsCounted}
 use Rattle.command_line.specs.Model.{AskForRun, IsMadeFor, IsRequest}
 use Rattle.command_line.specs.declared.requests.Devices.{Devices}
 use Rattle.command_line.specs.declared.requests.Mode.TheVariants.{Load}
 use Rattle.command_line.specs.declared.requests.Request.{Request}
-use Rattle.uicc_run.specs.Answering.{HasLoaded, HasRun, HasTrace, KeepsToScript, NameNoImage}
+use Rattle.uicc_run.specs.Answering.{HasLoaded, HasRun, HasTrace, NameNoImage}
 use Rattle.uicc_run.specs.Causes.{IsCaused, IsLoadCaused, IsSeenCause}
 use Rattle.uicc_run.specs.Endings.{HasFailed, status_for}
 use Rattle.uicc_run.specs.Headline.{Closes, Comes, Traces}
 use Rattle.uicc_run.specs.Loading.{LoadsFrom, TracesLoad}
 use Rattle.uicc_run.specs.Opening.{IsAskedFor}
 use Rattle.uicc_run.specs.Playing.{Given}
+use Rattle.uicc_run.specs.Running.{EndsByScript}
 use Rattle.uicc_run.specs.Worlds.{World, Seen, left_in, seen}
 use Rattle.uicc_run.specs.Scripts.{IsUndisturbed}
 use Rattle.uicc_run.specs.Stores.{IsSizeFor, size_of}
@@ -40,9 +40,9 @@ module _ {MemoryIsSame BoxesAreSame : Type 0} (given : Given) (status : ℕ) (be
     closes = traces.closes;
   }
 
-  pub load_gone : (start count : ℕ) → before.meter ≡ given.meter → TracesLoad given start count (left_in given.pages after) status (IsLoadCaused given before after MemoryIsSame BoxesAreSame)
-      → TracesLoad given start count (left_in given.pages after) status (λ ending. status_for ending ≡ 6 → HasFailed given.meter after.meter)
-  load_gone start count was traces = record {
+  pub load_gone : (told : Bool) (start count : ℕ) → before.meter ≡ given.meter → TracesLoad given told start count before.taken (left_in given.pages after) status (IsLoadCaused given before after MemoryIsSame BoxesAreSame)
+      → TracesLoad given told start count before.taken (left_in given.pages after) status (λ ending. status_for ending ≡ 6 → HasFailed given.meter after.meter)
+  load_gone told start count was traces = record {
     ending = traces.ending;
     cause = λ six. subst (λ m. HasFailed m after.meter) was (traces.cause.eeprom_failed six);
     comes = traces.comes;
@@ -74,20 +74,16 @@ unbegun_trace given told words seen before ending cause comes closes = record {
 }
 
 -- it keeps to the script by reading none of it
-unbegun : (given : Given) (words : List (List ℕ)) (seen : Seen) → IsUnbegun seen.status → (AskForRun words → IsUndisturbed seen → seen.status ≡ 5) → seen.left ≡ Some given.text → HasTrace given false words seen → KeepsToScript given words seen
-unbegun given words seen status wants unread has = record {
-  has = has;
-  ends = record {
-    good_over_any = λ asks sound good. inr (inl (wants asks sound));
-    bad_over_any = λ asks sound found bad. inr (inl (wants asks sound));
-    no_room = λ asks sound found full. inr (wants asks sound);
-    complete_only = λ is. absurd (apart seen.status 0 status is (λ e. omega (arith, e)) (λ e. omega (arith, e)) (λ e. omega (arith, e)));
-    read_out = λ is. absurd (apart seen.status 0 status is (λ e. omega (arith, e)) (λ e. omega (arith, e)) (λ e. omega (arith, e)));
-    bad_line_only = λ is. absurd (apart seen.status 2 status is (λ e. omega (arith, e)) (λ e. omega (arith, e)) (λ e. omega (arith, e)));
-    no_room_only = λ is. absurd (apart seen.status 8 status is (λ e. omega (arith, e)) (λ e. omega (arith, e)) (λ e. omega (arith, e)));
-    refused_only = λ is. absurd (apart seen.status 7 status is (λ e. omega (arith, e)) (λ e. omega (arith, e)) (λ e. omega (arith, e)));
-  };
-  taken = IsTaken-none _ given.text seen.left unread;
+unbegun : (given : Given) (words : List (List ℕ)) (seen : Seen) → IsUnbegun seen.status → (AskForRun words → IsUndisturbed seen → seen.status ≡ 5) → EndsByScript given words seen
+unbegun given words seen status wants = record {
+  good_over_any = λ asks sound good. inr (inl (wants asks sound));
+  bad_over_any = λ asks sound found bad. inr (inl (wants asks sound));
+  no_room = λ asks sound found full. inr (wants asks sound);
+  complete_only = λ is. absurd (apart seen.status 0 status is (λ e. omega (arith, e)) (λ e. omega (arith, e)) (λ e. omega (arith, e)));
+  read_out = λ is. absurd (apart seen.status 0 status is (λ e. omega (arith, e)) (λ e. omega (arith, e)) (λ e. omega (arith, e)));
+  bad_line_only = λ is. absurd (apart seen.status 2 status is (λ e. omega (arith, e)) (λ e. omega (arith, e)) (λ e. omega (arith, e)));
+  no_room_only = λ is. absurd (apart seen.status 8 status is (λ e. omega (arith, e)) (λ e. omega (arith, e)) (λ e. omega (arith, e)));
+  refused_only = λ is. absurd (apart seen.status 7 status is (λ e. omega (arith, e)) (λ e. omega (arith, e)) (λ e. omega (arith, e)));
 }
 
 unbegun_run : (given : Given) (words : List (List ℕ)) (seen : Seen) → IsUnbegun seen.status → (AskForRun words → IsUndisturbed seen → seen.status ≡ 5) → HasTrace given true words seen → HasRun given words seen
@@ -127,27 +123,28 @@ usage_status : (seen : Seen) → IsClosed Usage seen → IsUnbegun seen.status
 usage_status seen (inl one) = inl one
 usage_status seen (inr four) = inr (inl four)
 
+-- there was no memory for the device
+pub ends_without_device : (seen : Seen) (given : Given) (words : List (List ℕ)) → IsClosed NoMemory seen → HasSunk NoMemory seen → EndsByScript given words seen
+ends_without_device seen given words closed sunk = unbegun given words seen (wanting_status seen closed) (λ asks sound. wants_so seen closed sunk sound)
+
+-- the words are in no form
+pub ends_without_words : (seen : Seen) (given : Given) (words : List (List ℕ)) → (AskForRun words → ⊥) → IsClosed Usage seen → EndsByScript given words seen
+ends_without_words seen given words none closed = unbegun given words seen (usage_status seen closed) (λ asks sound. absurd (none asks))
+
 module _ (seen : Seen) (before : Option (List ℕ)) where
-  -- there was no memory for the device
-  no_device : (given : Given) (told : Bool) (words : List (List ℕ)) → before ≡ Some given.before → seen.left ≡ Some given.text → Closes NoMemory before seen.taken seen.status → HasTrace given told words seen
+  pub no_device : (given : Given) (told : Bool) (words : List (List ℕ)) → before ≡ Some given.before → seen.left ≡ Some given.text → Closes NoMemory before seen.taken seen.status → HasTrace given told words seen
   no_device given told words begun unread closes =
       unbegun_trace given told words seen before NoMemory
       (record { usage = λ is. absurd (cc); read_failed = λ is. absurd (omega arith); eeprom_failed = λ is. absurd (omega arith) })
       (record { written = begun; counted = still given.meter; begun_at_most = inl unread; memory_kept = λ tells. inl refl }) closes
-
-  pub keeps_without_device : (given : Given) (words : List (List ℕ)) → IsClosed NoMemory seen → HasSunk NoMemory seen → before ≡ Some given.before → seen.left ≡ Some given.text
-      → Closes NoMemory before seen.taken seen.status → KeepsToScript given words seen
-  keeps_without_device given words closed sunk begun unread closes =
-      unbegun given words seen (wanting_status seen closed) (λ asks sound. wants_so seen closed sunk sound) unread (no_device given false words begun unread closes)
 
   pub has_no_device : (given : Given) (words : List (List ℕ)) → IsClosed NoMemory seen → HasSunk NoMemory seen → before ≡ Some given.before → seen.left ≡ Some given.text
       → Closes NoMemory before seen.taken seen.status → HasRun given words seen
   has_no_device given words closed sunk begun unread closes =
       unbegun_run given words seen (wanting_status seen closed) (λ asks sound. wants_so seen closed sunk sound) (no_device given true words begun unread closes)
 
-  pub loads_no_device : (given : Given) (start count : ℕ) → IsClosed NoMemory seen → HasSunk NoMemory seen → before ≡ Some given.before
-      → Closes NoMemory before seen.taken seen.status → HasLoaded given start count seen
-  loads_no_device given start count closed sunk begun closes = record {
+  pub loads_no_device : (given : Given) (told : Bool) (start count : ℕ) → IsClosed NoMemory seen → HasSunk NoMemory seen → Closes NoMemory before seen.taken seen.status → HasLoaded given told start count before seen
+  loads_no_device given told start count closed sunk closes = record {
     held = result_ok given.memory;
     meter = given.meter;
     boxes = given.boxes;
@@ -155,29 +152,23 @@ module _ (seen : Seen) (before : Option (List ℕ)) where
       ending = NoMemory;
       cause = λ is. absurd (omega arith);
       comes = still given.meter;
-      closes = subst (λ b. Closes NoMemory b seen.taken seen.status) begun closes;
+      closes = closes;
     };
-    complete = λ card sound fixed. inr (wants_so seen closed sunk sound);
+    complete = λ card sound fixed. inr (inl (wants_so seen closed sunk sound));
   }
 
-  -- the words are in no form
-  no_words : (given : Given) (told : Bool) (words : List (List ℕ)) → (AskForRun words → ⊥) → before ≡ Some given.before → Closes Usage before seen.taken seen.status → HasTrace given told words seen
+  pub no_words : (given : Given) (told : Bool) (words : List (List ℕ)) → (AskForRun words → ⊥) → before ≡ Some given.before → Closes Usage before seen.taken seen.status → HasTrace given told words seen
   no_words given told words none begun closes =
       unbegun_trace given told words seen before Usage
       (record { usage = λ is. none; read_failed = λ is. absurd (omega arith); eeprom_failed = λ is. absurd (omega arith) })
       (quiet_still given before (result_ok given.memory) given.meter given.boxes begun refl) closes
 
-  pub keeps_without_words : (given : Given) (words : List (List ℕ)) → (AskForRun words → ⊥) → IsClosed Usage seen → before ≡ Some given.before → seen.left ≡ Some given.text
-      → Closes Usage before seen.taken seen.status → KeepsToScript given words seen
-  keeps_without_words given words none closed begun unread closes =
-      unbegun given words seen (usage_status seen closed) (λ asks sound. absurd (none asks)) unread (no_words given false words none begun closes)
-
   pub has_no_words : (given : Given) (words : List (List ℕ)) → (AskForRun words → ⊥) → IsClosed Usage seen → before ≡ Some given.before
       → Closes Usage before seen.taken seen.status → HasRun given words seen
   has_no_words given words none closed begun closes = unbegun_run given words seen (usage_status seen closed) (λ asks sound. absurd (none asks)) (no_words given true words none begun closes)
 
-pub loads_run : (given : Given) (start count : ℕ) (words : List (List ℕ)) (before : World) → LoadsFrom given start count words before → AskForRun words
-loads_run given start count words before from = (record { mode = Load start count; devices = from.devices }, from.words_are)
+pub loads_run : (given : Given) (told : Bool) (start count : ℕ) (words : List (List ℕ)) (before : World) → LoadsFrom given told start count words before → AskForRun words
+loads_run given told start count words before from = (record { mode = Load start count; devices = from.devices }, from.words_are)
 
 -- a run is made over some devices
 pub asks_for_devices : (words : List (List ℕ)) → ((found : Devices) → IsMadeFor words found → ⊥) → AskForRun words → ⊥
@@ -201,7 +192,7 @@ size_given given words made size found same asked =
     let wish = asked found.so.asked found.so.words_are in
     ap size_of wish.store_is ∙ ap (λ d. size_of d.pages) (sym found.so.devices) ∙ sym same
 
-pub load_size_given : (given : Given) (start count : ℕ) (words : List (List ℕ)) (made : Devices) (size : ℕ) (before : World) → IsOnly (IsMadeFor words) made → size ≡ size_of made.pages
-    → LoadsFrom given start count words before → size_of given.pages ≡ size
-load_size_given given start count words made size before found same from =
+pub load_size_given : (given : Given) (told : Bool) (start count : ℕ) (words : List (List ℕ)) (made : Devices) (size : ℕ) (before : World) → IsOnly (IsMadeFor words) made → size ≡ size_of made.pages
+    → LoadsFrom given told start count words before → size_of given.pages ≡ size
+load_size_given given told start count words made size before found same from =
     ap size_of from.store_is ∙ ap (λ d. size_of d.pages) (made_alone words made (record { mode = Load start count; devices = from.devices }) found from.words_are) ∙ sym same

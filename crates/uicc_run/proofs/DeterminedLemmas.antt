@@ -188,12 +188,13 @@ one_fixed : (boxes : List (Option AppletState)) (card other : Persistent) → Is
 one_fixed boxes card other a b = ap (λ (made : Result (Option Persistent) _). there_of card (value_of None made)) (sym a ∙ b)
 
 pub loads_are_one : PhoneRunsAreOne → LoadsAreOne
-loads_are_one law given start count lines lines' counts counts' leaves leaves' run other calm calm' =
+loads_are_one law given first first' start count lines lines' counts counts' leaves leaves' run other calm calm' =
     let card : run.card ≡ other.card = one_fixed given.boxes run.card other.card run.is_fixed other.is_fixed in
-    let theirs : IsPhoneRun (TheCard (first_machine run.card given.boxes)) other.counted.log other.counted.card = subst (λ (held : Persistent). IsPhoneRun (TheCard (first_machine held given.boxes)) other.counted.log other.counted.card) (sym card) other.counted.run in
-    let same = law (first_machine run.card given.boxes) run.counted.card other.counted.card (all_heard (made_lines start count)) run.counted.log other.counted.log
+    let one_first : first ≡ first' = run.opened ∙ ap (λ (held : Persistent). first_machine held given.boxes) card ∙ sym other.opened in
+    let theirs : IsPhoneRun (TheCard first) other.counted.log other.counted.card = subst (λ (m : Machine). IsPhoneRun (TheCard m) other.counted.log other.counted.card) (sym one_first) other.counted.run in
+    let same = law first run.counted.card other.counted.card (all_heard (made_lines start count)) run.counted.log other.counted.log
     (record { run = run.counted.run; lines_are = run.counted.lines_are; rests = run.counted.rests; failures = calm.0; cuts = calm.1 })
     (record { run = theirs; lines_are = other.counted.lines_are; rests = other.counted.rests; failures = calm'.0; cuts = calm'.1 }) in (
       run.counted.counts_are ∙ ap (λ (entries : List TraceEntry). counts_of (map entry_line entries)) same.shows ∙ sym other.counted.counts_are,
-      run.left.held ∙ one_left (first_machine run.card given.boxes) run.counted.log run.counted.card other.counted.card (shown run.counted.log) (shown other.counted.log) run.at other.at run.counted.run same.card run.counted.stands other.counted.stands ∙ sym other.left.held,
+      run.left.held ∙ one_left first run.counted.log run.counted.card other.counted.card (shown run.counted.log) (shown other.counted.log) run.at other.at run.counted.run same.card run.counted.stands other.counted.stands ∙ sym other.left.held,
     )

@@ -16,6 +16,7 @@ mod ScriptsLemmas
 mod ServingLemmas
 mod ShowsAsManyLemmas
 mod StoresLemmas
+mod TellsNextLemmas
 mod TerminalsLemmas
 mod WithLineLemmas
 mod worked

@@ -1,5 +1,5 @@
 -- What a long run comes to.
-use Rattle.std.proofs.Common.{◌≡◌, ◌⊎◌, ℕ, ◌+◌, true, false, List, [], ◌∷◌, ◌++◌, take, drop, Option, Some, None, Result, Ok, Err, inl, inr, refl, sym, ap, ◌∙◌, subst, IfSome, IsOkAnd, is_some, option_map}
+use Rattle.std.proofs.Common.{◌≡◌, ◌⊎◌, ℕ, ◌+◌, Bool, true, false, List, [], ◌∷◌, ◌++◌, take, drop, Option, Some, None, Result, Ok, Err, inl, inr, refl, sym, ap, ◌∙◌, subst, IfSome, IsOkAnd, is_some, option_map}
 use Rattle.std.proofs.lemmas.List.{drop_more, take-append-drop}
 use Rattle.std.proofs.lemmas.Option.{get_or_from_slice_get, slice_get_within}
 use Rattle.std.proofs.lemmas.List.Elements.{All-contains, All-nil}
@@ -38,7 +38,7 @@ use Rattle.long_runs.specs.LoadLines.{made_lines}
 use Rattle.long_runs.specs.FixedRows.{fixed_rows}
 use Rattle.long_runs.specs.Rows.{IsFirstRefused}
 use Rattle.long_runs.specs.declared.counts.Counts.{Counts}
-use Rattle.run_steps.specs.Views.{TheCard}
+use Rattle.run_steps.specs.Views.{CardView, ItsPower, TheCard}
 use Rattle.phone_runs.specs.LoadingLines.{GivesLoad}
 use Rattle.phone_runs.specs.LoadRuns.{all_heard}
 use Rattle.phone_runs.specs.declared.counting.MemoryFailed.{MemoryFailed}
@@ -48,17 +48,17 @@ use Rattle.phone_runs.specs.Playing.{Begins}
 use Rattle.uicc_run.proofs.HasBoxLemmas.{have_boxes}
 use Rattle.uicc_run.proofs.OpeningLemmas.{caused_counted, caused_kept, refusal_keeps, stands_found, still}
 use Rattle.uicc_run.specs.Endings.{KeepsBytes, status_for, IsUnplanned}
-use Rattle.uicc_run.specs.Headline.{IsMigratedAtMost}
-use Rattle.uicc_run.specs.Loading.{ComesToLoad, FailsToOpenFixed, IsFixedCard, IsLeft, load_beginning}
+use Rattle.uicc_run.specs.Headline.{IsMigratedAtMost, is_known}
+use Rattle.uicc_run.specs.Loading.{ComesToLoad, FailsToOpenFixed, IsFixedCard, IsFixedFirst, IsLeft, RefusesFixed, load_beginning}
 use Rattle.uicc_run.specs.Making.{ending_for_load, ending_for as ending_for_fault}
 use Rattle.uicc_run.specs.Playing.{Given, Leaves, first_machine}
 use Rattle.uicc_run.specs.declared.endings.Ending.{Ending}
 use Rattle.uicc_run.specs.declared.endings.Ending.TheVariants.{Usage, NoMemory, Section, FormatFailed, EepromFailed, NotACard, NoApplet, Played, Counted, LoadFailed}
 
 -- the handset of a long run begins with the card that was opened
-pub load_begins : (given : Given) (card : Persistent) (mark : ℕ) (told : Option (List ℕ)) (meter : Meter) (boxes : List (Option AppletState)) (parts : CardParts) → CountsJoin
+load_begins : (given : Given) (card : Persistent) (mark : ℕ) (told : Option (List ℕ)) (meter : Meter) (boxes : List (Option AppletState)) (parts : CardParts) → CountsJoin
     → option_map (stands_for mark) told ≡ Some (Ok card) → IsCounted given.meter meter [] [] → boxes ≡ given.boxes → card_of parts ≡ opened (standing mark told) boxes → parts.is_on ≡ true → parts.is_due ≡ false → Caused meter parts.meter ⊥ ⊥
-    → Begins (load_beginning given card) (moment parts (Some []) NONE)
+    → Begins (load_beginning given (TheCard (first_machine card given.boxes))) (moment parts (Some []) NONE)
 load_begins given card mark told meter boxes parts join stands counted boxes_are is on rests caused =
     let opens : card_of parts ≡ Some (woken (migrated card) (with_all_shelves given.boxes)) =
     is ∙ ap (λ h. opened h boxes) (stands_found mark told (Ok card) stands) ∙ ap (λ b. Some (woken (migrated card) (with_all_shelves b))) boxes_are in
@@ -70,32 +70,74 @@ load_begins given card mark told meter boxes parts join stands counted boxes_are
       rests = λ calm. rests;
     }
 
+-- of its power alone more is not known
+load_begins_with_power : (given : Given) (meter : Meter) (parts : CardParts) → CountsJoin → IsCounted given.meter meter [] [] → parts.is_on ≡ true → Caused meter parts.meter ⊥ ⊥ → Begins (load_beginning given (ItsPower true)) (moment parts (Some []) NONE)
+load_begins_with_power given meter parts join counted on caused = record {
+  seen = on;
+  written = refl;
+  counted = join given.meter meter parts.meter [] [] [] [] counted (caused_counted meter parts.meter caused (λ so. so) (λ so. so));
+  waits = refl;
+  rests = tt;
+}
+
+-- the card was opened, and is known as far as its memory tells
+pub record BeginsLoading (given : Given) (is_told : Bool) (card : Persistent) (parts : CardParts) : Type 0 where
+  pub first : CardView
+  pub known : is_known first ≡ is_told
+  pub opened : IsFixedFirst given card first
+  pub begins : Begins (load_beginning given first) (moment parts (Some []) NONE)
+
+pub load_begins_seen : (given : Given) (is_told : Bool) (card : Persistent) (mark : ℕ) (told : Option (List ℕ)) (meter : Meter) (boxes : List (Option AppletState)) (parts : CardParts) → CountsJoin
+    → (is_told ≡ true → option_map (stands_for mark) told ≡ Some (Ok card)) → IsCounted given.meter meter [] [] → boxes ≡ given.boxes → card_of parts ≡ opened (standing mark told) boxes → parts.is_on ≡ true → parts.is_due ≡ false → Caused meter parts.meter ⊥ ⊥
+    → BeginsLoading given is_told card parts
+load_begins_seen given true card mark told meter boxes parts join stands counted boxes_are is on rests caused = record {
+  first = TheCard (first_machine card given.boxes);
+  known = refl;
+  opened = refl;
+  begins = load_begins given card mark told meter boxes parts join (stands refl) counted boxes_are is on rests caused;
+}
+load_begins_seen given false card mark told meter boxes parts join stands counted boxes_are is on rests caused = record {
+  first = ItsPower true;
+  known = refl;
+  opened = refl;
+  begins = load_begins_with_power given meter parts join counted on caused;
+}
+
 heard_made : (made : List HandsetLine) → heard (all_heard made) ≡ made
 heard_made [] = refl
 heard_made (line ∷ made) = ap (λ l. line ∷ l) (heard_made made)
 
 -- what the handset came to is what the run comes to
-pub comes_to_load : (given : Given) (start count : ℕ) (card : Persistent) (leaves : Leaves) (at : Moment) (outcome : Result Counts MemoryFailed) → RunsAreLegal → RunsAreOfTheCard → IsFixedCard given.boxes card → IsLeft leaves at
-    → GivesLoad (made_lines start count) (load_beginning given card) at outcome → ComesToLoad given start count (ending_for_load count outcome) leaves
-comes_to_load given start count card leaves at (Ok counts) legal of_card fixed left gives = record {
-  card = card;
-  at = at;
-  is_fixed = fixed;
-  lines_are = refl;
-  counted = gives;
-  legal = subst (λ l. IsLegal l (trace gives.log)) (ap heard gives.lines_are ∙ heard_made (made_lines start count)) (legal (TheCard (first_machine card given.boxes)) gives.card gives.log gives.run gives.rests);
-  of_card = of_card (TheCard (first_machine card given.boxes)) gives.card gives.log gives.run;
-  left = left;
-}
-comes_to_load given start count card leaves at (Err failed) legal of_card fixed left gives = record { card = card; at = at; is_fixed = fixed; failed = gives; left = left }
+pub comes_to_load : (given : Given) (first : CardView) (start count : ℕ) (card : Persistent) (leaves : Leaves) (at : Moment) (outcome : Result Counts MemoryFailed) → RunsAreLegal → RunsAreOfTheCard → IsFixedCard given.boxes card → IsFixedFirst given card first
+    → IsLeft leaves at → GivesLoad (made_lines start count) (load_beginning given first) at outcome → ComesToLoad given (is_known first) start count (ending_for_load count outcome) leaves
+comes_to_load given first start count card leaves at (Ok counts) legal of_card fixed opens left gives = (
+  first,
+  refl,
+  record {
+    card = card;
+    at = at;
+    is_fixed = fixed;
+    opened = opens;
+    lines_are = refl;
+    counted = gives;
+    legal = subst (λ l. IsLegal l (trace gives.log)) (ap heard gives.lines_are ∙ heard_made (made_lines start count)) (legal first gives.card gives.log gives.run gives.rests);
+    of_card = of_card first gives.card gives.log gives.run;
+    left = left;
+  },
+)
+comes_to_load given first start count card leaves at (Err failed) legal of_card fixed opens left gives =
+    (first, refl, record { card = card; at = at; is_fixed = fixed; opened = opens; failed = gives; left = left })
 
 -- its card was handed back
-pub load_closes : (given : Given) (start count : ℕ) (card : Persistent) (taken : Option (List ℕ)) (parts : CardParts) (mark : ℕ) (told : Option (List ℕ)) (meter : Meter) (boxes : List (Option AppletState)) (put : Option (List ℕ)) (waiting : Plan) (outcome : Result Counts MemoryFailed)
-    → RunsAreLegal → RunsAreOfTheCard → IsFixedCard given.boxes card → mark ≡ parts.store_mark → told ≡ parts.told → meter ≡ parts.meter → boxes ≡ parts.boxes → GivesLoad (made_lines start count) (load_beginning given card) (moment parts put waiting) outcome
-    → ComesToLoad given start count (ending_for_load count outcome) (record { held = standing mark told; taken = taken; meter = meter; boxes = boxes })
-load_closes given start count card taken parts mark told meter boxes put waiting outcome legal of_card fixed same_mark same_told same_meter same_boxes gives =
-    comes_to_load given start count card (record { held = standing mark told; taken = taken; meter = meter; boxes = boxes }) (moment parts put waiting) outcome legal of_card fixed
-    (record { held = ap (λ k. standing k told) same_mark ∙ ap (λ t. standing parts.store_mark t) same_told; meter = same_meter; boxes = same_boxes }) gives
+pub load_closes : (given : Given) (is_told : Bool) (first : CardView) (start count : ℕ) (card : Persistent) (taken : Option (List ℕ)) (parts : CardParts) (mark : ℕ) (told : Option (List ℕ)) (meter : Meter) (boxes : List (Option AppletState)) (put : Option (List ℕ)) (waiting : Plan) (outcome : Result Counts MemoryFailed)
+    → RunsAreLegal → RunsAreOfTheCard → is_known first ≡ is_told → IsFixedCard given.boxes card → IsFixedFirst given card first → mark ≡ parts.store_mark → told ≡ parts.told → meter ≡ parts.meter → boxes ≡ parts.boxes
+    → GivesLoad (made_lines start count) (load_beginning given first) (moment parts put waiting) outcome
+    → ComesToLoad given is_told start count (ending_for_load count outcome) (record { held = standing mark told; taken = taken; meter = meter; boxes = boxes })
+load_closes given is_told first start count card taken parts mark told meter boxes put waiting outcome legal of_card known fixed opens same_mark same_told same_meter same_boxes gives =
+    let leaves : Leaves = record { held = standing mark told; taken = taken; meter = meter; boxes = boxes } in
+    subst (λ k. ComesToLoad given k start count (ending_for_load count outcome) leaves) known
+    (comes_to_load given first start count card leaves (moment parts put waiting) outcome legal of_card fixed opens
+    (record { held = ap (λ k. standing k told) same_mark ∙ ap (λ t. standing parts.store_mark t) same_told; meter = same_meter; boxes = same_boxes }) gives)
 
 -- what a call does from a meter on, where it met no fault
 pub counted_from : {Failed Lost : Type 0} → (old new base : Meter) → old ≡ base → Caused old new Failed Lost → (Failed → ⊥) → (Lost → ⊥) → IsCounted base new [] []
@@ -105,8 +147,8 @@ counted_from old new base same caused no_failure no_loss = subst (λ m. IsCounte
 pub kept_from : {Failed Lost : Type 0} → (old new base : Meter) → old ≡ base → Caused old new Failed Lost → IsUnplanned base new
 kept_from old new base same caused = subst (λ m. IsUnplanned m new) same (caused_kept old new caused)
 
-pub as_ended : (given : Given) (start count : ℕ) (ending other : _) (leaves : Leaves) → ending ≡ other → ComesToLoad given start count other leaves → ComesToLoad given start count ending leaves
-as_ended given start count ending other leaves same comes = subst (λ e. ComesToLoad given start count e leaves) (sym same) comes
+pub as_ended : (given : Given) (told : Bool) (start count : ℕ) (ending other : _) (leaves : Leaves) → ending ≡ other → ComesToLoad given told start count other leaves → ComesToLoad given told start count ending leaves
+as_ended given told start count ending other leaves same comes = subst (λ e. ComesToLoad given told start count e leaves) (sym same) comes
 
 -- ---- the card can be opened
 
@@ -132,24 +174,35 @@ has_its_box boxes card shelf fixed missing =
     missing.lacks (All-contains (HasBox (with_all_shelves boxes)) card.rows missing.row (have_boxes boxes card.rows (rows_have_boxes boxes fixed_rows bare_card card (All-nil (IsOfItsBox boxes)) fixed)) missing.there)
 
 -- a fault came at its opening
-fails_to_open : (given : Given) (card : Persistent) (mark mark_then : ℕ) (told told_then : Option (List ℕ)) (leaves : Leaves) → option_map (stands_for mark) told ≡ Some (Ok card) → IsFixedCard given.boxes card → IsLeftMigrated mark told told_then → mark_then ≡ mark
-    → leaves.held ≡ standing mark_then told_then → IsUnplanned given.meter leaves.meter → FailsToOpenFixed given leaves
-fails_to_open given card mark mark_then told told_then leaves stands fixed left same held counted = record {
+fails_to_open : (given : Given) (is_told : Bool) (card : Persistent) (mark mark_then : ℕ) (told told_then : Option (List ℕ)) (leaves : Leaves) → (is_told ≡ true → option_map (stands_for mark) told ≡ Some (Ok card)) → IsFixedCard given.boxes card → IsLeftMigrated mark told told_then
+    → mark_then ≡ mark → leaves.held ≡ standing mark_then told_then → IsUnplanned given.meter leaves.meter → FailsToOpenFixed given is_told leaves
+fails_to_open given is_told card mark mark_then told told_then leaves stands fixed left same held counted = record {
   card = card;
   is_fixed = fixed;
-  made_at_most = subst (IsMigratedAtMost (Ok card)) (sym (held ∙ ap (λ m. standing m told_then) same)) (still mark told told_then (Ok card) stands left);
+  made_at_most = λ is. subst (IsMigratedAtMost (Ok card)) (sym (held ∙ ap (λ m. standing m told_then) same)) (still mark told told_then (Ok card) (stands is) left);
   counted = counted;
 }
 
--- where it was not, that is for want of memory, or the memory failed
-pub not_loaded : (given : Given) (start count : ℕ) (card : Persistent) (mark mark_then : ℕ) (told told_then : Option (List ℕ)) (boxes : List (Option AppletState)) (leaves : Leaves) (why : OpenFault) → option_map (stands_for mark) told ≡ Some (Ok card) → boxes ≡ given.boxes
-    → IsFixedCard given.boxes card → Finds why mark told (with_all_shelves boxes) → FaultLeaves why mark told told_then → mark_then ≡ mark → leaves.held ≡ standing mark_then told_then → IsUnplanned given.meter leaves.meter → (why ≡ fault.Memory → IsCounted given.meter leaves.meter [] []) → ComesToLoad given start count (ending_for_fault why) leaves
-not_loaded given start count card mark mark_then told told_then boxes leaves (fault.NotACard at) stands boxes_are fixed found left same held kept counted = holds_card mark told card at stands (read_told told _ found)
-not_loaded given start count card mark mark_then told told_then boxes leaves (fault.NoBox shelf) stands boxes_are fixed found left same held kept counted =
-    has_its_box given.boxes card shelf fixed (subst (λ b. IsFirstWithoutBox card.rows (with_all_shelves b) shelf) boxes_are (lacks_box (with_all_shelves boxes) shelf mark told card stands (read_told told _ found)))
-not_loaded given start count card mark mark_then told told_then boxes leaves fault.Failed stands boxes_are fixed found left same held kept counted = fails_to_open given card mark mark_then told told_then leaves stands fixed left same held kept
-not_loaded given start count card mark mark_then told told_then boxes leaves fault.PowerLost stands boxes_are fixed found left same held kept counted = fails_to_open given card mark mark_then told told_then leaves stands fixed left same held kept
-not_loaded given start count card mark mark_then told told_then boxes leaves fault.Memory stands boxes_are fixed found left same held kept counted = counted refl
+-- a memory that tells its bytes holds the card that it was formatted with, which can be opened
+refused_fixed : (given : Given) (is_told : Bool) (card : Persistent) (leaves : Leaves) → IsFixedCard given.boxes card → (is_told ≡ true → ⊥) → IsCounted given.meter leaves.meter [] [] → RefusesFixed given is_told leaves
+refused_fixed given true card leaves fixed never counted = absurd (never refl)
+refused_fixed given false card leaves fixed never counted = record { untold = refl; card = card; is_fixed = fixed; counted = counted }
+
+-- where it was not, that is for want of memory, or the memory failed, or of one that tells nothing
+pub not_loaded : (given : Given) (is_told : Bool) (start count : ℕ) (card : Persistent) (mark mark_then : ℕ) (told told_then : Option (List ℕ)) (boxes : List (Option AppletState)) (leaves : Leaves) (why : OpenFault)
+    → (is_told ≡ true → option_map (stands_for mark) told ≡ Some (Ok card)) → boxes ≡ given.boxes → IsFixedCard given.boxes card → Finds why mark told (with_all_shelves boxes) → FaultLeaves why mark told told_then → mark_then ≡ mark → leaves.held ≡ standing mark_then told_then
+    → IsUnplanned given.meter leaves.meter → ((why ≡ fault.Failed → ⊥) → (why ≡ fault.PowerLost → ⊥) → IsCounted given.meter leaves.meter [] []) → ComesToLoad given is_told start count (ending_for_fault why) leaves
+not_loaded given is_told start count card mark mark_then told told_then boxes leaves (fault.NotACard at) stands boxes_are fixed found left same held kept counted =
+    refused_fixed given is_told card leaves fixed (λ is. holds_card mark told card at (stands is) (read_told told _ found)) (counted (λ failed. cc) (λ lost. cc))
+not_loaded given is_told start count card mark mark_then told told_then boxes leaves (fault.NoBox shelf) stands boxes_are fixed found left same held kept counted =
+    refused_fixed given is_told card leaves fixed
+    (λ is. has_its_box given.boxes card shelf fixed (subst (λ b. IsFirstWithoutBox card.rows (with_all_shelves b) shelf) boxes_are (lacks_box (with_all_shelves boxes) shelf mark told card (stands is) (read_told told _ found))))
+    (counted (λ failed. cc) (λ lost. cc))
+not_loaded given is_told start count card mark mark_then told told_then boxes leaves fault.Failed stands boxes_are fixed found left same held kept counted =
+    fails_to_open given is_told card mark mark_then told told_then leaves stands fixed left same held kept
+not_loaded given is_told start count card mark mark_then told told_then boxes leaves fault.PowerLost stands boxes_are fixed found left same held kept counted =
+    fails_to_open given is_told card mark mark_then told told_then leaves stands fixed left same held kept
+not_loaded given is_told start count card mark mark_then told told_then boxes leaves fault.Memory stands boxes_are fixed found left same held kept counted = counted (λ failed. cc) (λ lost. cc)
 
 -- a store that was formatted stands for the card
 pub stands_now : (mark mark_then : ℕ) (told told_then : Option (List ℕ)) (card : Persistent) → is_some told ≡ true → is_some told_then ≡ is_some told → mark_then ≡ mark → IfSome told_then (λ content. stands_for mark content ≡ Ok card)
@@ -166,11 +219,9 @@ pub never_wanting : (lines : ℕ) (outcome : Result Counts MemoryFailed) (ending
 never_wanting lines (Ok counts) ending is wants = let apart : Counted lines counts ≡ NoMemory = sym is ∙ wants in cc
 never_wanting lines (Err failed) ending is wants = let apart : LoadFailed ≡ NoMemory = sym is ∙ wants in cc
 
--- what an opening that wanted memory leaves of the counts, from where a run began
-pub counted_on : (given : Given) (old new : Meter) (why : OpenFault) → CountsJoin → IsCounted given.meter old [] [] → Caused old new (why ≡ fault.Failed) (why ≡ fault.PowerLost) → why ≡ fault.Memory → IsCounted given.meter new [] []
-counted_on given old new why join counted caused wants =
-    join given.meter old new [] [] [] [] counted
-    (caused_counted old new caused (λ failed. let apart : fault.Memory ≡ fault.Failed = sym wants ∙ failed in cc) (λ lost. let apart : fault.Memory ≡ fault.PowerLost = sym wants ∙ lost in cc))
+-- what an opening in which the memory didn't fail leaves of the counts, from where a run began
+pub counted_on : (given : Given) (old new : Meter) (why : OpenFault) → CountsJoin → IsCounted given.meter old [] [] → Caused old new (why ≡ fault.Failed) (why ≡ fault.PowerLost) → (why ≡ fault.Failed → ⊥) → (why ≡ fault.PowerLost → ⊥) → IsCounted given.meter new [] []
+counted_on given old new why join counted caused not_failed not_lost = join given.meter old new [] [] [] [] counted (caused_counted old new caused not_failed not_lost)
 
 -- ---- the run is carried out to its end
 
@@ -188,18 +239,18 @@ never_refused boxes old new card number all is =
     let apart : Err is.fault ≡ Ok split.next = sym (ap (λ (came : Result Persistent SectionFault). then_on (λ state. Ok (Some state)) came) is.refused) ∙ split.one in
     cc
 
-pub load_completes : (given : Given) (start count : ℕ) (card : Persistent) (ending : Ending) (leaves : Leaves) (status : ℕ) → IsFixedCard given.boxes card → ComesToLoad given start count ending leaves
-    → (status ≡ status_for ending) ⊎ (status ≡ 4) → (status ≡ 4 → ⊥) → (status ≡ 6 → ⊥) → (status ≡ 0) ⊎ (status ≡ 5)
-load_completes given start count card ending leaves status fixed comes (inr four) no_4 no_6 = absurd (no_4 four)
-load_completes given start count card NoMemory leaves status fixed comes (inl is) no_4 no_6 = inr is
-load_completes given start count card (Counted lines counts) leaves status fixed comes (inl is) no_4 no_6 = inl is
-load_completes given start count card FormatFailed leaves status fixed comes (inl is) no_4 no_6 = absurd (no_6 is)
-load_completes given start count card EepromFailed leaves status fixed comes (inl is) no_4 no_6 = absurd (no_6 is)
-load_completes given start count card LoadFailed leaves status fixed comes (inl is) no_4 no_6 = absurd (no_6 is)
-load_completes given start count card (Section (script.BadLine number)) leaves status fixed comes (inl is) no_4 no_6 = absurd (never_refused given.boxes bare_card comes.0 card number fixed comes.1)
-load_completes given start count card (Section (script.NoRoom number)) leaves status fixed comes (inl is) no_4 no_6 = absurd comes
-load_completes given start count card (Section script.ReadFailed) leaves status fixed comes (inl is) no_4 no_6 = absurd comes
-load_completes given start count card Usage leaves status fixed comes (inl is) no_4 no_6 = absurd comes
-load_completes given start count card (NotACard at) leaves status fixed comes (inl is) no_4 no_6 = absurd comes
-load_completes given start count card (NoApplet shelf) leaves status fixed comes (inl is) no_4 no_6 = absurd comes
-load_completes given start count card (Played end) leaves status fixed comes (inl is) no_4 no_6 = absurd comes
+pub load_completes : (given : Given) (told : Bool) (start count : ℕ) (card : Persistent) (ending : Ending) (leaves : Leaves) (status : ℕ) → IsFixedCard given.boxes card → ComesToLoad given told start count ending leaves
+    → (status ≡ status_for ending) ⊎ (status ≡ 4) → (status ≡ 4 → ⊥) → (status ≡ 6 → ⊥) → (status ≡ 0) ⊎ ((status ≡ 5) ⊎ ((status ≡ 7) × (told ≡ false)))
+load_completes given told start count card ending leaves status fixed comes (inr four) no_4 no_6 = absurd (no_4 four)
+load_completes given told start count card NoMemory leaves status fixed comes (inl is) no_4 no_6 = inr (inl is)
+load_completes given told start count card (Counted lines counts) leaves status fixed comes (inl is) no_4 no_6 = inl is
+load_completes given told start count card FormatFailed leaves status fixed comes (inl is) no_4 no_6 = absurd (no_6 is)
+load_completes given told start count card EepromFailed leaves status fixed comes (inl is) no_4 no_6 = absurd (no_6 is)
+load_completes given told start count card LoadFailed leaves status fixed comes (inl is) no_4 no_6 = absurd (no_6 is)
+load_completes given told start count card (Section (script.BadLine number)) leaves status fixed comes (inl is) no_4 no_6 = absurd (never_refused given.boxes bare_card comes.0 card number fixed comes.1)
+load_completes given told start count card (Section (script.NoRoom number)) leaves status fixed comes (inl is) no_4 no_6 = absurd comes
+load_completes given told start count card (Section script.ReadFailed) leaves status fixed comes (inl is) no_4 no_6 = absurd comes
+load_completes given told start count card Usage leaves status fixed comes (inl is) no_4 no_6 = absurd comes
+load_completes given told start count card (NotACard at) leaves status fixed comes (inl is) no_4 no_6 = inr (inr (is, comes.untold))
+load_completes given told start count card (NoApplet shelf) leaves status fixed comes (inl is) no_4 no_6 = inr (inr (is, comes.untold))
+load_completes given told start count card (Played end) leaves status fixed comes (inl is) no_4 no_6 = absurd comes

@@ -1,5 +1,5 @@
 -- What a run begins with by its mode.
-use Rattle.std.proofs.Common.{◌≡◌, ℕ, Some, sym, ap, ◌∙◌, subst, inl, inr, ◌⊎◌}
+use Rattle.std.proofs.Common.{◌≡◌, ℕ, Bool, Some, sym, ap, ◌∙◌, subst, inl, inr, ◌⊎◌}
 use Rattle.card_state.specs.Sections.{bare_card}
 use Rattle.command_line.specs.declared.requests.Mode.{Mode}
 use Rattle.command_line.specs.declared.requests.Mode.TheVariants.{Play, Open, Phone, Load, Bip}
@@ -55,10 +55,10 @@ pub not_bip_load : (start count : ℕ) (devices : Devices) (asked : Request) →
 not_bip_load start count devices asked same is = let mode : Bip ≡ Load start count = ap (λ (r : Request). r.mode) same ∙ is in cc
 
 -- a long run is that of its words
-pub the_load : (given : Given) (start count start_too count_too : ℕ) (devices : Devices) (asked : Request) (ending : Ending) (leaves : Leaves) → load_request start count devices ≡ asked → asked.mode ≡ Load start_too count_too
-    → ComesToLoad given start_too count_too ending leaves → ComesToLoad given start count ending leaves
-the_load given start count start_too count_too devices asked ending leaves same is comes =
+pub the_load : (given : Given) (told : Bool) (start count start_too count_too : ℕ) (devices : Devices) (asked : Request) (ending : Ending) (leaves : Leaves) → load_request start count devices ≡ asked → asked.mode ≡ Load start_too count_too
+    → ComesToLoad given told start_too count_too ending leaves → ComesToLoad given told start count ending leaves
+the_load given told start count start_too count_too devices asked ending leaves same is comes =
     let both : Load start count ≡ Load start_too count_too = ap (λ (r : Request). r.mode) same ∙ is in
     let start_is : start ≡ start_too = cc in
     let count_is : count ≡ count_too = cc in
-    subst (λ s. ComesToLoad given s count ending leaves) (sym start_is) (subst (λ k. ComesToLoad given start_too k ending leaves) (sym count_is) comes)
+    subst (λ s. ComesToLoad given told s count ending leaves) (sym start_is) (subst (λ k. ComesToLoad given told start_too k ending leaves) (sym count_is) comes)

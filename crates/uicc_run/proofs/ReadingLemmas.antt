@@ -1,68 +1,74 @@
--- Which lines a run read, and why no more of them: what follows of what it comes to, whatever its memory holds or tells.
-use Rattle.std.proofs.Common.{◌≡◌, ℕ, Bool, true, List, [], ◌∷◌, ◌++◌, Option, sym, append_assoc, subst, inl, inr}
+-- Which lines a run read, and why no more of them, whatever its memory and its sink tell.
+use Rattle.std.proofs.Common.{◌≡◌, ℕ, Bool, true, List, [], ◌∷◌, ◌++◌, Option, Ok, sym, append_assoc, subst}
 use Rattle.std.specs.List.{AllPass}
 use Rattle.std.proofs.lemmas.List.Elements.{All-nil}
-use Rattle.byte_streams.specs.Lines.{LineList, lines}
+use Rattle.byte_streams.specs.Lines.{lines_within}
+use Rattle.byte_streams.specs.Reading.{pending}
 use Rattle.script_form.specs.declared.lines.ScriptLine.{ScriptLine}
 use Rattle.script_form.specs.declared.lines.ScriptLine.TheVariants.{Start}
-use Rattle.script_reader.specs.Behind.{StopsReading}
+use Rattle.script_reader.proofs.BehindLemmas.{reads_first}
+use Rattle.script_reader.specs.Behind.{EndsReading, IsReading, LinesReadTo, StopsReading}
 use Rattle.script_reader.specs.Said.{AreRead}
 use Rattle.script_reader.specs.declared.behind.PlayEnd.{PlayEnd}
 use Rattle.script_reader.specs.declared.behind.PlayEnd.TheVariants.{Finished, BadLine, ReadFailed, SinkFailed, ResetFailed}
+use Rattle.script_reader.specs.declared.reader.ScriptReader.{ScriptReader}
 use Rattle.card_state.specs.Persistent.{Persistent}
+use Rattle.card_core.specs.declared.opening_faults.OpenFault.{OpenFault}
+use Rattle.card_core.specs.declared.opening_faults.OpenFault.TheVariants as fault
+use Rattle.section_lines.specs.Script.{with_lines}
+use Rattle.section_lines.specs.SectionReading.{AtStart}
 use Rattle.phone_runs.specs.Lines.{PhoneEnds}
 use Rattle.run_steps.specs.Views.{CardView}
-use Rattle.section_lines.specs.SectionReading.{EndsInSection}
-use Rattle.uicc_run.specs.Headline.{Comes, IsNotOpened}
-use Rattle.uicc_run.specs.Playing.{AreReadInPlace, EndsSo, Given, Leaves, StopsPlaying, ComesTo, ServedComesTo, beginning}
+use Rattle.uicc_run.specs.Making.{EndsBehind, HasStarted, ReadsBehind, ReadsTo, ending_for}
+use Rattle.uicc_run.specs.Playing.{EndsSo, Given, Leaves, ServedComesTo, beginning}
 use Rattle.uicc_run.specs.Steps.{may_stand}
-use Rattle.uicc_run.specs.declared.endings.Ending.{Ending}
-use Rattle.uicc_run.specs.declared.endings.Ending.TheVariants.{Usage, NoMemory, Section, FormatFailed, EepromFailed, NotACard, NoApplet, Played, Counted, LoadFailed}
 use Rattle.uicc_run.proofs.ServingLemmas.{opening}
 
--- `start` was read
-pub record HasStarted (given : Given) : Type 0 where
-  pub found : LineList
-  pub more : LineList
-  pub section : List ScriptLine
-  pub card : Option Persistent
-  pub parted : lines given.text ≡ found ++ more
-  pub lines_are : AreReadInPlace given found section [] card
-
--- no more lines were read after it, for this cause
-pub record EndsBehind (given : Given) (left : Option (List ℕ)) (end : PlayEnd) : Type 0 where
-  pub found : LineList
-  pub section : List ScriptLine
-  pub played : List ScriptLine
-  pub card : Option Persistent
-  pub lines_are : AreReadInPlace given found section played card
-  pub cause : StopsPlaying given found left end
-
--- the same by each end after `start`; where the sink failed, or the memory in a reset, nothing is said
-abbrev pub ReadsBehind : Given → Option (List ℕ) → PlayEnd → Type 0
-ReadsBehind given left SinkFailed = Unit {0}
-ReadsBehind given left ResetFailed = Unit {0}
-ReadsBehind given left end = EndsBehind given left end
-
--- what a run reads of its script by its end; where the memory fails, or there is none to begin with, nothing is said of it
-abbrev pub ReadsTo : Given → Option (List ℕ) → Ending → Type 0
-ReadsTo given left (Section fault) = EndsInSection given.boxes given.first given.text left fault
-ReadsTo given left (NotACard at) = HasStarted given
-ReadsTo given left (NoApplet shelf) = HasStarted given
-ReadsTo given left (Played end) = ReadsBehind given left end
-ReadsTo given left (Counted lines counts) = ⊥
-ReadsTo given left LoadFailed = ⊥
-ReadsTo given left ending = Unit {0}
-
-has_started : (IsKnown : List ScriptLine → Option Persistent → Type 0) (given : Given) (told : Bool) (left : Option (List ℕ)) (leaves : Leaves) → IsNotOpened given told left leaves IsKnown → HasStarted given
-has_started IsKnown given told left leaves is = record {
-  found = is.found;
-  more = is.more;
-  section = is.section;
-  card = is.card;
-  parted = is.begins;
-  lines_are = record { read = is.read; described = is.described; in_place = All-nil (λ line. may_stand given.is_served line ≡ true) };
+has_started : (given : Given) (script : ScriptReader) (left : Option (List ℕ)) (card : Option Persistent) → AtStart given.boxes given.first given.text script left card → HasStarted given
+has_started given script left card at = record {
+  found = at.given;
+  more = lines_within script.reader.room (pending script.reader at.follows.reads.rest);
+  section = at.section;
+  card = card;
+  parted = at.follows.reads.lines_are;
+  lines_are = record { read = at.read; described = at.described; in_place = All-nil (λ line. may_stand given.is_served line ≡ true) };
 }
+
+-- the card was not opened
+pub reads_refused : (given : Given) (script : ScriptReader) (left : Option (List ℕ)) (card : Option Persistent) (why : OpenFault) → AtStart given.boxes given.first given.text script left card → ReadsTo given left (ending_for why)
+reads_refused given script left card (fault.NotACard place) at = has_started given script left card at
+reads_refused given script left card (fault.NoBox shelf) at = has_started given script left card at
+reads_refused given script left card fault.Failed at = tt
+reads_refused given script left card fault.PowerLost at = tt
+reads_refused given script left card fault.Memory at = tt
+
+-- it was, and no line was read after `start`
+pub reads_start : (given : Given) (script : ScriptReader) (left : Option (List ℕ)) (card : Option Persistent) (served : Bool) → (at : AtStart given.boxes given.first given.text script left card) → IsReading (may_stand served) (opening at.section) given.text script left
+reads_start given script left card served at = reads_first (may_stand served) (opening at.section) given.text at.given script left at.read at.follows
+
+ends_behind : (given : Given) (left : Option (List ℕ)) (section : List ScriptLine) (card : Option Persistent) (served : Bool) (end : PlayEnd) → given.is_served ≡ served → with_lines given.boxes given.first section ≡ Ok card
+    → EndsReading (may_stand served) (opening section) given.text left end → EndsBehind given left end
+ends_behind given left section card served end is described ends_so =
+    let ends = subst (λ s. EndsReading (may_stand s) (opening section) given.text left end) (sym is) ends_so in
+    record {
+      found = ends.found;
+      section = section;
+      played = ends.played;
+      card = card;
+      lines_are = record { read = subst (AreRead ends.found) (append_assoc section (Start ∷ []) ends.played) ends.read; described = described; in_place = ends.in_place };
+      cause = ends.cause;
+    }
+
+-- no more lines are read
+pub reads_behind : (given : Given) (left : Option (List ℕ)) (section : List ScriptLine) (card : Option Persistent) (served : Bool) (end : PlayEnd) → given.is_served ≡ served → with_lines given.boxes given.first section ≡ Ok card
+    → LinesReadTo (may_stand served) (opening section) given.text left end → ReadsBehind given left end
+reads_behind given left section card served Finished is described ends = ends_behind given left section card served Finished is described ends
+reads_behind given left section card served (BadLine number) is described ends = ends_behind given left section card served (BadLine number) is described ends
+reads_behind given left section card served ReadFailed is described ends = ends_behind given left section card served ReadFailed is described ends
+reads_behind given left section card served SinkFailed is described ends = tt
+reads_behind given left section card served ResetFailed is described ends = tt
+
+-- ---- of a run that is told
 
 -- where the lines went to the card
 abbrev pub reads_played : (given : Given) (first : CardView) (left : Option (List ℕ)) (end : PlayEnd) (leaves : Leaves) → EndsSo given first left end leaves → EndsBehind given left end
@@ -84,25 +90,3 @@ reads_served given first left end leaves is served ends = record {
   };
   cause = subst (λ s. StopsReading (may_stand s) given.text ends.found left end) (sym is) ends.cause;
 }
-
-reads_lines : (given : Given) (first : CardView) (left : Option (List ℕ)) (end : PlayEnd) (leaves : Leaves) → ComesTo given first left end leaves → ReadsBehind given left end
-reads_lines given first left Finished leaves (inl card) = reads_played given first left Finished leaves card.1
-reads_lines given first left Finished leaves (inr served) = reads_served given first left Finished leaves served.0 served.1 served.1.comes
-reads_lines given first left (BadLine number) leaves (inl card) = reads_played given first left (BadLine number) leaves card.1
-reads_lines given first left (BadLine number) leaves (inr served) = reads_served given first left (BadLine number) leaves served.0 served.1 served.1.comes
-reads_lines given first left ReadFailed leaves (inl card) = reads_played given first left ReadFailed leaves card.1
-reads_lines given first left ReadFailed leaves (inr served) = reads_served given first left ReadFailed leaves served.0 served.1 served.1.comes
-reads_lines given first left SinkFailed leaves comes = tt
-reads_lines given first left ResetFailed leaves comes = tt
-
-pub reads_of : (given : Given) (told : Bool) (left : Option (List ℕ)) (ending : Ending) (leaves : Leaves) → Comes given told left ending leaves → ReadsTo given left ending
-reads_of given told left Usage leaves comes = tt
-reads_of given told left NoMemory leaves comes = tt
-reads_of given told left (Section fault) leaves comes = comes.0
-reads_of given told left FormatFailed leaves comes = tt
-reads_of given told left EepromFailed leaves comes = tt
-reads_of given told left (NotACard at) leaves comes = has_started _ given told left leaves comes
-reads_of given told left (NoApplet shelf) leaves comes = has_started _ given told left leaves comes
-reads_of given told left (Played end) leaves comes = reads_lines given comes.0 left end leaves comes.2
-reads_of given told left (Counted lines counts) leaves comes = comes
-reads_of given told left LoadFailed leaves comes = comes

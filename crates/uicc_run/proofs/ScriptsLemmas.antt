@@ -27,11 +27,12 @@ use Rattle.section_lines.specs.Script.{with_lines}
 use Rattle.run_steps.specs.Views.{CardView, ItsPower, TheCard}
 use Rattle.phone_runs.specs.Lines.{PhoneEnds}
 use Rattle.bip_runs.proofs.IsLineLemmas.{Only, only_first, only_last, only_says, says_itself}
-use Rattle.uicc_run.specs.Making.{IsUnshown}
+use Rattle.uicc_run.specs.Making.{EndsBehind, HasStarted, IsUnshown, ReadsTo}
 use Rattle.uicc_run.specs.Endings.{status_for}
 use Rattle.uicc_run.specs.Headline.{Closes, Comes, IsNoCard, IsNotOpened, LacksBox, is_known, last_text}
 use Rattle.uicc_run.specs.Playing.{AreReadInPlace, EndsSo, Given, IsOpened, Leaves, first_machine, ComesTo, ServedComesTo, beginning}
-use Rattle.uicc_run.proofs.ReadingLemmas.{EndsBehind, HasStarted, ReadsTo, reads_played, reads_served}
+use Rattle.uicc_run.proofs.ReadingLemmas.{reads_played, reads_served}
+use Rattle.uicc_run.proofs.TellsNextLemmas.{tells_it, tells_same}
 use Rattle.uicc_run.proofs.ServingLemmas.{opening}
 use Rattle.uicc_run.specs.Steps.{may_stand}
 use Rattle.uicc_run.specs.Scripts.{AreInPlace, CanOpen, CannotOpen, HoldsWholeCard, IsFirstBad, IsFirstTooMuch, IsGoodScript, MeetsBad, NoBoxOn, NoCardAt, ReachesStart, Refusal, RefusesAndTells, StopsAndTells, StopsAtStart, StopsBehind, TellsNext, TellsWhy, refusal_line}
@@ -39,7 +40,7 @@ use Rattle.uicc_run.specs.declared.endings.Ending.{Ending}
 use Rattle.uicc_run.specs.declared.endings.Ending.TheVariants.{Usage, NoMemory, Section, FormatFailed, EepromFailed, NotACard, NoApplet, Played, Counted, LoadFailed}
 use Rattle.uicc_run.proofs.HasBoxLemmas.{IsBoxed, have_boxes}
 use Rattle.uicc_run.proofs.HasKindsOfLemmas.{boxes_there}
-use Rattle.uicc_run.proofs.OpeningLemmas.{none_stays, some_of}
+use Rattle.uicc_run.proofs.OpeningLemmas.{none_stays}
 use Rattle.uicc_run.proofs.WithLineLemmas.{Before, Behind, Rules, Stage, Stops, Walks, one_card, one_stop, passes_stop, walks_section, walks_whole, whole_no_stop}
 
 abbrev rules_of : Given → Rules
@@ -146,15 +147,10 @@ why_eight : (why : Bool) → 8 ≡ stop_status why → why ≡ true
 why_eight false is = absurd (cc)
 why_eight true is = refl
 
--- the last line gives the number
-tells_it : (before taken : Option (List ℕ)) (front : List ℕ) (found : LineList) (number : ℕ) → before ≡ Some front → number ≡ length found + 1 → taken ≡ append_known before (trace_text (line.Line number) ++ []) → TellsNext found taken
-tells_it before taken front found number was is told =
-    (front, told ∙ ap (λ b. append_known b (trace_text (line.Line number) ++ [])) was ∙ ap (λ t. Some (front ++ t)) (append-nil (trace_text (line.Line number))) ∙ ap (λ n. Some (front ++ trace_text (line.Line n))) is)
-
 -- before `start`
-abbrev stopped_before : (given : Given) (status number : ℕ) (before taken left : Option (List ℕ)) (front : List ℕ) (ends : EndsInSection given.boxes given.first given.text left (script.BadLine number)) → status ≡ 2 → before ≡ Some front
+abbrev stopped_before : (given : Given) (status number : ℕ) (before taken left : Option (List ℕ)) (ends : EndsInSection given.boxes given.first given.text left (script.BadLine number)) → status ≡ 2
     → taken ≡ append_known before (trace_text (line.Line number) ++ []) → Stopped given status left taken
-stopped_before given status number before taken left front ends is was told = record {
+stopped_before given status number before taken left ends is told = record {
   why = false;
   is = is;
   found = ends.given;
@@ -172,13 +168,13 @@ stopped_before given status number before taken left front ends is was told = re
     described = ends.described;
     is = ends.cause.is;
   });
-  tells = tells_it before taken front ends.given number was ends.cause.counted told;
+  tells = tells_it before taken ends.given number ends.cause.counted told;
   reach = ends.cause.reach;
 }
 
-abbrev stopped_full : (given : Given) (status number : ℕ) (before taken left : Option (List ℕ)) (front : List ℕ) (ends : EndsInSection given.boxes given.first given.text left (script.NoRoom number)) → status ≡ 8 → before ≡ Some front
+abbrev stopped_full : (given : Given) (status number : ℕ) (before taken left : Option (List ℕ)) (ends : EndsInSection given.boxes given.first given.text left (script.NoRoom number)) → status ≡ 8
     → taken ≡ append_known before (trace_text (line.Line number) ++ []) → Stopped given status left taken
-stopped_full given status number before taken left front ends is was told = record {
+stopped_full given status number before taken left ends is told = record {
   why = true;
   is = is;
   found = ends.given;
@@ -196,7 +192,7 @@ stopped_full given status number before taken left front ends is was told = reco
     described = ends.described;
     is = ends.cause.is;
   };
-  tells = tells_it before taken front ends.given number was ends.cause.counted told;
+  tells = tells_it before taken ends.given number ends.cause.counted told;
   reach = ends.cause.reach;
 }
 
@@ -207,9 +203,9 @@ are_in_place given found section played card are = record { said = Say-from_read
 walks_read : (given : Given) (found : LineList) (section played : List ScriptLine) (card : Option Persistent) → AreReadInPlace given found section played card → Walks (rules_of given) Only (Before given.first) found (Behind card)
 walks_read given found section played card are = walks_whole (rules_of given) Only found section played given.first card are.read are.described are.in_place
 
-abbrev stopped_behind : (given : Given) (status number : ℕ) (before taken left : Option (List ℕ)) (front : List ℕ) (ends : EndsBehind given left (play.BadLine number)) → status ≡ 2 → before ≡ Some front
+abbrev stopped_behind : (given : Given) (status number : ℕ) (before taken left : Option (List ℕ)) (ends : EndsBehind given left (play.BadLine number)) → status ≡ 2
     → taken ≡ append_known before (trace_text (line.Line number) ++ []) → Stopped given status left taken
-stopped_behind given status number before taken left front ends is was told = record {
+stopped_behind given status number before taken left ends is told = record {
   why = false;
   is = is;
   found = ends.found;
@@ -227,7 +223,7 @@ stopped_behind given status number before taken left front ends is was told = re
     good = are_in_place given ends.found ends.section ends.played ends.card ends.lines_are;
     is = ends.cause.is;
   });
-  tells = tells_it before taken front ends.found number was ends.cause.counted told;
+  tells = tells_it before taken ends.found number ends.cause.counted told;
   reach = ends.cause.reach;
 }
 
@@ -253,32 +249,31 @@ finished given status left ends is =
 abbrev pub LineVerdict : Given → ℕ → Option (List ℕ) → Option (List ℕ) → Type 0
 LineVerdict given status left taken = (status ≡ 5) ⊎ ((Finishes given status × (left ≡ Some [])) ⊎ (Stopped given status left taken ⊎ ((status ≡ 7) × HasStarted given)))
 
-line_verdict_of : (given : Given) (left before taken : Option (List ℕ)) (front : List ℕ) (ending : Ending) (status : ℕ) → status ≡ status_for ending → before ≡ Some front → taken ≡ append_known before (last_text ending) → ReadsTo given left ending
+line_verdict_of : (given : Given) (left before taken : Option (List ℕ)) (ending : Ending) (status : ℕ) → status ≡ status_for ending → taken ≡ append_known before (last_text ending) → ReadsTo given left ending
     → (ending ≡ Usage → ⊥) → (status_for ending ≡ 3 → ⊥) → (status_for ending ≡ 4 → ⊥) → (status_for ending ≡ 6 → ⊥) → LineVerdict given status left taken
-line_verdict_of given left before taken front Usage status is was told reads used three four six = absurd (used refl)
-line_verdict_of given left before taken front NoMemory status is was told reads used three four six = inl is
-line_verdict_of given left before taken front (Section (script.BadLine number)) status is was told reads used three four six = inr (inr (inl (stopped_before given status number before taken left front reads is was told)))
-line_verdict_of given left before taken front (Section (script.NoRoom number)) status is was told reads used three four six = inr (inr (inl (stopped_full given status number before taken left front reads is was told)))
-line_verdict_of given left before taken front (Section script.ReadFailed) status is was told reads used three four six = absurd (three refl)
-line_verdict_of given left before taken front FormatFailed status is was told reads used three four six = absurd (six refl)
-line_verdict_of given left before taken front EepromFailed status is was told reads used three four six = absurd (six refl)
-line_verdict_of given left before taken front (NotACard at) status is was told reads used three four six = inr (inr (inr (is, reads)))
-line_verdict_of given left before taken front (NoApplet shelf) status is was told reads used three four six = inr (inr (inr (is, reads)))
-line_verdict_of given left before taken front (Played play.Finished) status is was told reads used three four six = inr (inl (finished given status left reads is, reads.cause.told))
-line_verdict_of given left before taken front (Played (play.BadLine number)) status is was told reads used three four six = inr (inr (inl (stopped_behind given status number before taken left front reads is was told)))
-line_verdict_of given left before taken front (Played play.ReadFailed) status is was told reads used three four six = absurd (three refl)
-line_verdict_of given left before taken front (Played play.SinkFailed) status is was told reads used three four six = absurd (four refl)
-line_verdict_of given left before taken front (Played play.ResetFailed) status is was told reads used three four six = absurd (six refl)
-line_verdict_of given left before taken front (Counted lines counts) status is was told reads used three four six = absurd reads
-line_verdict_of given left before taken front LoadFailed status is was told reads used three four six = absurd reads
+line_verdict_of given left before taken Usage status is told reads used three four six = absurd (used refl)
+line_verdict_of given left before taken NoMemory status is told reads used three four six = inl is
+line_verdict_of given left before taken (Section (script.BadLine number)) status is told reads used three four six = inr (inr (inl (stopped_before given status number before taken left reads is told)))
+line_verdict_of given left before taken (Section (script.NoRoom number)) status is told reads used three four six = inr (inr (inl (stopped_full given status number before taken left reads is told)))
+line_verdict_of given left before taken (Section script.ReadFailed) status is told reads used three four six = absurd (three refl)
+line_verdict_of given left before taken FormatFailed status is told reads used three four six = absurd (six refl)
+line_verdict_of given left before taken EepromFailed status is told reads used three four six = absurd (six refl)
+line_verdict_of given left before taken (NotACard at) status is told reads used three four six = inr (inr (inr (is, reads)))
+line_verdict_of given left before taken (NoApplet shelf) status is told reads used three four six = inr (inr (inr (is, reads)))
+line_verdict_of given left before taken (Played play.Finished) status is told reads used three four six = inr (inl (finished given status left reads is, reads.cause.told))
+line_verdict_of given left before taken (Played (play.BadLine number)) status is told reads used three four six = inr (inr (inl (stopped_behind given status number before taken left reads is told)))
+line_verdict_of given left before taken (Played play.ReadFailed) status is told reads used three four six = absurd (three refl)
+line_verdict_of given left before taken (Played play.SinkFailed) status is told reads used three four six = absurd (four refl)
+line_verdict_of given left before taken (Played play.ResetFailed) status is told reads used three four six = absurd (six refl)
+line_verdict_of given left before taken (Counted lines counts) status is told reads used three four six = absurd reads
+line_verdict_of given left before taken LoadFailed status is told reads used three four six = absurd reads
 
 -- the run of a program, but for one with another status
-pub line_verdict : (given : Given) (left before taken : Option (List ℕ)) (ending : Ending) (status : ℕ) → Closes ending before taken status → is_some before ≡ true → ReadsTo given left ending
+pub line_verdict : (given : Given) (left before taken : Option (List ℕ)) (ending : Ending) (status : ℕ) → Closes ending before taken status → ReadsTo given left ending
     → (status ≡ 1 → ⊥) → (status ≡ 3 → ⊥) → (status ≡ 4 → ⊥) → (status ≡ 6 → ⊥) → LineVerdict given status left taken
-line_verdict given left before taken ending status closes tells reads one three four six =
-    let front = some_of before tells in
+line_verdict given left before taken ending status closes reads one three four six =
     elim closes [
-      | inl whole ↦ line_verdict_of given left before taken front.0 ending status whole.0 front.1 whole.1 reads (λ same. one (whole.0 ∙ ap status_for same)) (λ is. three (whole.0 ∙ is)) (λ is. four (whole.0 ∙ is)) (λ is. six (whole.0 ∙ is))
+      | inl whole ↦ line_verdict_of given left before taken ending status whole.0 whole.1 reads (λ same. one (whole.0 ∙ ap status_for same)) (λ is. three (whole.0 ∙ is)) (λ is. four (whole.0 ∙ is)) (λ is. six (whole.0 ∙ is))
       | inr broken ↦ absurd (four broken.0)
     ]
 
@@ -290,9 +285,6 @@ good_ends given status left taken (inr (inr (inl stopped))) good =
     absurd (whole_no_stop (rules_of given) Only IsLine only_first says_itself stopped.found stopped.next (Before given.first) stopped.to stopped.why good.card stopped.walk stopped.stops
     (subst (λ l. Walks (rules_of given) IsLine (Before given.first) l (Behind good.card)) stopped.parted (walks_whole (rules_of given) IsLine (lines given.text) good.section good.played given.first good.card good.good.said good.good.described good.good.in_place)))
 good_ends given status left taken (inr (inr (inr refused))) good = inr (inr refused.0)
-
-tells_same : (found other : LineList) (taken : Option (List ℕ)) → found ≡ other → TellsNext found taken → TellsNext other taken
-tells_same found other taken same tells = subst (λ l. TellsNext l taken) same tells
 
 -- at a line at which it has to stop it does, if the card can be opened
 stops_by : (given : Given) (status : ℕ) (left taken : Option (List ℕ)) (found next : LineList) (to : Stage) (why : Bool) → Walks (rules_of given) IsLine (Before given.first) found to → Stops (rules_of given) to next why → lines given.text ≡ found ++ next
@@ -470,8 +462,6 @@ no_box_so given status shelf left taken leaves boxed is refused told =
 record EndsInLines (given : Given) (left : Option (List ℕ)) (end : PlayEnd) (leaves : Leaves) : Type 0 where
   ends : EndsBehind given left end
   opens : OpensAt given (Behind ends.card)
-  front : List ℕ
-  written : leaves.taken ≡ Some front
 
 ends_played : (given : Given) (left : Option (List ℕ)) (end : PlayEnd) (leaves : Leaves) (first : Machine) → EndsSo given (TheCard first) left end leaves → EndsInLines given left end leaves
 ends_played given left end leaves first ends =
@@ -480,8 +470,6 @@ ends_played given left end leaves first ends =
     record {
       ends = reads_played given (TheCard first) left end leaves ends;
       opens = was_to_open given done.section card.start done.described done.lines.described card.opened (subst (λ (m : Machine). IsGood m.card) card.machine_is card.good);
-      front = _;
-      written = ends.written;
     }
 
 ends_served : (given : Given) (left : Option (List ℕ)) (end : PlayEnd) (leaves : Leaves) (first : Machine) → given.is_served ≡ true → (served : ServedComesTo given (TheCard first) left end leaves)
@@ -491,8 +479,6 @@ ends_served given left end leaves first is served ends =
     record {
       ends = reads_served given (TheCard first) left end leaves is served ends;
       opens = was_to_open given served.section card.start served.card served.described card.opened (subst (λ (m : Machine). IsGood m.card) card.machine_is card.good);
-      front = _;
-      written = ap (λ (l : Leaves). l.taken) served.left_is ∙ ends.written;
     }
 
 behind_end : (given : Given) (left : Option (List ℕ)) (leaves : Leaves) (first : CardView) → is_known first ≡ true → ComesTo given first left play.Finished leaves → EndsInLines given left play.Finished leaves
@@ -510,14 +496,14 @@ finished_so given status left leaves came is = (finished given status left came.
 
 stopped_so : (given : Given) (status number : ℕ) (left taken : Option (List ℕ)) (leaves : Leaves) → EndsInLines given left (play.BadLine number) leaves → status ≡ 2 → taken ≡ append_known leaves.taken (trace_text (line.Line number) ++ [])
     → (stopped : Stopped given status left taken) × OpensAt given stopped.to
-stopped_so given status number left taken leaves came is told = (stopped_behind given status number leaves.taken taken left came.front came.ends is came.written told, came.opens)
+stopped_so given status number left taken leaves came is told = (stopped_behind given status number leaves.taken taken left came.ends is told, came.opens)
 
 verdict_of : (given : Given) (left taken : Option (List ℕ)) (ending : Ending) (leaves : Leaves) (status : ℕ) → status ≡ status_for ending → taken ≡ append_known leaves.taken (last_text ending) → Comes given true left ending leaves
     → (status ≡ 7 → (IsBoxed given → ⊥) → ⊥) → (ending ≡ Usage → ⊥) → (status_for ending ≡ 3 → ⊥) → (status_for ending ≡ 4 → ⊥) → (status_for ending ≡ 6 → ⊥) → Verdict given status left taken
 verdict_of given left taken Usage leaves status is told comes boxed used sound four six = absurd (used refl)
 verdict_of given left taken NoMemory leaves status is told comes boxed used sound four six = inl is
-verdict_of given left taken (Section (script.BadLine number)) leaves status is told comes boxed used sound four six = inr (inr (inl (stopped_before given status number leaves.taken taken left given.before comes.0 is comes.1.written told, tt)))
-verdict_of given left taken (Section (script.NoRoom number)) leaves status is told comes boxed used sound four six = inr (inr (inl (stopped_full given status number leaves.taken taken left given.before comes.0 is comes.1.written told, tt)))
+verdict_of given left taken (Section (script.BadLine number)) leaves status is told comes boxed used sound four six = inr (inr (inl (stopped_before given status number leaves.taken taken left comes.0 is told, tt)))
+verdict_of given left taken (Section (script.NoRoom number)) leaves status is told comes boxed used sound four six = inr (inr (inl (stopped_full given status number leaves.taken taken left comes.0 is told, tt)))
 verdict_of given left taken (Section script.ReadFailed) leaves status is told comes boxed used sound four six = absurd (sound refl)
 verdict_of given left taken FormatFailed leaves status is told comes boxed used sound four six = absurd (six refl)
 verdict_of given left taken EepromFailed leaves status is told comes boxed used sound four six = absurd (six refl)

@@ -4,6 +4,7 @@ use Rattle.uicc_types.specs.Counts.{Meter}
 use Rattle.card_state.specs.Persistent.{Persistent}
 use Rattle.applet_trait.specs.Minds.{AppletState}
 use Rattle.uicc_run.specs.Endings.{KeepsBytes}
+use Rattle.uicc_run.specs.Loading.{IsOver}
 use Rattle.uicc_run.specs.Opening.{IsGiven}
 use Rattle.uicc_run.specs.Playing.{Given, Leaves}
 use Rattle.uicc_run.specs.Stores.{content_in, held_in, memory_in}
@@ -14,6 +15,15 @@ pub given_over : (given : Given) (told pages : Bool) (taken contents : Option (L
     → IsGiven given told taken (memory_in given.pages contents) meter boxes → IsGiven given told taken memory meter_now boxes
 given_over given told pages taken contents memory meter meter_now boxes over same same_meter is = record {
   before_is = is.before_is;
+  memory_is = λ tells. same ∙ ap (λ p. memory_in p contents) (sym over) ∙ is.memory_is tells;
+  meter_is = same_meter ∙ is.meter_is;
+  boxes_are = is.boxes_are;
+}
+
+-- the same of a long run
+pub over_store : (given : Given) (told pages : Bool) (contents : Option (List ℕ)) (memory : Option (Result Persistent ℕ)) (meter meter_now : Meter) (boxes : List (Option AppletState)) → given.pages ≡ pages → memory ≡ memory_in pages contents → meter_now ≡ meter
+    → IsOver given told (memory_in given.pages contents) meter boxes → IsOver given told memory meter_now boxes
+over_store given told pages contents memory meter meter_now boxes over same same_meter is = record {
   memory_is = λ tells. same ∙ ap (λ p. memory_in p contents) (sym over) ∙ is.memory_is tells;
   meter_is = same_meter ∙ is.meter_is;
   boxes_are = is.boxes_are;

@@ -17,6 +17,7 @@ use Rattle.uicc_run.specs.Running.{ServesToEnd}
 use Rattle.uicc_run.specs.Worlds.{World, Seen, seen}
 use Rattle.uicc_run.specs.Scripts.{StopsAndTells, TellsNext}
 use Rattle.uicc_run.specs.Terminals.{AskForBip, ComesToBip, TracesBip}
+use Rattle.uicc_run.proofs.TellsNextLemmas.{tells_it}
 use Rattle.uicc_run.specs.declared.endings.Ending.{Ending}
 use Rattle.uicc_run.specs.declared.endings.Ending.TheVariants.{Usage, NoMemory, Section, FormatFailed, EepromFailed, NotACard, NoApplet, Played, Counted, LoadFailed}
 
@@ -56,36 +57,29 @@ bip_completes text before seen traces good three four = elim traces.closes [
   | inr broken ↦ absurd (four broken.0)
 ]
 
--- the last line tells the number of the line behind these
-tells_it : (put taken : Option (List ℕ)) → (front : (begun : List ℕ) × (put ≡ Some begun)) → (found : LineList) (number : ℕ) → number ≡ length found + 1 → taken ≡ append_known put (trace_text (line.Line number) ++ []) → TellsNext found taken
-tells_it put taken front found number is told =
-    (front.0, told ∙ ap (λ b. append_known b (trace_text (line.Line number) ++ [])) front.1 ∙ ap (λ t. Some (front.0 ++ t)) (append-nil (trace_text (line.Line number))) ∙ ap (λ n. Some (front.0 ++ trace_text (line.Line n))) is)
-
-written_front : (text begun : List ℕ) (before left put : Option (List ℕ)) (number : ℕ) → before ≡ Some begun → EndsServing text before left put (play.BadLine number) → (front : List ℕ) × (put ≡ Some front)
-written_front text begun before left put number was ends = (begun ++ trace_of ends.said, ends.written ∙ ap (λ b. append_known b (trace_of ends.said)) was)
-
-bad_of : (text begun : List ℕ) (before left put taken : Option (List ℕ)) (ending : Ending) (status : ℕ) (found : LineList) → before ≡ Some begun → ComesToBip text before left put ending → status ≡ status_for ending → taken ≡ append_known put (last_text ending) → IsFirstBadBip text found → (status ≡ 3 → ⊥) → (status ≡ 4 → ⊥)
+-- the last line tells the number of the line after these
+bad_of : (text : List ℕ) (before left put taken : Option (List ℕ)) (ending : Ending) (status : ℕ) (found : LineList) → ComesToBip text before left put ending → status ≡ status_for ending → taken ≡ append_known put (last_text ending) → IsFirstBadBip text found → (status ≡ 3 → ⊥) → (status ≡ 4 → ⊥)
     → ((status ≡ 2) × TellsNext found taken) ⊎ (status ≡ 5)
-bad_of text begun before left put taken NoMemory status found was comes is told bad three four = inr is
-bad_of text begun before left put taken (Played play.Finished) status found was comes is told bad three four = absurd (bad_ends_not text before left put found bad comes)
-bad_of text begun before left put taken (Played (play.BadLine number)) status found was comes is told bad three four =
-    inl (is, tells_it put taken (written_front text begun before left put number was comes) found number (bad_stops_there text before left put found number bad comes) told)
-bad_of text begun before left put taken (Played play.ReadFailed) status found was comes is told bad three four = absurd (three is)
-bad_of text begun before left put taken (Played play.SinkFailed) status found was comes is told bad three four = absurd (four is)
-bad_of text begun before left put taken (Played play.ResetFailed) status found was comes is told bad three four = absurd comes
-bad_of text begun before left put taken Usage status found was comes is told bad three four = absurd comes
-bad_of text begun before left put taken (Section fault) status found was comes is told bad three four = absurd comes
-bad_of text begun before left put taken FormatFailed status found was comes is told bad three four = absurd comes
-bad_of text begun before left put taken EepromFailed status found was comes is told bad three four = absurd comes
-bad_of text begun before left put taken (NotACard at) status found was comes is told bad three four = absurd comes
-bad_of text begun before left put taken (NoApplet shelf) status found was comes is told bad three four = absurd comes
-bad_of text begun before left put taken (Counted lines counts) status found was comes is told bad three four = absurd comes
-bad_of text begun before left put taken LoadFailed status found was comes is told bad three four = absurd comes
+bad_of text before left put taken NoMemory status found comes is told bad three four = inr is
+bad_of text before left put taken (Played play.Finished) status found comes is told bad three four = absurd (bad_ends_not text before left put found bad comes)
+bad_of text before left put taken (Played (play.BadLine number)) status found comes is told bad three four =
+    inl (is, tells_it put taken found number (bad_stops_there text before left put found number bad comes) told)
+bad_of text before left put taken (Played play.ReadFailed) status found comes is told bad three four = absurd (three is)
+bad_of text before left put taken (Played play.SinkFailed) status found comes is told bad three four = absurd (four is)
+bad_of text before left put taken (Played play.ResetFailed) status found comes is told bad three four = absurd comes
+bad_of text before left put taken Usage status found comes is told bad three four = absurd comes
+bad_of text before left put taken (Section fault) status found comes is told bad three four = absurd comes
+bad_of text before left put taken FormatFailed status found comes is told bad three four = absurd comes
+bad_of text before left put taken EepromFailed status found comes is told bad three four = absurd comes
+bad_of text before left put taken (NotACard at) status found comes is told bad three four = absurd comes
+bad_of text before left put taken (NoApplet shelf) status found comes is told bad three four = absurd comes
+bad_of text before left put taken (Counted lines counts) status found comes is told bad three four = absurd comes
+bad_of text before left put taken LoadFailed status found comes is told bad three four = absurd comes
 
-pub bip_stops_bad : (text begun : List ℕ) (before : Option (List ℕ)) (seen : Seen) (found : LineList) → before ≡ Some begun → TracesBip text before seen → IsFirstBadBip text found → (seen.status ≡ 3 → ⊥) → (seen.status ≡ 4 → ⊥)
+pub bip_stops_bad : (text : List ℕ) (before : Option (List ℕ)) (seen : Seen) (found : LineList) → TracesBip text before seen → IsFirstBadBip text found → (seen.status ≡ 3 → ⊥) → (seen.status ≡ 4 → ⊥)
     → ((seen.status ≡ 2) × TellsNext found seen.taken) ⊎ (seen.status ≡ 5)
-bip_stops_bad text begun before seen found was traces bad three four = elim traces.closes [
-  | inl whole ↦ bad_of text begun before seen.left traces.put seen.taken traces.ending seen.status found was traces.comes whole.0 whole.1 bad three four
+bip_stops_bad text before seen found traces bad three four = elim traces.closes [
+  | inl whole ↦ bad_of text before seen.left traces.put seen.taken traces.ending seen.status found traces.comes whole.0 whole.1 bad three four
   | inr broken ↦ absurd (four broken.0)
 ]
 
@@ -113,30 +107,30 @@ bip_zero text before seen traces zero = elim traces.closes [
   | inr broken ↦ let four = broken.0 in absurd (omega arith)
 ]
 
-two_of : (text begun : List ℕ) (before left put taken : Option (List ℕ)) (ending : Ending) → before ≡ Some begun → ComesToBip text before left put ending → 2 ≡ status_for ending → taken ≡ append_known put (last_text ending) → StopsAndTells (IsFirstBadBip text) text left taken
-two_of text begun before left put taken (Played (play.BadLine number)) was comes is told = record {
+two_of : (text : List ℕ) (before left put taken : Option (List ℕ)) (ending : Ending) → ComesToBip text before left put ending → 2 ≡ status_for ending → taken ≡ append_known put (last_text ending) → StopsAndTells (IsFirstBadBip text) text left taken
+two_of text before left put taken (Played (play.BadLine number)) comes is told = record {
   found = comes.found;
   is = stop_was_bad text before left put number comes;
-  tells = tells_it put taken (written_front text begun before left put number was comes) comes.found number comes.cause.counted told;
+  tells = tells_it put taken comes.found number comes.cause.counted told;
   reach = comes.cause.reach;
 }
-two_of text begun before left put taken NoMemory was comes is told = absurd (cc)
-two_of text begun before left put taken (Played play.Finished) was comes is told = absurd (cc)
-two_of text begun before left put taken (Played play.ReadFailed) was comes is told = absurd (cc)
-two_of text begun before left put taken (Played play.SinkFailed) was comes is told = absurd (cc)
-two_of text begun before left put taken (Played play.ResetFailed) was comes is told = absurd comes
-two_of text begun before left put taken Usage was comes is told = absurd comes
-two_of text begun before left put taken (Section fault) was comes is told = absurd comes
-two_of text begun before left put taken FormatFailed was comes is told = absurd comes
-two_of text begun before left put taken EepromFailed was comes is told = absurd comes
-two_of text begun before left put taken (NotACard at) was comes is told = absurd comes
-two_of text begun before left put taken (NoApplet shelf) was comes is told = absurd comes
-two_of text begun before left put taken (Counted lines counts) was comes is told = absurd comes
-two_of text begun before left put taken LoadFailed was comes is told = absurd comes
+two_of text before left put taken NoMemory comes is told = absurd (cc)
+two_of text before left put taken (Played play.Finished) comes is told = absurd (cc)
+two_of text before left put taken (Played play.ReadFailed) comes is told = absurd (cc)
+two_of text before left put taken (Played play.SinkFailed) comes is told = absurd (cc)
+two_of text before left put taken (Played play.ResetFailed) comes is told = absurd comes
+two_of text before left put taken Usage comes is told = absurd comes
+two_of text before left put taken (Section fault) comes is told = absurd comes
+two_of text before left put taken FormatFailed comes is told = absurd comes
+two_of text before left put taken EepromFailed comes is told = absurd comes
+two_of text before left put taken (NotACard at) comes is told = absurd comes
+two_of text before left put taken (NoApplet shelf) comes is told = absurd comes
+two_of text before left put taken (Counted lines counts) comes is told = absurd comes
+two_of text before left put taken LoadFailed comes is told = absurd comes
 
-pub bip_two : (text begun : List ℕ) (before : Option (List ℕ)) (seen : Seen) → before ≡ Some begun → TracesBip text before seen → seen.status ≡ 2 → StopsAndTells (IsFirstBadBip text) text seen.left seen.taken
-bip_two text begun before seen was traces two = elim traces.closes [
-  | inl whole ↦ two_of text begun before seen.left traces.put seen.taken traces.ending was traces.comes (sym two ∙ whole.0) whole.1
+pub bip_two : (text : List ℕ) (before : Option (List ℕ)) (seen : Seen) → TracesBip text before seen → seen.status ≡ 2 → StopsAndTells (IsFirstBadBip text) text seen.left seen.taken
+bip_two text before seen traces two = elim traces.closes [
+  | inl whole ↦ two_of text before seen.left traces.put seen.taken traces.ending traces.comes (sym two ∙ whole.0) whole.1
   | inr broken ↦ let four = broken.0 in absurd (omega arith)
 ]
 
@@ -149,10 +143,10 @@ pub serves_to_end : (words : List (List ℕ)) (status : ℕ) (before after : Wor
 serves_to_end words status before after traced low read put = record {
   bip_statuses = low;
   bip_complete = λ text asks told sound good. bip_completes text before.taken (seen status before after) (traced text asks told) good (λ three. sound.source_sound (read three)) (λ four. sound.sink_sound (put four));
-  bip_bad_line = λ text begun asks told was sound found bad.
-      bip_stops_bad text begun before.taken (seen status before after) found was (traced text asks told) bad (λ three. sound.source_sound (read three)) (λ four. sound.sink_sound (put four));
+  bip_bad_line = λ text asks told sound found bad.
+      bip_stops_bad text before.taken (seen status before after) found (traced text asks told) bad (λ three. sound.source_sound (read three)) (λ four. sound.sink_sound (put four));
   bip_complete_only = λ text asks told zero. bip_zero text before.taken (seen status before after) (traced text asks told) zero;
-  bip_bad_line_only = λ text begun asks told was two. bip_two text begun before.taken (seen status before after) was (traced text asks told) two;
+  bip_bad_line_only = λ text asks told two. bip_two text before.taken (seen status before after) (traced text asks told) two;
 }
 
 -- ---- where no run was begun

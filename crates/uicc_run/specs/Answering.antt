@@ -11,7 +11,7 @@ use Rattle.uicc_run.specs.Causes.{IsSeenCause}
 use Rattle.uicc_run.specs.Endings.{HasFailed, status_for}
 use Rattle.uicc_run.specs.Headline.{Closes, Traces}
 use Rattle.uicc_run.specs.Loading.{AskToLoad, IsFixedCard, LoadsFrom, TracesLoad}
-use Rattle.uicc_run.specs.Opening.{RunsFrom}
+use Rattle.uicc_run.specs.Opening.{IsToRead, RunsFrom}
 use Rattle.uicc_run.specs.Pages.{AsksFor, IsNoUse, Shows}
 use Rattle.uicc_run.specs.Playing.{Given}
 use Rattle.uicc_run.specs.Running.{EndsByCard, EndsByScript}
@@ -35,16 +35,22 @@ pub record HasTrace (given : Given) (told : Bool) (words : List (List ℕ)) (see
   pub trace : Traces given told seen.left (record { held = held; taken = seen.taken; meter = meter; boxes = boxes }) seen.status
       (IsSeenCause words seen given.meter meter)
 
--- What is said of a script's lines over any memory, an image too, which tells nothing.
-pub record KeepsToScript (given : Given) (words : List (List ℕ)) (seen : Seen) : Type 0 where
-  pub has : HasTrace given false words seen
-  pub ends : EndsByScript given words seen
-  pub taken : IsTaken (MOST_BYTES + 1) given.text seen.left
+-- So many lines from this number were carried out in a long run, over a device and boxes that are gone.
+pub record HasLoaded (given : Given) (told : Bool) (start count : ℕ) (before : Option (List ℕ)) (seen : Seen) : Type 0 where
+  pub held : Option Persistent
+  pub meter : Meter
+  pub boxes : List (Option AppletState)
+  pub trace : TracesLoad given told start count before (record { held = held; taken = seen.taken; meter = meter; boxes = boxes }) seen.status
+      (λ ending. status_for ending ≡ 6 → HasFailed given.meter meter)
+  pub complete : (card : Persistent) → IsUndisturbed seen → IsFixedCard given.boxes card → (seen.status ≡ 0) ⊎ (seen.status ≡ 5) ⊎ ((seen.status ≡ 7) × (told ≡ false))
 
--- so it is with whatever a run is given
-abbrev pub KeepsToScripts : List (List ℕ) → ℕ → World → World → Type 0
-KeepsToScripts words status before after =
-    (given : Given) → RunsFrom given false words before → KeepsToScript given words (seen status before after)
+-- What is said over any memory, an image too, which tells nothing: of a script's lines the trace, where the sink tells what it has taken; by
+-- the script alone, over any sink, which status comes; how many bytes of it are taken at most; and what a long run comes to.
+pub record KeepsToScripts (words : List (List ℕ)) (status : ℕ) (before after : World) : Type 0 where
+  pub trace : (given : Given) → RunsFrom given false words before → HasTrace given false words (seen status before after)
+  pub script : (given : Given) → IsToRead given words before → EndsByScript given words (seen status before after)
+  pub taken : (text : List ℕ) → before.left ≡ Some text → IsTaken (MOST_BYTES + 1) text after.left
+  pub load : (given : Given) (start count : ℕ) → LoadsFrom given false start count words before → HasLoaded given false start count before.taken (seen status before after)
 
 -- What is said of it over a memory whose bytes were told, so that a card that can't be opened is refused, with why, and only then.
 pub record HasRun (given : Given) (words : List (List ℕ)) (seen : Seen) : Type 0 where
@@ -56,19 +62,11 @@ abbrev pub HasRunOnBench : List (List ℕ) → ℕ → World → World → Type 
 HasRunOnBench words status before after =
     (given : Given) → RunsFrom given true words (over_bench (size_of given.pages) before) → HasRun given words (seen status before after)
 
--- The same of a long run: so many lines from this number were carried out over a device and boxes that are gone.
-pub record HasLoaded (given : Given) (start count : ℕ) (seen : Seen) : Type 0 where
-  pub held : Option Persistent
-  pub meter : Meter
-  pub boxes : List (Option AppletState)
-  pub trace : TracesLoad given start count (record { held = held; taken = seen.taken; meter = meter; boxes = boxes }) seen.status
-      (λ ending. status_for ending ≡ 6 → HasFailed given.meter meter)
-  pub complete : (card : Persistent) → IsUndisturbed seen → IsFixedCard given.boxes card → (seen.status ≡ 0) ⊎ (seen.status ≡ 5)
-
+-- the same of a long run
 abbrev pub HasLoadedOnBench : List (List ℕ) → ℕ → World → World → Type 0
 HasLoadedOnBench words status before after =
-    (given : Given) (start count : ℕ) → LoadsFrom given start count words (over_bench (size_of given.pages) before)
-    → HasLoaded given start count (seen status before after)
+    (given : Given) (start count : ℕ) → LoadsFrom given true start count words (over_bench (size_of given.pages) before)
+    → HasLoaded given true start count before.taken (seen status before after)
 
 -- the run of a terminal's channels, which is over no memory
 abbrev pub HasServed : List (List ℕ) → ℕ → World → World → Type 0

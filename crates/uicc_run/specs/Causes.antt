@@ -17,10 +17,12 @@ pub record FitsRun {B : Type 0} (words : List (List ℕ)) (byte_count : ℕ) (ca
   pub size : IsSizeFor words byte_count
   pub shelves : length cast ≤ ROW_COUNT
 
--- ---- of a memory that tells its bytes
+-- ---- what the memory holds where no card was opened
 
--- Where no card was opened: in `open` each byte is as it was; where a card is made, and the memory failed in that, the first eight bytes
--- are the old ones or it holds just that card, and where there was no memory for the rest, it is as it was or holds just that card.
+-- In `open` each byte that the store stands for is as it was, where the run ended for want of memory, for a card that is none or that lacks a
+-- box, or where the memory failed and held no card. Where a card is made: if the memory failed in that, the first eight of these bytes are
+-- the old ones, or it holds just that card; and if there was no memory for the rest, the device is as it was, or it holds just that card. Of the
+-- bytes of a memory that tells none, this says nothing.
 pub record KeepsMemory (given : Given) (ending : Ending) (before after : World) (MemoryIsSame : Type 0) : Type 0 where
   pub bytes : given.first ≡ None → KeepsBytes ending (held_in given.pages before.contents)
       → content_in given.pages after.contents ≡ content_in given.pages before.contents

@@ -45,12 +45,12 @@ ServedTracesAreOne =
     → (at.taken ≡ at'.taken) × (at.held ≡ at'.held)
 
 -- in a long run no memory failed and no power was lost
-abbrev pub IsLoadedCalm : {given : Given} {start count lines : ℕ} {counts : Counts} {leaves : Leaves} → Loads given start count lines counts leaves → Type 0
+abbrev pub IsLoadedCalm : {given : Given} {first : CardView} {start count lines : ℕ} {counts : Counts} {leaves : Leaves} → Loads given first start count lines counts leaves → Type 0
 IsLoadedCalm run = ShowsNoFailure (shown run.counted.log) × ShowsNoCut (shown run.counted.log)
 
 -- Two such long runs of the same lines have the same counts, and their memories stand for the same.
 abbrev pub LoadsAreOne : Type 0
 LoadsAreOne =
-    (given : Given) (start count lines lines' : ℕ) (counts counts' : Counts) (leaves leaves' : Leaves)
-    → (run : Loads given start count lines counts leaves) (other : Loads given start count lines' counts' leaves')
+    (given : Given) (first first' : Machine) (start count lines lines' : ℕ) (counts counts' : Counts) (leaves leaves' : Leaves)
+    → (run : Loads given (TheCard first) start count lines counts leaves) (other : Loads given (TheCard first') start count lines' counts' leaves')
     → IsLoadedCalm run → IsLoadedCalm other → (counts ≡ counts') × (leaves.held ≡ leaves'.held)

@@ -69,14 +69,15 @@ abbrev pub IsMigratedAtMost : Result Persistent ℕ → Option Persistent → Ty
 IsMigratedAtMost (Ok state) held = (held ≡ Some state) ⊎ (held ≡ Some (migrated state))
 IsMigratedAtMost (Err at) held = held ≡ None
 
--- The memory failed or lost power while the card was opened. It holds what was to be opened, be it what the lines describe or what it
--- held before, or that migrated.
+-- What a memory stands for in which the opening failed: the card that the lines describe, or where they describe none, what it stood for
+-- before, if it did; or that card migrated.
 pub record FailsToOpen (given : Given) (card held : Option Persistent) : Type 0 where
   pub made_at_most : (state : Persistent) → card ≡ Some state → IsMigratedAtMost (Ok state) held
   pub migrated_at_most : given.first ≡ None → IsMigratedAtMost given.memory held
 
--- There was no memory to begin with: none of the script was taken, or `start` was read and the card not opened. The device of the card's
--- memory counted no fault; what it holds is as it was, or just the card that was to be opened.
+-- There was no memory to begin with: none of the script was taken, or `start` was read and the card not opened. Nothing was shown, and the
+-- device of the card's memory counted no fault and was given no plan. Where that memory tells its bytes, it stands for what it stood for before,
+-- if it did, or for just the card that was to be opened.
 pub record HasNoMemory (given : Given) (told : Bool) (left : Option (List ℕ)) (leaves : Leaves) : Type 0 where
   pub written : leaves.taken ≡ Some given.before
   pub counted : IsCounted given.meter leaves.meter [] []

@@ -58,8 +58,13 @@ pub record IsAskedFor (given : Given) (asked : Request) : Type 0 where
   pub store_is : given.pages ≡ asked.devices.pages
   pub served_is : given.is_served ≡ is_served_by asked.mode
 
--- A run is given the text, and the rest, and is the one that its words ask for: over a memory that tells its bytes, or over any.
-pub record RunsFrom (given : Given) (told : Bool) (words : List (List ℕ)) (before : World) : Type 0 where
+-- A run is given this text and these boxes, and is the one that its words ask for. Nothing is said of its sink and its memory.
+pub record IsToRead (given : Given) (words : List (List ℕ)) (before : World) : Type 0 where
   pub text_is : before.left ≡ Some given.text
-  pub others_are : IsGiven given told before.taken (memory_in given.pages before.contents) before.meter before.boxes
+  pub boxes_are : before.boxes ≡ given.boxes
   pub is_asked : (asked : Request) → IsRequest words asked → IsAskedFor given asked
+
+-- It is given the rest too: over a memory that tells its bytes, or over any.
+pub record RunsFrom (given : Given) (told : Bool) (words : List (List ℕ)) (before : World) : Type 0 where
+  pub reads : IsToRead given words before
+  pub others_are : IsGiven given told before.taken (memory_in given.pages before.contents) before.meter before.boxes

@@ -19,8 +19,8 @@ HasRunOver words status before after =
 -- and of a long run
 abbrev pub HasLoadedOver : List (List ℕ) → ℕ → World → World → Type 0
 HasLoadedOver words status before after =
-    (given : Given) (start count : ℕ) → LoadsFrom given start count words before
-    → HasLoaded given start count (seen status before after)
+    (given : Given) (start count : ℕ) → LoadsFrom given true start count words before
+    → HasLoaded given true start count before.taken (seen status before after)
 
 -- why each status comes where the words are those of a run, of which none is wrong
 pub record HasUsedCauses (words : List (List ℕ)) (status : ℕ) (before after : World) (ScriptIsSame : Type 0) : Type 0 where

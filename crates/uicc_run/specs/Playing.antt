@@ -157,8 +157,10 @@ pub record BreaksSo (given : Given) (first : CardView) (now : Leaves) : Type 0 w
   pub written : now.taken ≡ Some (given.before ++ text_of at.done.account.shown ++ front)
   pub counted : IsCounted given.meter now.meter (plan_given at.done.account.steps ++ set) (at.done.account.own ++ own)
 
--- The memory failed in the reset that the next line of the script asks for: the trace says so after all that the lines before show. A
--- fault was counted for it in that reset itself, from what the memory had counted before it. Of the card itself, this is its run.
+-- The memory failed in the reset that the next line of the script asks for: the sink has taken all that the lines before show, and then the
+-- line that says so. Its device had counted just what they show before that reset, and in it that one failure; and it was given just the plans
+-- that were due, be it before or in it. Where the card itself is known, its steps up to this one are a run, and the memory stands for what it
+-- holds then.
 pub record FailsSo (given : Given) (first : CardView) (now : Leaves) : Type 0 where
   pub at : Reaches given first (Takes step.Reset)
   pub card : CardView

@@ -12,7 +12,7 @@ use Rattle.uicc_run.specs.Causes.{IsCaused, IsLoadCaused}
 use Rattle.uicc_run.specs.Endings.{HasFailed}
 use Rattle.uicc_run.specs.Headline.{Closes, Traces, last_text}
 use Rattle.uicc_run.specs.Loading.{AskToLoad, IsFixedCard, LoadsFrom, TracesLoad}
-use Rattle.uicc_run.specs.Opening.{RunsFrom}
+use Rattle.uicc_run.specs.Opening.{IsToRead, RunsFrom}
 use Rattle.uicc_run.specs.Playing.{Given}
 use Rattle.uicc_run.specs.Scripts.{CanOpen, HoldsDescribed, IsFirstBad, IsFirstTooMuch, IsGoodScript, IsUndisturbed, MeetsBad, ReachesStart, Refusal, RefusesAndTells, StopsAndTells, StopsAtStart, StopsBehind, TellsNext, TellsWhy}
 use Rattle.uicc_run.specs.Stores.{content_in}
@@ -22,10 +22,11 @@ use Rattle.uicc_run.specs.declared.endings.Ending.TheVariants.{Usage, EepromFail
 
 -- ---- which scripts end with which status
 
--- By the script alone, over any memory. Where neither the source nor the sink failed and the run doesn't end for its memory, a good script is
--- carried out to its end, and another one up to its first bad line, or the first for which there is no room, whose number is then the last of
--- the trace; if there is memory to begin with, and the card can be opened, of which nothing is known over a memory that tells nothing. Status 0
--- comes only for a good script, which is read to its end then; 2 and 8 only so; and 7 only where `start` comes after good lines.
+-- By the script alone, over any memory and any sink. Where neither the source nor the sink failed and the run doesn't end for its memory: a
+-- good script ends with 0; another one with 2 for its first bad line, or with 8 for the first for which there is no room, and the trace then
+-- ends with its number; or either for want of memory, with 5; or, where `start` comes after good lines, with 7, of which no more is known by the
+-- script alone. Status 0 comes only for a good script, which is read to its end then; 2 and 8 only so; and 7 only where `start` comes after
+-- good lines.
 pub record EndsByScript (given : Given) (words : List (List ℕ)) (seen : Seen) : Type 0 where
   pub good_over_any : AskForRun words → IsUndisturbed seen → IsGoodScript given → (seen.status ≡ 0) ⊎ (seen.status ≡ 5) ⊎ (seen.status ≡ 7)
   pub bad_over_any : AskForRun words → IsUndisturbed seen → (found : LineList) → IsFirstBad given found
@@ -48,23 +49,22 @@ pub record EndsByCard (given : Given) (words : List (List ℕ)) (seen : Seen) : 
       → ((seen.status ≡ 7) × TellsWhy given why seen.taken) ⊎ (seen.status ≡ 5)
   pub no_card_only : seen.status ≡ 7 → RefusesAndTells given seen.taken
 
--- A long run is carried out to its end, where each of its rows has its box and nothing fails.
+-- A long run is carried out to its end, where each of its rows has its box and nothing fails, if there is memory; over a memory that tells
+-- nothing it may end with 7.
 pub record LoadsToEnd (words : List (List ℕ)) (status : ℕ) (before after : World) : Type 0 where
-  pub load_complete : (given : Given) (start count : ℕ) (card : Persistent) → LoadsFrom given start count words before
-      → IsUndisturbed (seen status before after) → IsFixedCard given.boxes card → (status ≡ 0) ⊎ (status ≡ 5)
+  pub load_complete : (given : Given) (told : Bool) (start count : ℕ) (card : Persistent) → LoadsFrom given told start count words before
+      → IsUndisturbed (seen status before after) → IsFixedCard given.boxes card → (status ≡ 0) ⊎ (status ≡ 5) ⊎ ((status ≡ 7) × (told ≡ false))
 
 -- Statuses of the channels of a terminal: 0 to 5, of which 0 and 2 come as for a card.
 pub record ServesToEnd (words : List (List ℕ)) (status : ℕ) (before after : World) : Type 0 where
   pub bip_statuses : AskForBip words → status ≤ 5
   pub bip_complete : (text : List ℕ) → AskForBip words → before.left ≡ Some text → IsUnbroken (seen status before after)
       → IsGoodBip text → (status ≡ 0) ⊎ (status ≡ 5)
-  pub bip_bad_line : (text begun : List ℕ) → AskForBip words → before.left ≡ Some text → before.taken ≡ Some begun
-      → IsUnbroken (seen status before after) → (found : LineList) → IsFirstBadBip text found
-      → ((status ≡ 2) × TellsNext found after.taken) ⊎ (status ≡ 5)
+  pub bip_bad_line : (text : List ℕ) → AskForBip words → before.left ≡ Some text → IsUnbroken (seen status before after)
+      → (found : LineList) → IsFirstBadBip text found → ((status ≡ 2) × TellsNext found after.taken) ⊎ (status ≡ 5)
   pub bip_complete_only : (text : List ℕ) → AskForBip words → before.left ≡ Some text → status ≡ 0
       → IsGoodBip text × (after.left ≡ Some [])
-  pub bip_bad_line_only : (text begun : List ℕ) → AskForBip words → before.left ≡ Some text → before.taken ≡ Some begun
-      → status ≡ 2
+  pub bip_bad_line_only : (text : List ℕ) → AskForBip words → before.left ≡ Some text → status ≡ 2
       → StopsAndTells (IsFirstBadBip text) text after.left after.taken
 
 -- Words in no form are refused with status 1 and its line. Status 1 comes only so.
@@ -72,7 +72,8 @@ pub record RefusesWords (words : List (List ℕ)) (status : ℕ) (before after :
   pub usage : (AskForRun words → ⊥) → Closes Usage before.taken after.taken status
   pub usage_only : status ≡ 1 → AskForRun words → ⊥
 
--- Why each status comes. With 6 and more than its last line, as in a reset, a fault was counted: a loss of power is none.
+-- Why each status comes. With 6 and more than its last line, as in a reset, a fault was counted: a loss of power is none. A sink that tells
+-- what it has taken goes on telling it.
 pub record HasCauses (status : ℕ) (before after : World) : Type 0 where
   pub statuses : status ≤ 8
   pub source_failed : CountsFailure before.source after.source (status ≡ 3)
@@ -80,24 +81,27 @@ pub record HasCauses (status : ℕ) (before after : World) : Type 0 where
   pub memory_failed : status ≡ 6 → HasFailed before.meter after.meter
   pub reset_failed : status ≡ 6
       → Rose before.meter.faults after.meter.faults ⊎ (after.taken ≡ append_known before.taken (last_text EepromFailed))
+  pub tells : is_some after.taken ≡ is_some before.taken
 
 -- ---- the three parts of what `run` owes
 
--- What was carried out, and what the sink has of it. Of a script for a card, be it made, opened or served by a handset: where script, sink and
--- memory tell their bytes the trace is that of the abstract card, and the memory holds at the end what that card does; over any memory, also
--- one that tells nothing, as an image, it shows what the card's power allows. Where sink and memory tell theirs: a long run comes to the counts
--- of a trace that its lines have on its card. Where the script and the sink do: of the channels of a terminal the trace is that of the script's
--- lines, and on each channel the card got the first of the bytes that it gave, in order.
+-- What was carried out, and what the sink has of it. Of a script for a card, be it made, opened or served by a handset, where script and sink
+-- tell their bytes: where the memory does too, the trace is that of the abstract card, and the memory holds at the end what that card does; over
+-- a memory that tells none, as an image, it shows what the card's power allows. A long run comes to the counts of a trace that its lines have
+-- on its card, or, over a memory that tells nothing, of one that they have on a card with power. Where the script tells its bytes: of the
+-- channels of a terminal the trace is that of the script's lines, and on each channel the card got the first of the bytes that it gave, in
+-- order.
 pub record HasTraces (words : List (List ℕ)) (status : ℕ) (before after : World) (MemoryIsSame BoxesAreSame : Type 0) : Type 0 where
   pub trace : (given : Given) (told : Bool) → RunsFrom given told words before
       → Traces given told after.left (left_in given.pages after) status (IsCaused given words before after MemoryIsSame BoxesAreSame)
-  pub load : (given : Given) (start count : ℕ) → LoadsFrom given start count words before
-      → TracesLoad given start count (left_in given.pages after) status (IsLoadCaused given before after MemoryIsSame BoxesAreSame)
+  pub load : (given : Given) (told : Bool) (start count : ℕ) → LoadsFrom given told start count words before
+      → TracesLoad given told start count before.taken (left_in given.pages after) status (IsLoadCaused given before after MemoryIsSame BoxesAreSame)
   pub bip : (text : List ℕ) → AskForBip words → before.left ≡ Some text → TracesBip text before.taken (seen status before after)
 
--- which scripts end with which status, over any memory and by what it holds; that words in no form end with 1; and why 3, 4 and 6 come
+-- Which scripts end with which status: over any memory and any sink, and by what the memory holds, where both tell their bytes. That words in
+-- no form end with 1; and why 3, 4 and 6 come.
 pub record HasStatuses (words : List (List ℕ)) (status : ℕ) (before after : World) : Type 0 where
-  pub script : (given : Given) → RunsFrom given false words before → EndsByScript given words (seen status before after)
+  pub script : (given : Given) → IsToRead given words before → EndsByScript given words (seen status before after)
   pub card : (given : Given) → RunsFrom given true words before → EndsByCard given words (seen status before after)
   pub usage : RefusesWords words status before after
   pub load : LoadsToEnd words status before after
@@ -114,7 +118,7 @@ pub record LeavesTheRest (words : List (List ℕ)) (status : ℕ) (before after 
   pub unread : (AskForRun words → ⊥) → ScriptIsSame
   pub load_unread : (start count : ℕ) → AskToLoad words start count → ScriptIsSame
   pub taken : (text : List ℕ) → before.left ≡ Some text → IsTaken (MOST_BYTES + 1) text after.left
-  pub no_memory : (given : Given) → RunsFrom given true words before → is_some given.first ≡ true → status ≡ 5
+  pub no_memory : (given : Given) → IsToRead given words before → is_some given.first ≡ true → status ≡ 5
       → MemoryIsSame ⊎ HoldsDescribed given (content_in given.pages after.contents)
 
 -- What a run owes its caller by its words, its status, and what is seen of it before and after it: what was carried out, and what the sink has

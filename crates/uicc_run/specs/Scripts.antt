@@ -145,9 +145,9 @@ pub record IsUndisturbed (seen : Seen) : Type 0 where
   pub sink_sound : Rose seen.sink seen.sink_then → ⊥
   pub memory_sound : seen.status ≡ 6 → ⊥
 
--- what the sink has taken ends with the line that gives the number of the line after these
+-- what the sink has taken, where it tells that, ends with the line that gives the number of the line after these
 abbrev pub TellsNext : LineList → Option (List ℕ) → Type 0
-TellsNext found taken = (front : List ℕ) × (taken ≡ Some (front ++ trace_text (line.Line (length found + 1))))
+TellsNext found taken = IfSome taken (λ text. (front : List ℕ) × (text ≡ front ++ trace_text (line.Line (length found + 1))))
 
 -- The run stopped at a line that is so, and told its number. It took no more of the text than it needs to know that line.
 pub record StopsAndTells (IsAt : LineList → Type 0) (text : List ℕ) (left taken : Option (List ℕ)) : Type 0 where

@@ -86,8 +86,8 @@ pub record StandardNumbers : Type 0 where
   pub commit_bounds : most.MOST_PIECES ∷ most.MOST_BYTES ∷ []
       ≡ 4 ∷ 640 ∷ []
   -- the journal's gate and entries
-  pub journal : journal_at.GATE ∷ journal_at.ENTRIES ∷ journal_at.OPEN ∷ []
-      ≡ 64 ∷ 128 ∷ 0x5A ∷ []
+  pub journal : journal_at.GATE ∷ journal_at.ENTRIES ∷ journal_at.OPEN ∷ journal_at.CLOSED ∷ []
+      ≡ 64 ∷ 128 ∷ 0x5A ∷ 0 ∷ []
   -- the pages of a store whose pages move
   pub pages : page.PAGE_COUNT ∷ page.DEVICE_SIZE ∷ page.CONTENT_SIZE ∷ page.PAGES ∷ page.FIRST_MAPPED ∷ page.MAPPED ∷ page.MAP ∷ page.MAP_END ∷ page.POOL ∷ page.FREE ∷ []
       ≡ 1120 ∷ 71680 ∷ 65536 ∷ 1024 ∷ 13 ∷ 1011 ∷ 832 ∷ 2854 ∷ 45 ∷ 64 ∷ []
@@ -102,9 +102,9 @@ pub record StandardNumbers : Type 0 where
       ≡ (0x48 ∷ 0x69 ∷ []) ∷ (0x50 ∷ 0x69 ∷ 0x63 ∷ 0x6B ∷ []) ∷ (0x54 ∷ 0x65 ∷ 0x78 ∷ 0x74 ∷ []) ∷ (0x54 ∷ 0x6F ∷ 0x6E ∷ 0x65 ∷ []) ∷ (0x54 ∷ 0x69 ∷ 0x63 ∷ 0x6B ∷ []) ∷ (0x4C ∷ 0x6F ∷ 0x73 ∷ 0x74 ∷ []) ∷ (0x4D ∷ 0x6F ∷ 0x76 ∷ 0x65 ∷ 0x64 ∷ []) ∷ (0x41 ∷ 0x63 ∷ 0x74 ∷ 0x69 ∷ 0x76 ∷ 0x65 ∷ []) ∷ (0x49 ∷ 0x64 ∷ 0x6C ∷ 0x65 ∷ []) ∷ (0x42 ∷ 0x61 ∷ 0x72 ∷ 0x3F ∷ []) ∷ (0x4E ∷ 0x6F ∷ 0x74 ∷ 0x65 ∷ 0x3F ∷ []) ∷ []
   -- the longest command in the short form (ISO 7816-4, 5.1)
   pub longest_command : LONGEST_COMMAND ≡ 261
-  -- a script's lines, and a path's identifiers
-  pub script_bounds : line.LONGEST_LINE ∷ line.MOST_BYTES ∷ path.DEEPEST ∷ []
-      ≡ 600 ∷ 16777216 ∷ 8 ∷ []
+  -- a script's lines, and a path's identifiers and bytes
+  pub script_bounds : line.LONGEST_LINE ∷ line.MOST_BYTES ∷ path.DEEPEST ∷ path.LONGEST_PATH ∷ []
+      ≡ 600 ∷ 16777216 ∷ 8 ∷ 16 ∷ []
   -- the commands of a handset for one line
   pub most_commands : handset.MOST_COMMANDS ≡ 65535
   -- a channel's buffer, the bytes that it keeps to be sent, those of one RECEIVE DATA, and the ring that holds them

@@ -1,13 +1,12 @@
 //! A long run: a handset carries out lines that are made from a number, and what it did is counted.
-ghost use Rattle.std.specs.Prelude.{◌≡◌, ◌⊎◌, [], ℕ, true, List, Option, Some, Ok, option_map, IfSome};
+ghost use Rattle.std.specs.Prelude.{◌≡◌, ◌⊎◌, [], ℕ, Bool, true, List, Option, Some, Ok, option_map, IfSome};
 ghost use Rattle.card_state.specs.Persistent.{Persistent};
 ghost use Rattle.card_state.specs.Places.{memory_size};
 ghost use Rattle.card_state.specs.Standing.{standing, stands_for};
 ghost use Rattle.applet_trait.specs.Minds.{minds_of};
 ghost use Rattle.card_model.specs.Counts.{IsCounted};
 ghost use Rattle.uicc_run.specs.Making.{EndsLoad, FitsStore, ending_for_load};
-ghost use Rattle.uicc_run.specs.Loading.{ComesToLoad, HoldsFixed, IsFixedCard};
-ghost use Rattle.uicc_run.specs.Opening.{IsGiven};
+ghost use Rattle.uicc_run.specs.Loading.{ComesToLoad, HoldsFixed, IsFixedCard, IsOver};
 ghost use Rattle.uicc_run.specs.Playing.{Given};
 ghost use Rattle.uicc_run.specs.Stores.{content_in, held_in, mark_of, memory_in, size_of};
 
@@ -38,10 +37,10 @@ pub fn load<E: Eeprom, B: Applet>(
     cast: Vec<Option<B>>,
 ) -> (Ending, E, Vec<Option<B>>)
     requires fits { FitsStore (E.byte_count eeprom) (size_of pages) cast.items }
-    ensures comes { (given : Given) (before taken : Option (List ℕ)) → given.pages ≡ pages
-        → IsGiven given true before (memory_in given.pages (E.contents eeprom)) (E.meter eeprom)
-        (minds_of B.mind cast.items)
-        → ComesToLoad given start count result.0 (record {
+    // Where the memory tells its bytes, and over any.
+    ensures comes { (given : Given) (told : Bool) (taken : Option (List ℕ)) → given.pages ≡ pages
+        → IsOver given told (memory_in given.pages (E.contents eeprom)) (E.meter eeprom) (minds_of B.mind cast.items)
+        → ComesToLoad given told start count result.0 (record {
           held = held_in given.pages (E.contents result.1);
           taken = taken;
           meter = E.meter result.1;
@@ -73,11 +72,10 @@ fn load_on<E: Eeprom, B: Applet>(
     cast: Vec<Option<B>>,
 ) -> (Ending, E, Vec<Option<B>>)
     requires fits { FitsStore (E.byte_count eeprom) (size_of pages) cast.items }
-    ensures comes { (given : Given) (before taken : Option (List ℕ)) → given.pages ≡ pages
+    ensures comes { (given : Given) (told : Bool) (taken : Option (List ℕ)) → given.pages ≡ pages
         → IsFixedCard given.boxes section.now
-        → IsGiven given true before (memory_in given.pages (E.contents eeprom)) (E.meter eeprom)
-        (minds_of B.mind cast.items)
-        → ComesToLoad given start count result.0 (record {
+        → IsOver given told (memory_in given.pages (E.contents eeprom)) (E.meter eeprom) (minds_of B.mind cast.items)
+        → ComesToLoad given told start count result.0 (record {
           held = held_in given.pages (E.contents result.1);
           taken = taken;
           meter = E.meter result.1;
@@ -109,10 +107,10 @@ fn load_over<S: Store, B: Applet>(
     cast: Vec<Option<B>>,
 ) -> (Ending, S, Vec<Option<B>>)
     requires fits { FitsStore (S.byte_count store) memory_size cast.items }
-    ensures comes { (given : Given) (before taken : Option (List ℕ)) → IsFixedCard given.boxes section.now
-        → IsGiven given true before (option_map (stands_for (S.store_mark store)) (S.stable store)) (S.meter store)
+    ensures comes { (given : Given) (told : Bool) (taken : Option (List ℕ)) → IsFixedCard given.boxes section.now
+        → IsOver given told (option_map (stands_for (S.store_mark store)) (S.stable store)) (S.meter store)
         (minds_of B.mind cast.items)
-        → ComesToLoad given start count result.0 (record {
+        → ComesToLoad given told start count result.0 (record {
           held = standing (S.store_mark result.1) (S.stable result.1);
           taken = taken;
           meter = S.meter result.1;
@@ -139,10 +137,11 @@ fn open_and_load<S: Store, B: Applet>(
     cast: Vec<Option<B>>,
 ) -> (Ending, S, Vec<Option<B>>)
     requires fits { FitsStore (S.byte_count store) memory_size cast.items }
-    ensures comes { (given : Given) (taken : Option (List ℕ)) (card : Persistent)
-        → option_map (stands_for (S.store_mark store)) (S.stable store) ≡ Some (Ok card) → IsFixedCard given.boxes card
+    ensures comes { (given : Given) (told : Bool) (taken : Option (List ℕ)) (card : Persistent)
+        → (told ≡ true → option_map (stands_for (S.store_mark store)) (S.stable store) ≡ Some (Ok card))
+        → IsFixedCard given.boxes card
         → IsCounted given.meter (S.meter store) [] [] → minds_of B.mind cast.items ≡ given.boxes
-        → ComesToLoad given start count result.0 (record {
+        → ComesToLoad given told start count result.0 (record {
           held = standing (S.store_mark result.1) (S.stable result.1);
           taken = taken;
           meter = S.meter result.1;

@@ -1,4 +1,6 @@
-use Rattle.uicc_run.proofs.AnsweringLemmas.{asks_for_devices, devices_are_asked, has_no_words, keeps_without_words, loads_run, no_image}
+use Rattle.std.proofs.Common.{true, false}
+use Rattle.byte_streams.proofs.ReadingLemmas.{IsTaken-none}
+use Rattle.uicc_run.proofs.AnsweringLemmas.{asks_for_devices, devices_are_asked, ends_without_words, has_no_words, loads_run, no_image, no_words}
 use Rattle.uicc_run.proofs.TerminalsLemmas.{asks_for_run}
 use Rattle.uicc_run.proofs.answering.play.Goals as goal
 
@@ -23,13 +25,18 @@ returns-in-Some-clause-causes g c = c.play_on.ensures.causes.outer
 -- ---- words in no form
 
 pub returns-in-None-clause-script : goal.returns-in-None-clause-script
-returns-in-None-clause-script g c = λ given from. keeps_without_words _ (g.W.Sink.taken c.args.output.now) given _ (asks_for_devices _ c.in-None.ensures) c.close.ensures.status from.others_are.before_is from.text_is c.close.ensures.closed
+returns-in-None-clause-script g c = record {
+  trace = λ given from. no_words _ (g.W.Sink.taken c.args.output.now) given false _ (asks_for_devices _ c.in-None.ensures) from.others_are.before_is c.close.ensures.closed;
+  script = λ given from. ends_without_words _ given _ (asks_for_devices _ c.in-None.ensures) c.close.ensures.status;
+  taken = λ text told. IsTaken-none _ text _ told;
+  load = λ given start count from. absurd (asks_for_devices _ c.in-None.ensures (loads_run given false start count _ _ from));
+}
 
 pub returns-in-None-clause-trace : goal.returns-in-None-clause-trace
 returns-in-None-clause-trace g c = λ none given from. has_no_words _ _ given _ (asks_for_devices _ c.in-None.ensures) c.close.ensures.status from.others_are.before_is c.close.ensures.closed
 
 pub returns-in-None-clause-load : goal.returns-in-None-clause-load
-returns-in-None-clause-load g c = λ none given start count from. absurd (asks_for_devices _ c.in-None.ensures (loads_run given start count _ _ from))
+returns-in-None-clause-load g c = λ none given start count from. absurd (asks_for_devices _ c.in-None.ensures (loads_run given true start count _ _ from))
 
 pub returns-in-None-clause-bip : goal.returns-in-None-clause-bip
 returns-in-None-clause-bip g c = λ text asks told. absurd (asks_for_devices _ c.in-None.ensures (asks_for_run _ asks))

@@ -9,8 +9,8 @@ use Rattle.uicc_run.proofs.OpeningLemmas.{none_counted}
 use Rattle.uicc_run.proofs.loading.load.Goals as goal
 
 pub returns-in-Ok-describe_rows-clause-comes : goal.returns-in-Ok-describe_rows-clause-comes
-returns-in-Ok-describe_rows-clause-comes g c = λ given before taken store is.
-    c.load_on.ensures.comes given before taken store
+returns-in-Ok-describe_rows-clause-comes g c = λ given told taken store is.
+    c.load_on.ensures.comes given told taken store
     (subst (λ boxes. IsFixedCard boxes c.describe_rows.new.section) (ap (minds_of g.B.Applet.mind) c.as_slice.ensures.value ∙ is.boxes_are)
     (subst (λ bare. with_lines (minds_of g.B.Applet.mind c.as_slice.result.now) (Some bare) fixed_rows ≡ Ok (Some c.describe_rows.new.section)) c.in-Ok.ensures c.in-Ok-describe_rows.ensures)) is
 
@@ -24,7 +24,7 @@ returns-in-Ok-describe_rows-clause-no_memory g c = λ given store boxes wants.
     })
 
 pub returns-clause-comes : goal.returns-clause-comes
-returns-clause-comes g c = λ given before taken store is. none_counted given _ is.meter_is
+returns-clause-comes g c = λ given told taken store is. none_counted given _ is.meter_is
 
 pub returns-clause-no_memory : goal.returns-clause-no_memory
 returns-clause-no_memory g c = λ given store boxes wants. inl refl

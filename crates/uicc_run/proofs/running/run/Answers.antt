@@ -6,9 +6,9 @@ use Rattle.uicc_run.specs.Running.{HasCauses, RefusesWords}
 use Rattle.uicc_run.specs.Terminals.{AskForBip, TracesBip}
 use Rattle.uicc_run.specs.Worlds.{seen, world}
 use Rattle.uicc_run.proofs.TerminalsLemmas.{rose_on, serves_to_end, status_low}
-use Rattle.uicc_run.proofs.IsToPlayLemmas.{over_any}
 use Rattle.uicc_run.proofs.RunningLemmas.{statuses_so}
 use Rattle.uicc_run.proofs.ScriptsLemmas.{five_is, one_is, six_shows}
+use Rattle.uicc_run.proofs.TellsNextLemmas.{closes_tells}
 use Rattle.uicc_run.proofs.running.run.Goals as goal
 
 pub returns : goal.returns
@@ -26,6 +26,7 @@ returns g c =
       memory_failed = grind (arith, common_steps);
       reset_failed = λ six.
           six_shows ending before.taken _ _ _ _ c.close.ensures.closed c.carry_out-ending.ensures.ends.reset_cause (λ unshown. ap g.W.Sink.taken (c.carry_out-ending.ensures.ends.unshown unshown)) six;
+      tells = closes_tells ending put after.taken status c.close.ensures.closed ∙ c.carry_out-ending.ensures.ends.tells;
     } in
     let usage : RefusesWords words status before after = record {
       usage = λ none.
@@ -55,30 +56,30 @@ returns g c =
             untouched = c.carry_out-ending.ensures.ends.untouched;
             boxes_kept = c.carry_out-ending.ensures.ends.boxes;
             memory_kept =
-                let kept = c.carry_out-ending.ensures.memory given (over_any given told _ _ from) in
+                let kept = c.carry_out-ending.ensures.memory given from.reads in
                 record { bytes = kept.bytes; half_made = kept.half_made; no_memory = kept.no_memory };
           };
           taken = put;
           comes = c.carry_out-ending.ensures.comes given told from;
           closes = c.close.ensures.closed;
         };
-        load = λ given start count from.
-            let unwritten = c.carry_out-ending.ensures.load.load_unwritten given start count from in
+        load = λ given told start count from.
+            let unwritten = c.carry_out-ending.ensures.load.load_unwritten start count (from.devices, from.words_are) in
             record {
               ending = ending;
               cause = record {
                 eeprom_failed = c.carry_out-ending.ensures.ends.memory_cause;
                 untouched = c.carry_out-ending.ensures.ends.untouched;
                 boxes_kept = c.carry_out-ending.ensures.ends.boxes;
-                no_memory = c.carry_out-ending.ensures.load.load_no_memory given start count from;
+                no_memory = c.carry_out-ending.ensures.load.load_no_memory given told start count from;
               };
-              comes = c.carry_out-ending.ensures.load.load given start count after.taken from;
-              closes = subst (λ t. Closes ending t after.taken status) (ap g.W.Sink.taken unwritten ∙ from.others_are.before_is) c.close.ensures.closed;
+              comes = c.carry_out-ending.ensures.load.load given told start count after.taken from;
+              closes = subst (λ t. Closes ending t after.taken status) (ap g.W.Sink.taken unwritten) c.close.ensures.closed;
             };
         bip = bip;
       };
-      statuses = statuses_so words status before after ending put c.close.ensures.closed c.close.ensures.status c.carry_out-ending.ensures.ends.tells c.carry_out-ending.ensures.comes
-          c.carry_out-ending.ensures.usage.usage usage causes (λ given start count from. (_, c.carry_out-ending.ensures.load.load given start count after.taken from))
+      statuses = statuses_so words status before after ending put c.close.ensures.closed c.close.ensures.status c.carry_out-ending.ensures.reads c.carry_out-ending.ensures.comes
+          c.carry_out-ending.ensures.usage.usage usage causes (λ given told start count from. (_, c.carry_out-ending.ensures.load.load given told start count after.taken from))
           (serves_to_end words status before after bip (λ asks. status_low _ status c.close.ensures.status (c.carry_out-ending.ensures.bip asks).low) causes.source_failed.rose causes.sink_failed.rose);
       stays = record {
         untouched = grind (arith, common_steps);
@@ -87,6 +88,6 @@ returns g c =
         load_unread = c.carry_out-ending.ensures.load.load_unread;
         taken = c.carry_out-ending.ensures.taken;
         no_memory = λ given from some is.
-            (c.carry_out-ending.ensures.memory given (over_any given true _ _ from)).no_memory some (five_is ending status c.close.ensures.status is);
+            (c.carry_out-ending.ensures.memory given from).no_memory some (five_is ending status c.close.ensures.status is);
       };
     }
