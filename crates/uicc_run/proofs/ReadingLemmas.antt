@@ -1,5 +1,5 @@
 -- Which lines a run read, and why no more of them, whatever its memory and its sink tell.
-use Rattle.std.proofs.Common.{◌≡◌, ℕ, Bool, true, List, [], ◌∷◌, ◌++◌, Option, Ok, sym, append_assoc, subst}
+use Rattle.std.proofs.Common.{◌≡◌, ℕ, Bool, true, List, [], ◌∷◌, Option, Ok, sym, append_assoc, subst}
 use Rattle.std.specs.List.{AllPass}
 use Rattle.std.proofs.lemmas.List.Elements.{All-nil}
 use Rattle.byte_streams.specs.Lines.{lines_within}

@@ -1,16 +1,13 @@
 -- What the run of a terminal's channels comes to.
-use Rattle.std.proofs.Common.{◌≡◌, ◌⊎◌, ◌≤◌, ℕ, ◌+◌, List, [], ◌++◌, length, Option, Some, refl, sym, ap, ◌∙◌, inl, inr, arith, append-nil}
+use Rattle.std.proofs.Common.{◌≡◌, ◌⊎◌, ◌≤◌, ℕ, List, [], Option, Some, refl, sym, ◌∙◌, inl, inr, arith}
 use Rattle.std.specs.Io.KnownBytes.{append_known}
 use Rattle.uicc_types.specs.Counts.{Rose}
 use Rattle.byte_streams.specs.Lines.{LineList}
-use Rattle.script_form.specs.Traces.{trace_text}
-use Rattle.script_form.specs.declared.trace.TraceLine.TheVariants as line
 use Rattle.script_reader.specs.declared.behind.PlayEnd.TheVariants as play
 use Rattle.command_line.specs.Model.{AskForRun}
 use Rattle.command_line.specs.declared.requests.Mode.TheVariants.{Bip}
 use Rattle.bip_runs.proofs.ScriptsLemmas.{bad_ends_not, bad_stops_there, end_was_good, good_stops_not, stop_was_bad}
-use Rattle.bip_runs.specs.Serving.{IsFirstBadBip, IsGoodBip, EndsServing}
-use Rattle.bip_runs.specs.Traces.{trace_of}
+use Rattle.bip_runs.specs.Serving.{IsFirstBadBip, IsGoodBip}
 use Rattle.uicc_run.specs.Endings.{status_for}
 use Rattle.uicc_run.specs.Headline.{Closes, last_text}
 use Rattle.uicc_run.specs.Running.{ServesToEnd}

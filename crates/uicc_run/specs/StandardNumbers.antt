@@ -102,9 +102,9 @@ pub record StandardNumbers : Type 0 where
       ≡ (0x48 ∷ 0x69 ∷ []) ∷ (0x50 ∷ 0x69 ∷ 0x63 ∷ 0x6B ∷ []) ∷ (0x54 ∷ 0x65 ∷ 0x78 ∷ 0x74 ∷ []) ∷ (0x54 ∷ 0x6F ∷ 0x6E ∷ 0x65 ∷ []) ∷ (0x54 ∷ 0x69 ∷ 0x63 ∷ 0x6B ∷ []) ∷ (0x4C ∷ 0x6F ∷ 0x73 ∷ 0x74 ∷ []) ∷ (0x4D ∷ 0x6F ∷ 0x76 ∷ 0x65 ∷ 0x64 ∷ []) ∷ (0x41 ∷ 0x63 ∷ 0x74 ∷ 0x69 ∷ 0x76 ∷ 0x65 ∷ []) ∷ (0x49 ∷ 0x64 ∷ 0x6C ∷ 0x65 ∷ []) ∷ (0x42 ∷ 0x61 ∷ 0x72 ∷ 0x3F ∷ []) ∷ (0x4E ∷ 0x6F ∷ 0x74 ∷ 0x65 ∷ 0x3F ∷ []) ∷ []
   -- the longest command in the short form (ISO 7816-4, 5.1)
   pub longest_command : LONGEST_COMMAND ≡ 261
-  -- a script's lines, and a path's identifiers and bytes
-  pub script_bounds : line.LONGEST_LINE ∷ line.MOST_BYTES ∷ path.DEEPEST ∷ path.LONGEST_PATH ∷ []
-      ≡ 600 ∷ 16777216 ∷ 8 ∷ 16 ∷ []
+  -- a script's lines, and a path's identifiers
+  pub script_bounds : line.LONGEST_LINE ∷ line.MOST_BYTES ∷ path.DEEPEST ∷ []
+      ≡ 600 ∷ 16777216 ∷ 8 ∷ []
   -- the commands of a handset for one line
   pub most_commands : handset.MOST_COMMANDS ≡ 65535
   -- a channel's buffer, the bytes that it keeps to be sent, those of one RECEIVE DATA, and the ring that holds them

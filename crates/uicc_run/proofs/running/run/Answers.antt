@@ -1,5 +1,5 @@
 -- What is known before the last line, and what that line is.
-use Rattle.std.proofs.Common.{◌≡◌, ℕ, true, List, Some, ap, arith, map, string_bytes, subst, ◌∙◌}
+use Rattle.std.proofs.Common.{◌≡◌, ℕ, List, Some, ap, arith, map, string_bytes, subst, ◌∙◌}
 use Rattle.std.proofs.lemmas.Grind.{common_steps}
 use Rattle.uicc_run.specs.Headline.{Closes}
 use Rattle.uicc_run.specs.Running.{HasCauses, RefusesWords}
