@@ -16,7 +16,7 @@ use Rattle.card_state.specs.States.{file_bytes, records_of, record_count, from_h
 use Rattle.card_state.specs.Used.{file_if}
 use Rattle.card_state.proofs.RowPlaceLemmas.{data_end_inside}
 use Rattle.card_state.specs.Forms.{HasRightHead}
-use Rattle.card_state.proofs.FittingLemmas.{file_fits}
+use Rattle.card_state.specs.StayingSound.{FileFits}
 use Rattle.file_model.specs.Files.{descriptor_in}
 use Rattle.file_model.specs.Resizing.{may_have, refitted, contents_refitted, has_no_room, file_resized}
 use Rattle.file_model.specs.Rooms.{IsRoom, IsSmallestRoom, room_at}
@@ -88,19 +88,19 @@ size_is : (size : ℕ) → IsTrue (may_have size) → IsSize size
 size_is size may = let parts = and_parts (nat_le 1 size) (nat_le size 32767) may in record { some = leb-true 1 size parts.0; low = leb-true size 32767 parts.1 }
 
 -- once the entry is changed so, and the bytes at its place are right
-changed_stands : ChangedFileStands → (store_mark : ℕ) (content mid : List ℕ) (table : Loaded) (state : Persistent) (number from size : ℕ) (node new : Node) (room : Option ℕ)
+changed_stands : ChangedFileStands → FileFits → (store_mark : ℕ) (content mid : List ℕ) (table : Loaded) (state : Persistent) (number from size : ℕ) (node new : Node) (room : Option ℕ)
     → Stands store_mark mid table state → IsSound state → IsFileChange table number from 14 node new → new.used ≡ true → node_resized room size node ≡ new
     → (file_of mid number new ≡ file_resized room size (file_of content number node)) → IsSound (with_file_at state number (Some (file_resized room size (file_of content number node))))
     → Stands store_mark (after (node_part number new from 14) mid) (with_node table number new) (with_file_at state number (Some (file_resized room size (file_of content number node))))
-changed_stands changes store_mark content mid table state number from size node new room stands sound change used same is new_sound =
+changed_stands changes fits store_mark content mid table state number from size node new room stands sound change used same is new_sound =
     let file : File = file_resized room size (file_of content number node) in
     let told : file_if mid number new ≡ Some file = cond-true new.used (Some (file_of mid number new)) None used ∙ ap (λ (f : File). Some f) is in
     subst (λ (o : Option File). Stands store_mark (after (node_part number new from 14) mid) (with_node table number new) (with_file_at state number o)) told
     (changes store_mark mid table state number from 14 node new stands change (subst (λ (o : Option File). IsSound (with_file_at state number o)) (sym told) new_sound))
 
-pub grown_files_stand : StandingIsCard → StandingIsOfTable → NodesAreFiles → FreeBytesDontCount → ChangedFileStands → GrownFilesStand
+pub grown_files_stand : StandingIsCard → StandingIsOfTable → NodesAreFiles → FreeBytesDontCount → ChangedFileStands → FileFits → GrownFilesStand
 unfolding descriptor_in
-grown_files_stand card of_table entries free changes store_mark content table state number size place node stands has ranges kind may more found =
+grown_files_stand card of_table entries free changes fits store_mark content table state number size place node stands has ranges kind may more found =
     let asked : IsSize size = size_is size may in
     let is = known card of_table store_mark content table state stands in
     let entry : IsFileEntry content table state number node = entries store_mark content table state number node stands has in
@@ -124,7 +124,7 @@ grown_files_stand card of_table entries free changes store_mark content table st
     let kind' : file.kind ≡ transparent_kind = kind_is content number node ∙ kind in
     let has_room : has_no_room state size (descriptor_in file) ≡ false = and_right (nat_lt file.size size) (is_none (room_at state size)) (ap (λ (o : Option ℕ). is_none o) found) in
     let among = resized_files_fit state size file is.sound entry.there kind' may has_room in
-    changed_stands changes store_mark content mid table state number 10 size node new (room_at state size) ready.stands is.sound
+    changed_stands changes fits store_mark content mid table state number 10 size node new (room_at state size) ready.stands is.sound
     (record {
       there = has;
       fields = record { order = omega arith; inside = omega arith; uncut = refl };
@@ -133,7 +133,7 @@ grown_files_stand card of_table entries free changes store_mark content table st
       lies = inr (λ _. (ready.from, omega (arith, ready.to, long)));
       head = head_stays node place size kind entry.head;
     })
-    has.used same file_is (file_fits state number (file_resized (room_at state size) size file) is.sound (number_of_file content number node) among)
+    has.used same file_is (fits state number (file_resized (room_at state size) size file) is.sound (number_of_file content number node) among)
 
 first_bytes : (content : List ℕ) (place size whole : ℕ) → size ≤ whole → place + whole ≤ length content → bytes_at content place size ≡ refitted size (bytes_at content place whole)
 first_bytes content place size whole less inside =
@@ -148,9 +148,9 @@ first_bytes content place size whole less inside =
     ∙ ap (λ (n : ℕ). take size (take n (drop place content))) every
     ∙ take-take size whole (drop place content) less)
 
-pub shrunk_files_stand : StandingIsCard → StandingIsOfTable → NodesAreFiles → ChangedFileStands → ShrunkFilesStand
+pub shrunk_files_stand : StandingIsCard → StandingIsOfTable → NodesAreFiles → ChangedFileStands → FileFits → ShrunkFilesStand
 unfolding descriptor_in
-shrunk_files_stand card of_table entries changes store_mark content table state number size node stands has ranges kind may less =
+shrunk_files_stand card of_table entries changes fits store_mark content table state number size node stands has ranges kind may less =
     let asked : IsSize size = size_is size may in
     let is = known card of_table store_mark content table state stands in
     let entry : IsFileEntry content table state number node = entries store_mark content table state number node stands has in
@@ -170,7 +170,7 @@ shrunk_files_stand card of_table entries changes store_mark content table state 
     let long : file.size ≡ node.size = ap (λ (f : File). f.size) (ef_is content number node (is_ef node.kind kind)) in
     let has_room : has_no_room state size (descriptor_in file) ≡ false = and_left (nat_lt file.size size) (is_none (room_at state size)) (le-ltb file.size size (omega (arith, less, long))) in
     let among = resized_files_fit state size file is.sound entry.there kind' may has_room in
-    changed_stands changes store_mark content content table state number 12 size node new (room_at state size) stands is.sound
+    changed_stands changes fits store_mark content content table state number 12 size node new (room_at state size) stands is.sound
     (record {
       there = has;
       fields = record { order = omega arith; inside = omega arith; uncut = refl };
@@ -179,7 +179,7 @@ shrunk_files_stand card of_table entries changes store_mark content table state 
       lies = inr (λ _. (lies.0, omega (arith, lies.1, less)));
       head = head_stays node node.place size kind entry.head;
     })
-    has.used same file_is (file_fits state number (file_resized (room_at state size) size file) is.sound (number_of_file content number node) among)
+    has.used same file_is (fits state number (file_resized (room_at state size) size file) is.sound (number_of_file content number node) among)
 
 -- ---- a file that is deleted
 

@@ -26,7 +26,7 @@ use Rattle.card_state.proofs.NewFileLemmas.{some_bytes}
 use Rattle.card_state.proofs.RowPlaceLemmas.{data_end_inside}
 use Rattle.card_state.specs.Forms.{HasRightHead}
 use Rattle.card_state.specs.Fitting.{FitsAmong}
-use Rattle.card_state.proofs.FittingLemmas.{file_fits}
+use Rattle.card_state.specs.StayingSound.{FileFits}
 use Rattle.file_model.specs.declared.descriptors.RuleReference.{RuleReference}
 use Rattle.file_model.specs.declared.asked.NewFile.{NewFile}
 use Rattle.file_model.specs.declared.asked.NewFile.TheVariants.{Df, Ef}
@@ -96,16 +96,16 @@ head_right df place short id (Cyclic width count) rule is = record { cyclic = λ
       let back : width * count / width ≡ count = mul-div_cancel_left count records.width_some in
       omega (arith, records.count_some)
 
-made_stands : AddedFileStands → (store_mark : ℕ) (mid : List ℕ) (table : Loaded) (state : Persistent) (df number place : ℕ) (asked : NewFile)
+made_stands : AddedFileStands → FileFits → (store_mark : ℕ) (mid : List ℕ) (table : Loaded) (state : Persistent) (df number place : ℕ) (asked : NewFile)
     → Stands store_mark mid table state → IsSound state → IsWholeFile table.wide number (node_made df place asked) → (node_made df place asked).used ≡ true → may_be_made asked ≡ true
     → bytes_at mid place (byte_count asked) ≡ blank_bytes asked → FitsAmong state (file_made number df place asked)
     → Stands store_mark (after (node_part number (node_made df place asked) 0 16) mid) (with_node table number (node_made df place asked)) (with_file_at state number (Some (file_made number df place asked)))
-made_stands added store_mark mid table state df number place asked stands sound whole used may blank among =
+made_stands added fits store_mark mid table state df number place asked stands sound whole used may blank among =
     let node : Node = node_made df place asked in
     let file : File = file_made number df place asked in
     let is : file_if mid number node ≡ Some file =
     cond-true node.used (Some (file_of mid number node)) None used ∙ ap (λ (f : File). Some f) (entries_are_of_files_made mid number df place asked may blank) in
-    let new_sound : IsSound (with_file_at state number (Some file)) = file_fits state number file sound (number_made number df place asked) among in
+    let new_sound : IsSound (with_file_at state number (Some file)) = fits state number file sound (number_made number df place asked) among in
     subst (λ (o : Option File). Stands store_mark (after (node_part number node 0 16) mid) (with_node table number node) (with_file_at state number o)) is
     (added store_mark mid table state number node stands whole (subst (λ (o : Option File). IsSound (with_file_at state number o)) (sym is) new_sound))
 
@@ -135,16 +135,16 @@ made_bytes_are_free state df number place (Ef id shape short rule) sound made so
 no_bytes : (content : List ℕ) (place : ℕ) → bytes_at content place 0 ≡ []
 no_bytes content place = ap (λ (n : ℕ). take n (drop place content)) (let none : place + 0 - place ≡ 0 = omega arith in none)
 
-pub made_files_stand : StandingIsCard → StandingIsOfTable → FreeBytesDontCount → AddedFileStands → MadeFilesStand
-made_files_stand card of_table free added store_mark content table state df number place (Df id) stands has may ranges none made =
+pub made_files_stand : StandingIsCard → StandingIsOfTable → FreeBytesDontCount → AddedFileStands → FileFits → MadeFilesStand
+made_files_stand card of_table free added fits store_mark content table state df number place (Df id) stands has may ranges none made =
     let is = known card of_table store_mark content table state stands in
     let new = number_is state df number place (Df id) made in
     let same : patched place [] content ≡ content = patched-nil place content in
     let mid : Stands store_mark (patched place [] content) table state = subst (λ (c : List ℕ). Stands store_mark c table state) (sym same) stands in
-    made_stands added store_mark (patched place [] content) table state df number place (Df id) mid is.sound
+    made_stands added fits store_mark (patched place [] content) table state df number place (Df id) mid is.sound
     (record { low = new.low; ranges = ranges; lies = λ other. absurd (other refl); head = record { cyclic = λ same. absurd (omega (arith, same)); other = λ _. refl } })
     refl may (no_bytes (patched place [] content) place) (made_files_fit state df (Df id) (file_made number df place (Df id)) is.sound has may none made)
-made_files_stand card of_table free added store_mark content table state df number place (Ef id shape short rule) stands has may ranges none made =
+made_files_stand card of_table free added fits store_mark content table state df number place (Ef id shape short rule) stands has may ranges none made =
     let asked : NewFile = Ef id shape short rule in
     let is = known card of_table store_mark content table state stands in
     let new = number_is state df number place asked made in
@@ -154,6 +154,6 @@ made_files_stand card of_table free added store_mark content table state df numb
     let long : length (blank_bytes asked) ≡ size_of shape = length-replicate (size_of shape) 0xFF in
     let ready : IsPrepared store_mark content table state place (blank_bytes asked) =
     prepared free store_mark content table state place (blank_bytes asked) stands is (omega (arith, long, some_bytes shape shapely)) (subst (λ (n : ℕ). IsRoom state n place) (sym long) room) in
-    made_stands added store_mark (patched place (blank_bytes asked) content) table state df number place asked ready.stands is.sound
+    made_stands added fits store_mark (patched place (blank_bytes asked) content) table state df number place asked ready.stands is.sound
     (record { low = new.low; ranges = ranges; lies = λ _. (ready.from, omega (arith, ready.to, long)); head = head_right df place short id shape (option_map pair_of rule) shapely })
     refl may (subst (λ (n : ℕ). bytes_at (patched place (blank_bytes asked) content) place n ≡ blank_bytes asked) long ready.there) among

@@ -20,7 +20,7 @@ use access_rules::Verified;
 use apdu_form::Command;
 use card_commits::commit_node;
 use card_state::{Loaded, Node, node_ranges};
-use file_model::{Descriptor, files_are_found, selections_stay};
+use file_model::{Descriptor, files_are_found, rooms_are_smallest, selections_stay};
 use file_tree::Channels;
 use layout_laws::{cards_are_known, stores_stand};
 use store_form::{Store, StoreFault};
@@ -83,6 +83,7 @@ fn grow_to<S: Store>(
     cards_are_known();
     stores_stand();
     written_files_stand();
+    rooms_are_smallest();
     let node = entry_of(loaded, file);
     node_ranges(&node);
     match room(loaded, size) {

@@ -2,6 +2,7 @@
 ghost use Rattle.file_model.specs.Deleting.{deleted};
 ghost use Rattle.file_admin.specs.WrittenFiles.{RoomsAreFree, MadeBytesAreFree, MadeFilesStand, GrownFilesStand, ShrunkFilesStand, DeletedFilesStand};
 
+use card_state::states_stay_sound;
 use layout_laws::{cards_are_known, files_stand, what_files_hold_stands};
 
 /// A place at which bytes may stand is free for them. Once they are prepared there and the entry is committed, the memory stands
@@ -17,4 +18,5 @@ pub fn written_files_stand()
     cards_are_known();
     files_stand();
     what_files_hold_stands();
+    states_stay_sound();
 }

@@ -10,15 +10,16 @@ returns-clause-beside c = made_bytes_are_free
 
 pub returns-clause-made : goal.returns-clause-made
 returns-clause-made c =
-    made_files_stand c.cards_are_known.ensures.card c.cards_are_known.ensures.table c.what_files_hold_stands.ensures.free c.files_stand.ensures.added
+    made_files_stand c.cards_are_known.ensures.card c.cards_are_known.ensures.table c.what_files_hold_stands.ensures.free c.files_stand.ensures.added c.states_stay_sound.ensures.file
 
 pub returns-clause-grown : goal.returns-clause-grown
 returns-clause-grown c =
     grown_files_stand c.cards_are_known.ensures.card c.cards_are_known.ensures.table c.cards_are_known.ensures.files c.what_files_hold_stands.ensures.free c.files_stand.ensures.changed
+    c.states_stay_sound.ensures.file
 
 pub returns-clause-shrunk : goal.returns-clause-shrunk
 returns-clause-shrunk c =
-    shrunk_files_stand c.cards_are_known.ensures.card c.cards_are_known.ensures.table c.cards_are_known.ensures.files c.files_stand.ensures.changed
+    shrunk_files_stand c.cards_are_known.ensures.card c.cards_are_known.ensures.table c.cards_are_known.ensures.files c.files_stand.ensures.changed c.states_stay_sound.ensures.file
 
 pub returns-clause-deleted : goal.returns-clause-deleted
 returns-clause-deleted c = deleted_files_stand c.cards_are_known.ensures.card c.cards_are_known.ensures.table c.files_stand.ensures.removed
