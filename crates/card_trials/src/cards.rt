@@ -1,8 +1,9 @@
-//! The card.
+//! The card, with an applet of each kind in its box.
 ghost use Rattle.std.specs.Prelude.{◌≡◌};
 
 use crate::own::Own;
 use applet_trait::Applet;
+use boxed_applets::{Menu, boxed_applet, in_box};
 use card_core::{Card, CardFault, OpenFault, ResetFault};
 use card_layout::{Section, format};
 use card_state::sizes::ROW_COUNT;
@@ -49,19 +50,32 @@ fn opened<S: Store + Drop>(
     }
 }
 
-/// The status of a SELECT of the MF of a card with these boxes, and the boxes when the card is closed.
-pub fn in_a_card(
-    alloc: Global,
-    cast: Vec<Option<Box<dyn Applet>>>,
-) -> Result<(StatusWord, Vec<Option<Box<dyn Applet>>>), Fail> {
+#[test]
+fn a_card_has_boxes_of_each_kind(rt: HostRuntime) -> Result<(), Fail> {
+    let alloc = rt.alloc();
+    let mut cast: Vec<Option<Box<dyn Applet>>> = Vec::new(alloc);
+    for shelf in 0..8usize {
+        cast.push(Some(boxed_applet!(alloc, shelf)))?;
+    }
+    cast.push(Some(in_box!(
+        alloc,
+        Own {
+            inner: Menu::new(),
+        }
+    )))?;
     let section = Section::new(alloc)?;
     let mut store = Own {
         inner: Journal::new(BenchEeprom::new(alloc, 65_536)?),
     };
-    format(&mut store, &section)?;
     let mut out = Answer::new();
+    format(&mut store, &section)?;
     match opened(alloc, store, cast, &mut out) {
-        Ok((_store, cast)) => Ok((out.status, cast)),
-        Err(_why) => Err(Fail::from("no card")),
+        Ok((_store, cast)) => match cast.get(8) {
+            Some(Some(applet)) => assert_eq!(rt; applet.kind(), 2),
+            _ => assert!(rt; false),
+        },
+        Err(place) => assert_eq!(rt; place, 0xFF),
     }
+    assert_eq!(rt; out.status, StatusWord::DONE);
+    Ok(())
 }

@@ -1,8 +1,7 @@
-//! A card and a run with an applet of each kind in its box; the run over a device, a source, a sink and an applet of one's own.
+//! A run, over a device, a source, a sink and applets of one's own.
 ghost use Rattle.std.specs.Prelude.{IsTrue, map, string_bytes};
 ghost use Rattle.uicc_run.specs.Stores.{IsSizeFor};
 
-use crate::cards::in_a_card;
 use crate::own::Own;
 use applet_trait::Applet;
 use boxed_applets::{Menu, boxed_applet, in_box};
@@ -13,7 +12,6 @@ use script_form::{ListSink, Sink, SliceSource, Source};
 use std::alloc::Global;
 use std::test::Fail;
 use uicc_run::{Devices, device_size, devices, run};
-use uicc_types::StatusWord;
 
 /// Whether a device of so many bytes is one for a run with these words.
 fn fits(words: &[String], size: usize) -> bool
@@ -40,29 +38,8 @@ fn ran<R: Source, W: Sink, E: Eeprom + Drop>(
     run(alloc, words, script, trace, eeprom, cast)
 }
 
-/// The status of a run with these boxes in which a Menu is installed on shelf 8, what it shows, and the boxes after it.
-fn in_a_run(
-    alloc: Global,
-    cast: Vec<Option<Box<dyn Applet>>>,
-) -> Result<(u8, ListSink, Vec<Option<Box<dyn Applet>>>), Fail> {
-    let mut words = Vec::new(alloc);
-    words.push(String::from_str(alloc, "play")?)?;
-    let text = b"row 8 1 00044D656E75\nstart\napdu 00A4000C023F00\n";
-    let mut script = Own {
-        inner: SliceSource::new(text, &[]),
-    };
-    let mut trace = Own {
-        inner: ListSink::new(alloc, 4096, &[])?,
-    };
-    let eeprom = Own {
-        inner: BenchEeprom::new(alloc, MEMORY_SIZE)?,
-    };
-    let (status, _eeprom, cast) = ran(alloc, &words, &mut script, &mut trace, eeprom, cast);
-    Ok((status, trace.inner, cast))
-}
-
 #[test]
-fn a_card_and_a_run_have_boxes_of_each_kind(rt: HostRuntime) -> Result<(), Fail> {
+fn a_run_has_boxes_of_each_kind(rt: HostRuntime) -> Result<(), Fail> {
     let alloc = rt.alloc();
     let mut cast: Vec<Option<Box<dyn Applet>>> = Vec::new(alloc);
     for shelf in 0..8usize {
@@ -74,22 +51,8 @@ fn a_card_and_a_run_have_boxes_of_each_kind(rt: HostRuntime) -> Result<(), Fail>
             inner: Menu::new(),
         }
     )))?;
-    let (answered, cast) = in_a_card(alloc, cast)?;
-    assert_eq!(rt; answered, StatusWord::DONE);
-    let (status, trace, cast) = in_a_run(alloc, cast)?;
-    assert_eq!(rt; status, 0);
-    assert!(rt; trace.taken() == b"> 00A4000C023F00\n< 9000\n".as_slice());
-    match cast.get(8) {
-        Some(Some(applet)) => assert_eq!(rt; applet.kind(), 2),
-        _ => assert!(rt; false),
-    }
-    Ok(())
-}
-
-#[test]
-fn a_run_wants_devices(rt: HostRuntime) -> Result<(), Fail> {
-    let mut words = Vec::new(rt.alloc());
-    words.push(String::from_str(rt.alloc(), "play")?)?;
+    let mut words = Vec::new(alloc);
+    words.push(String::from_str(alloc, "play")?)?;
     let made: Option<Devices> = devices(&words);
     assert!(rt;
         matches!(
@@ -100,5 +63,23 @@ fn a_run_wants_devices(rt: HostRuntime) -> Result<(), Fail> {
             })
         )
     );
+    let text = b"row 8 1 00044D656E75\nstart\napdu 00A4000C023F00\n";
+    let mut script = Own {
+        inner: SliceSource::new(text, &[]),
+    };
+    let mut trace = Own {
+        inner: ListSink::new(alloc, 4096, &[])?,
+    };
+    let eeprom = Own {
+        inner: BenchEeprom::new(alloc, MEMORY_SIZE)?,
+    };
+    let (status, eeprom, cast) = ran(alloc, &words, &mut script, &mut trace, eeprom, cast);
+    assert_eq!(rt; status, 0);
+    assert!(rt; trace.inner.taken() == b"> 00A4000C023F00\n< 9000\n".as_slice());
+    assert_eq!(rt; eeprom.size(), MEMORY_SIZE);
+    match cast.get(8) {
+        Some(Some(applet)) => assert_eq!(rt; applet.kind(), 2),
+        _ => assert!(rt; false),
+    }
     Ok(())
 }

@@ -4,7 +4,7 @@
 pub const MOST_LINES: u32 = 1_000_000;
 
 /// How the commands of a handset reach its card.
-#[derive(Clone, Copy, PartialEq, Eq)]
+#[derive(Clone, Copy, Debug, PartialEq, Eq)]
 pub enum Transport {
     /// Each command is handed to the card as it is, and its answer comes back whole.
     Direct,
@@ -14,7 +14,7 @@ pub enum Transport {
 }
 
 /// What a run does.
-#[derive(Clone, Copy, PartialEq, Eq)]
+#[derive(Clone, Copy, Debug, PartialEq, Eq)]
 pub enum Mode {
     /// It makes a card of the script's first lines, and carries out the others.
     Play,
@@ -37,14 +37,14 @@ pub enum Mode {
 }
 
 /// What the words of the command line ask for.
-#[derive(Clone, Copy, PartialEq, Eq)]
+#[derive(Clone, Copy, Debug, PartialEq, Eq)]
 pub struct Request {
     pub mode: Mode,
     pub devices: Devices,
 }
 
 /// What a run is made over.
-#[derive(Clone, Copy, PartialEq, Eq)]
+#[derive(Clone, Copy, Debug, PartialEq, Eq)]
 pub struct Devices {
     /// The place of the image's path among the words, counted from 0. Without one the memory is that of the bench.
     pub image: Option<usize>,

@@ -13,7 +13,7 @@ pub type Place = ByteList<32>;
 pub type Digits = ByteList<20>;
 
 /// A command of the handset.
-#[derive(Drop)]
+#[derive(Debug, Drop)]
 pub enum Command {
     /// SELECT of the MF.
     SelectMf,
@@ -30,7 +30,7 @@ pub enum Command {
 }
 
 /// What an envelope reports to the card (TS 102 223, 7).
-#[derive(Drop)]
+#[derive(Debug, Drop)]
 pub enum Report {
     /// The user picked this item of the card's menu.
     MenuSelection {
@@ -57,7 +57,7 @@ pub enum Report {
 }
 
 /// What a terminal response says after the details and the device identities (TS 102 223, 6.8).
-#[derive(Drop)]
+#[derive(Debug, Drop)]
 pub enum Reply {
     /// A general result alone.
     Result(u8),

@@ -5,7 +5,7 @@ use script_form::Note;
 use toolkit_commands::{Details, Items, Proactive, TimeValue};
 
 /// Which of the events that this handset can report the card wants to hear of.
-#[derive(Clone, Copy, PartialEq, Eq)]
+#[derive(Clone, Copy, Debug, PartialEq, Eq)]
 pub struct Listed {
     pub location: bool,
     pub activity: bool,
@@ -13,21 +13,21 @@ pub struct Listed {
 }
 
 /// A proactive command that was fetched and has no response yet.
-#[derive(Drop)]
+#[derive(Debug, Drop)]
 pub struct Held {
     pub details: Details,
     pub command: Proactive,
 }
 
 /// A timer that runs: the moment at which it is due, in seconds, and the value that it was started with.
-#[derive(Clone, Copy, PartialEq, Eq)]
+#[derive(Clone, Copy, Debug, PartialEq, Eq)]
 pub struct Running {
     pub due: u64,
     pub value: TimeValue,
 }
 
 /// A timer of a number from 1 to 8 that is due at a moment, in seconds, with the value that it was started with.
-#[derive(Clone, Copy, PartialEq, Eq)]
+#[derive(Clone, Copy, Debug, PartialEq, Eq)]
 pub struct Due {
     pub timer: u8,
     pub due: u64,
@@ -35,7 +35,7 @@ pub struct Due {
 }
 
 /// What the last command was, as far as its answer is taken differently.
-#[derive(Clone, Copy, PartialEq, Eq)]
+#[derive(Clone, Copy, Debug, PartialEq, Eq)]
 pub enum LastSent {
     NoCommand,
     Selecting,
@@ -46,7 +46,7 @@ pub enum LastSent {
 }
 
 /// What is to be done next.
-#[derive(Drop)]
+#[derive(Debug, Drop)]
 pub enum Duty {
     /// Nothing more for this line.
     Rest,
@@ -61,7 +61,7 @@ pub enum Duty {
 }
 
 /// What a handset knows at one moment.
-#[derive(Drop)]
+#[derive(Debug, Drop)]
 pub struct Known {
     /// The items of the card's menu.
     pub menu: Items,

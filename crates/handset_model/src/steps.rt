@@ -4,7 +4,7 @@ use script_form::Note;
 use uicc_types::ApduBytes;
 
 /// One thing to do for the handset.
-#[derive(Drop)]
+#[derive(Debug, Drop)]
 pub enum PhoneStep {
     /// A command is to be sent to the card, and the handset to be told what came of it.
     Send(ApduBytes),

@@ -1,7 +1,7 @@
 //! What is counted.
 
 /// How many lines of some kinds a trace has. Each count stands still at 2^64 - 1.
-#[derive(Clone, Copy, PartialEq, Eq)]
+#[derive(Clone, Copy, Debug, PartialEq, Eq)]
 pub struct Counts {
     /// Commands that were sent.
     pub commands: u64,

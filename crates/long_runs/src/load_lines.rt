@@ -15,7 +15,7 @@ use uicc_types::Octets;
 pub const LONGEST_SPAN: u32 = 300;
 
 /// The lines that are still to come.
-#[derive(Drop)]
+#[derive(Debug, Drop)]
 pub struct LoadLines {
     words: Pcg32,
     left: u32,

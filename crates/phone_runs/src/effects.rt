@@ -12,7 +12,7 @@ use uicc_types::Plan;
 pub const LONGEST_SPAN: u32 = 999_999_999;
 
 /// What a line after `start` is for the handset.
-#[derive(Drop)]
+#[derive(Debug, Drop)]
 pub enum PhoneEffect {
     /// It does nothing.
     Nothing,

@@ -23,7 +23,7 @@ use terminal_side::Phone;
 use uicc_types::Plan;
 
 /// What a line is for the handset.
-#[derive(Drop)]
+#[derive(Debug, Drop)]
 pub enum PhoneMove {
     /// Something happens at it.
     Hears(HandsetLine),

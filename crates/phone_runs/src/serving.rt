@@ -22,7 +22,7 @@ use terminal_side::{Next, Phone};
 use uicc_types::{Answer, ApduBytes};
 
 /// The places of what goes between a handset and its card, which are used again for each command.
-#[derive(Drop)]
+#[derive(Debug, Drop)]
 pub struct Places {
     // What the handset sends, and what it notes.
     apdu: ApduBytes,

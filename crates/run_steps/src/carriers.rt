@@ -13,7 +13,7 @@ use t0_link::{Endpoint, Link, LinkFault, is_carried};
 use uicc_types::{Answer, are_bytes};
 
 /// How a terminal's commands come to the card.
-#[derive(Drop)]
+#[derive(Debug, Drop)]
 pub enum Carrier {
     /// As they are.
     Direct,

@@ -3,7 +3,7 @@
 use uicc_types::Plan;
 
 /// One step of a run.
-#[derive(Clone, Copy)]
+#[derive(Clone, Copy, Debug)]
 pub enum Move<'a> {
     /// A command is sent.
     Send(&'a [u8]),

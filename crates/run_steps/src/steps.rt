@@ -26,7 +26,7 @@ use store_form::Store;
 use uicc_types::Answer;
 
 /// Why a step is the last.
-#[derive(Clone, Copy, PartialEq, Eq)]
+#[derive(Clone, Copy, Debug, PartialEq, Eq)]
 pub enum StepEnd {
     /// The trace could not be written on.
     SinkFailed,
@@ -35,7 +35,7 @@ pub enum StepEnd {
 }
 
 /// What came of a command.
-#[derive(Clone, Copy, PartialEq, Eq)]
+#[derive(Clone, Copy, Debug, PartialEq, Eq)]
 pub enum Reply {
     /// The card answered it.
     Answered,
@@ -46,7 +46,7 @@ pub enum Reply {
 }
 
 /// What came of a reset in which the memory did not fail.
-#[derive(Clone, Copy, PartialEq, Eq)]
+#[derive(Clone, Copy, Debug, PartialEq, Eq)]
 pub enum Restarted {
     /// The card was reset.
     Done,
@@ -55,7 +55,7 @@ pub enum Restarted {
 }
 
 /// What came of a reset.
-#[derive(Clone, Copy, PartialEq, Eq)]
+#[derive(Clone, Copy, Debug, PartialEq, Eq)]
 pub enum ResetOutcome {
     /// The card was reset.
     Done,

@@ -6,7 +6,7 @@ use crate::lines::ScriptLine;
 use uicc_types::Octets;
 
 /// What happens at a handset: the user, the network and the clock do something, or the card is reset.
-#[derive(Drop)]
+#[derive(Debug, Drop)]
 pub enum HandsetLine {
     /// The user has read a text.
     UserOk,
@@ -37,7 +37,7 @@ pub enum HandsetLine {
 }
 
 /// What the handset shows to its user, or what became of what the user did.
-#[derive(Drop)]
+#[derive(Debug, Drop)]
 pub enum Note {
     /// A text stands on the screen until the user clears it.
     Text(Octets),

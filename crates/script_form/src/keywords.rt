@@ -3,7 +3,7 @@ ghost use Rattle.script_form.specs.Reads.{Reads};
 ghost use Rattle.script_form.specs.Values.{IsKeyword, IsNetworkAct, IsStructure, IsUserAct};
 
 /// The word that a line begins with.
-#[derive(Clone, Copy)]
+#[derive(Clone, Copy, Debug)]
 pub enum Keyword {
     Df,
     Ef,
@@ -25,7 +25,7 @@ pub enum Keyword {
 }
 
 /// The structure of an EF (ETSI TS 102 221, 8.2.2).
-#[derive(Clone, Copy)]
+#[derive(Clone, Copy, Debug)]
 pub enum Structure {
     Transparent,
     Linear,
@@ -33,7 +33,7 @@ pub enum Structure {
 }
 
 /// What the user of a handset does.
-#[derive(Clone, Copy)]
+#[derive(Clone, Copy, Debug)]
 pub enum UserAct {
     Confirm,
     End,
@@ -47,7 +47,7 @@ pub enum UserAct {
 }
 
 /// What the network does to a handset, or to the channels of a terminal.
-#[derive(Clone, Copy)]
+#[derive(Clone, Copy, Debug)]
 pub enum NetworkAct {
     Place,
     Poll,

@@ -12,7 +12,7 @@ pub const DEEPEST: usize = 8;
 pub(crate) const LONGEST_PATH: usize = 2 * DEEPEST;
 
 /// The names of a file and of the DFs above it, from the MF down and without the MF's own: 1 to 8 identifiers.
-#[derive(Drop)]
+#[derive(Debug, Drop)]
 pub struct Path {
     identifiers: ArrayVec<FileId, DEEPEST>,
 }
@@ -58,7 +58,7 @@ impl Path {
 }
 
 /// What one line of a script says.
-#[derive(Drop)]
+#[derive(Debug, Drop)]
 pub enum ScriptLine {
     /// Nothing: the line is empty or a comment.
     Passed,

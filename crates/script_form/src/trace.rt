@@ -18,7 +18,7 @@ use itoa::Buffer;
 use uicc_types::{Answer, ApduBytes, LONGEST_COMMAND, Octets, StatusWord};
 
 /// One line of a trace.
-#[derive(Drop)]
+#[derive(Debug, Drop)]
 pub enum TraceLine {
     /// A command was sent.
     Command(ApduBytes),

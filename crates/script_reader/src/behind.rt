@@ -14,7 +14,7 @@ use byte_streams::Source;
 use script_form::ScriptLine;
 
 /// Why a run ends after `start`.
-#[derive(Clone, Copy, PartialEq, Eq)]
+#[derive(Clone, Copy, Debug, PartialEq, Eq)]
 pub enum PlayEnd {
     /// The script was read to its end, and every line was carried out.
     Finished,

@@ -40,7 +40,7 @@ pub struct Phone {
 }
 
 /// What is to be done next for a handset.
-#[derive(Clone, Copy, PartialEq, Eq)]
+#[derive(Clone, Copy, Debug, PartialEq, Eq)]
 pub enum Next {
     /// Nothing more for this line.
     Nothing,

@@ -8,7 +8,7 @@ use script_form::TraceLine;
 use script_reader::{PlayEnd, ScriptFault};
 
 /// Why a run ended.
-#[derive(Clone, Copy, PartialEq, Eq)]
+#[derive(Clone, Copy, Debug, PartialEq, Eq)]
 pub enum Ending {
     /// The words of the command line are in no form.
     Usage,
