@@ -1,6 +1,6 @@
 use Rattle.std.proofs.Common.{refl, sym, ap, ◌∙◌, eqb-true}
 use Rattle.uicc_run.specs.Stores.{size_of}
-use Rattle.card_trials.proofs.runs.fits.Goals as goal
+use Rattle.surface_trials.proofs.runs.fits.Goals as goal
 
 pub returns-in-None : goal.returns-in-None
 returns-in-None c = λ holds asked is. absurd (c.in-None.ensures asked.devices (record { asked = asked; words_are = is; devices = refl }))
