@@ -23,9 +23,6 @@ use file_model::{Descriptor, Selection};
 use store_form::{Store, StoreFault};
 use uicc_types::{Answer, AnswerData, StatusWord};
 
-// Most commands ask for few bytes. A buffer is filled with zeros before it is used, so these are read into a short one.
-const FEW: usize = 32;
-
 // Has so many bytes of the file from this offset on, or those that there are, in an answer that is empty before.
 fn read_part<S: Store>(
     store: &mut S,
@@ -45,35 +42,9 @@ fn read_part<S: Store>(
     ensures unread { OnErr result (body.new ≡ body.old) }
     ensures reads { Reads (memory S.Store store.old loaded.now) (memory S.Store store.new loaded.now) result }
 {
-    if usize::from(count) <= FEW {
-        read_by::<FEW, S>(store, loaded, file, offset, count, body)
-    } else {
-        read_by::<256, S>(store, loaded, file, offset, count, body)
-    }
-}
-
-// The same by a buffer of `N` bytes.
-fn read_by<const N: usize, S: Store>(
-    store: &mut S,
-    loaded: &Loaded,
-    file: &Descriptor,
-    offset: u16,
-    count: u16,
-    body: &mut AnswerData,
-) -> Result<(), StoreFault>
-    requires mounted { IsMounted (memory S.Store store.old loaded.now) }
-    requires file { IsBinaryFile (descriptors_of loaded.now) file.now }
-    requires offset { offset ≤ file.now.size }
-    requires count { (count ≤ N) × (N ≤ 256) }
-    requires empty { body.old ≡ [] }
-    ensures read { OnOk result (IfSome (held_by S.Store store.old) (λ state.
-        body.new ≡ take count (drop offset (bytes_in state file.now.number)))) }
-    ensures unread { OnErr result (body.new ≡ body.old) }
-    ensures reads { Reads (memory S.Store store.old loaded.now) (memory S.Store store.new loaded.now) result }
-{
     // This call is a law, and does nothing.
     contents_are_whole();
-    let mut buffer = [0; N];
+    let mut buffer = [0; 256];
     let bytes = &mut buffer[..usize::from(count.min(file.size - offset))];
     read_bytes(store, loaded, file.number, offset, bytes)?;
     append(body, bytes);

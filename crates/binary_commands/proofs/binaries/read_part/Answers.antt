@@ -3,7 +3,7 @@ use Rattle.std.proofs.lemmas.Grind.{common_steps}
 use Rattle.list_laws.proofs.IfSomeLemmas.{if_some, if_some_at}
 use Rattle.card_state.specs.Memory.{held_by}
 use Rattle.file_model.specs.Holdings.{bytes_in}
-use Rattle.binary_commands.proofs.binaries.read_by.Goals as goal
+use Rattle.binary_commands.proofs.binaries.read_part.Goals as goal
 
 pub returns-clause-read : goal.returns-clause-read
 returns-clause-read g c =
