@@ -1,7 +1,10 @@
 //! Standard input as a source and standard output as a sink: the edge to the outside, whose bytes no proof can see.
+ghost use Rattle.std.specs.Prelude.{◌≡◌, ◌↔◌, IsTrue};
+ghost use Rattle.std.specs.IoError.{error_kind};
+
 use crate::streams::{Failed, Sink, Source};
 use std::io;
-use std::io::{Read, Write};
+use std::io::{ErrorKind, Read, Write};
 
 /// Hands on what comes from a reader, such as `rt.reader()` of standard input. Each call makes one read and hands on what
 /// has come, so that a program at the other end of a pipe can wait for an answer to its last line. It tells no contents.
@@ -118,9 +121,12 @@ impl<O: Write> OutputSink<O> {
     }
 }
 
+// Whether a call was only interrupted by a signal, and is to be made again.
 #[inline(never)]
-fn is_interrupted(error: &io::Error) -> bool {
-    error.kind() == io::ErrorKind::Interrupted
+fn is_interrupted(error: &io::Error) -> bool
+    ensures { IsTrue result ↔ (error_kind error.now ≡ ErrorKind.Interrupted) }
+{
+    error.kind() == ErrorKind::Interrupted
 }
 
 impl<O: Write> Sink for OutputSink<O> {

@@ -197,7 +197,8 @@ pub fn restart<S: Store, B: Applet, W: Sink>(
     }
 }
 
-/// Writes a line of a step.
+/// Writes a line of a step. Few steps have one, so it is out of the way of the others.
+#[inline(never)]
 fn write_step<W: Sink>(trace: &mut W, line: &TraceLine) -> Result<(), StepEnd>
     ensures ok { OnOk result (W.taken trace.new ≡ append_known (W.taken trace.old) (trace_text line.now)) }
     ensures err { OnErr result (Becomes (TakesFront (trace_text line.now)) (W.taken trace.old) (W.taken trace.new)) }

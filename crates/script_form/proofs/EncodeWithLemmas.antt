@@ -1,7 +1,7 @@
 -- Bytes written in hexadecimal digits, one after the other.
-use Rattle.std.proofs.Common.{◌≡◌, ℕ, zero, suc, ◌+◌, ◌*◌, ◌/◌, ◌%◌, ◌<◌, List, [], ◌∷◌, ◌++◌, length, take, map, slice_index, slice_set, refl, sym, ap, ◌∙◌, arith}
+use Rattle.std.proofs.Common.{◌≡◌, ℕ, zero, suc, ◌+◌, ◌*◌, ◌/◌, ◌%◌, ◌<◌, ◌≤◌, List, [], ◌∷◌, ◌++◌, length, take, map, slice_index, slice_set, refl, sym, ap, ◌∙◌, arith}
 use Rattle.std.specs.Char.{to_ascii_uppercase}
-use Rattle.std.proofs.lemmas.List.{append-nil, append_assoc, map-append, take-map, take_at}
+use Rattle.std.proofs.lemmas.List.{append-nil, append_assoc, map-append, take-map, take-take, take_at}
 use Rattle.std.proofs.lemmas.Slice.{take-put_mid}
 use borrow.Rule.Slice.PartMut.{put_mid}
 use Rattle.hex.proofs.HexLemmas.{length-encode_with}
@@ -68,32 +68,41 @@ marked [] mark room = absurd (omega (arith, room))
 marked (one ∷ []) mark room = absurd (omega (arith, room))
 marked (one ∷ two ∷ text) mark room = refl
 
--- a line is filled in from its front on: the mark and the space, two parts, and the end
-pub line_filled : (text first second : List ℕ) (mark middle end room more : ℕ) → 2 < length text → middle ≡ 2 + length first → end ≡ middle + length second
-    → let marked_text = slice_set (slice_set text 0 mark) 1 32 in
-    let longer = put_mid 2 room marked_text first in
+-- what a line ends with is filled in from its front on: two parts, and the end
+pub digits_filled : (text first second : List ℕ) (middle end room more : ℕ) → middle ≡ length first → end ≡ middle + length second
+    → let longer = put_mid 0 room text first in
     let filled = put_mid middle more longer second in
-    2 < length marked_text → middle < length longer → end < length filled
-    → take (end + 1) (slice_set filled end 10) ≡ mark ∷ 32 ∷ (first ++ second) ++ 10 ∷ []
-line_filled text first second mark middle end room more some first_fits second_fits enough within inside =
-    let marked_text = slice_set (slice_set text 0 mark) 1 32 in
-    let longer = put_mid 2 room marked_text first in
+    middle < length longer → end < length filled
+    → take (end + 1) (slice_set filled end 10) ≡ (first ++ second) ++ 10 ∷ []
+digits_filled text first second middle end room more first_fits second_fits within inside =
+    let longer = put_mid 0 room text first in
     let filled = put_mid middle more longer second in
     let behind : end + 1 ≡ suc end = omega arith in
     ap (λ (count : ℕ). take count (slice_set filled end 10)) behind ∙ take_set filled end 10 inside
     ∙ ap (λ (front : List ℕ). front ++ 10 ∷ [])
     (take-put_mid middle more longer second end second_fits (omega (arith, within))
-    ∙ ap (λ (front : List ℕ). front ++ second)
-    (take-put_mid 2 room marked_text first middle first_fits (omega (arith, enough)) ∙ ap (λ (front : List ℕ). front ++ first) (marked text mark some)))
+    ∙ ap (λ (front : List ℕ). front ++ second) (take-put_mid 0 room text first middle (omega (arith, first_fits)) (omega arith)))
 
--- the same once all letters are raised, of a mark that stays as it is
-pub line_raised : (text body status : List ℕ) (mark end : ℕ) → to_ascii_uppercase mark ≡ mark
-    → take (end + 1) text ≡ mark ∷ 32 ∷ (encode_lower body ++ encode_lower status) ++ 10 ∷ []
-    → take (end + 1) (map to_ascii_uppercase text) ≡ mark ∷ 32 ∷ encode_upper (body ++ status) ++ 10 ∷ []
-line_raised text body status mark end stays filled =
+-- the same once all letters are raised
+pub digits_raised : (text body status : List ℕ) (end : ℕ)
+    → take (end + 1) text ≡ (encode_lower body ++ encode_lower status) ++ 10 ∷ []
+    → take (end + 1) (map to_ascii_uppercase text) ≡ encode_upper (body ++ status) ++ 10 ∷ []
+digits_raised text body status end filled =
     take-map to_ascii_uppercase (end + 1) text ∙ ap (map to_ascii_uppercase) filled
-    ∙ ap (λ (first : ℕ). first ∷ 32 ∷ map to_ascii_uppercase ((encode_lower body ++ encode_lower status) ++ 10 ∷ [])) stays
-    ∙ ap (λ (rest : List ℕ). mark ∷ 32 ∷ rest)
-    (map-append to_ascii_uppercase (encode_lower body ++ encode_lower status) (10 ∷ [])
+    ∙ map-append to_ascii_uppercase (encode_lower body ++ encode_lower status) (10 ∷ [])
     ∙ ap (λ (digits : List ℕ). map to_ascii_uppercase digits ++ 10 ∷ []) (sym (encode_with-append lower_digits body status))
-    ∙ ap (λ (digits : List ℕ). digits ++ 10 ∷ []) (raised (body ++ status)))
+    ∙ ap (λ (digits : List ℕ). digits ++ 10 ∷ []) (raised (body ++ status))
+
+-- and a line with its mark and a space before them
+pub line_marked : (text behind : List ℕ) (mark room count : ℕ) → 2 < length text
+    → let marked_text = slice_set (slice_set text 0 mark) 1 32 in
+    2 ≤ length marked_text → count ≤ length behind
+    → take (2 + count) (put_mid 2 room marked_text behind) ≡ mark ∷ 32 ∷ take count behind
+line_marked text behind mark room count some enough within =
+    let marked_text = slice_set (slice_set text 0 mark) 1 32 in
+    let line = put_mid 2 room marked_text behind in
+    let two : 2 + count ≡ suc (suc count) = omega arith in
+    sym (take-take (2 + count) (2 + length behind) line (omega (arith, within)))
+    ∙ ap (take (2 + count)) (take-put_mid 2 room marked_text behind (2 + length behind) refl enough
+    ∙ ap (λ (front : List ℕ). front ++ behind) (marked text mark some))
+    ∙ ap (λ (n : ℕ). take n (mark ∷ 32 ∷ behind)) two

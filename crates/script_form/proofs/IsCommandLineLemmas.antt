@@ -12,9 +12,9 @@ use Rattle.uicc_types.specs.declared.byte_lists.TheConstants.{LONGEST_COMMAND}
 use Rattle.byte_streams.specs.declared.limits.TheConstants.{LONGEST_LINE}
 use Rattle.script_form.specs.declared.keywords.Keyword.TheVariants as keyword
 use Rattle.script_form.specs.declared.lines.ScriptLine.{ScriptLine}
-use Rattle.script_form.specs.declared.lines.ScriptLine.TheVariants.{Apdu, UserType}
+use Rattle.script_form.specs.declared.lines.ScriptLine.TheVariants.{Apdu, Tpdu, UserType}
 use Rattle.script_form.specs.declared.keywords.Keyword.{Keyword}
-use Rattle.script_form.specs.Forms.{IsCommandLine, IsLine, IsTyping, form_of}
+use Rattle.script_form.specs.Forms.{IsCommandLine, IsLine, IsTransferLine, IsTyping, form_of}
 use Rattle.script_form.specs.Reads.{IsOnly, ReadsInto}
 use Rattle.script_form.specs.Values.{IsHex, IsTyped, keyword_text}
 use Rattle.script_form.specs.Words.{words}
@@ -89,6 +89,41 @@ reads_command digits bytes line is (Some done) o = record {
   only = λ other c. c.is ∙ ap Apdu (o.only c.bytes c.hex) ∙ sym is;
 }
 reads_command digits bytes line is None none = λ other c. none c.bytes c.hex
+
+-- the same of a TPDU
+transfer_form : (digits : List ℕ) (all : List (List ℕ)) (line : ScriptLine) → all ≡ words digits
+    → IsTransferLine digits line → form_of keyword.Tpdu all line
+transfer_form digits all line left c = record {
+  word = digits;
+  others = [];
+  value = c.bytes;
+  parted = left ∙ words_digits digits c.bytes c.hex.digits;
+  first = c.hex;
+  rest = record { none_left = refl; is = c.is };
+}
+
+form_transfer : (digits : List ℕ) (all : List (List ℕ)) (line : ScriptLine) → all ≡ words digits
+    → form_of keyword.Tpdu all line → IsTransferLine digits line
+form_transfer digits all line left f =
+    let one : words digits ≡ f.word ∷ [] =
+    sym left ∙ f.parted ∙ ap (λ (others : List (List ℕ)). f.word ∷ others) f.rest.none_left in
+    record { bytes = f.value; hex = rw (← only_word digits f.word one) f.first; is = f.rest.is }
+
+pub reads_transfer_form : (digits : List ℕ) (all : List (List ℕ)) → all ≡ words digits → (r : Option ⊤) (line : ScriptLine)
+    → ReadsInto (IsTransferLine digits) r line → ReadsInto (form_of keyword.Tpdu all) r line
+reads_transfer_form digits all left (Some done) line o = record {
+  so = transfer_form digits all line left o.so;
+  only = λ other f. o.only other (form_transfer digits all other left f);
+}
+reads_transfer_form digits all left None line none = λ other f. none other (form_transfer digits all other left f)
+
+pub reads_transfer : (digits bytes : List ℕ) (line : ScriptLine) → line ≡ Tpdu bytes → (r : Option ⊤)
+    → ReadsInto (IsHex LONGEST_COMMAND digits) r bytes → ReadsInto (IsTransferLine digits) r line
+reads_transfer digits bytes line is (Some done) o = record {
+  so = record { bytes = bytes; hex = o.so; is = is };
+  only = λ other c. c.is ∙ ap Tpdu (o.only c.bytes c.hex) ∙ sym is;
+}
+reads_transfer digits bytes line is None none = λ other c. none c.bytes c.hex
 
 -- no text stands behind the last word of a line
 pub no_typing : (all : List (List ℕ)) → all ≡ [] → (line : ScriptLine) → IsTyping all line → ⊥

@@ -71,6 +71,12 @@ pub record IsCommandLine (digits : List ℕ) (line : ScriptLine) : Type 0 where
   pub hex : IsHex LONGEST_COMMAND digits bytes
   pub is : line ≡ Apdu bytes
 
+-- a line with a TPDU, whose digits these are
+pub record IsTransferLine (digits : List ℕ) (line : ScriptLine) : Type 0 where
+  pub bytes : List ℕ
+  pub hex : IsHex LONGEST_COMMAND digits bytes
+  pub is : line ≡ Tpdu bytes
+
 -- `user type TEXT`: what stands behind `type` and a space is the text, with all its spaces
 pub record IsTyping (all : List (List ℕ)) (line : ScriptLine) : Type 0 where
   pub text : List ℕ

@@ -1,6 +1,6 @@
 //! Script lines, read.
 ghost use Rattle.std.specs.Prelude.{◌≡◌, IfOk, IfErr, OnOk, OnErr};
-ghost use Rattle.script_form.specs.Forms.{Ends, IsBad, cut_form, IsCommandLine, IsLine, IsStatement, file_form, form_of};
+ghost use Rattle.script_form.specs.Forms.{Ends, IsBad, cut_form, IsCommandLine, IsLine, IsStatement, IsTransferLine, file_form, form_of};
 ghost use Rattle.script_form.specs.Bounds.{IsBounded};
 ghost use Rattle.script_form.specs.Reads.{IsOnly, ReadsInto};
 ghost use Rattle.script_form.specs.declared.lines.ScriptLine.{ScriptLine as AnyLine};
@@ -337,12 +337,41 @@ fn first_command(digits: &[u8], line: &mut ScriptLine) -> Option<()>
     Some(())
 }
 
-fn tpdu(words: &mut Words<'_>, line: &mut ScriptLine) -> Option<()>
-    ensures { ReadsInto (form_of Keyword.Tpdu words.old) result line.new }
+/// A TPDU, which is the last word too.
+#[tactic(auto, using(crate::proofs::IsCommandLineLemmas::reads_transfer_form))]
+fn tpdu(words: &Words<'_>, line: &mut ScriptLine) -> Option<()>
+    ensures { ReadsInto (form_of Keyword.Tpdu words.now) result line.new }
 {
-    let word = words.word()?;
-    let bytes = bytes_of(word)?;
-    last(words, line, ScriptLine::Tpdu(bytes))
+    match words.rest() {
+        Some(digits) => transfer(digits, line),
+        None => None,
+    }
+}
+
+/// Reads a TPDU where the last one was, if the line was one too.
+#[inline(never)]
+#[tactic(auto, using(crate::proofs::IsCommandLineLemmas::reads_transfer))]
+fn transfer(digits: &[u8], line: &mut ScriptLine) -> Option<()>
+    ensures { ReadsInto (IsTransferLine digits.now) result line.new }
+{
+    match line {
+        ScriptLine::Tpdu(bytes) => {
+            bytes.clear();
+            read_bytes(digits, bytes)
+        }
+        _ => first_transfer(digits, line),
+    }
+}
+
+#[inline(never)]
+#[tactic(auto, using(crate::proofs::IsCommandLineLemmas::reads_transfer))]
+fn first_transfer(digits: &[u8], line: &mut ScriptLine) -> Option<()>
+    ensures { ReadsInto (IsTransferLine digits.now) result line.new }
+{
+    let mut bytes = ApduBytes::new();
+    read_bytes(digits, &mut bytes)?;
+    *line = ScriptLine::Tpdu(bytes);
+    Some(())
 }
 
 fn cut(words: &mut Words<'_>, line: &mut ScriptLine) -> Option<()>

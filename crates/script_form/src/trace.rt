@@ -110,8 +110,8 @@ pub fn write_command<W: Sink>(sink: &mut W, apdu: &[u8]) -> Result<(), Failed>
 {
     // Most lines show few bytes, and are put together in a short buffer, since all of a buffer is filled with zeros before and raised after.
     match apdu.len() {
-        0..=22 => put_command::<48, W>(sink, apdu),
-        23..=30 => put_command::<64, W>(sink, apdu),
+        0..=15 => put_command::<34, W>(sink, apdu),
+        16..=31 => put_command::<66, W>(sink, apdu),
         _ => put_command::<LONGEST, W>(sink, apdu),
     }
 }
@@ -138,8 +138,9 @@ pub fn write_answer<W: Sink>(sink: &mut W, answer: &Answer) -> Result<(), Failed
 {
     let body = answer.body.as_slice();
     match body.len() {
-        0..=20 => put_answer::<48, W>(sink, body, answer.status),
-        21..=28 => put_answer::<64, W>(sink, body, answer.status),
+        0 => put_answer::<18, W>(sink, body, answer.status),
+        1..=13 => put_answer::<34, W>(sink, body, answer.status),
+        14..=29 => put_answer::<66, W>(sink, body, answer.status),
         _ => put_answer::<LONGEST, W>(sink, body, answer.status),
     }
 }
@@ -162,20 +163,30 @@ fn put_answer<const N: usize, W: Sink>(
 }
 
 /// Fills in the line of a command or an answer at the front of `text`, and answers how many bytes it has: a mark, a space, the digits of
-/// the bytes, and the end. It is inlined where the length of `text` is known: all of `text` is raised then, in a few steps, and what
-/// is no letter stays as it is.
+/// the bytes, and the end. It is inlined where the length of `text` is known.
 #[inline(always)]
 fn fill_line(text: &mut [u8], mark: u8, body: &[u8], status: &[u8]) -> usize
     requires fits { 2 * length body.now + 2 * length status.now + 3 ≤ length text.old }
-    requires mark { to_ascii_uppercase mark ≡ mark }
     ensures line { take result text.new ≡ mark ∷ 32 ∷ encode_upper (body.now ++ status.now) ++ 10 ∷ [] }
     ensures within { result ≤ length text.new }
 {
-    let middle = 2 + 2 * body.len();
-    let end = middle + 2 * status.len();
     text[0] = mark;
     text[1] = b' ';
-    put_digits(body, &mut text[2..middle]);
+    2 + fill_digits(&mut text[2..], body, status)
+}
+
+/// Fills in the digits of the bytes, and the end. All of `text` is raised, in a step for 16 bytes each, and what is no letter stays as
+/// it is.
+#[inline(always)]
+fn fill_digits(text: &mut [u8], body: &[u8], status: &[u8]) -> usize
+    requires fits { 2 * length body.now + 2 * length status.now + 1 ≤ length text.old }
+    ensures line { take result text.new ≡ encode_upper (body.now ++ status.now) ++ 10 ∷ [] }
+    ensures size { result ≡ 2 * length body.now + 2 * length status.now + 1 }
+    ensures within { result ≤ length text.new }
+{
+    let middle = 2 * body.len();
+    let end = middle + 2 * status.len();
+    put_digits(body, &mut text[..middle]);
     put_digits(status, &mut text[middle..end]);
     text[end] = b'\n';
     text.make_ascii_uppercase();

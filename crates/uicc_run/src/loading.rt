@@ -27,7 +27,9 @@ use store_form::Store;
 use uicc_types::Plan;
 use update_journal::Journal;
 
-/// Makes the card of a long run, and has a handset carry out `count` lines that are made from the number `start`.
+/// Makes the card of a long run, and has a handset carry out `count` lines that are made from the number `start`. It stands apart, since
+/// the compiler fills each large local of a function with zeros at its entry, also those of a case that isn't taken.
+#[inline(never)]
 pub fn load<E: Eeprom, B: Applet>(
     alloc: Global,
     pages: bool,

@@ -12,7 +12,8 @@ use bip_runs::serve;
 use byte_streams::{Sink, Source};
 use std::alloc::Global;
 
-/// Has a new terminal carry out the script, and answers why the run ends.
+/// Has a new terminal carry out the script, and answers why the run ends. It stands apart as `load` does.
+#[inline(never)]
 pub fn serve_channels<R: Source, W: Sink>(alloc: Global, script: &mut R, trace: &mut W) -> Ending
     ensures comes { (text : List ℕ) → R.left script.old ≡ Some text
         → ComesToBip text (W.taken trace.old) (R.left script.new) (W.taken trace.new) result }

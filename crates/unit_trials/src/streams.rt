@@ -74,8 +74,8 @@ pub fn show_sink(row: &mut Row<'_>) {
     }
 }
 
-/// `output WRITER PART ..`: what is answered to these parts over a writer, which is `short` and has room for four bytes, `broken`, or
-/// `unflushed`.
+/// `output WRITER PART ..`: what is answered to these parts over a writer, which is `short` and has room for four bytes, `broken`,
+/// `unflushed`, or at its first call `interrupted` or `failing`.
 pub fn show_output(row: &mut Row<'_>) {
     match row.word() {
         "short" => {
@@ -85,6 +85,8 @@ pub fn show_output(row: &mut Row<'_>) {
         }
         "broken" => show_answers(&mut OutputSink::new(Faulty::Broken), row),
         "unflushed" => show_answers(&mut OutputSink::new(Faulty::Unflushed), row),
+        "interrupted" => show_answers(&mut OutputSink::new(Faulty::Interrupted), row),
+        "failing" => show_answers(&mut OutputSink::new(Faulty::Failing), row),
         _ => row.reject(),
     }
 }
@@ -100,13 +102,19 @@ fn show_answers<W: Sink>(sink: &mut W, row: &mut Row<'_>) {
     }
 }
 
-/// A reader and a writer that don't serve.
+/// A reader and a writer that don't serve, or not at once.
 #[derive(Drop)]
 enum Faulty {
     /// Each call fails but a flush.
     Broken,
     /// It takes all and can't hand it on.
     Unflushed,
+    /// A signal interrupts its first call.
+    Interrupted,
+    /// Its first call fails.
+    Failing,
+    /// It takes all.
+    Whole,
 }
 
 impl Read for Faulty {
@@ -119,13 +127,21 @@ impl Write for Faulty {
     fn write(&mut self, buf: &[u8]) -> io::Result<usize> {
         match self {
             Faulty::Broken => Err(io::Error::from(ErrorKind::Other)),
-            Faulty::Unflushed => Ok(buf.len()),
+            Faulty::Unflushed | Faulty::Whole => Ok(buf.len()),
+            Faulty::Interrupted => {
+                *self = Faulty::Whole;
+                Err(io::Error::from(ErrorKind::Interrupted))
+            }
+            Faulty::Failing => {
+                *self = Faulty::Whole;
+                Err(io::Error::from(ErrorKind::Other))
+            }
         }
     }
 
     fn flush(&mut self) -> io::Result<()> {
         match self {
-            Faulty::Broken => Ok(()),
+            Faulty::Broken | Faulty::Interrupted | Faulty::Failing | Faulty::Whole => Ok(()),
             Faulty::Unflushed => Err(io::Error::from(ErrorKind::Other)),
         }
     }
