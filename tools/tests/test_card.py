@@ -228,6 +228,11 @@ class Cards(unittest.TestCase):
                                    (lambda: card.verify("pin3", "1234"), ValueError, "no PIN is called `pin3`: pin1, pin2, adm"),
                                    (lambda: card.read_record(300), ValueError, "the number of a record is one byte, 1 to 255, and not 300"),
                                    (lambda: card.transmit("zz"), ValueError, "`zz` is no bytes"),
+                                   (lambda: card.select(12), TypeError, "a file is named by text, as \"EF.ADN\" or \"7F10/6F3A\", and not by 12"),
+                                   (lambda: card.select("ADF.USIM/EF.IMSI"), NoSuchFile, "a card here has no ADF: the files of a USIM lie in 7F20"),
+                                   (lambda: card.select("7FFF"), NoSuchFile, "a card here has no ADF"),
+                                   (lambda: card.increase(-1), ValueError, "the amount of INCREASE is a number of 3 bytes, and not -1"),
+                                   (lambda: card.pick("x"), ValueError, "an entry of the menu is picked by its number, of one byte, and not by 'x'"),
                                    (lambda: card.write("EF.SPN"), ValueError, 'card.write("EF.SPN", spn="Example")')):
                 with self.assertRaises(kind) as caught:
                     act()

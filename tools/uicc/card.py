@@ -119,6 +119,10 @@ class Proactive:
         return "; ".join(f"{line.label} {line.text}" for line in decode.proactive(self.raw)[1:])
 
 
+# what is said where a file of an ADF is asked for
+NO_ADF = "a card here has no ADF: the files of a USIM lie in 7F20, and those of an ISIM in 7FF2"
+
+
 def as_bytes(content):
     """Bytes, or hexadecimal digits with or without spaces between them."""
     if not isinstance(content, str):
@@ -317,6 +321,8 @@ class Card:
     def path(self, name: str) -> tuple[str, ...]:
         """The path of a file by identifiers and names from the MF: "MF/DF.TELECOM/EF.ADN", "7F10/6F3A", or a name alone that one
         file of the card has."""
+        if not isinstance(name, str):
+            raise TypeError(f"a file is named by text, as \"EF.ADN\" or \"7F10/6F3A\", and not by {name!r}")
         parts = [part for part in name.replace("\\", "/").split("/") if part]
         if parts and parts[0].upper() in ("MF", "3F00"):
             parts = parts[1:]
@@ -331,7 +337,8 @@ class Card:
         for file in self.holds.children(path):
             if self._is_called(file.path, part):
                 return file.path
-        raise NoSuchFile(f"{whole}: no file {part} lies in {names.shown(path)}")
+        hint = f": {NO_ADF}" if names.is_adf(part) else ""
+        raise NoSuchFile(f"{whole}: no file {part} lies in {names.shown(path)}{hint}")
 
     def _is_called(self, path, part):
         wanted = names.normal(part)
@@ -340,13 +347,15 @@ class Card:
 
     def _named(self, part):
         found = [file.path for file in self.holds.files.values() if file.path and self._is_called(file.path, part)]
+        if not found and names.is_adf(part):
+            raise NoSuchFile(f"{part}: {NO_ADF}")
         if len(found) != 1:
             raise NoSuchFile(f"{part}: {len(found) or 'no'} files are called so" + "".join(f", {names.shown(path)}" for path in found))
         return found[0]
 
     def select(self, name: str = "MF", channel: int = 0) -> dict[str, str]:
         """Selects a file, and answers its control parameters."""
-        path = self.path(name) if name.upper() not in ("MF", "3F00") else ()
+        path = () if str(name).upper() in ("MF", "3F00") else self.path(name)
         if path:
             answer = self._command(decode.SELECT, 8, 4, bytes.fromhex("".join(path)), channel=channel)
         else:
@@ -398,6 +407,8 @@ class Card:
 
     def increase(self, amount: int, width: int = 3) -> int:
         """Adds to record 1 of a cyclic EF, and answers the sum."""
+        if not isinstance(amount, int) or not 0 <= amount < 1 << 8 * width:
+            raise ValueError(f"the amount of INCREASE is a number of {width} bytes, and not {amount!r}")
         answer = self._command(decode.INCREASE, 0, 0, amount.to_bytes(width, "big"), toolkit=True)
         return int.from_bytes(answer.data[:-width], "big")
 
@@ -546,6 +557,8 @@ class Card:
     def pick(self, item: int) -> Answer:
         """The user picks an entry of the card's menu: the shelf of its applet plus one. CardError, where the menu has no such entry; `envelope`
         sends one all the same."""
+        if not isinstance(item, int) or not 0 <= item <= 0xFF:
+            raise ValueError(f"an entry of the menu is picked by its number, of one byte, and not by {item!r}")
         entries = self._toolkit.menu()
         if not self._toolkit.doubt and item not in entries:
             listed = ", ".join(f"{number} ({text.decode('latin-1')})" for number, text in sorted(entries.items()))
