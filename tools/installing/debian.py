@@ -16,6 +16,7 @@ PYTHON = "/usr/bin/python3"
 LIB, SHARE, DOC = (f"usr/{place}/{PACKAGE}" for place in ("lib", "share", "share/doc"))
 MODULE = "usr/lib/python3/dist-packages"
 MAN = "usr/share/man/man1"
+COMPLETIONS = "usr/share/bash-completion/completions"
 GLIBC = re.compile(rb"GLIBC_(\d+)\.(\d+)")
 COMMAND = f"""#!{PYTHON}
 import sys
@@ -82,6 +83,8 @@ LINKS = {
     f"{DOC}/examples": f"../../{PACKAGE}/examples",
     f"{DOC}/uicc_run.html": f"../../{PACKAGE}/uicc_run.html",
     f"{MODULE}/uicc/tree": f"../../../{PACKAGE}",
+    # bash looks for a file of the command's own name
+    f"{COMPLETIONS}/uicc_run": "uicc",
 }
 
 
@@ -122,7 +125,7 @@ def files(version):
         f"{LIB}/{staging.PROGRAM}": staging.read(staging.PROGRAM),
         f"{LIB}/{staging.LIST}": staging.read(staging.LIST),
         f"{SHARE}/uicc_run.html": staging.read(staging.PAGE),
-        "usr/share/bash-completion/completions/uicc": completion(texts).encode(),
+        f"{COMPLETIONS}/uicc": completion(texts).encode(),
         f"usr/share/lintian/overrides/{PACKAGE}": OVERRIDES.encode(),
         f"{DOC}/changelog.gz": packed(changes.for_debian().encode()),
         f"{DOC}/copyright": COPYRIGHT.format(maintainer=changes.MAINTAINER, year=version.day.year).encode(),

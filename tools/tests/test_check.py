@@ -9,6 +9,7 @@ import unittest.mock
 
 from common import load
 import osmosim_client
+from installing import fresh
 
 
 class Check(unittest.TestCase):
@@ -116,6 +117,59 @@ reset
                 tally = check.Tally()
                 check.needed(tally, [part])
                 self.assertEqual(tally.untried, missing)
+
+    # files of apt's sources, and the mirror of Debian itself in them
+    MIRRORS = [
+        ("deb http://deb.debian.org/debian bookworm main\n", "http://deb.debian.org/debian"),
+        ("# no\ndeb [arch=amd64 signed-by=/k.gpg] https://mirror.example/debian/ bookworm main\n", "https://mirror.example/debian"),
+        ("Types: deb\nURIs: http://deb.debian.org/debian\nSuites: bookworm\n", "http://deb.debian.org/debian"),
+        ("deb https://packages.example/apt cloud main\n", None), ("URIs: http://deb.debian.org/debian-security\n", None), ("", None),
+    ]
+
+    def test_mirrors(self):
+        for text, wanted in self.MIRRORS:
+            with self.subTest(text=text):
+                self.assertEqual(fresh.mirror_in(text), wanted)
+
+    def installing(self, made, tried, user=0, here="/usr/sbin/debootstrap"):
+        """What the part `installing` prints and counts over a fresh Debian that is none."""
+        check, out = load("check"), io.StringIO()
+        tally = check.Tally()
+        with tempfile.TemporaryDirectory() as folder, contextlib.redirect_stdout(out), unittest.mock.patch.object(os, "geteuid", return_value=user), \
+                unittest.mock.patch.object(check.debian, "make", return_value=__file__), unittest.mock.patch.object(fresh.Fresh, "__init__", made), \
+                unittest.mock.patch.object(fresh.Fresh, "told", tried):
+            check.installing(tally, folder, {"debootstrap": here, "dpkg-deb": here})
+        return (tally.passed, tally.failed, tally.untried), out.getvalue()
+
+    def test_a_fresh_debian(self):
+        """What is as it must be, what is wrong, and what can't be tried, each in its own word."""
+        def made(system, *_):
+            system.package = "/tmp/p.deb"
+
+        def no_mirror(*_):
+            raise fresh.NotHere("debootstrap ended with 1: no such mirror")
+
+        def right(_, *words):
+            return next((wanted for _, each, wanted in fresh.TRIES if list(words) == each), "")
+
+        def without_pages(system, *words):
+            return "no such page" if words[0] == "man" else right(system, *words)
+        every = len(fresh.TRIES) + 3
+        self.assertEqual(self.installing(made, right)[0], (every, 0, 0))
+        counts, said = self.installing(made, without_pages)
+        self.assertEqual(counts, (every - 2, 2, 0))
+        self.assertIn("WRONG    man uicc-lint: `uicc-lint - What is wrong with a script?` isn't in what it writes: no such page", said)
+        counts, said = self.installing(made, lambda _, *words: "/usr/lib/x/uicc\n" if words[0] == "find" else right(_, *words))
+        self.assertEqual(counts, (every - 1, 1, 0))
+        self.assertIn("WRONG    nothing is left: this is left of it: /usr/lib/x/uicc", said)
+        self.assertEqual(self.installing(no_mirror, right)[0], (1, 0, 1))
+        self.assertEqual(self.installing(made, right, user=1000), ((0, 0, 1), "a fresh Debian\n  MISSING  installing: without root\n"))
+        self.assertIn("without debootstrap", self.installing(made, right, here=None)[1])
+
+    def test_what_ends_otherwise(self):
+        """A command of the fresh Debian that fails is told with the end of what it wrote."""
+        with self.assertRaisesRegex(fresh.Failed, "sh ended with 3: two / three / four"):
+            fresh.carried_out(["sh", "-c", "printf 'one\\ntwo\\nthree\\nfour\\n'; exit 3"])
 
     # what a terminal made of sequences, and whether the page tells the same
     TOLD = "And so it is:\n\n    $ tools/sequence examples/sequences --on ofono | grep FAILED\n    FAILED  a.sequence:3: B, twice\n" \

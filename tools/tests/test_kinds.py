@@ -1,5 +1,6 @@
 """uicc.kinds: the kinds of applets are those of the sources, and what their definitions come to is what the code does."""
 import contextlib
+import hashlib
 import io
 import json
 import os
@@ -194,6 +195,25 @@ class Sources(unittest.TestCase):
                 with contextlib.redirect_stderr(io.StringIO()) as said:
                     kinds.warn.__wrapped__()
                 self.assertRegex(said.getvalue(), "^uicc: the released program runs, which has no tipper: .*UICC_RUN=draft" if lacking else "^$")
+
+    def test_other_sources(self):
+        """Where the released program runs and a source was changed since, it is said once, as by the launcher; not by a program that is named."""
+        crates = copy_of_sources(self.folder)
+        os.mkdir(os.path.join(self.folder, "dist"))
+        paths = [os.path.join(place, name) for place, _, names in os.walk(crates) for name in names if name.endswith(".rt")]
+        with open(os.path.join(self.folder, "dist", "release.txt"), "w", encoding="utf-8") as text:
+            for path in paths:
+                with open(path, "rb") as content:
+                    text.write(f"{hashlib.sha256(content.read()).hexdigest()}  {os.path.relpath(path, self.folder)}\n")
+        said = "uicc_run: the released program runs, and the sources that stand here are other ones: with UICC_RUN=draft in the environment theirs runs, " \
+               "with nothing proved\n"
+        for named, old, new, wanted in (("", "", "", ""), ("", 'b"Hi"', 'b"Ho"', said), ("/bin/true", "Ho", "Hi", "")):
+            change(crates, os.path.join("applet_trait", "src", "texts.rt"), old, new)
+            with mock.patch.dict(os.environ, UICC_RUN=named), mock.patch.object(process, "TOP", self.folder), mock.patch.object(process, "BUILT", "/none"), \
+                    mock.patch.object(process, "RELEASED", os.path.join(self.folder, "dist", "uicc_program")), \
+                    mock.patch.object(kinds, "told", kinds.told.__wrapped__), self.subTest(named=named, new=new), contextlib.redirect_stderr(io.StringIO()) as out:
+                kinds.warn.__wrapped__()
+                self.assertEqual(out.getvalue(), wanted)
 
     def test_unread_sources(self):
         """Where the sources can't be read the kinds are those of the file, and what is told of a card says so."""

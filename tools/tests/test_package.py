@@ -133,6 +133,8 @@ class Packages(unittest.TestCase):
             named = re.findall(r"^(\S+)  +\S", page.read(), re.MULTILINE)
         self.assertLessEqual({*staging.WORDS, "check", "page"}, set(named))
         script = os.path.join(self.root, "usr/share/bash-completion/completions/uicc")
+        # bash looks for each command's completion under the command's name
+        self.assertTrue(os.path.samefile(script, script + "_run"))
         typed = f'. {script}; COMP_WORDS=(uicc "$1" "$2"); COMP_CWORD=$3; _uicc; echo "${{COMPREPLY[@]}}"'
         for words, completed in ((("li", "", "1"), "lint"), (("lint", "--ph", "2"), "--phone"), (("play", "--st", "2"), "--store")):
             with self.subTest(words=words):

@@ -5,6 +5,7 @@ code is proved to follow.
 that is built here, or of a draft, the sources themselves are asked. What a kind is called in a sentence (`does`) stands in that file alone.
 `kind_faults` tells what the prover would not take of them."""
 import functools
+import hashlib
 import json
 import os
 import re
@@ -222,20 +223,41 @@ def of_program():
 
 @functools.cache
 def warn():
-    """Says on standard error, once, where the program that runs lacks a kind which the sources have."""
+    """Says on standard error, once, where the program that runs lacks a kind which the sources have, or is of other sources than stand here, as the
+    launcher does."""
     known = of_program()
     if known.lacking:
         print(f"uicc: {known.fault}", file=sys.stderr, flush=True)
+    elif is_of_other_sources():
+        print("uicc_run: the released program runs, and the sources that stand here are other ones: with UICC_RUN=draft in the environment theirs runs, "
+              "with nothing proved", file=sys.stderr, flush=True)
+
+
+def released_list():
+    """What the released program was made of, the sums by their files, where that program runs and the sources stand here; otherwise nothing."""
+    if os.environ.get("UICC_RUN") or os.access(process.BUILT, os.X_OK) or not os.path.isdir(os.path.join(process.TOP, "crates")):
+        return {}
+    try:
+        with open(os.path.join(os.path.dirname(process.RELEASED), "release.txt"), encoding="utf-8") as text:
+            return {path: found for found, path in re.findall(r"^([0-9a-f]{64})  (crates[./]\S+)$", text.read(), re.MULTILINE)}
+    except OSError:
+        return {}
 
 
 def not_released(found):
     """Those of some kinds that the released program doesn't have, where that is the one which runs: the list of what it was made from names no code
     of theirs."""
-    if os.environ.get("UICC_RUN") or os.access(process.BUILT, os.X_OK) or not os.path.isdir(os.path.join(process.TOP, "crates")):
-        return []
-    try:
-        with open(os.path.join(os.path.dirname(process.RELEASED), "release.txt"), encoding="utf-8") as text:
-            listed = set(re.findall(r"  crates/boxed_applets/src/(\w+)\.rt$", text.read(), re.MULTILINE))
-    except OSError:
-        return []
+    listed = {found[1] for found in map(re.compile(r"crates/boxed_applets/src/(\w+)\.rt").fullmatch, released_list()) if found}
     return [name for name in found if name + "s" not in listed] if listed else []
+
+
+def is_of_other_sources():
+    """Whether a source stands otherwise here than the released program was made of."""
+    for path, wanted in released_list().items():
+        try:
+            with open(os.path.join(process.TOP, path), "rb") as content:
+                if hashlib.sha256(content.read()).hexdigest() != wanted:
+                    return True
+        except OSError:
+            return True
+    return False
