@@ -75,7 +75,7 @@ class Export(unittest.TestCase):
         card.pins[1].tries = 2
         card.files[("2F05",)].active = False
         self.assertEqual(list(profile_text.lost(card, profile_text.of_card(card))),
-                         ["2F05 EF.PL is deactivated, which no profile says", "PIN 1 has 2 tries and 10 of its UNBLOCK value left, which no profile says"])
+                         ["2F05 EF.PL is deactivated, which no profile says", "PIN 1 has 2 tries and 10 of its UNBLOCK PIN left, which no profile says"])
 
 
 class Images(unittest.TestCase):
