@@ -224,6 +224,8 @@ class Lists(unittest.TestCase):
         lines = in_process("profile", "services").stdout.splitlines()
         self.assertEqual(lines[2].split("  ")[0], "2")
         self.assertTrue(lines[2].endswith("EF_FDN, EF_EST"), lines[2])
+        self.assertEqual(in_process("profile", "services", "EF.SST").stdout.splitlines()[0].split(), ["service", "in", "EF_SST", "files"])
+        self.assertIn("`xyz` is no service table: ust, sst, ist, est are", in_process("profile", "services", "xyz").stderr)
         for kind, count in (("ust", len(names.table("files")["ust"])), ("sst", len(names.table("files")["sst"]))):
             self.assertEqual(len(listing.service_lines(kind)), count + 1)
 
