@@ -345,7 +345,7 @@ CAUSES = (
     ("00A4000C022F06", ""),
     ("00DC010428" + "80010190008001029700" + "FF" * 30, ""),
     ("00D6810001AA", ACCESS + "rule 2F06:1 lets nobody update"),
-    ("00E40000027F10", CONDITIONS + "7F10/6F01 EF.EAKA lies in it"),
+    ("00E40000027F10", CONDITIONS + "7F10/6F01 lies in it"),
     ("00A4000C027F10", ""),
     ("00E40000026F01", ""),
     ("00A4000C023F00", ""),

@@ -251,7 +251,7 @@ class Cards(unittest.TestCase):
             card.resize_file("4F20", 6)
             self.assertEqual((card.read_binary(), card.holds.files[card.current].size), (bytes.fromhex("01020304FFFF"), 6))
             card.create_ef("4F21", "l", 2, 3, rule=("2F06", 1))
-            self.assertEqual(card.select("5F50/4F21")["access rule"], "record 1 of 2F06")
+            self.assertEqual(card.select("5F50/4F21")["security attributes"], "record 1 of 2F06")
             card.delete_file("4F21")
             with self.assertRaises(NoSuchFile):
                 card.select("5F50/4F21")

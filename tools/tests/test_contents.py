@@ -211,7 +211,7 @@ class Commands(unittest.TestCase):
         ("F0E601060C010300030704030141030210", ["events: 03 location status", "kept data: 030704030141030210"]),
         ("002000010831323334FFFFFFFF", ["value: 1234"]),
         ("00E0000015621382024121" "83026F508B032F0601" "80020004" "8800", ["FCP", "file descriptor: transparent EF", "identifier: 6F50 EF.CBMIR",
-                                                                        "access rule: record 1 of 2F06", "size: 4 bytes", "SFI: none"]),
+                                                                        "security attributes: record 1 of 2F06", "size: 4 bytes", "SFI: none"]),
         ("00E00000026200", ["FCP"]),
         ("80D40000046F500006", []),
     ]
@@ -250,7 +250,7 @@ class Commands(unittest.TestCase):
     def test_control_parameters(self):
         lines = self.shown(decode.fcp(bytes.fromhex("621A82054221001C3283026F3A8A01058B032F060380020578880108")))
         self.assertEqual(lines, ["FCP", "file descriptor: linear fixed EF, 50 records of 28 bytes", "identifier: 6F3A EF.ADN",
-                                 "life cycle: activated", "access rule: record 3 of 2F06", "size: 1400 bytes", "SFI: 1"])
+                                 "life cycle: activated", "security attributes: record 3 of 2F06", "size: 1400 bytes", "SFI: 1"])
         lines = self.shown(decode.fcp(bytes.fromhex("62198202782183023F008A0105C60C9001A083010183018183010A")))
         self.assertIn("PINs: PIN 1 enabled, PIN 2 disabled, ADM1 enabled", lines)
 

@@ -75,7 +75,7 @@ class Export(unittest.TestCase):
         card.pins[1].tries = 2
         card.files[("2F05",)].active = False
         self.assertEqual(list(profile_text.lost(card, profile_text.of_card(card))),
-                         ["2F05 EF.PL is deactivated, which no profile says", "PIN 1 has 2 tries and 10 of its UNBLOCK value left, which no profile says"])
+                         ["2F05 EF.PL is deactivated, which no profile says", "PIN 1 has 2 tries and 10 of its UNBLOCK PIN left, which no profile says"])
 
 
 class Images(unittest.TestCase):
@@ -224,6 +224,8 @@ class Lists(unittest.TestCase):
         lines = in_process("profile", "services").stdout.splitlines()
         self.assertEqual(lines[2].split("  ")[0], "2")
         self.assertTrue(lines[2].endswith("EF_FDN, EF_EST"), lines[2])
+        self.assertEqual(in_process("profile", "services", "EF.SST").stdout.splitlines()[0].split(), ["service", "in", "EF_SST", "files"])
+        self.assertIn("`xyz` is no service table: ust, sst, ist, est are", in_process("profile", "services", "xyz").stderr)
         for kind, count in (("ust", len(names.table("files")["ust"])), ("sst", len(names.table("files")["sst"]))):
             self.assertEqual(len(listing.service_lines(kind)), count + 1)
 
@@ -244,6 +246,7 @@ class Batch(unittest.TestCase):
         ("iccid,puk\n", "line 1: no column is called `puk`, but `unblock1` is"),
         ("iccid,acc\n" + ONE + ",16\n", "line 2: acc `16`: it is a class from 0 to 15"),
         ("iccid,ki\n", "line 1: a card here has no AUTHENTICATE, so that it has no key for it: the column `ki` has no place"),
+        ("iccid,:hex\n", "line 1: the column `:hex`: a column of a file is FILE:KEY"),
         ("iccid,ADM2\n", "line 1: a card here has the PINs pin1, pin2 and adm alone"),
         ("iccid,EF_SMSP:center\n", "line 1: the column `EF_SMSP:center`: `center` isn't known: name, destination, centre, protocol"),
         ("iccid,7F10/6F99:name\n", "line 1: the column `7F10/6F99:name`: `name` isn't known: hex is"),
@@ -393,6 +396,16 @@ class Batch(unittest.TestCase):
                                  "7F20/6FAD": "normal operation, the network's code has 3 digits",
                                  "7F20/6F46": "Example (the network's name isn't asked for at home)", "7F20/6F7B": "262-02", "7F10/6F99": "AABB"})
         self.assertEqual(held.pins[0x81].unblock, b"99999999")
+
+    def test_a_field_beside_bytes(self):
+        """What a profile says in bytes stays too, as far as words say it; where they don't, the row is refused."""
+        record = fields.KINDS["smsp"].encode({"name": "SC", "validity": 60}, 44).hex().upper()
+        rows = batch.rows_in(f"iccid,EF_SMSP:centre\n{self.ONE},+4917\n".encode(), "list.csv")
+        base = 'like = "usim"\n[EF_SMSP]\nrecords = ["%s"]\n'
+        card, = batch.cards((base % record).encode(), "card.toml", rows, "list.csv", lambda: None)
+        self.assertEqual(tree.meanings(card_of(card.made.text).files[("7F10", "6F42")], True), ["1: SC, centre +4917, validity 60 minutes"])
+        with self.assertRaisesRegex(batch.BadList, r"line 2: \[EF_SMSP\] records: no words say what these bytes do"):
+            batch.cards((base % "00").encode(), "card.toml", rows, "list.csv", lambda: None)
 
     def test_a_list_over_a_script(self):
         """The card of a script is what the rows are laid over."""

@@ -1,12 +1,19 @@
 """tools/page: its modules become one script, and a module of LLVM one for another target."""
+import json
 import os
+import shutil
+import subprocess
 import sys
+import tempfile
 import unittest
 
 from common import TOOLS, load
 
 sys.path.insert(0, os.path.join(TOOLS, "page"))
 import bundle
+import making
+import test_contents
+from uicc import contents
 
 
 class Bundles(unittest.TestCase):
@@ -68,6 +75,37 @@ class Bundles(unittest.TestCase):
                 "packed": "".join(f"export const {name} = 0;\n" for name in ("packedModule", "workerText", "examples", "madeFrom"))}
         self.assertIn("const of_page =", bundle.bundle("page", made))
         self.assertIn("const of_worker =", bundle.bundle("worker"))
+
+
+OF_CONTENTS = """import { meaningOf } from "./contents.js";
+const requests = JSON.parse(require("fs").readFileSync(0));
+console.log(JSON.stringify(requests.map(([kind, bytes]) => meaningOf(kind, bytes))));
+"""
+# the kinds of content that the page decodes
+OF_PAGE = ("iccid", "imsi", "plmns", "plmns-act", "dialling", "spn", "acc", "ad", "loci", "psloci", "languages", "application", "ecc", "sms", "smsp",
+           "minutes6", "keys")
+
+
+@unittest.skipUnless(shutil.which("node"), "node isn't here")
+class Contents(unittest.TestCase):
+    # what files hold, beside what test_contents has
+    MORE = [("spn", "0341FFFF"), ("spn", "0041FFFF"), ("acc", "0200"), ("acc", "0808"), ("acc", "0000"), ("minutes6", "05"), ("minutes6", "00"),
+            ("ecc", "11F0FF506F6C03"), ("ecc", "11F0FF506F6CFF"), ("ecc", "11F0FF00"),
+            ("smsp", "5343FFFFE005919471F1FFFFFFFFFFFFFF0791947101670000FFFFFFFF0000A7"), ("smsp", "5343FFFFEFFFFFFFFFFFFFFFFFFFFFFFFFFFFFFFFFFFFFFFFFFFFFFFFF0B")]
+
+    def test_the_page_says_what_the_tools_say(self):
+        requests = [(kind, bytes.fromhex(digits)) for kind, digits, *_ in [*test_contents.Contents.DECODED, *self.MORE] if kind in OF_PAGE]
+        script = bundle.bundle("top", {"tables": making.tables(), "top": OF_CONTENTS})
+        with tempfile.NamedTemporaryFile("w", suffix=".js", encoding="utf-8") as text:
+            text.write(script)
+            text.flush()
+            done = subprocess.run(["node", text.name], input=json.dumps([(kind, list(content)) for kind, content in requests]), capture_output=True,
+                                  text=True, check=True)
+        said = json.loads(done.stdout)
+        self.assertGreater(len(said), 25)
+        for (kind, content), found in zip(requests, said):
+            with self.subTest(kind=kind, content=content.hex()):
+                self.assertEqual(found, contents.decode(kind, content))
 
 
 class Rewriting(unittest.TestCase):

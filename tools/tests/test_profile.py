@@ -466,6 +466,22 @@ class Command(unittest.TestCase):
         for text in (shown, whole):
             self.assertLessEqual(max(map(len, text.splitlines())), 120)
 
+    def test_check_notes_where_files_of_the_adf_lie(self):
+        """That isn't wrong, and is told all the same, until they are where TS 31.102 has them too."""
+        text = 'like = "usim"\n' + "".join(f'["7F20/EF_{name}"]\n{said}\n' for name, said in (
+            ("MSISDN", "entries = []"), ("SMS", "count = 1"), ("SMSS", 'hex = "FFFF"')))
+        with tempfile.TemporaryDirectory() as folder:
+            given = os.path.join(folder, "card.toml")
+            for more, names_told in (("", ["EF.MSISDN", "EF.SMS", "EF.SMSP", "EF.SMSS"]), (text, ["EF.SMSP"]),
+                                     (text + '["7F20/EF_SMSP"]\nparameters = []\n', [])):
+                with open(given, "w", encoding="ascii") as out:
+                    out.write(more or 'like = "usim"\n')
+                done = self.profile("check", given)
+                notes = [line for line in done.stdout.splitlines() if line.startswith("note: ")]
+                with self.subTest(told=names_told):
+                    self.assertEqual((done.returncode, [name for name in names_told if f"{name} " in notes[0] or f"{name}," in notes[0]], len(notes)),
+                                     (0, names_told, bool(names_told)))
+
     def test_check_ends_with_1(self):
         done = self.profile("check", os.path.join(EXAMPLES, "usim.script"))
         self.assertEqual(done.returncode, 1)

@@ -111,6 +111,8 @@ def column_of(word):
 
 def check_columns(columns, name):
     for column in columns:
+        if column.startswith(":") or column.endswith(":"):
+            raise BadList(f"{name}, line 1: the column `{column}`: a column of a file is FILE:KEY, as EF_SMSP:centre")
         if ":" in column:
             with told_of(f"{name}, line 1: the column `{column}`"):
                 field_of(*column.split(":", 1))
@@ -233,12 +235,28 @@ def lay_field(found, base, file, field, cell):
     if field.field is None:
         table[key] = value
         return
-    told = table.get(key, base.get(profile.same_file(base, file), {}).get(key))
+    told = table[key] if key in table else said_before(base.get(profile.same_file(base, file), {}), field.kind, file)
     if isinstance(field.kind.form, forms.ListOf):
         first, *others = told or [{}]
         table[key] = [with_field(field.kind.form.one, first, field.field, value), *others]
     else:
         table[key] = with_field(field.kind.form, told or {}, field.field, value)
+
+
+def said_before(given, kind, file):
+    """What the table of a file says by the key of its kind, also where it says it in bytes; None where it says nothing. BadContent, where
+    no words say what the bytes do: beside a field nothing else of them would stay."""
+    plain = next((key for key in given if key in fields.PLAIN), None)
+    if plain is None:
+        return given.get(kind.key)
+    try:
+        content = fields.PLAIN[plain].encoded(given[plain], None)
+        if kind.of_records:
+            return [kind.value(record) for record in (content if isinstance(content, list) else [content])]
+        return kind.value(content)
+    except (ValueError, KeyError, IndexError, TypeError):
+        raise BadContent(f"[{file}] {plain}: no words say what these bytes do, and beside a part of it nothing else would stay: "
+                         f"say it by `{kind.key}`") from None
 
 
 def with_field(form, told, key, value):
@@ -256,6 +274,8 @@ def cards(content, name, rows, list_name, step):
             found.append(Card(line, values, profile.Made(lines, [fault.reason for fault in warnings])))
         except profile.BadProfile as bad:
             faults += [f"{list_name}, line {line}: {fault.reason}" for fault in bad.faults]
+        except BadContent as fault:
+            faults.append(f"{list_name}, line {line}: {fault}")
         step()
     if not faults:
         faults = [f"{list_name}, {text}" for text in alike_by_profile(found, "imsi", name)]

@@ -7,7 +7,7 @@ from .coding import BadContent
 
 # what a terminal reads before a PIN is entered (ETSI TS 102 221, 13; 3GPP TS 31.102, 4.2)
 READ_BY_ALL = {("2F00",), ("2F05",), ("2F06",), ("2FE2",), ("7F20", "6F46"), ("7F20", "6FAD"), ("7F20", "6FB7")}
-IMSI, ACC = ("7F20", "6F07"), ("7F20", "6F78")
+TELECOM, IMSI, ACC = ("7F10",), ("7F20", "6F07"), ("7F20", "6F78")
 # the key of the administrator, which nothing unblocks
 ADM = 0x0A
 # the service table of a kind of card
@@ -49,6 +49,18 @@ def found(card, kind):
     for files, rule, why in access.pointless(card):
         yield Finding(f"{names.shown(files[0].path, usim)}, rule {rule[0]}:{rule[1]}, {why}{access.others(files)}",
                       tuple(file.path for file in files), True)
+
+
+def notes(card, kind):
+    """What is right of a card, and what a terminal may miss in it all the same."""
+    if kind != "usim":
+        return
+    moved = [names.name_of(file.path) for file in card.files.values() if file.path[:1] == TELECOM and len(file.path) == 2 and not file.is_df
+             and "USIM" in (names.file(file.path) or {"in": ()})["in"] and ("7F20", file.path[-1]) not in card.files]
+    moved = [name for name in moved if name != "EF.ARR"]
+    if moved:
+        yield (f"{', '.join(moved)} {'lies' if len(moved) == 1 else 'lie'} in 7F10, where a terminal of 2G looks for "
+               f"{'it' if len(moved) == 1 else 'them'}: TS 31.102 has {'it' if len(moved) == 1 else 'them'} in ADF.USIM, which is 7F20 here")
 
 
 def wrong_identifier(file, usim):

@@ -132,7 +132,7 @@ def by_bytes(one, other):
 def of_pin(one, other, name):
     yield from (Difference(name, lines) for lines in [tuple(pair(pin_words(one), pin_words(other)))] if lines)
     if one and other and (one.tries, one.unblock_tries) != (other.tries, other.unblock_tries):
-        lines = pair(*(f"{pin.tries} tries left, {pin.unblock_tries} of its UNBLOCK value" for pin in (one, other)))
+        lines = pair(*(f"{pin.tries} tries left, {pin.unblock_tries} of its UNBLOCK PIN" for pin in (one, other)))
         yield Difference(name, tuple(lines), True)
 
 

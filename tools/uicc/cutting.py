@@ -306,7 +306,7 @@ class Trial:
 
     def half_done(self):
         """What is half done where the state is between."""
-        which = "the UNBLOCK value" if bytes_of(self.command)[1] == UNBLOCK else "the PIN"
+        which = "the UNBLOCK PIN" if bytes_of(self.command)[1] == UNBLOCK else "the PIN"
         return f"one try of {which} is taken"
 
     def told(self, answers):
@@ -427,7 +427,7 @@ def is_try_taken(old, found):
 
 def try_taken(key, old, found):
     """Which try a PIN has lost."""
-    return f"one try of the UNBLOCK value of {entry_name(key)} is taken" if found[4] < old[4] else f"one try of {entry_name(key)} is taken"
+    return f"one try of the UNBLOCK PIN of {entry_name(key)} is taken" if found[4] < old[4] else f"one try of {entry_name(key)} is taken"
 
 
 def makes_commits(step):

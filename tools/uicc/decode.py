@@ -540,7 +540,7 @@ MOST_NAMES = 3
 FCP = {
     0x82: ("file descriptor", descriptor_text), IDENTIFIER: ("identifier", identifier_text),
     0x8A: ("life cycle", lambda value: LIVES.get(value[0], f"{value[0]:02X}")),
-    0x8B: ("access rule", lambda value: f"record {value[2]} of {hexed(value[:2])}"),
+    0x8B: ("security attributes", lambda value: f"record {value[2]} of {hexed(value[:2])}"),
     0xC6: ("PINs", lambda value: pin_status_text(value) if 0x83 in value else "none"),
     0x80: ("size", lambda value: amount(int.from_bytes(value, 'big'))),
     0x88: ("SFI", lambda value: str(value[0] >> 3) if value else "none"),

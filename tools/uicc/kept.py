@@ -15,7 +15,7 @@ from . import process as simulator
 from .grammar import Apdu, Plan, Reset, Tpdu
 
 # so many steps of a script from one place at which the image is kept to the next
-STEPS_BETWEEN = 25
+STEPS_BETWEEN = 10
 READ_BINARY, UPDATE_BINARY, READ_RECORD, UPDATE_RECORD = (
     decode.READ_BINARY, decode.UPDATE_BINARY, decode.READ_RECORD, decode.UPDATE_RECORD)
 # mode of a record command that names the record by its number

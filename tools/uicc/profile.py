@@ -278,7 +278,7 @@ def faults_by_standard(card, own, usim):
     """What `check` tells of files of a card, by the tables of a profile that name them: a fault each, of the first of the tables."""
     named = {path: name for name in own if is_file_table(name, own[name]) and (path := path_or_none(name))}
     faults = []
-    for finding in checking.found(card, "usim" if usim else "sim"):
+    for finding in checking.found(card, "usim" if usim else "sim") if named else ():
         about = [(path, name) for path in finding.paths for own_path, name in named.items() if own_path[:len(path)] == path]
         if about and not finding.is_of_rules:
             (path, name), text = about[0], finding.text

@@ -38,6 +38,8 @@ def parts_of(name):
     parts = [part for part in name.split("/") if part]
     if parts and parts[0].upper() in ("MF", "3F00"):
         parts = parts[1:]
+    if not name.strip("/ "):
+        raise BadProfile("a table without a name is none of a file", name)
     if not parts:
         raise BadProfile(f"[{dump.printable(name)}] is the MF, of which a profile says nothing: each file in it has a table of its own, as "
                          "[EF_ICCID]", name)

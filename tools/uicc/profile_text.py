@@ -210,7 +210,7 @@ def lost(card, text):
             yield f"{names.shown(file.path)} is deactivated, which no profile says"
     for pin in card.pins.values():
         if pin.tries != 3 or pin.unblock_tries != 10:
-            yield f"{names.key(pin.key)} has {pin.tries} tries and {pin.unblock_tries} of its UNBLOCK value left, which no profile says"
+            yield f"{names.key(pin.key)} has {pin.tries} tries and {pin.unblock_tries} of its UNBLOCK PIN left, which no profile says"
     for difference in comparing.differences(card, card_of(text), exactly=True):
         if not difference.of_state:
             yield f"{difference.what}: {'; '.join(difference.lines)}"

@@ -46,7 +46,7 @@ function luhn(digits) {
 function iccid(bytes) {
     const digits = digitsOf(bytes);
     if (digits.length < 18) {
-        throw new BadContent(`a card's number has 18 to 20 digits, and this one ${digits.length}`);
+        throw new BadContent(`an ICCID has 18 to 20 digits, and this one ${digits.length}`);
     }
     const check = luhn(digits.slice(0, -1));
     return digits + (digits.length === 18 || check === digits.at(-1) ? "" : ` (its check digit would be ${check})`);
@@ -117,14 +117,17 @@ function dialling(record) {
 }
 
 function providerName(bytes) {
-    const when = bytes[0] & 1 ? "the network's name is shown too" : "the network's name isn't asked for at home";
-    return `${nameOf(bytes.slice(1))} (${when})`;
+    const when = bytes[0] & 1 ? ["the network's name is shown too"] : ["the network's name isn't asked for at home"];
+    if (bytes[0] & 2) {
+        when.push("it isn't shown abroad");
+    }
+    return `${nameOf(bytes.slice(1))} (${when.join(", ")})`;
 }
 
 function accessClasses(bytes) {
     const bits = bigEndian(bytes);
     const classes = Array.from({ length: 16 }, (_, bit) => bit).filter((bit) => (bits >> bit) & 1 && bit !== 10);
-    return `classes ${classes.join(", ") || "none"}`;
+    return classes.length ? `class${classes.length === 1 ? "" : "es"} ${classes.join(", ")}` : "no class";
 }
 
 function administrative(bytes) {
@@ -192,9 +195,16 @@ function application(record) {
     return `${label?.length ? nameOf(label) : "no label"}, ${hexed(name ?? [])}`;
 }
 
+// the services of an emergency call, by the bits of its category (3GPP TS 24.008, 10.5.4.33), and the byte of a number without category
+const EMERGENCIES = ["police", "ambulance", "fire brigade", "marine guard", "mountain rescue", "manual eCall", "automatic eCall", "spare"];
+const NO_CATEGORY = 0xff;
+
 function emergencyCode(record) {
     const name = record.slice(3, -1);
-    return digitsOf(record.slice(0, 3)) + (name.length && !isBlank(name) ? ` (${nameOf(name)})` : "");
+    const bits = record.at(-1);
+    const services = EMERGENCIES.filter((_, bit) => (bits >> bit) & 1).join(", ") || "none";
+    const category = record.length > 3 && bits !== NO_CATEGORY ? `, category ${bits}: ${services}` : "";
+    return digitsOf(record.slice(0, 3)) + (name.length && !isBlank(name) ? ` (${nameOf(name)})` : "") + category;
 }
 
 function shortMessage(record) {
@@ -206,7 +216,30 @@ function messageParameters(record) {
     const rest = record.slice(-28);
     const [length, kind, ...digits] = rest.slice(13, 25);
     const has = !(rest[0] & 0x02) && length >= 1 && length <= 11;
-    return `${nameOf(record.slice(0, -28)) || "no name"}, centre ${has ? dialledDigits(digits.slice(0, length - 1), kind) : "none"}`;
+    const found = [nameOf(record.slice(0, -28)) || "no name", `centre ${has ? dialledDigits(digits.slice(0, length - 1), kind) : "none"}`];
+    if (!(rest[0] & 0x01)) {
+        found.push(`destination ${dialledDigits(rest.slice(3, 3 + ((rest[1] + 1) >> 1)), rest[2])}`);
+    }
+    for (const [bit, place, what] of [[0x04, 25, "protocol"], [0x08, 26, "coding"]]) {
+        if (!(rest[0] & bit)) {
+            found.push(`${what} ${rest[place]}`);
+        }
+    }
+    if (!(rest[0] & 0x10)) {
+        found.push(`validity ${minutesOf(rest[27])} minutes`);
+    }
+    return found.join(", ");
+}
+
+// The minutes of a validity period in one byte (3GPP TS 23.040, 9.2.3.12.1).
+function minutesOf(validity) {
+    if (validity < 144) {
+        return 5 * (validity + 1);
+    }
+    if (validity < 168) {
+        return 12 * 60 + 30 * (validity - 143);
+    }
+    return validity < 197 ? 24 * 60 * (validity - 166) : 7 * 24 * 60 * (validity - 192);
 }
 
 const DECODERS = {
@@ -214,7 +247,7 @@ const DECODERS = {
     "acc": accessClasses, "ad": administrative, "ust": usimServices, "sst": simServices, "loci": locationInformation,
     "psloci": packetLocation, "languages": languages, "application": application, "rule": ruleWords, "ecc": emergencyCode,
     "sms": shortMessage, "smsp": messageParameters, "number": (bytes) => String(bigEndian(bytes)),
-    "minutes6": ([count]) => (count ? `each ${6 * count} minutes` : "no search"),
+    "minutes6": ([count]) => (count ? `every ${6 * count} minutes` : "no search"),
     "keys": (bytes) => (bytes[0] === 7 ? "none" : `set ${bytes[0]}, ${hexed(bytes.slice(1))}`),
 };
 

@@ -288,7 +288,7 @@ const PARAMETERS = {
     }],
     0x83: ["identifier", hexed],
     0x8a: ["life cycle", ([life]) => LIVES[life] ?? hexByte(life)],
-    0x8b: ["access rule", (value) => `record ${value[2]} of ${hexed(value.slice(0, 2))}`],
+    0x8b: ["security attributes", (value) => `record ${value[2]} of ${hexed(value.slice(0, 2))}`],
     0xc6: ["PINs", pinStatus],
     0x80: ["size", (value) => amount(bigEndian(value))],
     0x88: ["SFI", (value) => (value.length ? String(value[0] >> 3) : "none")],

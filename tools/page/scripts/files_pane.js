@@ -75,7 +75,8 @@ export class FilesPane {
 
     nameOf(file) {
         const entry = standardFile(file.path, this.usim);
-        return element("span", { class: "name", title: entry?.title ?? "" }, `${file.path.at(-1) ?? "3F00"} ${entry?.name ?? ""}`.trim());
+        const more = this.usim && file.path.join("") === "7F20" ? " (the files of ADF.USIM here)" : "";
+        return element("span", { class: "name", title: entry?.title ?? "" }, `${file.path.at(-1) ?? "3F00"} ${entry?.name ?? ""}`.trim() + more);
     }
 
     directory(card, df) {

@@ -8,7 +8,7 @@ const PLACES = {
         df: ["A DF, which is a folder of files. PATH has four digits for each DF from the MF down, without the MF's own, and for itself.",
             "df 7F10"],
         ef: ["An EF: transparent with SIZE bytes (t), or with COUNT records of LENGTH bytes, linear fixed (l) or cyclic (c). SHORT is its "
-            + "short identifier, or -. RULE is the record of an EF_ARR that says who may do what, as 2F06:1, or - for everybody.",
+            + "SFI (short identifier), or -. RULE is the record of an EF_ARR that says who may do what, as 2F06:1, or - for everybody.",
         "ef 2FE2 t 10 2 -", "ef 7F106F3A l 28 10 - -"],
         fill: ["The bytes of a transparent EF from OFFSET on.", "fill 2FE2 0 98101032547698103254"],
         rec: ["The beginning of record NUMBER of an EF. The rest of it becomes FF.", "rec 7F106F3A 1 416E6E61"],
