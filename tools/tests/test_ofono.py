@@ -117,7 +117,7 @@ class Telephone(unittest.TestCase):
         path = os.path.join(self.folder.name, "a.trace")
         ran = subprocess.run([sys.executable, "-B", os.path.join(TOOLS, "ofono"), ofono_tries.TELEPHONE, "--trace", path], input=lines,
                              capture_output=True, text=True, timeout=300, check=False)
-        self.assertEqual((ran.returncode, ran.stderr), (1, ""))
+        self.assertEqual((ran.returncode, ran.stderr), (1, "  oFono is being started, with this card in its modem\n"))
         said = [line.strip() for line in ran.stdout.splitlines()]
         for part in ("PinRequired: pin", "line 2: org.ofono.Error.Failed: Operation failed", "asks: Note? (0 to 20 characters)", "SET UP MENU: 00 done",
                      "asks: ? (a key)", "shows: K", "GET INKEY: 00 done", "DISPLAY TEXT: 00 done",
@@ -175,8 +175,29 @@ class Tool(unittest.TestCase):
     def test_no_card(self):
         ran = self.ran("nowhere.script")
         self.assertEqual(ran.returncode, 2)
-        self.assertIn("ofono: ", ran.stderr)
-        self.assertNotIn("Traceback", ran.stderr)
+        self.assertEqual(ran.stderr, "ofono: nowhere.script: no file is there\n")
+
+    @unittest.skipIf(MISSING, f"oFono isn't here: {MISSING}")
+    def test_a_script_without_its_end(self):
+        """It is refused before oFono is started."""
+        with tempfile.TemporaryDirectory() as folder:
+            path = os.path.join(folder, "a.script")
+            with open(path, "w", encoding="ascii") as out:
+                out.write("ef 2FE2 t 10 2 -\n")
+            ran = self.ran(path)
+        self.assertEqual((ran.returncode, ran.stdout, ran.stderr), (2, "", f"ofono: {path}: the script ends, and no line `start` stands in it, before "
+                                                                    "which its card is described\n"))
+
+    @unittest.skipIf(MISSING, f"oFono isn't here: {MISSING}")
+    def test_what_is_said_at_first(self):
+        """That it starts, and what the card lacks without which oFono does next to nothing."""
+        with tempfile.TemporaryDirectory() as folder:
+            path = os.path.join(folder, "a.script")
+            with open(path, "w", encoding="ascii") as out:
+                out.write("pin 01 31323334FFFFFFFF on 3132333435363738\nef 2FE2 t 10 2 -\nstart\n")
+            lacking, whole = self.ran(path), self.ran(ofono_tries.TELEPHONE)
+        self.assertEqual(whole.stderr, "  oFono is being started, with this card in its modem\n")
+        self.assertRegex(lacking.stderr, "^  the card has no EF.IMSI .*\n  oFono is being started, with this card in its modem\n$")
 
 
 if __name__ == "__main__":
