@@ -183,7 +183,7 @@ class Explain(unittest.TestCase):
         done = self.explain(usim + ".trace", "--script", usim + ".script")
         for part in ("   94  > 00B0000009", "READ BINARY from byte 0, 9 bytes (7F20/6F07 EF.IMSI)", "EF.IMSI: 001010123456789",
                      "EF.ADN: Voicemail: +99990100100", "6982 the access rule isn't satisfied: rule 2F06:2 asks for PIN 1 to read; PIN 1 isn't verified", "found in records: 3",
-                     "READ RECORD 1 of the short identifier 30 (2F00 EF.DIR)", "SEARCH RECORD forward from record 1 for 416E6E61 (7F10/6F3A EF.ADN)",
+                     "READ RECORD 1 by SFI 30 (2F00 EF.DIR)", "SEARCH RECORD forward from record 1 for 416E6E61 (7F10/6F3A EF.ADN)",
                      "   83  # EF_IMSI asks for PIN 1", "value: 1234"):
             self.assertIn(part, done.stdout)
 
@@ -244,7 +244,7 @@ class Explain(unittest.TestCase):
                 self.assertEqual(process.played(["play", *options, "--image", path], card)[1], 0)
                 shown = process.played(["open", *options, "--image", path], going_on)[0]
                 done = self.explain("--image", path, text="".join(line + "\n" for line in shown))
-                for part in ("READ RECORD 1 of the short identifier 1 (7F10/6F3A EF.ADN)", "EF.ADN: Anna: +4917012345",
+                for part in ("READ RECORD 1 by SFI 1 (7F10/6F3A EF.ADN)", "EF.ADN: Anna: +4917012345",
                              "6982 the access rule isn't satisfied: rule 2F06:1 asks for PIN 1 to read; PIN 1 isn't verified"):
                     self.assertIn(part, done.stdout)
                 os.remove(path)
@@ -268,6 +268,19 @@ class Explain(unittest.TestCase):
         day = os.path.join(EXAMPLES, "day")
         done = self.explain(day + ".trace", "--script", day + ".script", "--phone")
         self.assertEqual((done.returncode, done.stderr), (0, ""))
+
+    def test_a_file_that_is_made(self):
+        """CREATE FILE names a file by its place alone: 6F50 is EF.CBMIR in 7F20, and nothing in the MF."""
+        with tempfile.TemporaryDirectory() as folder:
+            for df, name in (("7F20", "6F50 EF.CBMIR"), ("7F66", "6F50")):
+                path = os.path.join(folder, df + ".script")
+                with open(path, "w", encoding="ascii") as out:
+                    out.write(f"df {df}\nstart\napdu 00A4000C02{df}\napdu 00E0000010620E8202412183026F50800200048800\n")
+                trace = os.path.join(folder, "trace")
+                with open(trace, "w", encoding="ascii") as out:
+                    out.write(f"> 00A4000C02{df}\n< 9000\n> 00E0000010620E8202412183026F50800200048800\n< 6982\n")
+                shown = self.explain(trace, "--script", path).stdout
+                self.assertIn(f"identifier: {name}\n", shown)
 
     def test_another_script(self):
         """The script of another trace is told, and none of its lines is shown with this one."""
