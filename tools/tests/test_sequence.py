@@ -723,7 +723,7 @@ class Verdicts(unittest.TestCase):
                                              Obliging(), 0.1)
                     self.assertLess(time.monotonic() - began, 8)
                     self.assertEqual(outcome.verdict, verdict.INCONCLUSIVE)
-                    self.assertRegex(outcome.why, r"^the terminal did not come back within 1 seconds, from own.py:\d$")
+                    self.assertRegex(outcome.why, r"^the terminal did not come back within 1 second, from own.py:\d$")
         with Card(USIM) as card:
             self.assertEqual(verdict.judged(read("command MORE TIME", "response result 00")[0], undertest.InPython(), card).verdict, verdict.PASSED)
 
@@ -1141,7 +1141,7 @@ class Tool(unittest.TestCase):
             with self.subTest(method=method, more=more), tempfile.TemporaryDirectory() as folder:
                 done = tool(self.put(folder, *self.PASSES), *self.own(folder, *more, f"def {method}:", slow), "--seconds", "1")
                 self.assertEqual(done.returncode, 2)
-                self.assertIn(": it did not come back within 1 seconds, from ", done.stderr)
+                self.assertIn(": it did not come back within 1 second, from ", done.stderr)
 
     def test_values_of_a_class(self):
         """What a class says of itself is looked at before anything is played."""

@@ -173,7 +173,7 @@ class OfonosUser(unittest.TestCase):
         terminal, given = OfOfono.__new__(OfOfono), player.Player(None)
         terminal.player, terminal.shown = given, {}
         terminal.phone = unittest.mock.Mock(toolkit={"IdleModeText": "at\r\nhome"})
-        terminal.phone.asked.return_value = [["DisplayText", "Hi\nthere", 0, True]]
+        terminal.phone.asked_when.return_value = [[0.0, ["DisplayText", "Hi\nthere", 0, True]]]
         terminal.look()
         self.assertEqual(given.trace, ["* text Hi.there", "* idle at..home"])
 

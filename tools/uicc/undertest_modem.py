@@ -190,9 +190,9 @@ class OfOfono(UnderTest):
         return [heard.data for heard in list(self.player.heard) if heard.kind == "fetch"]
 
     def look(self):
-        for asked in self.phone.asked():
+        for moment, asked in self.phone.asked_when():
             for note in notes_of(asked):
-                self.player.note(in_one_line(note))
+                self.player.note(in_one_line(note), moment)
         toolkit = self.phone.toolkit
         shown = {"idle": toolkit.get("IdleModeText", ""), "menu": str(len(toolkit.get("MainMenu", [])))}
         for word, text in shown.items():
