@@ -2,6 +2,7 @@
 import contextlib
 import os
 import random
+import re
 import subprocess
 import sys
 import tempfile
@@ -13,7 +14,7 @@ import xml.etree.ElementTree
 
 from common import TOOLS, in_process, load
 import able_terminal
-from uicc import Answer, Card, PowerLost, decode, handset, process, sequence, tlv, undertest, verdict
+from uicc import Answer, Card, PowerLost, decode, handset, names, process, sequence, tlv, undertest, verdict, wording
 from uicc.player import BOTH, CARD, PLAYER, Player
 from uicc.sequence import Act, BadSequence, Give, Quiet, Respond, Restart, Shown, Tell
 
@@ -626,6 +627,34 @@ def failed(make, found, card):
     return why
 
 
+class LateNotes(unittest.TestCase):
+    """What a terminal tells later stands where it was shown."""
+
+    def test_places(self):
+        given = Player(Obliging())
+        moments = []
+        for command in ("80F2000C", "00A4000C023F00"):
+            moments.append(time.monotonic())
+            given.transmit(command)
+        given.note("text Second", moments[1])
+        given.note("text Last")
+        # what is noted before isn't passed
+        given.note("text After that", moments[0])
+        self.assertEqual([line for line in given.trace if not line.startswith("<")],
+                         ["> 80F2000C", "* text Second", "> 00A4000C023F00", "* text Last", "* text After that"])
+
+    def test_before_a_reset(self):
+        given = Player(Obliging())
+        before = time.monotonic()
+        given.transmit("80F2000C")
+        given.reset()
+        given.transmit("80F2000C")
+        given.note("text First", before)
+        given.note("text Now", time.monotonic())
+        self.assertEqual([line for line in given.trace if not line.startswith("<")],
+                         ["* text First", "> 80F2000C", "! reset", "> 80F2000C", "* text Now"])
+
+
 class Faults(unittest.TestCase):
     def test_a_terminal_that_is_able_passes_all(self):
         with Card(USIM) as card:
@@ -1002,6 +1031,21 @@ class Tool(unittest.TestCase):
         self.assertEqual((done.returncode, done.stderr), (0, ""))
         for part in ("commands (one that has no name is written by its type, as `command 35`):\n    REFRESH,", "objects:\n    command-details or details, result,", "needs (or a bit"):
             self.assertIn(part, done.stdout)
+
+    def test_the_page_has_all_words(self):
+        """docs/SEQUENCES.md lists what the source has: commands, objects with the shorter words, devices, envelopes, events and the names for `needs`."""
+        with open(os.path.join(process.TOP, "docs", "SEQUENCES.md"), encoding="utf-8") as text:
+            page = text.read()
+        lists = dict(part.replace("\n", " ").strip(".").split(": ", 1) for part in page.partition("## All words\n")[2].partition("\n## ")[0].strip().split("\n\n")[1:])
+        words = names.table("toolkit")["event_words"]
+        listed = {title: [re.findall("`([^`]*)`", item) for item in re.split(r", (?=`[^`]*`(?: \(|,|$))", items)] for title, items in lists.items()}
+        self.assertEqual(listed["Objects, each with the shorter words for it"], [one.split() for one, _, _ in wording.READ_AS])
+        for title, known in (("Commands", sequence.COMMANDS), ("Envelopes", sequence.ENVELOPES), ("Events", words),
+                             ("Names for `needs`", sorted(sequence.known_profile()))):
+            self.assertEqual([name for (name,) in listed[title]], list(known), title)
+        devices = lists["Devices"].replace("`", "").replace("reader0 to reader7", ", ".join(f"reader{n}" for n in range(8))).replace(
+            "channel1 to channel7", ", ".join(f"channel{n}" for n in range(1, 8)))
+        self.assertEqual(devices.split(", "), list(wording.DEVICES))
 
     def test_long_texts(self):
         """Of two long texts what stands around the place from which they differ is shown."""
