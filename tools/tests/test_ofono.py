@@ -127,6 +127,17 @@ class Telephone(unittest.TestCase):
             self.assertIn(part, said)
         self.explained(path)
 
+    def test_a_question_without_an_answer(self):
+        """It is named, and what to do about it, in the place of what oFono does in three minutes."""
+        with tempfile.TemporaryDirectory() as folder:
+            path = os.path.join(folder, "a.script")
+            with open(path, "w", encoding="ascii") as out:
+                out.write("df 7F20\nef 7F206F07 t 9 7 -\nfill 7F206F07 0 080910101032547698\nrow 5 1 014000\nstart\n")
+            ran = subprocess.run([sys.executable, "-B", os.path.join(TOOLS, "ofono"), path], input="online\n", capture_output=True, text=True, timeout=300,
+                                 check=False)
+        self.assertEqual((ran.returncode, ran.stdout), (1, "line 1: what the card begins by itself doesn't end within 20 seconds: GET INPUT has no answer; "
+                                                        "a line `answer` before this one gives it\n"))
+
     def explained(self, path):
         """The trace that was kept: each line has its time, and tools/explain tells it."""
         with open(path, encoding="ascii") as text:
