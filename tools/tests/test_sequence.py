@@ -121,6 +121,14 @@ class Files(unittest.TestCase):
         self.assertEqual(read("command 34")[0].needs, ["RUN AT COMMAND"])
         self.assertEqual(read("command GET READER STATUS qualifier 01")[0].needs, ["GET READER STATUS: identifier"])
         self.assertEqual(read("command COMMAND CONTAINER")[0].needs, ["COMMAND CONTAINER and ENCAPSULATED SESSION CONTROL"])
+        # what a command says: events, letters, yes or no
+        for text, needed in (("SET UP EVENT LIST events location,0A,FE", ["SET UP EVENT LIST", "event location status", "event channel status"]),
+                             ("GET INKEY qualifier 04 text A", ["GET INKEY", "GET INKEY: yes or no"]), ("GET INKEY qualifier 03 text A", ["GET INKEY", "UCS2 entry"]),
+                             ("GET INPUT qualifier 03 text ucs2 A length 0 1", ["GET INPUT", "UCS2 entry", "UCS2 display"]),
+                             ("GET INPUT qualifier 01 text A length 0 1 default-text ucs2 A", ["GET INPUT", "UCS2 display"]),
+                             ("SELECT ITEM alpha ucs2 A item 1 B", ["SELECT ITEM", "UCS2 display"]), ("SELECT ITEM alpha A item 1 ucs2 B", ["SELECT ITEM", "UCS2 display"]),
+                             ("SELECT ITEM alpha A item 1 B", ["SELECT ITEM"])):
+            self.assertEqual(read("command " + text)[0].needs, needed)
         self.assertEqual(read("needs byte 9 bit 6", "command MORE TIME")[0].needs, ["byte 9 bit 6", "MORE TIME"])
         profile = bytes(8) + b"\x20"
         self.assertEqual([sequence.has(profile, need) for need in ("byte 9 bit 6", "byte 9 bit 5", "byte 10 bit 1", "DISPLAY TEXT")],
@@ -1032,6 +1040,19 @@ class Tool(unittest.TestCase):
         for part in ("commands (one that has no name is written by its type, as `command 35`):\n    REFRESH,", "objects:\n    command-details or details, result,", "needs (or a bit"):
             self.assertIn(part, done.stdout)
 
+    def test_the_page_shows_objects(self):
+        """Each example of an object in docs/SEQUENCES.md is read."""
+        with open(os.path.join(process.TOP, "docs", "SEQUENCES.md"), encoding="utf-8") as text:
+            table = re.search(r"\| object \| as in \|\n\|---\|---\|\n((?:\|.*\n)+)", text.read())[1]
+        # the right column has what is written, and words for a part of it
+        shown = [example for row in table.splitlines() for example in re.findall("`([^`]*)`", row.split(" | ")[1]) if " " in example and "TAG" not in example]
+        self.assertGreater(len(shown), 25)
+        for example in shown:
+            with self.subTest(example=example):
+                words = wording.Words(example)
+                wording.read_object(words)
+                self.assertFalse(words)
+
     def test_the_page_has_all_words(self):
         """docs/SEQUENCES.md lists what the source has: commands, objects with the shorter words, devices, envelopes, events and the names for `needs`."""
         with open(os.path.join(process.TOP, "docs", "SEQUENCES.md"), encoding="utf-8") as text:
@@ -1231,7 +1252,7 @@ class Tool(unittest.TestCase):
                     ((good, "--on", folder + "/broken.py:Y"), "broken.py:1\n"), ((good, "--on", folder + "/made.py:Made"), "can't be made: TypeError"),
                     ((good, "--on", folder + "/made.py:Made"), "made.py:3\n"),
                     ((good, "--on", folder + "/ends.py:Ends"), "the terminal can't be closed: ZeroDivisionError: division by zero, at "),
-                    ((good, "--card", os.path.join(folder, "none")), "no file is there"), ((good, "--card", good), "line 1: no line begins with"),
+                    ((good, "--card", os.path.join(folder, "none")), "no file is there"), ((good, "--card", good), "is a file of sequences: tools/sequence plays it"),
                     ((good, "--seconds", "x"), "invalid"), ((good, "--seconds", "-1"), "invalid"), ((good, "--seconds", "0"), "invalid")):
                 with self.subTest(words=words):
                     done = tool(*words)
