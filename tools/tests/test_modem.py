@@ -12,7 +12,7 @@ import threading
 import unittest
 
 from common import TOOLS
-from uicc import Card, NotBuilt, at, modem_commands, process, sim, trace
+from uicc import Card, NotBuilt, at, modem_commands, process, sim, terminal, trace
 from uicc.card import Answer
 from uicc.modem import LONGEST_LINE, Modem
 from uicc.modem_line import PtyLine, TcpLine, UnixLine
@@ -479,6 +479,15 @@ class Tool(unittest.TestCase):
             done = subprocess.run([sys.executable, "-B", os.path.join(TOOLS, "modem"), USIM, "--stdio"], input=lines, capture_output=True, text=True, timeout=120,
                                   check=False)
             self.assertEqual((done.returncode, done.stdout), (0, "AT+CPIN?\n+CPIN: SIM PIN\nOK\nAT+FOO\nERROR\n"), done.stderr)
+
+    def test_standard_output_that_nobody_reads(self):
+        reading, writing = os.pipe()
+        os.close(reading)
+        done = subprocess.run([sys.executable, "-B", os.path.join(TOOLS, "modem"), USIM, "--stdio"], input="AT\n", stdout=writing, stderr=subprocess.PIPE, text=True,
+                              timeout=120, check=False)
+        os.close(writing)
+        self.assertEqual(done.returncode, terminal.NOT_READ_ON)
+        self.assertTrue(all(line.startswith(("  at ", "     ")) for line in done.stderr.splitlines()), done.stderr)
 
     def test_what_is_refused(self):
         for words, why in self.REFUSED:

@@ -28,8 +28,8 @@ DESTINATIONS = {
 INKEY, INPUT, EVENT_LIST = (COMMANDS[name] for name in ("GET INKEY", "GET INPUT", "SET UP EVENT LIST"))
 YES_OR_NO, UCS2_ENTRY = 0x04, 0x03
 EVENTS = 0x19
-# where an object says that its letters are UCS2: its tag, the place and the byte
-UCS2_IN = {0x0D: ((0, b"\x08"),), 0x17: ((0, b"\x08"),), 0x05: ((0, b"\x80"),), 0x0F: ((1, b"\x80"),)}
+# where an object says that its letters are UCS2: for its tag the place, and the bytes that may stand there
+UCS2_IN = {0x0D: (0, b"\x08"), 0x17: (0, b"\x08"), 0x05: (0, b"\x80\x81\x82"), 0x0F: (1, b"\x80\x81\x82")}
 BIT = re.compile(r"byte ([0-9]{1,3}) bit ([1-8])")
 # what a terminal's profile says of a command whose bit has another name
 OF_TIMERS = {0x00: "TIMER MANAGEMENT start and stop", 0x01: "TIMER MANAGEMENT start and stop", 0x02: "TIMER MANAGEMENT get"}
@@ -198,6 +198,12 @@ def needs_of(name, qualifier):
     return name if name in known_profile() else None
 
 
+def is_ucs2(tag, value):
+    """Whether the letters of an object are UCS2."""
+    at, codings = UCS2_IN.get(tag, (0, b""))
+    return len(value) > at and value[at] in codings
+
+
 def needs_in(raw):
     """What a terminal's profile must have for what a command says: a yes or no, letters of UCS2 that are typed or shown, events."""
     _, kind, qualifier = details_of(raw)
@@ -206,7 +212,7 @@ def needs_in(raw):
         yield "GET INKEY: yes or no"
     if kind in (INKEY, INPUT) and qualifier & UCS2_ENTRY == UCS2_ENTRY:
         yield "UCS2 entry"
-    if any(value[at:at + 1] == coding for tag, _, value in found for at, coding in UCS2_IN.get(tag, ())):
+    if any(is_ucs2(tag, value) for tag, _, value in found):
         yield "UCS2 display"
     if kind == EVENT_LIST:
         told = [f"event {names.of_toolkit('events', code)}" for tag, _, value in found if tag == EVENTS for code in value]
