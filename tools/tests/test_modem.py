@@ -470,7 +470,7 @@ class Tool(unittest.TestCase):
         ((USIM, "--listen", "127.0.0.1:0", "--pty"), "not allowed with"), ((USIM, "--unix", "/nowhere/modem"), "modem: "),
         (("nowhere.script",), "nowhere.script"),
         ((USIM, "--listen", "192.0.2.1:12345"), "modem: "), ((USIM, "--listen", "no.such.host.invalid:1"), "modem: "),
-        ((os.path.join(EXAMPLES, "day.trace"),), "line 1"), (("--image", "nowhere.img"), "nowhere.img"),
+        ((os.path.join(EXAMPLES, "day.trace"),), "day.trace is a trace: tools/explain shows it"), (("--image", "nowhere.img"), "nowhere.img"),
     ]
 
     def test_standard_input(self):
