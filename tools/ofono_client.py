@@ -14,7 +14,7 @@ standard input is a request, a list in JSON, whose answer is printed as a line:
     ["answers", ANSWER..]                what the agents answer next: {"value": ..}, {"error": "GoBack"}, or {} for nothing at all
     ["asked"]                            what the agents were asked since it was asked last: [METHOD, VALUE..] each
     ["asked when"]                       the same, each in a list after the moment at which it was asked, in seconds of the system's clock
-    ["within", SECONDS, REQUEST..]       another request, for whose answer of oFono's so long is waited, and not 20 seconds
+    ["within", SECONDS, REQUEST..]       another request, for whose answer of oFono's so long is waited, and not 60 seconds
 
 An answer is {"answer": ..} or {"error": ..}. Where no answer was given, the agents say by themselves that a text was seen, a tone played
 and a question confirmed, and to other questions they say nothing. It ends when standard input does."""
@@ -35,7 +35,7 @@ STORAGE = "/var/lib/ofono"
 SERVICE, MODEM, TOOLKIT = "org.ofono", "/phonesim", "org.ofono.SimToolkit"
 AGENT, STANDING, OF_SESSION = "org.ofono.SimToolkitAgent", "/standing", "/session"
 ERRORS = "org.ofono.Error."
-SECONDS, SECONDS_TO_START = 20, 60
+SECONDS, SECONDS_TO_START = 60, 120
 BUS = """<!DOCTYPE busconfig PUBLIC "-//freedesktop//DTD D-BUS Bus Configuration 1.0//EN"
  "http://www.freedesktop.org/standards/dbus/1.0/busconfig.dtd">
 <busconfig>
