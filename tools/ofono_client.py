@@ -13,7 +13,8 @@ standard input is a request, a list in JSON, whose answer is printed as a line:
     ["agent", true | false]              whether there is an agent for what the card begins by itself
     ["answers", ANSWER..]                what the agents answer next: {"value": ..}, {"error": "GoBack"}, or {} for nothing at all
     ["asked"]                            what the agents were asked since it was asked last: [METHOD, VALUE..] each
-    ["within", SECONDS, REQUEST..]       another request, for whose answer of oFono's so long is waited, and not 20 seconds
+    ["asked when"]                       the same, each in a list after the moment at which it was asked, in seconds of the system's clock
+    ["within", SECONDS, REQUEST..]       another request, for whose answer of oFono's so long is waited, and not 60 seconds
 
 An answer is {"answer": ..} or {"error": ..}. Where no answer was given, the agents say by themselves that a text was seen, a tone played
 and a question confirmed, and to other questions they say nothing. It ends when standard input does."""
@@ -34,7 +35,7 @@ STORAGE = "/var/lib/ofono"
 SERVICE, MODEM, TOOLKIT = "org.ofono", "/phonesim", "org.ofono.SimToolkit"
 AGENT, STANDING, OF_SESSION = "org.ofono.SimToolkitAgent", "/standing", "/session"
 ERRORS = "org.ofono.Error."
-SECONDS, SECONDS_TO_START = 20, 60
+SECONDS, SECONDS_TO_START = 60, 120
 BUS = """<!DOCTYPE busconfig PUBLIC "-//freedesktop//DTD D-BUS Bus Configuration 1.0//EN"
  "http://www.freedesktop.org/standards/dbus/1.0/busconfig.dtd">
 <busconfig>
@@ -85,7 +86,7 @@ class Client:
         if not isinstance(message, dbus.lowlevel.MethodCallMessage) or message.get_interface() != AGENT:
             return dbus.lowlevel.HANDLER_RESULT_NOT_YET_HANDLED
         name = message.get_member()
-        self.asked.append([name, *plain(message.get_args_list())])
+        self.asked.append([time.monotonic(), [name, *plain(message.get_args_list())]])
         reply = self.reply(message, *QUESTIONS[name]) if name in QUESTIONS else None
         if reply is not None and not message.get_no_reply():
             bus.send_message(reply)
@@ -129,21 +130,24 @@ class Client:
     def answer_next(self, *answers):
         self.answers = collections.deque(answers)
 
-    def asked_since(self):
+    def asked_when(self):
         asked, self.asked = self.asked, []
         return asked
+
+    def asked_since(self):
+        return [question for _, question in self.asked_when()]
 
     def carry_out(self, request):
         self.seconds = SECONDS
         if request[0] == "within":
             self.seconds, request = request[1], request[2:]
         todo = {"get": self.get, "set": self.set, "call": self.call, "pick": self.pick, "agent": self.agent, "answers": self.answer_next,
-                "asked": self.asked_since}
+                "asked": self.asked_since, "asked when": self.asked_when}
         try:
             found = todo[request[0]](*request[1:])
         except (dbus.DBusException, TypeError, ValueError, KeyError) as fault:
             return {"error": str(fault)}
-        return {"answer": None if found is None else plain(found)}
+        return {"answer": None if found is None else found if request[0] == "asked when" else plain(found)}
 
 
 def until(look, what):

@@ -233,6 +233,10 @@ class Trials(unittest.TestCase):
             for line, part in zip(found, wanted):
                 self.assertIn(part, line)
 
+    def test_what_serves_is_carried_out_where_it_ends_with_its_lines(self):
+        for command, reason in (("tools/modem a.script", "commands of tools/modem"), ("tools/modem a.script --stdio < lines", None)):
+            self.assertEqual(documents.reason_not_to_run(command), reason)
+
     def test_without_program(self):
         tally = documents.Tally()
         with mock.patch.object(process, "program", side_effect=process.NotBuilt), tempfile.TemporaryDirectory() as folder:

@@ -227,7 +227,7 @@ size = 600
             wanted.append(f"{key} = {located.written(value)}")
         done = self.shell(*lines)
         self.assertEqual((done.returncode, done.stderr), (0, ""))
-        self.assertEqual([line.strip() for line in done.stdout.splitlines() if " = " in line], wanted)
+        self.assertEqual([line.strip() for line in done.stdout.splitlines() if " = " in line and "> " not in line], wanted)
         self.assertEqual(tomllib.loads(wanted[0]), {"ad": {"mode": "normal", "network_digits": 3}})
 
     def test_mistakes_in_the_shell(self):

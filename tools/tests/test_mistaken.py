@@ -14,6 +14,7 @@ class Kinds(unittest.TestCase):
         (b"pin 01 3131313131313131 on 3232323232323232\n", mistaken.SCRIPT), (b'# mine\nlike = "usim"\n', mistaken.PROFILE),
         (b"[EF_IMSI]\n", mistaken.PROFILE), (b'["7F20/EF_LI"]\n', mistaken.PROFILE), (b"> 00A4\n< 9000\n", mistaken.TRACE),
         (b"! reset\n", mistaken.TRACE), (b"@ 1764497000.123456\n", mistaken.TRACE), (b"iccid,imsi\n1,2\n", mistaken.LIST),
+        (b"# texts\nsequence DISPLAY TEXT, seen\n", mistaken.SEQUENCE), (b"sequence = 1\n", mistaken.PROFILE),
         (b"\xEF\xBB\xBFIMSI;ICCID\r\n", mistaken.LIST), (b"UICC", mistaken.IMAGE), (bytes(image.JOURNAL_SIZE), mistaken.IMAGE),
         (b"select MF/EF.ICCID\nupdate_binary 00\n", None), (b'like "usim"\n', None), (b"", None), (b"{}", None), (b"imsi,spn\n", None),
     ]
@@ -30,11 +31,20 @@ class Kinds(unittest.TestCase):
         (["profile", "build", "none.toml"], "none.toml: no file is there"), (["lint", "none.script"], "none.script: no file is there"),
         (["capture", "card.toml", "out.pcapng"], "card.toml is a profile: "), (["expect", "card.toml"], "card.toml is a profile: "),
         (["sequence", "card.script"], "card.script is a script: "), (["sequence", "none.sequence"], "none.sequence: no file is there"),
+        (["modem", "card.trace"], "card.trace is a trace: tools/explain shows it"), (["modem", "a.sequence"], "a.sequence is a file of sequences: "),
+        (["modem", "none.script"], "none.script: no file is there"),
+        (["sequence", "a.sequence", "--card", "list.csv"], "list.csv is a list of cards: "),
+        (["sequence", "a.sequence", "--card", "none.script"], "none.script: no file is there"),
+        (["reader", "none.script"], "none.script: no file is there"), (["reader", "."], ". is a folder, and a file is wanted"),
+        (["lint", "a.sequence"], "a.sequence is a file of sequences: tools/sequence plays it to a terminal"),
+        (["explain", "a.sequence"], "a.sequence is a file of sequences: "), (["shell", "a.sequence"], "a.sequence is a file of sequences: "),
+        (["sequence", "a.sequence", "--on", "none.py:X"], "none.py: no file is there"),
+        (["sequence", "a.sequence", "--on", "a.sequence:X"], "a.sequence is no file of Python"),
         (["reader", "list.csv"], "list.csv is a list of cards: "), (["reader", "card.img"], "card.img is the image of a card: "),
         (["cuts", "card.script", "--again"], "card.script has no line after `start` that sends a command or resets the card"),
     ]
     FILES = {"card.script": b"df 7F10\nstart\n", "card.toml": b'like = "usim"\n', "card.img": b"UICC" + bytes(image.JOURNAL_SIZE - 4),
-             "card.trace": b"! reset\n", "list.csv": b"iccid\n8999901000000000005\n"}
+             "a.sequence": b"sequence one\ncommand MORE TIME\nresponse result 00\n", "card.trace": b"! reset\n", "list.csv": b"iccid\n8999901000000000005\n"}
 
     def test_kinds(self):
         for content, kind in self.TABLE:

@@ -12,7 +12,7 @@ import threading
 import unittest
 
 from common import TOOLS
-from uicc import Card, NotBuilt, at, modem_commands, process, sim, trace
+from uicc import Card, NotBuilt, at, modem_commands, process, sim, terminal, trace
 from uicc.card import Answer
 from uicc.modem import LONGEST_LINE, Modem
 from uicc.modem_line import PtyLine, TcpLine, UnixLine
@@ -154,10 +154,11 @@ class Dialogues(unittest.TestCase):
 
     CHANNELS = [
         ('AT+CSIM=14,"00A40004022FE2"', ['+CSIM: 54,"62178202412183022FE28A01058B032F06058002000A8801109000"', "OK"]),
+        ("AT+CSIM=14,00A40004022FE2", ["+CME ERROR: 50"]),
         ('AT+CSIM=10,"00B0000002"', ['+CSIM: 8,"98999000"', "OK"]), ('AT+CSIM=8,"00B0000002"', ["+CME ERROR: 50"]),
         ('AT+CSIM=0,""', ["+CME ERROR: 50"]), ('AT+CSIM=2,"00"', ['+CSIM: 4,"6700"', "OK"]), (f'AT+CSIM=524,"{"00" * 262}"', ["+CME ERROR: 50"]),
         ('AT+CCHO="A0000000871002FFFFFFFF8907090000"', ["+CCHO: 1", "OK"]), ('AT+CCHO=""', ["+CCHO: 2", "OK"]),
-        ('AT+CGLA=1,14,"00A40804026F07"', ['+CGLA: 4,"6A82"', "OK"]), ('AT+CGLA=1,10,"00B0870009"', ['+CGLA: 4,"6982"', "OK"]),
+        ("AT+CGLA=1,14,00A40804026F07", ["+CME ERROR: 50"]), ('AT+CGLA=1,14,"00A40804026F07"', ['+CGLA: 4,"6A82"', "OK"]), ('AT+CGLA=1,10,"00B0870009"', ['+CGLA: 4,"6982"', "OK"]),
         ('AT+CSIM=10,"01B0830004"', ['+CSIM: 12,"000000029000"', "OK"]), ('AT+CGLA=1,10,"00B0830004"', ['+CGLA: 12,"000000029000"', "OK"]),
         ('AT+CGLA=3,10,"00B0830004"', ["+CME ERROR: 22"]), ('AT+CCHO="A000000087100401"', ["+CME ERROR: 22"]), ('AT+CCHO=""', ["+CCHO: 3", "OK"]),
         ('AT+CCHO=""', ["+CME ERROR: 4"]), ("AT+CCHC=1", ["+CCHC", "OK"]), ("AT+CCHC=1", ["+CME ERROR: 22"]),
@@ -217,6 +218,21 @@ class Toolkit(unittest.TestCase):
         self.assertEqual(client.ask(f"AT+CUSATT={self.CHOSEN}")[0], "OK")
         self.assertEqual(client.ask("AT+CUSATT="), ["+CME ERROR: 50"])
         self.assertEqual(client.ask("AT+CUSATT=0g"), ["+CME ERROR: 25"])
+
+    def test_the_profile_is_told_once(self):
+        """At +CUSATD=1 or at +CFUN=1, whichever comes first; after that the command that isn't answered yet is told once more."""
+        client = Client(self.menu_card())
+        self.assertEqual(client.ask("AT+CUSATD=1,1"), ["OK", self.MENU])
+        self.assertEqual(client.ask("AT+CFUN=1"), ["OK", self.MENU])
+        self.assertEqual(client.ask(f"AT+CUSATT={self.SET_UP}"), ["OK", "+CUSATEND"])
+        self.assertEqual(client.ask("AT+CFUN=4;+CFUN=1"), ["OK"])
+        self.assertEqual(sum(line.startswith("> 8010") for line in client.modem.sim.trace), 1)
+
+    def test_the_profile_is_read(self):
+        client = Client(self.menu_card())
+        for line in ("AT+CUSATR", "AT+CUSATR?", "AT+CUSATR=0"):
+            self.assertEqual(client.ask(line), ['+CUSATR: 0,"2900BF6171000013"', "OK"])
+        self.assertEqual(client.ask("AT+CUSATR=1"), ["+CME ERROR: 50"])
 
     def test_a_profile_of_the_client(self):
         """A terminal that can't set up a menu is told none."""
@@ -454,8 +470,24 @@ class Tool(unittest.TestCase):
         ((USIM, "--listen", "127.0.0.1:0", "--pty"), "not allowed with"), ((USIM, "--unix", "/nowhere/modem"), "modem: "),
         (("nowhere.script",), "nowhere.script"),
         ((USIM, "--listen", "192.0.2.1:12345"), "modem: "), ((USIM, "--listen", "no.such.host.invalid:1"), "modem: "),
-        ((os.path.join(EXAMPLES, "day.trace"),), "line 1"), (("--image", "nowhere.img"), "nowhere.img"),
+        ((os.path.join(EXAMPLES, "day.trace"),), "day.trace is a trace: tools/explain shows it"), (("--image", "nowhere.img"), "nowhere.img"),
     ]
+
+    def test_standard_input(self):
+        """A session on standard input and output, which ends with its lines."""
+        for lines in ("AT+CPIN?\nAT+FOO\n", "AT+CPIN?\r\n\r\nAT+FOO"):
+            done = subprocess.run([sys.executable, "-B", os.path.join(TOOLS, "modem"), USIM, "--stdio"], input=lines, capture_output=True, text=True, timeout=120,
+                                  check=False)
+            self.assertEqual((done.returncode, done.stdout), (0, "AT+CPIN?\n+CPIN: SIM PIN\nOK\nAT+FOO\nERROR\n"), done.stderr)
+
+    def test_standard_output_that_nobody_reads(self):
+        reading, writing = os.pipe()
+        os.close(reading)
+        done = subprocess.run([sys.executable, "-B", os.path.join(TOOLS, "modem"), USIM, "--stdio"], input="AT\n", stdout=writing, stderr=subprocess.PIPE, text=True,
+                              timeout=120, check=False)
+        os.close(writing)
+        self.assertEqual(done.returncode, terminal.NOT_READ_ON)
+        self.assertTrue(all(line.startswith(("  at ", "     ")) for line in done.stderr.splitlines()), done.stderr)
 
     def test_what_is_refused(self):
         for words, why in self.REFUSED:

@@ -117,7 +117,7 @@ class Telephone(unittest.TestCase):
         path = os.path.join(self.folder.name, "a.trace")
         ran = subprocess.run([sys.executable, "-B", os.path.join(TOOLS, "ofono"), ofono_tries.TELEPHONE, "--trace", path], input=lines,
                              capture_output=True, text=True, timeout=300, check=False)
-        self.assertEqual((ran.returncode, ran.stderr), (1, ""))
+        self.assertEqual((ran.returncode, ran.stderr), (1, "  oFono is being started, with this card in its modem\n"))
         said = [line.strip() for line in ran.stdout.splitlines()]
         for part in ("PinRequired: pin", "line 2: org.ofono.Error.Failed: Operation failed", "asks: Note? (0 to 20 characters)", "SET UP MENU: 00 done",
                      "asks: ? (a key)", "shows: K", "GET INKEY: 00 done", "DISPLAY TEXT: 00 done",
@@ -126,6 +126,17 @@ class Telephone(unittest.TestCase):
                      "line 12: no word `hello` is known: sim, pin, unblock, online, menu, pick, answer, events, power, cut"):
             self.assertIn(part, said)
         self.explained(path)
+
+    def test_a_question_without_an_answer(self):
+        """It is named, and what to do about it, in the place of what oFono does in three minutes."""
+        with tempfile.TemporaryDirectory() as folder:
+            path = os.path.join(folder, "a.script")
+            with open(path, "w", encoding="ascii") as out:
+                out.write("df 7F20\nef 7F206F07 t 9 7 -\nfill 7F206F07 0 080910101032547698\nrow 5 1 014000\nstart\n")
+            ran = subprocess.run([sys.executable, "-B", os.path.join(TOOLS, "ofono"), path], input="online\n", capture_output=True, text=True, timeout=300,
+                                 check=False)
+        self.assertEqual((ran.returncode, ran.stdout), (1, "line 1: what the card begins by itself doesn't end within 20 seconds: GET INPUT has no answer; "
+                                                        "a line `answer` before this one gives it\n"))
 
     def explained(self, path):
         """The trace that was kept: each line has its time, and tools/explain tells it."""
@@ -175,8 +186,29 @@ class Tool(unittest.TestCase):
     def test_no_card(self):
         ran = self.ran("nowhere.script")
         self.assertEqual(ran.returncode, 2)
-        self.assertIn("ofono: ", ran.stderr)
-        self.assertNotIn("Traceback", ran.stderr)
+        self.assertEqual(ran.stderr, "ofono: nowhere.script: no file is there\n")
+
+    @unittest.skipIf(MISSING, f"oFono isn't here: {MISSING}")
+    def test_a_script_without_its_end(self):
+        """It is refused before oFono is started."""
+        with tempfile.TemporaryDirectory() as folder:
+            path = os.path.join(folder, "a.script")
+            with open(path, "w", encoding="ascii") as out:
+                out.write("ef 2FE2 t 10 2 -\n")
+            ran = self.ran(path)
+        self.assertEqual((ran.returncode, ran.stdout, ran.stderr), (2, "", f"ofono: {path}: the script ends, and no line `start` stands in it, before "
+                                                                    "which its card is described\n"))
+
+    @unittest.skipIf(MISSING, f"oFono isn't here: {MISSING}")
+    def test_what_is_said_at_first(self):
+        """That it starts, and what the card lacks without which oFono does next to nothing."""
+        with tempfile.TemporaryDirectory() as folder:
+            path = os.path.join(folder, "a.script")
+            with open(path, "w", encoding="ascii") as out:
+                out.write("pin 01 31323334FFFFFFFF on 3132333435363738\nef 2FE2 t 10 2 -\nstart\n")
+            lacking, whole = self.ran(path), self.ran(ofono_tries.TELEPHONE)
+        self.assertEqual(whole.stderr, "  oFono is being started, with this card in its modem\n")
+        self.assertRegex(lacking.stderr, "^  the card has no EF.IMSI .*\n  oFono is being started, with this card in its modem\n$")
 
 
 @unittest.skipUnless(daemon.python_with_dbus(), "D-Bus for Python isn't here")

@@ -112,6 +112,17 @@ class Progress(unittest.TestCase):
                 progress.step()
             self.assertEqual(stream.getvalue(), drawn)
 
+    def test_lines_in_a_pipe(self):
+        """Where no bar can be shown, a line comes each so many seconds, where that is asked for."""
+        for each, told in ((None, ""), (1000, ""), (0.0001, "  1 of 3 sequences\n  2 of 3 sequences\n")):
+            with contextlib.redirect_stderr(io.StringIO()) as stream:
+                progress = terminal.Progress(3, "sequences", each=each)
+                for _ in range(3):
+                    time.sleep(0.001)
+                    progress.step()
+                progress.end()
+            self.assertEqual(stream.getvalue(), told)
+
     def test_many_threads_count_together(self):
         """Nothing is lost, and the last bar is the whole."""
         stream = Terminal()

@@ -174,7 +174,8 @@ class Reader(unittest.TestCase):
         told = self.start(self.script)
         self.assertEqual(told.wait(20), 2)
         said = told.stderr.read().splitlines()
-        self.assertEqual(said[0], "uicc_run: no space is left")
+        self.assertRegex(said[0], "^  the card is being switched on, and is put into the slot at port [0-9]+ then$")
+        self.assertEqual(said[1], "uicc_run: no space is left")
         for part in ("reader: ", "status 6", "memory problem", "eeprom failed", "no space is left"):
             self.assertIn(part, said[-1])
 

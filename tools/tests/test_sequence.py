@@ -2,6 +2,7 @@
 import contextlib
 import os
 import random
+import re
 import subprocess
 import sys
 import tempfile
@@ -13,7 +14,7 @@ import xml.etree.ElementTree
 
 from common import TOOLS, in_process, load
 import able_terminal
-from uicc import Answer, Card, PowerLost, decode, handset, process, sequence, tlv, undertest, verdict
+from uicc import Answer, Card, PowerLost, decode, handset, names, process, sequence, tlv, undertest, verdict, wording
 from uicc.player import BOTH, CARD, PLAYER, Player
 from uicc.sequence import Act, BadSequence, Give, Quiet, Respond, Restart, Shown, Tell
 
@@ -120,6 +121,14 @@ class Files(unittest.TestCase):
         self.assertEqual(read("command 34")[0].needs, ["RUN AT COMMAND"])
         self.assertEqual(read("command GET READER STATUS qualifier 01")[0].needs, ["GET READER STATUS: identifier"])
         self.assertEqual(read("command COMMAND CONTAINER")[0].needs, ["COMMAND CONTAINER and ENCAPSULATED SESSION CONTROL"])
+        # what a command says: events, letters, yes or no
+        for text, needed in (("SET UP EVENT LIST events location,0A,FE", ["SET UP EVENT LIST", "event location status", "event channel status"]),
+                             ("GET INKEY qualifier 04 text A", ["GET INKEY", "GET INKEY: yes or no"]), ("GET INKEY qualifier 03 text A", ["GET INKEY", "UCS2 entry"]),
+                             ("GET INPUT qualifier 03 text ucs2 A length 0 1", ["GET INPUT", "UCS2 entry", "UCS2 display"]),
+                             ("GET INPUT qualifier 01 text A length 0 1 default-text ucs2 A", ["GET INPUT", "UCS2 display"]),
+                             ("SELECT ITEM alpha ucs2 A item 1 B", ["SELECT ITEM", "UCS2 display"]), ("SELECT ITEM alpha A item 1 ucs2 B", ["SELECT ITEM", "UCS2 display"]),
+                             ("SELECT ITEM alpha A item 1 B", ["SELECT ITEM"])):
+            self.assertEqual(read("command " + text)[0].needs, needed)
         self.assertEqual(read("needs byte 9 bit 6", "command MORE TIME")[0].needs, ["byte 9 bit 6", "MORE TIME"])
         profile = bytes(8) + b"\x20"
         self.assertEqual([sequence.has(profile, need) for need in ("byte 9 bit 6", "byte 9 bit 5", "byte 10 bit 1", "DISPLAY TEXT")],
@@ -626,6 +635,34 @@ def failed(make, found, card):
     return why
 
 
+class LateNotes(unittest.TestCase):
+    """What a terminal tells later stands where it was shown."""
+
+    def test_places(self):
+        given = Player(Obliging())
+        moments = []
+        for command in ("80F2000C", "00A4000C023F00"):
+            moments.append(time.monotonic())
+            given.transmit(command)
+        given.note("text Second", moments[1])
+        given.note("text Last")
+        # what is noted before isn't passed
+        given.note("text After that", moments[0])
+        self.assertEqual([line for line in given.trace if not line.startswith("<")],
+                         ["> 80F2000C", "* text Second", "> 00A4000C023F00", "* text Last", "* text After that"])
+
+    def test_before_a_reset(self):
+        given = Player(Obliging())
+        before = time.monotonic()
+        given.transmit("80F2000C")
+        given.reset()
+        given.transmit("80F2000C")
+        given.note("text First", before)
+        given.note("text Now", time.monotonic())
+        self.assertEqual([line for line in given.trace if not line.startswith("<")],
+                         ["* text First", "> 80F2000C", "! reset", "> 80F2000C", "* text Now"])
+
+
 class Faults(unittest.TestCase):
     def test_a_terminal_that_is_able_passes_all(self):
         with Card(USIM) as card:
@@ -723,7 +760,7 @@ class Verdicts(unittest.TestCase):
                                              Obliging(), 0.1)
                     self.assertLess(time.monotonic() - began, 8)
                     self.assertEqual(outcome.verdict, verdict.INCONCLUSIVE)
-                    self.assertRegex(outcome.why, r"^the terminal did not come back within 1 seconds, from own.py:\d$")
+                    self.assertRegex(outcome.why, r"^the terminal did not come back within 1 second, from own.py:\d$")
         with Card(USIM) as card:
             self.assertEqual(verdict.judged(read("command MORE TIME", "response result 00")[0], undertest.InPython(), card).verdict, verdict.PASSED)
 
@@ -1003,6 +1040,34 @@ class Tool(unittest.TestCase):
         for part in ("commands (one that has no name is written by its type, as `command 35`):\n    REFRESH,", "objects:\n    command-details or details, result,", "needs (or a bit"):
             self.assertIn(part, done.stdout)
 
+    def test_the_page_shows_objects(self):
+        """Each example of an object in docs/SEQUENCES.md is read."""
+        with open(os.path.join(process.TOP, "docs", "SEQUENCES.md"), encoding="utf-8") as text:
+            table = re.search(r"\| object \| as in \|\n\|---\|---\|\n((?:\|.*\n)+)", text.read())[1]
+        # the right column has what is written, and words for a part of it
+        shown = [example for row in table.splitlines() for example in re.findall("`([^`]*)`", row.split(" | ")[1]) if " " in example and "TAG" not in example]
+        self.assertGreater(len(shown), 25)
+        for example in shown:
+            with self.subTest(example=example):
+                words = wording.Words(example)
+                wording.read_object(words)
+                self.assertFalse(words)
+
+    def test_the_page_has_all_words(self):
+        """docs/SEQUENCES.md lists what the source has: commands, objects with the shorter words, devices, envelopes, events and the names for `needs`."""
+        with open(os.path.join(process.TOP, "docs", "SEQUENCES.md"), encoding="utf-8") as text:
+            page = text.read()
+        lists = dict(part.replace("\n", " ").strip(".").split(": ", 1) for part in page.partition("## All words\n")[2].partition("\n## ")[0].strip().split("\n\n")[1:])
+        words = names.table("toolkit")["event_words"]
+        listed = {title: [re.findall("`([^`]*)`", item) for item in re.split(r", (?=`[^`]*`(?: \(|,|$))", items)] for title, items in lists.items()}
+        self.assertEqual(listed["Objects, each with the shorter words for it"], [one.split() for one, _, _ in wording.READ_AS])
+        for title, known in (("Commands", sequence.COMMANDS), ("Envelopes", sequence.ENVELOPES), ("Events", words),
+                             ("Names for `needs`", sorted(sequence.known_profile()))):
+            self.assertEqual([name for (name,) in listed[title]], list(known), title)
+        devices = lists["Devices"].replace("`", "").replace("reader0 to reader7", ", ".join(f"reader{n}" for n in range(8))).replace(
+            "channel1 to channel7", ", ".join(f"channel{n}" for n in range(1, 8)))
+        self.assertEqual(devices.split(", "), list(wording.DEVICES))
+
     def test_long_texts(self):
         """Of two long texts what stands around the place from which they differ is shown."""
         command = load("sequence")
@@ -1141,7 +1206,7 @@ class Tool(unittest.TestCase):
             with self.subTest(method=method, more=more), tempfile.TemporaryDirectory() as folder:
                 done = tool(self.put(folder, *self.PASSES), *self.own(folder, *more, f"def {method}:", slow), "--seconds", "1")
                 self.assertEqual(done.returncode, 2)
-                self.assertIn(": it did not come back within 1 seconds, from ", done.stderr)
+                self.assertIn(": it did not come back within 1 second, from ", done.stderr)
 
     def test_values_of_a_class(self):
         """What a class says of itself is looked at before anything is played."""
@@ -1187,7 +1252,7 @@ class Tool(unittest.TestCase):
                     ((good, "--on", folder + "/broken.py:Y"), "broken.py:1\n"), ((good, "--on", folder + "/made.py:Made"), "can't be made: TypeError"),
                     ((good, "--on", folder + "/made.py:Made"), "made.py:3\n"),
                     ((good, "--on", folder + "/ends.py:Ends"), "the terminal can't be closed: ZeroDivisionError: division by zero, at "),
-                    ((good, "--card", os.path.join(folder, "none")), "no file is there"), ((good, "--card", good), "line 1: no line begins with"),
+                    ((good, "--card", os.path.join(folder, "none")), "no file is there"), ((good, "--card", good), "is a file of sequences: tools/sequence plays it"),
                     ((good, "--seconds", "x"), "invalid"), ((good, "--seconds", "-1"), "invalid"), ((good, "--seconds", "0"), "invalid")):
                 with self.subTest(words=words):
                     done = tool(*words)

@@ -3,7 +3,7 @@ import os
 import tempfile
 import unittest
 
-from common import in_process
+from common import in_process, load
 from uicc import Card, contents, image, process, texts
 
 USIM = os.path.join(process.TOP, "examples", "usim.script")
@@ -32,13 +32,13 @@ class Shell(unittest.TestCase):
         ("verify PIN3 1234\n", 1, ["no PIN is called `PIN3`: pin1, pin2 and adm are"]),
         ("verify pin1 12\n", 1, ["a PIN is four to eight digits, or eight bytes as 16 hexadecimal digits, and not `12`"]),
         ("verify pin1 abcd\n", 1, ["and not `abcd`"]),
-        ("change PIN1 1234 4321\nverify PIN1 4321\ntree\n", 0, ["9000\n  9000\n", "PIN 1: 4321, enabled"]),
+        ("change PIN1 1234 4321\nverify PIN1 4321\ntree\n", 0, ["  9000\n3F00 MF> ", "PIN 1: 4321, enabled"]),
         ("change pin1 1111 4321\ntree\n", 1, ["63C2", "PIN 1: 1234, enabled, 2 tries left"]),
         ("disable PIN1 1234\ntree\nread EF.IMSI\n", 0, ["PIN 1: 1234, disabled", "0809"]),
-        ("disable pin1 1234\nenable pin1 1234\ntree\n", 0, ["9000\n  9000\n", "PIN 1: 1234, enabled"]),
+        ("disable pin1 1234\nenable pin1 1234\ntree\n", 0, ["  9000\n3F00 MF> ", "PIN 1: 1234, enabled"]),
         ("verify pin1 1111\n" * 3 + "unblock PIN1 12345678 5555\nverify pin1 5555\ntree\n", 1,
-         ["63C0", "9000\n  9000\n", "PIN 1: 5555, enabled, 3 tries left"]),
-        ("unblock PIN1 87654321 5555\n", 1, ["63C9"]), ("change ADM1 88888888 77777777\nverify ADM1 77777777\n", 0, ["9000\n  9000\n"]),
+         ["63C0", "  9000\n3F00 MF> ", "PIN 1: 5555, enabled, 3 tries left"]),
+        ("unblock PIN1 87654321 5555\n", 1, ["63C9"]), ("change ADM1 88888888 77777777\nverify ADM1 77777777\n", 0, ["  9000\n3F00 MF> "]),
         ("unblock ADM1 12345678 1234\n", 1, ["ADM1 has no UNBLOCK PIN: nothing unblocks it"]),
         ("verify pin1 1234\nwrite EF.ADN 4 entries = [{ name = \"Ö\", number = \"110\" }]\nread EF.ADN 4\nsay EF.ADN\nsay EF.ADN 4\n", 0,
          ["Ö: 110", "that is record 1 of 50: say EF.ADN N says another one"]),
@@ -56,6 +56,22 @@ class Shell(unittest.TestCase):
         ("increase EF.LND x\n", 1, ["AMOUNT is a number, and not `x`"]), ("increase\n", 1, ["increase [FILE] AMOUNT"]),
         (ADM + "create ef 6F50 t 4 - -\nselect MF\ndelete 6F50\ntree\n", 0, ["9000"]),
     ]
+
+    def test_lines_of_standard_input_are_shown(self):
+        """Each before what comes of it, as it would stand at the prompt; comments and empty lines aren't."""
+        done = shell("select EF.ICCID\n\n# a comment\nfoo\n", USIM)
+        lines = done.stdout.splitlines()
+        self.assertEqual((lines[0], lines[-2:]), ("3F00 MF> select EF.ICCID", ["2FE2 EF.ICCID> foo", "no word `foo` is known: help lists them"]))
+        self.assertNotIn("comment", done.stdout)
+
+    def test_help(self):
+        """All words, each with what it does; or one of them."""
+        done = shell("help\nhelp ls\nhelp foo\ntre\n", USIM)
+        lines = done.stdout.splitlines()
+        for word in (name.removeprefix("do_") for name in dir(load("shell").Shell) if name.startswith("do_")):
+            self.assertTrue(any(line.startswith((word, f"quit, or {word}")) and ": " in line for line in lines[1:]), word)
+        self.assertEqual(lines[-6:], ["3F00 MF> help ls", "ls: the files of the current DF", "3F00 MF> help foo", "no word `foo` is known: help lists them",
+                                      "3F00 MF> tre", "no word `tre` is known: is `tree` meant? help lists them"])
 
     def test_lines(self):
         for text, status, parts in self.TABLE:

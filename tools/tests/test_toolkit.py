@@ -176,7 +176,8 @@ class AtThePrompt(unittest.TestCase):
             shell = [sys.executable, os.path.join(common.TOOLS, "shell"), script.name]
             done = subprocess.run(shell, input="toolkit\nprofile\nfetch\nrespond\ntoolkit\nreset\ntoolkit\n", stdout=subprocess.PIPE, text=True, check=False)
         self.assertEqual(done.returncode, 0)
-        said = [line.strip() for line in done.stdout.splitlines()]
+        # without the lines themselves, which are shown before what comes of them
+        said = [line.strip() for line in done.stdout.splitlines() if "> " not in line]
         before, now = told(ROWS, []), told(ROWS, BEGUN)
         self.assertEqual((said[:len(before)], said[-len(before):]), (before, before))
         self.assertEqual(said[-len(before) - len(now):-len(before)], now)

@@ -173,7 +173,7 @@ class OfonosUser(unittest.TestCase):
         terminal, given = OfOfono.__new__(OfOfono), player.Player(None)
         terminal.player, terminal.shown = given, {}
         terminal.phone = unittest.mock.Mock(toolkit={"IdleModeText": "at\r\nhome"})
-        terminal.phone.asked.return_value = [["DisplayText", "Hi\nthere", 0, True]]
+        terminal.phone.asked_when.return_value = [[0.0, ["DisplayText", "Hi\nthere", 0, True]]]
         terminal.look()
         self.assertEqual(given.trace, ["* text Hi.there", "* idle at..home"])
 
@@ -312,6 +312,35 @@ class InAReader(unittest.TestCase):
 
 @unittest.skipIf(ofono.why_not(), f"oFono: {ofono.why_not()}")
 class WithOfono(unittest.TestCase):
+    # commands that oFono is given, where its profile is of no account, and what its user does
+    COMMANDS = (
+        "REFRESH qualifier 01 file-list 013F002FE2", "MORE TIME", "POLL INTERVAL duration 30 seconds", "POLLING OFF", "SET UP EVENT LIST events location",
+        "SET UP CALL address 123 | user ok", "SEND SS ss 91AA120A214365870921436587A901", "SEND USSD ussd F02A23",
+        "SEND SHORT MESSAGE tpdu 0100099110325476F840F40454657374", "SEND DTMF dtmf 21F3", "LAUNCH BROWSER url \"http://x.example/\" | user ok",
+        "PLAY TONE tone 10 duration 1 seconds", "DISPLAY TEXT qualifier 80 text A | user ok", "GET INKEY qualifier 01 text A | user type a",
+        "GET INPUT qualifier 01 text A length 1 5 | user type a", "SELECT ITEM alpha A item 1 A | user pick 1", "SET UP MENU alpha A item 1 A",
+        "PROVIDE LOCAL INFORMATION", "PROVIDE LOCAL INFORMATION qualifier 02", "PROVIDE LOCAL INFORMATION qualifier 03",
+        "PROVIDE LOCAL INFORMATION qualifier 04", "PROVIDE LOCAL INFORMATION qualifier 05", "PROVIDE LOCAL INFORMATION qualifier 06",
+        "TIMER MANAGEMENT timer 1 time 00:05:00", "TIMER MANAGEMENT qualifier 02 timer 1", "SET UP IDLE MODE TEXT text A", "RUN AT COMMAND at-command AT",
+        "LANGUAGE NOTIFICATION qualifier 01 language de", "CLOSE CHANNEL", "RECEIVE DATA channel-data-length 1", "SEND DATA channel-data 41",
+        "GET CHANNEL STATUS")
+
+    def test_the_profile_is_what_ofono_does(self):
+        """It has each command that oFono answers otherwise than as not understood, or as beyond the terminal's capabilities; and no other one."""
+        terminal = OfOfono()
+        self.addCleanup(terminal.close)
+        for text in self.COMMANDS:
+            command, _, act = text.partition(" | ")
+            (one,) = sequence.read(f"sequence one\ncommand {command}\n{act}\nresponse any\n", "a")
+            need = one.needs[0]
+            one.needs.clear()
+            with Card(os.path.join(EXAMPLES, "telephone.script")) as card:
+                outcome = verdict.judged(one, terminal, card)
+            answers = [decode.result_of(heard.data)[0] for heard in outcome.player.heard if heard.kind == player.RESPONDED]
+            with self.subTest(command=command):
+                self.assertEqual((outcome.verdict, bool(answers) and answers[-1] not in (0x30, 0x31)),
+                                 (verdict.PASSED, sequence.has(undertest_modem.OFONO_PROFILE, need)), (outcome.why, answers))
+
     def test_ofono(self):
         """What it passes; what it answers otherwise than it must, which isn't mended away; and what its user can't do."""
         wanted = {

@@ -48,6 +48,14 @@ def expect(content, path, *wanted):
         raise Mistaken(f"{path} is {what}: {by}")
 
 
+def expect_card(path):
+    """Mistaken, where a file neither describes a card nor is its image; the bytes of the file."""
+    with open(path, "rb") as file:
+        content = file.read()
+    expect(content, path, SCRIPT, PROFILE, IMAGE)
+    return content
+
+
 def told(fault):
     """What is wrong, in words; of a fault of the system with the file that it is of."""
     if not isinstance(fault, OSError) or not isinstance(fault.filename, str):

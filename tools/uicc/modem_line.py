@@ -242,4 +242,5 @@ class StandardLine(_Line):
         *lines, rest = re.split(rb"[\r\n]+", bytes(self._waiting))
         self._waiting = bytearray(rest)
         for line in filter(None, lines):
-            print(line.decode("latin-1"), flush=True)
+            sys.stdout.buffer.write(line + b"\n")
+        sys.stdout.buffer.flush()

@@ -101,6 +101,10 @@ class Ofono(daemon.Daemon):
         """What oFono asked the user since this was asked last."""
         return self.ask("asked")
 
+    def asked_when(self):
+        """The same, each after the moment at which it was asked, by the clock of `time.monotonic`."""
+        return self.ask("asked when")
+
     def pick(self, number, *answers):
         """Picks an entry of the main menu, from 0, and gives the answers to what the card asks then."""
         self.answer(*answers)

@@ -39,10 +39,11 @@ class Heard:
 
 @dataclasses.dataclass(frozen=True)
 class Exchange:
-    """A command, its answer, and who gave that."""
+    """A command, its answer, who gave that, and when the command came."""
     whose: str
     command: bytes
     answer: Answer | None
+    at: float = 0.0
 
 
 class Player:
@@ -70,15 +71,27 @@ class Player:
         with self._changed:
             self._waiting.append(raw)
 
-    def note(self, text):
-        """Something that the terminal shows, in one line."""
+    def note(self, text, at=None):
+        """Something that the terminal shows, in one line. `at` is when it was shown, by the clock of `time.monotonic`, where that is told later:
+        it stands before the commands that came after it then."""
         if not isinstance(text, str):
             raise TypeError(f"`note` takes what is shown as text, and not {text!r}")
         if not text or len((text + ".").splitlines()) > 1:
             raise ValueError(f"a note is one line of text, and not {text!r}")
         with self._changed:
-            self.trace.append("* " + text)
+            self.trace.insert(len(self.trace) if at is None else self._place_at(at), "* " + text)
             self._changed.notify_all()
+
+    def _place_at(self, at):
+        """The place in the trace of what was shown at a moment: before the commands that came later, and after what was noted before."""
+        place, exchanges = len(self.trace), reversed(self.exchanges)
+        for number in reversed(range(len(self.trace))):
+            line = self.trace[number]
+            if line.startswith("* ") or line.startswith("> ") and next(exchanges).at <= at:
+                break
+            if line.startswith("> "):
+                place = number
+        return place
 
     @property
     def card_waits(self):
@@ -145,14 +158,15 @@ class Player:
         command = as_bytes(command)
         with self._changed:
             self._refuse()
+            came = time.monotonic()
             self.trace.append("> " + decode.hexed(command))
             try:
                 whose, answer = self._answer(command)
             except PowerLost:
                 self.trace.append(process.CUT)
-                self.exchanges.append(Exchange(CARD, command, None))
+                self.exchanges.append(Exchange(CARD, command, None, came))
                 raise
-            self.exchanges.append(Exchange(whose, command, answer))
+            self.exchanges.append(Exchange(whose, command, answer, came))
             self.trace.append("< " + decode.hexed(answer.data) + str(answer.status))
             self._changed.notify_all()
         return answer

@@ -6,7 +6,7 @@ import itertools
 import re
 
 from . import decode, grammar, names, tlv
-from .handset import details_of
+from .handset import details_of, objects_of
 from .wording import Object, UnknownWord, Words, Wrong, device, label_of, read_object, unknown
 
 CARD, TERMINAL = 0x81, 0x82
@@ -25,6 +25,11 @@ DESTINATIONS = {
                      "SUBMIT MULTIMEDIA MESSAGE"), NETWORK),
     **dict.fromkeys(("PERFORM CARD APDU", "POWER ON CARD", "POWER OFF CARD"), FIRST_READER),
     **dict.fromkeys(("CLOSE CHANNEL", "RECEIVE DATA", "SEND DATA"), FIRST_CHANNEL)}
+INKEY, INPUT, EVENT_LIST = (COMMANDS[name] for name in ("GET INKEY", "GET INPUT", "SET UP EVENT LIST"))
+YES_OR_NO, UCS2_ENTRY = 0x04, 0x03
+EVENTS = 0x19
+# where an object says that its letters are UCS2: for its tag the place, and the bytes that may stand there
+UCS2_IN = {0x0D: (0, b"\x08"), 0x17: (0, b"\x08"), 0x05: (0, b"\x80\x81\x82"), 0x0F: (1, b"\x80\x81\x82")}
 BIT = re.compile(r"byte ([0-9]{1,3}) bit ([1-8])")
 # what a terminal's profile says of a command whose bit has another name
 OF_TIMERS = {0x00: "TIMER MANAGEMENT start and stop", 0x01: "TIMER MANAGEMENT start and stop", 0x02: "TIMER MANAGEMENT get"}
@@ -184,13 +189,34 @@ def has(profile, need):
 
 
 def needs_of(name, qualifier):
-    """What a terminal's profile must have for a command; None where the profile tells nothing of it."""
+    """What a terminal's profile must have for a command with a qualifier; None where the profile tells nothing of it."""
     if name == "TIMER MANAGEMENT":
         return OF_TIMERS.get(qualifier)
     if qualifier in BY_QUALIFIER.get(name, ()):
         return f"{name}: {BY_QUALIFIER[name][qualifier]}"
     name = OF_CONTAINERS.get(name, name)
     return name if name in known_profile() else None
+
+
+def is_ucs2(tag, value):
+    """Whether the letters of an object are UCS2."""
+    at, codings = UCS2_IN.get(tag, (0, b""))
+    return len(value) > at and value[at] in codings
+
+
+def needs_in(raw):
+    """What a terminal's profile must have for what a command says: a yes or no, letters of UCS2 that are typed or shown, events."""
+    _, kind, qualifier = details_of(raw)
+    found = objects_of(raw) or ()
+    if kind == INKEY and qualifier & YES_OR_NO:
+        yield "GET INKEY: yes or no"
+    if kind in (INKEY, INPUT) and qualifier & UCS2_ENTRY == UCS2_ENTRY:
+        yield "UCS2 entry"
+    if any(is_ucs2(tag, value) for tag, _, value in found):
+        yield "UCS2 display"
+    if kind == EVENT_LIST:
+        told = [f"event {names.of_toolkit('events', code)}" for tag, _, value in found if tag == EVENTS for code in value]
+        yield from (name for name in told if name in known_profile())
 
 
 class Reader:
@@ -249,9 +275,9 @@ class Reader:
         step = Give(number, text, raw, text.startswith(THEN))
         if step.follows and not self.sequence().commands():
             raise Orphan("no command stands before this one")
-        needed = needs_of(step.name, step.details[2])
-        if needed and needed not in self.sequence().needs:
-            self.sequence().needs.append(needed)
+        for needed in (needs_of(step.name, step.details[2]), *needs_in(raw)):
+            if needed and needed not in self.sequence().needs:
+                self.sequence().needs.append(needed)
         self.add(step)
 
     def spelled(self, words):

@@ -21,7 +21,8 @@ HERE = "127.0.0.1"
 ITEM, DEFAULT = 0x0F, 0x17
 CALL, BROWSER, OPEN_CHANNEL = 0x10, 0x15, 0x40
 YES_OR_NO = 0x04
-QUIET_SECONDS = 20
+# so long on a machine that is busy with other things
+QUIET_SECONDS = 60
 NO_LETTER = re.compile("[\x00-\x1F\x7F-\x9F\u2028\u2029]")
 MOST_OF_CARD = 64
 # what oFono's agent is asked: how it is noted, and which of what it is told is shown
@@ -190,9 +191,9 @@ class OfOfono(UnderTest):
         return [heard.data for heard in list(self.player.heard) if heard.kind == "fetch"]
 
     def look(self):
-        for asked in self.phone.asked():
+        for moment, asked in self.phone.asked_when():
             for note in notes_of(asked):
-                self.player.note(in_one_line(note))
+                self.player.note(in_one_line(note), moment)
         toolkit = self.phone.toolkit
         shown = {"idle": toolkit.get("IdleModeText", ""), "menu": str(len(toolkit.get("MainMenu", [])))}
         for word, text in shown.items():

@@ -100,6 +100,10 @@ def check(what, wanted, content, has_more):
         raise Differs(f"{what} isn't as it must be", rows)
 
 
+def seconds_text(number):
+    return f"{number:g} second{'' if number == 1 else 's'}"
+
+
 def limit_of(terminal, seconds=None):
     """How long a method of a terminal may take before it counts as hung. `seconds` is what the terminal may take for anything, where that
     isn't what it says itself."""
@@ -165,7 +169,7 @@ class Run:
     def _told_seconds(self, step):
         """Within which time something didn't come; at a terminal that is done when its methods come back there is none."""
         seconds = self.seconds if step.seconds is None else step.seconds
-        return f" within {seconds:g} seconds" if self.terminal.seconds else ""
+        return f" within {seconds_text(seconds)}" if self.terminal.seconds else ""
 
     # steps
 
@@ -413,7 +417,7 @@ def verdict_of(run, act):
         return UNSUPPORTED, str(fault), []
     except NotBack as fault:
         place = place_of(fault, run.method)
-        return INCONCLUSIVE, f"the terminal did not come back within {run.limit:g} seconds" + (f", from {place}" if place else ""), []
+        return INCONCLUSIVE, f"the terminal did not come back within {seconds_text(run.limit)}" + (f", from {place}" if place else ""), []
     except (Lost, Ended, NotBuilt) as fault:
         run.lost = str(fault)
         return INCONCLUSIVE, run.lost, []
