@@ -165,6 +165,8 @@ def connected(address):
 
 def bus_in(folder, log):
     """The address of a bus of its own, at a socket in a folder, and a connection to it."""
+    if not os.path.isabs(folder):
+        raise SystemExit(f"{folder}: the folder of a bus is named from the root, so that nothing is left where this happens to run")
     path, settings = os.path.join(folder, "bus"), os.path.join(folder, "bus.conf")
     with open(settings, "w", encoding="ascii") as out:
         out.write(BUS.format(path=path))

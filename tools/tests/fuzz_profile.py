@@ -18,7 +18,7 @@ GOOD = """like = "usim"
 
 [pins]
 pin1 = { value = "1234", unblock = "12345678" }
-pin2 = { value = 5678, on = false }
+pin2 = { value = "5678", on = false }
 adm = { value = "3838383838383838" }
 
 [default]
@@ -72,7 +72,7 @@ count = 50
 applications = [{ aid = "A0000000871002FFFFFFFF8907090000", label = "USIM" }]
 
 [EF_ECC]
-emergency = ["112", 110]
+emergency = ["112", "110"]
 
 ["7F10/6F99"]
 hex = "0102"

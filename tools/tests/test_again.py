@@ -4,7 +4,7 @@ import tempfile
 import unittest
 
 import common
-from uicc import process
+from uicc import picture, process
 
 HEAD = """pin 0A 3838383838383838 on 3030303030303030
 ef 2FE2 t 4 2 -
@@ -59,6 +59,25 @@ class Again(unittest.TestCase):
                     for part in parts:
                         self.assertIn(part, done.stdout)
 
+    def test_a_picture(self):
+        """A stripe for each run, in the colour of how it ends."""
+        _, same, otherwise, _ = TABLE["a folder that is there already isn't selected by making it again"]
+        svg = self.path + ".svg"
+        done = self.again(TABLE["a folder that is there already isn't selected by making it again"][0], "--picture", svg)
+        self.assertTrue(done.stdout.startswith("Each write is cut, torn and failing once; then the card is reset, and the whole script is run again"))
+        with open(svg, encoding="utf-8") as text:
+            drawn = text.read()
+        # beside that of the legend
+        self.assertEqual([drawn.count(f'fill="{colour}"') - 1 for colour in (picture.AS_IT_WOULD, picture.OTHERWISE)], [same, otherwise])
+
+    def test_what_reads_a_pin_back(self):
+        """It is said of each command that reads back what it tells, and which of them takes a try itself."""
+        with open(self.path, "w", encoding="ascii") as out:
+            out.write(HEAD + "apdu 0024000A1038383838383838383939393939393939\n")
+        lines = cuts(self.path).stdout.splitlines()
+        self.assertTrue(lines[1].endswith("VERIFY PIN  0020000A: the tries that are left"), lines[1])
+        self.assertTrue(lines[2].endswith(": whether it is this value; this takes a try where it is another"), lines[2])
+
     def test_shards(self):
         """Together they have each command once."""
         text = ADM + "apdu 00D6820004AABBCCDD\napdu 00B0820004\nreset\napdu 00D682000411223344\n"
@@ -76,7 +95,7 @@ class Again(unittest.TestCase):
         (["--all", "--shard", "0/2"], "0/2 is no part"),
         (["--all", "--shard", "3/2"], "3/2 is no part"),
         (["--all", "--shard", "two"], "two is no part"),
-        (["--again", "--picture", "x.svg"], "--picture draws what --all tries"),
+        (["--picture", "x.svg"], "--picture draws what --all and --again try"),
         (["--all", "--jobs", "0"], "0 is no number from 1 on"),
     ]
 

@@ -11,7 +11,7 @@ import unittest
 from unittest import mock
 
 import common
-from uicc import applet_rows, kinds, new_kind, process
+from uicc import antt, applet_rows, kind_faults, kinds, new_kind, process
 
 applet = common.load("applet")
 CRATES = os.path.join(process.TOP, "crates")
@@ -172,15 +172,52 @@ class Texts(Copy):
         self.assertEqual(dict(new_kind.places_with(self.crates, "Tick"))["crates/unit_trials/data/applets.table"], 6)
         self.assertIn("crates/card_model/proofs/worked/Toolkit.antt", dict(new_kind.places_with(self.crates, "Hi")))
 
+    def test_who_shows_it(self):
+        """What programs print, examples and documents are among those who show a text, by whatever crates they stand on the applets."""
+        os.makedirs(os.path.join(self.crates, "uicc_program"), exist_ok=True)
+        shutil.copy(os.path.join(CRATES, "uicc_program", "stdout"), os.path.join(self.crates, "uicc_program"))
+        for folder in ("examples", "docs"):
+            shutil.copytree(os.path.join(process.TOP, folder), os.path.join(self.folder, folder), ignore=shutil.ignore_patterns("__pycache__"))
+        found = dict(new_kind.places_with(self.crates, "Moved"))
+        self.assertEqual((found["crates/uicc_program/stdout"], found["examples/day.trace"], found["docs/HANDSET.md"]), (2, 2, 1))
+        self.assertIn("docs/APPLETS.md", found)
+        self.assertNotIn("crates/applet_trait/src/texts.rt", found)
+
+    # a line, and whether it shows the text Moved
+    LINES = [("* text Moved", True), ("* text Moved on", False), ("< D0118103012180820281028D06044D6F766564", True), ("shows \"Moved\"", True), ("`Moved`", True),
+             ("Moved on", False), ("* idle Moved", True), ("D0128103012400820281828F06014D6F766564", True), ("85054D6F766564", True), ("4D6F766564", False),
+             ("0x4D ∷ 0x6F ∷ 0x76 ∷ 0x65 ∷ 0x64", True)]
+
+    def test_showing(self):
+        for line, wanted in self.LINES:
+            with self.subTest(line=line):
+                self.assertEqual(bool(new_kind.showing("Moved").search(line)), wanted)
+
     # a name, a text, and why there can be no such one
-    REFUSED = [("say", "Say?", "large letters"), ("SAY", "", "1 to 255 letters"), ("SAY", 'a"b', "1 to 255 letters"), ("SAY", "é", "1 to 255 letters"),
-               ("SAY", "x" * 256, "1 to 255 letters"), ("MINUTES", "x", "the name of a number")]
+    REFUSED = [("say", "Say?", "large letters"), ("SAY", "", "1 to 239 letters"), ("SAY", 'a"b', "1 to 239 letters"), ("SAY", "é", "1 to 239 letters"),
+               ("SAY", "x" * 240, "1 to 239 letters .* and not 240"), ("MINUTES", "x", "the name of a number"),
+               ("CHOICE_TITLE", "far too long", "CHOICE_TITLE has 12 letters, and the title of a list has room for 10"),
+               ("TEXT_ITEM", "far too long", "an entry of a list has room for 10"), ("ASK_FOR_NOTE", "x" * 236, "GET INPUT has room for 235")]
 
     def test_refused(self):
         for name, text, said in self.REFUSED:
             with self.subTest(name=name, text=text), self.assertRaisesRegex(new_kind.Refused, said):
                 new_kind.put_text(self.crates, name, text)
         self.assertEqual(self.changed(), set())
+
+
+    def test_too_long_for_its_use(self):
+        """A text that the definition comes to use where there is less room is told with the line."""
+        new_kind.put_text(self.crates, "SAY", "far too long")
+        self.change("done mind)\n\nabbrev pub menu", "turn mind (Send (SelectItem SAY.now [])) 2)\n\nabbrev pub menu", "applet_trait", "specs", "Tables.antt")
+        (path, line, why), = kind_faults.findings(self.crates)
+        self.assertEqual(why, "item_chosen: SAY has 12 letters, and the title of a list has room for 10")
+        self.assertIn("SelectItem SAY.now", self.text_of("applet_trait", "specs", "Tables.antt").split("\n")[line - 1])
+
+    def test_the_longest(self):
+        for name, count in (("TICK", 239), ("ASK_FOR_NOTE", 235), ("CHOICE_TITLE", 10)):
+            new_kind.put_text(self.crates, name, "x" * count)
+            self.assertEqual(kind_faults.findings(self.crates), [])
 
 
 def new_kind_event(code, body):
@@ -222,9 +259,11 @@ class Words(Copy):
             "crates/applet_trait/specs/Tables.antt:{at}: parrot uses `++`, which the file neither defines nor imports",
             "crates/applet_trait/specs/Tables.antt:{at}: parrot uses `SAID`, which the file neither defines nor imports"]),
         ("parrot mind _ =\n    turn mind (Send (GetInput GREETING.now true 0)) 1",
-         ["crates/applet_trait/specs/Tables.antt:{next}: parrot: GetInput stands with 3 of its 4 parts"]),
+         ["crates/applet_trait/specs/Tables.antt:{next}: parrot: GetInput stands with 3 parts, and has 4"]),
         ("parrot mind _ = turn mind (show mind.kept 1",
-         ["crates/applet_trait/specs/Tables.antt:{at}: the definition of parrot isn't read: it ends too early"]),
+         ["crates/applet_trait/specs/Tables.antt:{at}: the definition of parrot isn't read: it ends where `)` has to stand"]),
+        ("parrot mind _ = if in_phase 0 mind then done mind",
+         ["crates/applet_trait/specs/Tables.antt:{at}: the definition of parrot isn't read: it ends where `else` has to stand"]),
         ("parrot mind _ = turn mind (show (mind.kept ++ 3)) 1",
          ["crates/applet_trait/specs/Tables.antt:{at}: parrot uses `++`, which the file neither defines nor imports"]),
     ]
@@ -242,9 +281,102 @@ class Words(Copy):
                 self.assertEqual([line for line in shown if line.startswith("crates/applet_trait")], [line.format(at=at, next=at + 1) for line in wanted])
                 unknown = [line for line in shown if "not known: " in line]
                 self.assertEqual(len(unknown), 1)
-                self.assertRegex(shown[-1], r"^328 rows, [1-5] differ$")
+                self.assertEqual(shown[-1], "328 rows, 3 differ, 2 not tried")
             self.change(new, old, *place)
         self.assertEqual(self.told("rows")[:2], (0, ["328 rows, 0 differ"]))
+
+    # the same, where each row comes to what it says by the definitions
+    UNSEEN = [
+        ("parrot mind (Event code []) = done mind\nparrot mind (Response 3 item text) = turn mind (Send (GetInkey GREETING)) 1\nparrot mind Went = done mind\n"
+         "parrot mind (Response result item text) = turn mind (show GREETING.now) MINUTES.now",
+         ["{at}: parrot: no clause is of the case `parrot _ Refused`", "{next}: parrot: GREETING is a text of the code, whose letters are GREETING.now",
+          "{last}: parrot: MINUTES is a number of the code, and has no .now"]),
+    ]
+
+    def test_what_no_row_shows(self):
+        """A case that no clause is of, a text without its letters and a number with some are told also where no row comes to them."""
+        self.told("new", "parrot")
+        old, place = "parrot mind _ = done mind", ("applet_trait", "specs", "Tables.antt")
+        at = self.text_of(*place).split(old)[0].count("\n") + 1
+        for new, wanted in self.UNSEEN:
+            self.change(old, new, *place)
+            status, shown, _ = self.told("rows")
+            self.assertEqual(status, 1)
+            told = [line.removeprefix("crates/applet_trait/specs/Tables.antt:") for line in shown if line.startswith("crates/applet_trait")]
+            self.assertEqual(told, [line.format(at=at - 1, next=at + 1, last=at + 3) for line in wanted])
+            self.change(new, old, *place)
+
+    # clauses of a definition, and a case that none of them is of
+    CASES = [
+        (["f [] = 1", "f (a ∷ b) = 2"], None), (["f [] = 1"], ["(_ ∷ _)"]), (["f (a ∷ []) = 1", "f [] = 2"], ["(_ ∷ (_ ∷ _))"]), (["f 0 = 1"], ["_"]),
+        (["f 0 = 1", "f n = 2"], None), (["f true 1 = 1", "f false n = 2"], ["true", "_"]), (["f (Some (a, [])) = 1", "f None = 2"], ["(Some (_, (_ ∷ _)))"]),
+        (["f (Event c b) = 1", "f (Response r i t) = 1", "f Went = 1", "f Refused = 1"], ["(Timer _)"]), (["f = 1"], None),
+        (["f m (Event c b) = 1", "f m _ = 2"], None), (["f (Other a) = 1"], None),
+    ]
+
+    def test_cases(self):
+        for texts, wanted in self.CASES:
+            with self.subTest(texts=texts):
+                self.assertEqual(kind_faults.uncovered([antt.clause(text)[0] for text in texts]), wanted)
+
+    def test_numbers_of_a_kind(self):
+        """Another number of the kind in the code or in its mind, and a phase with a number to which no turn leads, are told."""
+        self.told("new", "parrot")
+        folder = "crates/boxed_applets/"
+        for (place, old, new), wanted in (
+                (("specs/Parrots.antt", "mind_of 8", "mind_of 7"), "specs/Parrots.antt:14: parrot is kind 8, and not 7"),
+                (("src/parrots.rt", "    fn kind(&self) -> u8 {\n        8\n", "    fn kind(&self) -> u8 {\n        9\n"),
+                 "src/parrots.rt:40: parrot is kind 8, and not 9"),
+                (("src/parrots.rt", "fresh 8", "fresh 6"), "src/parrots.rt:25: parrot is kind 8, and not 6")):
+            self.change(old, new, "boxed_applets", place)
+            with self.subTest(new=new):
+                self.assertEqual(self.told("rows")[:2], (1, [folder + wanted, "328 rows, 0 differ"]))
+            self.change(new, old, "boxed_applets", place)
+        self.change("    Ready,\n", "    Ready,\n    /// It asked.\n    Asking,\n", "boxed_applets", "src", "parrots.rt")
+        self.change("phase_of Ready = 0\n", "phase_of Ready = 0\nphase_of Asking = 2\n", "boxed_applets", "specs", "Parrots.antt")
+        self.change("TheVariants.{Ready}", "TheVariants.{Ready, Asking}", "boxed_applets", "specs", "Parrots.antt")
+        said = folder + "specs/Parrots.antt:10: phase_of gives Asking the number 2, to which no turn of parrot leads"
+        self.assertEqual(self.told("rows")[:2], (1, [said, "328 rows, 0 differ"]))
+        self.change("parrot mind _ = done mind", "parrot mind (Event 0x41 body) = turn mind (show GREETING.now) 2\nparrot mind _ = done mind",
+                    "applet_trait", "specs", "Tables.antt")
+        self.assertEqual(self.told("rows")[:2], (0, ["328 rows, 0 differ"]))
+
+    # a row of the new kind in the place of a good one, and what is said of it
+    NO_ROWS = [
+        ("on event 43 00 => done", "on event 43 => done", "`event CODE BODY` lacks BODY, which is `-` where it is empty"),
+        ("on event 43 00 => done", "on event 4Q 00 => done", "CODE is a byte in two hexadecimal digits, and not `4Q`"),
+        ("on event 43 00 => done", "on event 43 0 => done", "`0` is no bytes: these are pairs of hexadecimal digits, a text in quotes, or `-` for none"),
+        ("on event 43 00 => done", "on event 43 00 00 => done", "`event CODE BODY` has one part too many"),
+        ("on event 43 00 => done", "on respond 00 0 - => done", "a stimulus is event, response, timer, went, refused, and not `respond`"),
+        ("on event 43 00 => done", "on response 00 0 1 => done", "`1` is no bytes: these are pairs of hexadecimal digits, a text in quotes, or `-` for none"),
+        ("on event 43 00 => done", "on response 00 x - => done", "ITEM is a number from 0 to 255, and not `x`"),
+        ("on event 43 00 => done", "in event 43 00 => done", "a row is applet, wake, on, boxed, shelf, and not `in`"),
+        ('boxed parrot "AB" event 40 - =>', 'boxed parrot =>', "it is `boxed KIND KEPT STIMULUS`"),
+        ("applet parrot - => kind 8", "applet parrt - => kind 8",
+         "there is no kind parrt: greeter, menu, clock, watcher, barrier, notebook, table, parrot"),
+        ("shelf 31 => kind 8", "shelf 32 => kind 8", "the shelf is a number from 0 to 31, and not `32`"),
+    ]
+
+    def test_what_is_not_a_row(self):
+        """A line that isn't a row is told in words of rows, and those of its applet after it aren't tried."""
+        self.told("new", "parrot")
+        place, path = ("unit_trials", "data", "applets.table"), "crates/unit_trials/data/applets.table"
+        good = self.text_of(*place)
+        at = good.split("applet parrot - => kind 8")[0].count("\n") + 1
+        for old, new, said in self.NO_ROWS:
+            self.assertIn(old, good[good.index("applet parrot"):])
+            with open(os.path.join(self.crates, *place), "w", encoding="utf-8") as out:
+                out.write(good[:good.index("applet parrot")] + good[good.index("applet parrot"):].replace(old, new, 1))
+            with self.subTest(new=new):
+                status, shown, _ = self.told("rows")
+                self.assertEqual((status, shown[1]), (1, f"    by the definitions not a row: {said}"))
+                self.assertEqual(shown[0].partition(": ")[2], " => ".join(part.strip() for part in new.partition("=>")[::2]) if "done" in new or "kind" in new
+                                 else shown[0].partition(": ")[2])
+                lost = {"applet": 3, "on": 1}.get(new.split()[0], 0)
+                line = at + (new.split()[0] == "on") * 2
+                self.assertEqual(shown[2:-1], [f"{path}:{line + 1}: " + ("on event 40 - => done" if lost == 3 else "on response 00 0 - => done"),
+                                               f"    not tried, after line {line}" + ("; the same in 2 more rows" if lost == 3 else "")] if lost else [])
+                self.assertEqual(shown[-1], "328 rows, 1 differ" + (f", {lost} not tried" if lost else ""))
 
     def test_phases_without_a_number(self):
         """A phase of the code that has no number, and one whose name isn't imported, are told; the rows know nothing of them."""
@@ -254,7 +386,12 @@ class Words(Copy):
         shown = [place + "phase_of has no number for Asking, a phase of boxed_applets/src/parrots.rt", "328 rows, 0 differ"]
         self.assertEqual(self.told("rows")[:2], (1, shown))
         self.change("phase_of Ready = 0\n", "phase_of Ready = 0\nphase_of Asking = 1\n", "boxed_applets", "specs", "Parrots.antt")
-        shown[0] = place + "phase_of uses `Asking`, which the file neither defines nor imports"
+        unreached = place + "phase_of gives Asking the number 1, to which no turn of parrot leads"
+        shown[:1] = place + "phase_of uses `Asking`, which the file neither defines nor imports", unreached
+        self.assertEqual(self.told("rows")[:2], (1, shown))
+        self.change("parrot mind _ = done mind", "parrot mind (Event 0x41 body) = turn mind (show GREETING.now) 1\nparrot mind _ = done mind",
+                    "applet_trait", "specs", "Tables.antt")
+        del shown[1]
         self.assertEqual(self.told("rows")[:2], (1, shown))
         self.change("TheVariants.{Ready}", "TheVariants.{Ready, Asking}", "boxed_applets", "specs", "Parrots.antt")
         self.assertEqual(self.told("rows")[:2], (0, shown[1:]))

@@ -20,7 +20,8 @@ class Captures(unittest.TestCase):
         (["! reset", "> 00D6000001AA", "! cut"],
          [("mark", "reset", None), ("alone", "00D6000001AA", ["no answer came"]), ("mark", "the power was cut", None)]),
         (["> 00040000", "! off"], [("alone", "0004000000", ["no answer came"]), ("mark", "the card has no power", None)]),
-        (["* menu 1", "line 4"], [("mark", "handset: menu 1", None), ("mark", "the run ended: line 4", None)]),
+        (["* menu 1", "* player: this is answered by the player", "line 4"],
+         [("mark", "terminal: menu 1", None), ("mark", "player: this is answered by the player", None), ("mark", "the run ended: line 4", None)]),
         (["> 00B0000001"], [("alone", "00B0000001", ["the trace ends here"])]),
         # of a terminal over no card: FETCH, TERMINAL RESPONSE and ENVELOPE
         (["> D009810301440082028182", "< 810301440082028281830100B8020000"],

@@ -125,6 +125,43 @@ class Cards(unittest.TestCase):
             card.respond()
             self.assertIsNone(card.fetch())
 
+    def test_what_a_user_cant_do(self):
+        """An entry that isn't in the menu, and an answer that the command doesn't ask for, are told before anything is sent."""
+        asks_for_a_key = "row 6 1 0005546F6F6C7343063F430210\n"
+        with Card.from_text(asks_for_a_key) as card:
+            card.profile()
+            card.fetch()
+            card.respond()
+            sent = len(card.trace)
+            with self.assertRaisesRegex(CardError, r"menu has no entry 6: 7 \(Tools\); an entry is the shelf of its applet plus one"):
+                card.pick(6)
+            self.assertEqual(len(card.trace), sent)
+            self.assertEqual(card.envelope("D30782020181900106").status, "9000")
+            card.pick(7)
+            asked, sent = card.fetch(), len(card.trace)
+            self.assertEqual((asked.name, asked.text), ("GET INKEY", "?"))
+            for given, why in (({"text": "12"}, "GET INKEY asks for one character, and not for `12`"), ({"item": 4}, "GET INKEY offers no items")):
+                with self.assertRaisesRegex(ValueError, why):
+                    card.respond(**given)
+            self.assertEqual(len(card.trace), sent)
+            card.respond(text="5")
+            played = card.fetch()
+            self.assertEqual((played.name, played.tone, played.text, played.items), ("PLAY TONE", 0x10, None, {}))
+            self.assertEqual((played.value(0x0E), played.value(0x8E), played.value(0x0D)), (b"\x10", b"\x10", None))
+            with self.assertRaisesRegex(ValueError, "PLAY TONE asks for no text"):
+                card.respond(text="5")
+            self.assertEqual(card.respond(objects="8D020435").status, "9000")
+        with Card.from_text("row 1 1 00044D656E75\nstart\n") as card:
+            card.profile()
+            card.fetch()
+            card.respond()
+            card.pick(2)
+            self.assertIsNone(card.fetch().tone)
+            with self.assertRaisesRegex(ValueError, r"SELECT ITEM offers no item 4: 1 \(Text\), 2 \(Tone\)"):
+                card.respond(item=4)
+        with Card.from_text("") as card, self.assertRaisesRegex(CardError, "the card's menu has no entry 1: it is empty"):
+            card.pick(1)
+
     def test_faults(self):
         with Card(USIM) as card:
             card.verify(0x0A, "88888888")
@@ -191,6 +228,11 @@ class Cards(unittest.TestCase):
                                    (lambda: card.verify("pin3", "1234"), ValueError, "no PIN is called `pin3`: pin1, pin2, adm"),
                                    (lambda: card.read_record(300), ValueError, "the number of a record is one byte, 1 to 255, and not 300"),
                                    (lambda: card.transmit("zz"), ValueError, "`zz` is no bytes"),
+                                   (lambda: card.select(12), TypeError, "a file is named by text, as \"EF.ADN\" or \"7F10/6F3A\", and not by 12"),
+                                   (lambda: card.select("ADF.USIM/EF.IMSI"), NoSuchFile, "a card here has no ADF: the files of a USIM lie in 7F20"),
+                                   (lambda: card.select("7FFF"), NoSuchFile, "a card here has no ADF"),
+                                   (lambda: card.increase(-1), ValueError, "the amount of INCREASE is a number of 3 bytes, and not -1"),
+                                   (lambda: card.pick("x"), ValueError, "an entry of the menu is picked by its number, of one byte, and not by 'x'"),
                                    (lambda: card.write("EF.SPN"), ValueError, 'card.write("EF.SPN", spn="Example")')):
                 with self.assertRaises(kind) as caught:
                     act()

@@ -197,7 +197,7 @@ class Objects(unittest.TestCase):
         (None, "> 801400000C810301218082028281830111", "> 801400000C810302218082028281830100",
          [("command details", "DISPLAY TEXT, number 1, normal priority, cleared by the user",
            "DISPLAY TEXT, number 2, normal priority, cleared by the user"),
-          ("result", "11 gone back by the user", "00 done")]),
+          ("result", "11 backward move requested by the user", "00 done")]),
         (FETCH, "< D00E81030121008202818283034869219000", "< D00B8103012100820281829000", None),
         (FETCH, "< D00F810301210082028182" + "8D04044869219000", "< D0098103012100820281829100",
          [("status", "9000 done", "9100 done; the card has a command of 256 bytes to be fetched"), ("text", "`Hi!`", None)]),
@@ -309,7 +309,7 @@ class Expect(unittest.TestCase):
                                    "#shows 0 FF\n#run bip\nstart\n#status 0\n")
         done = self.expect(case)
         self.assertEqual(done.returncode, 1)
-        for part in ("the command: no proactive command", "result: expected 32 data not understood, shown 00 done",
+        for part in ("the command: no proactive command", "result: expected 32 command data not understood, shown 00 done",
                      "channel status: expected nothing, shown no channel is open"):
             self.assertIn(part, done.stdout)
         self.assertEqual(self.expect(path, "--bip", "--store", "pages").returncode, 2)

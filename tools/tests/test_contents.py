@@ -18,16 +18,16 @@ class Contents(unittest.TestCase):
         ("dialling", "416E6E61FFFFFFFFFFFFFFFFFFFF0791999910005505FFFFFFFFFFFF", "Anna: +999901005550"),
         ("dialling", "4F70657261746F72FFFFFFFFFFFF038116F1FFFFFFFFFFFFFFFFFFFF", "Operator: 611"),
         ("dialling", "FF" * 28, None),
-        ("acc", "0200", "classes 9"),
+        ("acc", "0200", "class 9"),
         ("ad", "00000002", "normal operation, the network's code has 2 digits"),
         ("ust", "0008140401", "12 short message parameters, 19 service provider name, 21 MSISDN, 27 GSM access, 33 to be set to 1"),
         ("sst", "0F03", "1 CHV1 disable function, 2 abbreviated dialling numbers, 5 advice of charge"),
         ("loci", "FFFFFFFE00F1100001FF00", "TMSI FFFFFFFE, 001-01 area 0001, updated"),
         ("languages", "656E6672FFFF", "en, fr"),
-        ("minutes6", "05", "each 30 minutes"),
+        ("minutes6", "05", "every 30 minutes"),
         ("application", "61184F10A0000000871002FFFFFFFF890709000050045553494D", "USIM, A0000000871002FFFFFFFF8907090000"),
         ("rule", "8001019000800102A40683010A950108FFFF", "read: always; update: adm"),
-        ("ecc", "11F2FF00", "112"),
+        ("ecc", "11F2FF00", "112, category 0: none"), ("ecc", "11F2FFFF", "112"),
         ("number", "000102", "258"),
     ]
     # a kind of content, bytes that can't be right, and a part of why
@@ -163,10 +163,10 @@ class Commands(unittest.TestCase):
         ("00B0000001", "READ BINARY from byte 0, 1 byte"), ("00D6000101AA", "UPDATE BINARY from byte 1: 1 byte"),
         ("00A40004023F00", "SELECT by identifier 3F00"),
         ("00A4080C047F206F07", "SELECT by path from the MF 7F20/6F07, no data returned"),
-        ("00B0820004", "READ BINARY of the short identifier 2, from byte 0, 4 bytes"),
+        ("00B0820004", "READ BINARY by SFI 2, from byte 0, 4 bytes"),
         ("00B0010200", "READ BINARY from byte 258, all up to 256"),
         ("00D6000002AABB", "UPDATE BINARY from byte 0: 2 bytes"),
-        ("01B2033C00", "READ RECORD 3 of the short identifier 7, channel 1"),
+        ("01B2033C00", "READ RECORD 3 by SFI 7, channel 1"),
         ("00DC000302AABB", "UPDATE RECORD the record before"),
         ("00A2010404416E6E61", "SEARCH RECORD forward from record 1 for 416E6E61"),
         ("8032000003000102", "INCREASE by 258"),
@@ -196,7 +196,7 @@ class Commands(unittest.TestCase):
         ("D011810303270082028182A40101A503005000", ["command details: TIMER MANAGEMENT, number 3, start",
                                                     "device identities: card to terminal", "timer identifier: 1", "timer value: 00:05:00"]),
         ("D01D81030324008202818285045069636B8F0501546578748F0502546F6E65",
-         ["command details: SELECT ITEM, number 3", "device identities: card to terminal", "title: `Pick`", "item: 1 `Text`", "item: 2 `Tone`"]),
+         ["command details: SELECT ITEM, number 3", "device identities: card to terminal", "alpha identifier: `Pick`", "item: 1 `Text`", "item: 2 `Tone`"]),
         ("D00D81030105008202818299020304", ["command details: SET UP EVENT LIST, number 1", "device identities: card to terminal",
                                             "event list: 03 location status, 04 user activity"]),
         ("D00C8103042000820281038E0110", ["command details: PLAY TONE, number 4", "device identities: card to earpiece", "tone: 10 general beep"]),
@@ -210,9 +210,9 @@ class Commands(unittest.TestCase):
          ["command details: SELECT ITEM, number 3", "device identities: terminal to card", "result: 00 done", "item identifier: 1"]),
         ("F0E601060C010300030704030141030210", ["events: 03 location status", "kept data: 030704030141030210"]),
         ("002000010831323334FFFFFFFF", ["value: 1234"]),
-        ("00E0000015621382024121" "83026F508B032F0601" "80020004" "8800", ["control parameters", "file descriptor: transparent EF", "identifier: 6F50 EF.CBMIR",
-                                                                        "access rule: record 1 of 2F06", "size: 4 bytes", "short identifier: none"]),
-        ("00E00000026200", ["control parameters"]),
+        ("00E0000015621382024121" "83026F508B032F0601" "80020004" "8800", ["FCP", "file descriptor: transparent EF", "identifier: 6F50 EF.CBMIR",
+                                                                        "access rule: record 1 of 2F06", "size: 4 bytes", "SFI: none"]),
+        ("00E00000026200", ["FCP"]),
         ("80D40000046F500006", []),
     ]
     # a file that CREATE FILE asks for, and its template
@@ -249,8 +249,8 @@ class Commands(unittest.TestCase):
 
     def test_control_parameters(self):
         lines = self.shown(decode.fcp(bytes.fromhex("621A82054221001C3283026F3A8A01058B032F060380020578880108")))
-        self.assertEqual(lines, ["control parameters", "file descriptor: linear fixed EF, 50 records of 28 bytes", "identifier: 6F3A EF.ADN",
-                                 "life cycle: activated", "access rule: record 3 of 2F06", "size: 1400 bytes", "short identifier: 1"])
+        self.assertEqual(lines, ["FCP", "file descriptor: linear fixed EF, 50 records of 28 bytes", "identifier: 6F3A EF.ADN",
+                                 "life cycle: activated", "access rule: record 3 of 2F06", "size: 1400 bytes", "SFI: 1"])
         lines = self.shown(decode.fcp(bytes.fromhex("62198202782183023F008A0105C60C9001A083010183018183010A")))
         self.assertIn("PINs: PIN 1 enabled, PIN 2 disabled, ADM1 enabled", lines)
 

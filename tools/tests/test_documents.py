@@ -3,6 +3,7 @@ import contextlib
 import io
 import os
 import re
+import subprocess
 import tempfile
 import unittest
 from unittest import mock
@@ -259,6 +260,19 @@ class Words(unittest.TestCase):
                     for name in self.NAMES:
                         line = line.replace(name, "")
                     self.assertNotRegex(line, r"(?i)\bbehind\b", f"{path}:{number}")
+
+
+class Root(unittest.TestCase):
+    """What stands at the root of the repository."""
+    NAMES = {".ci", ".gitattributes", ".gitignore", "CHANGELOG.md", "HANDLES", "README.md", "bench", "crates", "crates.txt", "dist", "docs",
+             "examples", "pyproject.toml", "tools", "uicc", "uicc_run"}
+
+    def test_nothing_stray_is_kept(self):
+        """Nothing that a tool or a test left there has become part of the repository."""
+        listed = subprocess.run(["git", "-C", process.TOP, "ls-files"], capture_output=True, text=True, check=False)
+        if listed.returncode:
+            self.skipTest("the sources are in no repository of git")
+        self.assertLessEqual({line.split("/")[0] for line in listed.stdout.splitlines()}, self.NAMES)
 
 
 if __name__ == "__main__":

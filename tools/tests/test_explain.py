@@ -42,14 +42,16 @@ class Traces(unittest.TestCase):
 class Terminals(unittest.TestCase):
     # objects of channels: the tag, the value, whether they are those of a command, and what is said of them
     OBJECTS = [
-        (0x01, "014001", True, "OPEN CHANNEL, number 1, link at once"),
-        (0x01, "024300", True, "SEND DATA, number 2, kept for later"),
-        (0x01, "034301", True, "SEND DATA, number 3, sent at once"),
+        (0x01, "014001", True, "OPEN CHANNEL, number 1, immediate link establishment"),
+        (0x01, "024300", True, "SEND DATA, number 2, store data in Tx buffer"),
+        (0x01, "034301", True, "SEND DATA, number 3, send data immediately"),
         (0x01, "044200", True, "RECEIVE DATA, number 4"),
         (0x02, "8127", True, "card to channel 7"),
-        (0x03, "3A01", False, "3A error of the bearer independent protocol, 01 no channel is free"),
-        (0x03, "3A7F", False, "3A error of the bearer independent protocol, 7F"),
-        (0x03, "2000", False, "20 the terminal can't at the moment, 00 no particular cause"),
+        (0x03, "3A01", False, "3A bearer independent protocol error, 01 no channel available"),
+        (0x03, "3A7F", False, "3A bearer independent protocol error, 7F"),
+        (0x03, "2000", False, "20 terminal currently unable to process command, 00 no specific cause"),
+        (0x03, "219D", False, "21 network currently unable to process command, 9D facility rejected"),
+        (0x06, "8121F3", True, "123"), (0x06, "911032042143651C2C", True, "+012340123456p1p2"), (0x06, "A121F3", True, "123 type A1"),
         (0x03, "02", False, "02 done, with missing information"),
         (0x35, "03", True, "03 default bearer"),
         (0x35, "0300", True, "03 default bearer, 00"),
@@ -79,7 +81,7 @@ class Terminals(unittest.TestCase):
     ]
     TITLES = [("D009810301440082028182", "GET CHANNEL STATUS"), ("D0058103014400", "GET CHANNEL STATUS"), ("00", "no proactive command"),
               ("D109810301440082028182", "no proactive command"),
-              ("D0088102014482028182", "no proactive command"), ("D009810309500082028182", "type 50")]
+              ("D0088102014482028182", "no proactive command"), ("D009810309350182028182", "LANGUAGE NOTIFICATION"), ("D009810309780082028182", "type 78")]
 
     def test_objects(self):
         for tag, value, is_command, text in self.OBJECTS:
@@ -181,7 +183,7 @@ class Explain(unittest.TestCase):
         done = self.explain(usim + ".trace", "--script", usim + ".script")
         for part in ("   94  > 00B0000009", "READ BINARY from byte 0, 9 bytes (7F20/6F07 EF.IMSI)", "EF.IMSI: 001010123456789",
                      "EF.ADN: Voicemail: +99990100100", "6982 the access rule isn't satisfied: rule 2F06:2 asks for PIN 1 to read; PIN 1 isn't verified", "found in records: 3",
-                     "READ RECORD 1 of the short identifier 30 (2F00 EF.DIR)", "SEARCH RECORD forward from record 1 for 416E6E61 (7F10/6F3A EF.ADN)",
+                     "READ RECORD 1 by SFI 30 (2F00 EF.DIR)", "SEARCH RECORD forward from record 1 for 416E6E61 (7F10/6F3A EF.ADN)",
                      "   83  # EF_IMSI asks for PIN 1", "value: 1234"):
             self.assertIn(part, done.stdout)
 
@@ -206,11 +208,11 @@ class Explain(unittest.TestCase):
         done = self.explain(os.path.join(EXAMPLES, "bip.trace"), "--full")
         for part in ("> D00C810304420082028121B70102              RECEIVE DATA\n", "channel data length: 2 bytes\n",
                      "02 done, with missing", "* event D60E99010982028281B8028100B70103\n", "  event list: 09 data available\n",
-                     "event list: 0A channel status\n", "channel status: channel 1, its link is down: it was dropped\n", "3A error of the bearer", "card to channel 1\n"):
+                     "event list: 0A channel status\n", "channel status: channel 1, its link is down: it was dropped\n", "3A bearer independent protocol error", "card to channel 1\n"):
             self.assertIn(part, done.stdout)
         done = self.explain(text="> D00981\n< 810300000082028281830132\n* event D6\n> D009810301440082028182\n")
         self.assertEqual(done.returncode, 0)
-        for part in ("no proactive command", "32 data not understood", "bad envelope", "GET CHANNEL STATUS"):
+        for part in ("no proactive command", "32 command data not understood", "bad envelope", "GET CHANNEL STATUS"):
             self.assertIn(part, done.stdout)
 
     def test_script_of_a_terminal(self):
@@ -242,7 +244,7 @@ class Explain(unittest.TestCase):
                 self.assertEqual(process.played(["play", *options, "--image", path], card)[1], 0)
                 shown = process.played(["open", *options, "--image", path], going_on)[0]
                 done = self.explain("--image", path, text="".join(line + "\n" for line in shown))
-                for part in ("READ RECORD 1 of the short identifier 1 (7F10/6F3A EF.ADN)", "EF.ADN: Anna: +4917012345",
+                for part in ("READ RECORD 1 by SFI 1 (7F10/6F3A EF.ADN)", "EF.ADN: Anna: +4917012345",
                              "6982 the access rule isn't satisfied: rule 2F06:1 asks for PIN 1 to read; PIN 1 isn't verified"):
                     self.assertIn(part, done.stdout)
                 os.remove(path)
@@ -266,6 +268,19 @@ class Explain(unittest.TestCase):
         day = os.path.join(EXAMPLES, "day")
         done = self.explain(day + ".trace", "--script", day + ".script", "--phone")
         self.assertEqual((done.returncode, done.stderr), (0, ""))
+
+    def test_a_file_that_is_made(self):
+        """CREATE FILE names a file by its place alone: 6F50 is EF.CBMIR in 7F20, and nothing in the MF."""
+        with tempfile.TemporaryDirectory() as folder:
+            for df, name in (("7F20", "6F50 EF.CBMIR"), ("7F66", "6F50")):
+                path = os.path.join(folder, df + ".script")
+                with open(path, "w", encoding="ascii") as out:
+                    out.write(f"df {df}\nstart\napdu 00A4000C02{df}\napdu 00E0000010620E8202412183026F50800200048800\n")
+                trace = os.path.join(folder, "trace")
+                with open(trace, "w", encoding="ascii") as out:
+                    out.write(f"> 00A4000C02{df}\n< 9000\n> 00E0000010620E8202412183026F50800200048800\n< 6982\n")
+                shown = self.explain(trace, "--script", path).stdout
+                self.assertIn(f"identifier: {name}\n", shown)
 
     def test_another_script(self):
         """The script of another trace is told, and none of its lines is shown with this one."""

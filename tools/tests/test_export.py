@@ -7,7 +7,7 @@ import unittest
 
 import fuzz_profile
 from common import in_process
-from uicc import access, batch, comparing, contents, image, lint, process, profile, profile_text, rights, stored
+from uicc import access, batch, comparing, contents, fields, image, lint, listing, names, process, profile, profile_text, rights, stored, tree
 
 EXAMPLES = os.path.join(process.TOP, "examples")
 
@@ -127,13 +127,21 @@ class Differing(unittest.TestCase):
          ["7F20/6F46 EF.SPN", "- shape: transparent, 17 bytes", "+ shape: transparent, 18 bytes", "- update: adm", "+ update: pin1",
           "- holds: 0141" + "FF" * 15, "+ holds: 0141" + "FF" * 16]),
         ('[EF_ADN]\nentries = [{ name = "A", number = "1" }]', "", ["7F10/6F3A EF.ADN", "- record 1: A: 1", "+ record 1: blank"]),
-        ("", '["7F10/6F99"]\nsize = 1', ["7F10/6F99", "+ file, 1 byte, rule 2F06:1"]),
+        ("", '["7F10/6F99"]\nsize = 1', ["7F10/6F99", "+ EF, 1 byte, rule 2F06:1"]),
         ('[pins]\npin1 = { on = false }', "", ["PIN 1", "- 1234, off, unblocked by 12345678", "+ 1234, on, unblocked by 12345678"]),
         ('[[applet]]\nkind = "greeter"', "", ["applet on shelf 0", "- greets, priority 1, events none, keeps nothing"]),
         # the other one has the same rules by other numbers
         ('[EF_PL]\nupdate = "adm"', '[EF_PL]\nupdate = "adm"\n["7F10/6F99"]\nsize = 1\nread = "never"', ["2F06 EF.ARR", "- shape: linear fixed, 6 records of 27", "+ shape: linear fixed, 7 records of 27", "- record 6: read: always; update: adm",
           "+ record 6: read: never; update, deactivate, activate: adm", "+ record 7: read: always; update: adm", "7F10/6F99",
-          "+ file, 1 byte, rule 2F06:6"]),
+          "+ EF, 1 byte, rule 2F06:6"]),
+        # what the words leave out: bytes, and fields
+        ('[EF_AD]\nhex = "00000002"', '[EF_AD]\nhex = "00000102"', ["7F20/6FAD EF.AD", "- holds: byte 3: 00", "+ holds: byte 3: 01"]),
+        ('[EF_PLMNwAcT]\nplmns = ["unused", "262-01 by GSM"]', '[EF_PLMNwAcT]\nplmns = ["262-01 by GSM"]',
+         ["7F20/6F60 EF.PLMNwAcT", "- holds: unused; 262-01 by GSM", "+ holds: 262-01 by GSM"]),
+        ('[EF_ECC]\nemergency = [{ number = "110", category = 0 }]', '[EF_ECC]\nemergency = ["110"]',
+         ["7F20/6FB7 EF.ECC", "- record 1: 110, category 0: none", "+ record 1: 110"]),
+        ('[EF_SPN]\nspn = { name = "A", abroad = false }', '[EF_SPN]\nspn = "A"',
+         ["7F20/6F46 EF.SPN", "- holds: A (the network's name is shown too, it isn't shown abroad)", "+ holds: A (the network's name is shown too)"]),
         # a difference that stands far in a long text
         ("[EF_UST]\nservices = [1, 2, 3, 4, 5, 6, 7, 8, 9, 10, 11, 20]", "[EF_UST]\nservices = [1, 2, 3, 4, 5, 6, 7, 8, 9, 10, 11, 21]",
          ["7F20/6F38 EF.UST", "- on: 20 (user controlled PLMN selector with access technology)", "+ on: 21 (MSISDN)"]),
@@ -159,13 +167,13 @@ class Rights(unittest.TestCase):
         rows = dict(rights.rows(made(self.TEXT)))
         self.assertEqual(rows["7F10/6F99"], ["always", "always (not pin2: PIN 2 is off)", "never (not adm: ADM1 isn't there)",
                                              "pin1 (not pin1 or adm: ADM1 isn't there)", ""])
-        self.assertEqual(rows["7F10/6F39 EF.ACM"], ["pin1", "never", "never", "never", "pin1 (not pin1 and pin2: PIN 2 is off)"])
+        self.assertEqual(rows["7F10/6F39"], ["pin1", "never", "never", "never", "pin1 (not pin1 and pin2: PIN 2 is off)"])
         self.assertEqual(rows["7F10/6F98"], ["always"] * 4 + [""])
 
     def test_what_is_open_and_what_no_key_opens(self):
         card = made(self.TEXT)
         self.assertEqual(dict(rights.outcomes(card, access.EVERYBODY))["update"], ["7F10/6F99", "7F10/6F98"])
-        self.assertEqual(dict(rights.outcomes(card, access.NOBODY))["deactivate"], ["2F06 EF.ARR", "7F10/6F99", "7F10/6F39 EF.ACM"])
+        self.assertEqual(dict(rights.outcomes(card, access.NOBODY))["deactivate"], ["2F06 EF.ARR", "7F10/6F99", "7F10/6F39"])
 
     def test_as_csv(self):
         rows = list(csv.reader(rights.as_csv(made(self.TEXT)).splitlines()))
@@ -194,6 +202,32 @@ def number_of(digits):
     return digits + contents.luhn(digits)
 
 
+class Lists(unittest.TestCase):
+    """tools/profile files and services."""
+
+    def test_files(self):
+        """Each standard file with its place, by which a profile finds it, and its key."""
+        rows = list(listing.rows())
+        self.assertEqual(len(rows), len(names.table("files")["files"]) - 1)
+        for name, place, _, key, _, _ in rows:
+            path = tuple(place.partition(" ")[0].split("/"))
+            with self.subTest(name=name, place=place):
+                # EF_NIA of GSM has another identifier than that of a USIM, which goes by the name
+                self.assertTrue(profile.path_of("/".join((*path[:-1], name))) == path or names.file(path, False)["in"] == ["GSM"])
+                self.assertIn(key, (*fields.KEYS, ""))
+        done = in_process("profile", "files", "smsp")
+        self.assertEqual(done.stdout.splitlines()[1:], ["EF_SMSP  7F10/6F42 (also 7F20, 7FF2)  linear fixed, 28 or more  parameters       short "
+                                                        "message service parameters"])
+        self.assertEqual(in_process("profile", "files", "qqq").returncode, 1)
+
+    def test_services(self):
+        lines = in_process("profile", "services").stdout.splitlines()
+        self.assertEqual(lines[2].split("  ")[0], "2")
+        self.assertTrue(lines[2].endswith("EF_FDN, EF_EST"), lines[2])
+        for kind, count in (("ust", len(names.table("files")["ust"])), ("sst", len(names.table("files")["sst"]))):
+            self.assertEqual(len(listing.service_lines(kind)), count + 1)
+
+
 class Batch(unittest.TestCase):
     HEAD = "iccid,imsi,pin1,puk1,adm,puk2\n"
     GOOD = "".join(f"{number_of(f'89999010000000{n:04d}')},00101000000{n:04d},{1000 + n},{n:08d},{n + 500:08d},{n + 700:08d}\n" for n in range(5))
@@ -207,10 +241,15 @@ class Batch(unittest.TestCase):
         ("", "the column `iccid` is missing"),
         (HEAD + "1\n", "line 2: it has 1 cells, and the first line 6"),
         (HEAD + ",001010000000001,,,,\n", "line 2: it has no iccid"),
-        ("iccid,puk\n", "line 1: no column is called `puk`, but `puk1` is"),
+        ("iccid,puk\n", "line 1: no column is called `puk`, but `unblock1` is"),
         ("iccid,acc\n" + ONE + ",16\n", "line 2: acc `16`: it is a class from 0 to 15"),
-        (HEAD + "8999901000000000015,,,,,\n", f"line 2: iccid `8999901000000000015`: the check digit of 8999901000000000015 is 5, and should be {contents.luhn('899990100000000001')}"),
-        (HEAD + "8.99E+18,,,,,\n", "line 2: iccid `8.99E+18`: a card's number has 18 to 20 digits, and not 8: a spreadsheet has rounded it"),
+        ("iccid,ki\n", "line 1: a card here has no AUTHENTICATE, so that it has no key for it: the column `ki` has no place"),
+        ("iccid,ADM2\n", "line 1: a card here has the PINs pin1, pin2 and adm alone"),
+        ("iccid,EF_SMSP:center\n", "line 1: the column `EF_SMSP:center`: `center` isn't known: name, destination, centre, protocol"),
+        ("iccid,7F10/6F99:name\n", "line 1: the column `7F10/6F99:name`: `name` isn't known: hex is"),
+        ("iccid,EF_SMX:hex\n", "line 1: the column `EF_SMX:hex`: [EF_SMX] EF_SMX: no standard file is called so, but EF_SMS is"),
+        (f"iccid,EF_SMSP:validity\n{ONE},x\n", "line 2: [EF_SMSP] parameters: entry 1: `validity` is text, and has to be a number"),
+        (HEAD + "8.99E+18,,,,,\n", "line 2: iccid `8.99E+18`: an ICCID has 18 to 20 digits, and not 8: a spreadsheet has rounded it"),
         (HEAD + GOOD + GOOD.splitlines()[0] + "\n", "line 7: its iccid 8999901000000000005 is that of line 2"),
         (HEAD + f"{ONE},001010000000000,,,,\n" + GOOD.splitlines()[0] + "\n", "line 3: its imsi 001010000000000 is that of line 2"),
         (HEAD + f"{ONE},1,,,,\n", "line 2: [EF_IMSI] imsi: an IMSI has 6 to 15 digits"),
@@ -246,7 +285,7 @@ class Batch(unittest.TestCase):
                          [(b"1003", b"00000003"), (b"5678", b"00000703"), (b"00000503", b"00000000")])
         with open(os.path.join(self.folder, "report.csv"), encoding="utf-8") as text:
             rows = list(csv.DictReader(text))
-        self.assertEqual([(row["iccid"], row["imsi"], row["line"], row["to mend"]) for row in rows][3],
+        self.assertEqual([(row["iccid"], row["imsi"], row["line"], row["warnings"]) for row in rows][3],
                          (number, "001010000000003", "5", ""))
         # as many files as `check` says
         self.assertEqual({row["files"] for row in rows}, {str(len(card.files) - 1)})
@@ -306,7 +345,7 @@ class Batch(unittest.TestCase):
         lines = self.GOOD.splitlines()
         done = self.batch(self.HEAD + lines[0] + "\n" + lines[1].replace(",00000001,", ",00000000,") + "\n")
         self.assertEqual(done.returncode, 1)
-        self.assertIn("line 3: its puk1 00000000 is that of line 2", done.stderr)
+        self.assertIn("line 3: its unblock1 00000000 is that of line 2", done.stderr)
 
     def test_columns_of_lists(self):
         """Access classes and the subscriber's number."""
@@ -326,10 +365,42 @@ class Batch(unittest.TestCase):
         file = card_of(card.made.text).files[("7F10", "6F40")]
         self.assertEqual([contents.decode("dialling", file.record(number)) for number in (1, 2)], ["Own: +491701234567", "Fax: +491112"])
 
-    def test_an_imsi_of_few_digits_is_a_warning(self):
-        rows = [(2, {"imsi": "0010100000"}), (3, {"imsi": "001010123456789"}), (4, {})]
-        self.assertEqual(batch.doubts([], rows, "list.csv", "card.toml"),
-                         ["list.csv, line 2: its imsi 0010100000 has 10 digits, and nearly every IMSI 15"])
+    def test_what_check_tells_is_a_warning(self):
+        """A wrong check digit, an IMSI of few digits, a class that isn't the IMSI's: for each card that has it, and in the report."""
+        done = self.batch("iccid,imsi,acc,unblock1,unblock2,adm\n8999901000000000015,0010100001,5,11111111,21111111,31111111\n"
+                          f"{self.ONE},001010000000002,,12222222,22222222,32222222\n")
+        self.assertEqual(done.returncode, 1)
+        told = ["2FE2 EF.ICCID: the check digit of 8999901000000000015 is 5, and should be 3",
+                "7F20/6F07 EF.IMSI: 0010100001 has 10 digits: nearly all IMSIs have 15",
+                "7F20/6F78 EF.ACC has class 5, and the IMSI ends with 1: by its last digit cards are commonly given their class"]
+        self.assertEqual(done.stderr.splitlines(), [f"profile: warning: {self.list}, line 2: {text}" for text in told])
+        self.assertIn("2 cards in ", done.stdout)
+        self.assertIn("; no two have the same ICCID or IMSI, and 1 has warnings; ", done.stdout)
+        with open(os.path.join(self.folder, "report.csv"), encoding="utf-8") as text:
+            self.assertEqual([row["warnings"] for row in csv.DictReader(text)], ["; ".join(told), ""])
+
+    def test_columns_of_files(self):
+        """A key of a file's table, a field of its table or of its first entry, of which the rest stays, and a file of one's own."""
+        self.put(self.card, 'like = "usim"\n[EF_MSISDN]\nentries = [{ name = "Own", number = "+491110" }]\ncount = 1\n[EF_SMSP]\n'
+                            'parameters = [{ name = "SC", validity = 60 }]\n')
+        rows = batch.rows_in(("iccid,EF_MSISDN:name,EF_SMSP:centre,EF_AD:network_digits,EF_SPN:with_network,EF_FPLMN:plmns,7F10/6F99:hex,puk2\n"
+                              f'{self.ONE},Me,+4917,3,false,"[""262-02""]",AABB,99999999\n').encode(), "list.csv")
+        card, = batch.cards(stored.read(self.card), "card.toml", rows, "list.csv", lambda: None)
+        held = card_of(card.made.text)
+        shown = {"/".join(path): "; ".join(tree.meanings(held.files[path], True))
+                 for path in (("7F10", "6F40"), ("7F10", "6F42"), ("7F20", "6FAD"), ("7F20", "6F46"), ("7F20", "6F7B"), ("7F10", "6F99"))}
+        self.assertEqual(shown, {"7F10/6F40": "1: Me: +491110", "7F10/6F42": "1: SC, centre +4917, validity 60 minutes",
+                                 "7F20/6FAD": "normal operation, the network's code has 3 digits",
+                                 "7F20/6F46": "Example (the network's name isn't asked for at home)", "7F20/6F7B": "262-02", "7F10/6F99": "AABB"})
+        self.assertEqual(held.pins[0x81].unblock, b"99999999")
+
+    def test_a_list_over_a_script(self):
+        """The card of a script is what the rows are laid over."""
+        self.put(self.card, profile.made_in(b'like = "usim"\n[EF_SPN]\nspn = "Own"\n', "card.toml").text)
+        self.batch(f"iccid,imsi\n{self.ONE},001010000000002\n")
+        card = card_of(stored.read(os.path.join(self.folder, self.ONE + ".script")).decode(process.ENCODING))
+        self.assertEqual((contents.decode("spn", card.files[("7F20", "6F46")].content), contents.decode("imsi", card.files[("7F20", "6F07")].content)),
+                         ("Own (the network's name is shown too)", "001010000000002"))
 
     def test_what_the_profile_gives_to_all(self):
         """An IMSI that two cards would have from the profile is refused, whatever the list says; a PUK or an ADM is a warning."""
@@ -341,7 +412,7 @@ class Batch(unittest.TestCase):
         done = self.batch(f"iccid,imsi\n{one},\n{other},001010000000002\n")
         self.assertEqual(done.returncode, 1)
         self.assertEqual([(word, value) for word, value in re.findall(r"lines 2, 3: their cards have the same (\w+), (\d+),", done.stderr)],
-                         [("puk1", "12345678"), ("puk2", "87654321"), ("adm", "88888888")])
+                         [("unblock1", "12345678"), ("unblock2", "87654321"), ("adm", "88888888")])
         with open(os.path.join(self.folder, "report.csv"), encoding="utf-8") as text:
             self.assertEqual([row["imsi"] for row in csv.DictReader(text)], ["001010123456789", "001010000000002"])
 

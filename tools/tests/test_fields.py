@@ -55,7 +55,7 @@ class Kinds(unittest.TestCase):
     ]
     # a kind, a value that no bytes say, and why
     WRONG = [
-        ("smsp", {"validity": 7}, "a validity of 7 minutes can't be said"),
+        ("smsp", {"validity": 7}, "no validity period has 7 minutes"),
         ("smsp", {"centre": "x"}, "is no number of at most 20 digits"),
         ("opl", {"plmn": "262-01", "from": "00", "name": 1}, "an area has 4 hexadecimal digits"),
         ("routing", "12345", "1 to 4 digits"),
@@ -64,7 +64,7 @@ class Kinds(unittest.TestCase):
         ("epsloci", {"plmn": "001-01", "status": "unknown"}, "`unknown` is no status: updated, not updated, roaming not allowed"),
         ("suci", {"schemes": [{"scheme": 1}], "keys": [{"id": 1, "key": "5A8"}]}, "no bytes in hexadecimal digits"),
         ("psloci", {"plmn": "1"}, "a PLMN is"),
-        ("minutes6", 31, "that six divides"),
+        ("minutes6", 31, "it is a multiple of 6"),
     ]
 
     def test_to_bytes_and_back(self):

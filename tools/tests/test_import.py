@@ -173,9 +173,9 @@ class LeavingOut(unittest.TestCase):
     TABLE = [
         (exported("MF/ADF.CSIM/EF.IMPI", "update_binary 00"), ["MF/ADF.CSIM/EF.IMPI: a card here has no place for the files of ADF.CSIM"]),
         (exported("MF/ADF.USIM/EF.IMSI", "update_binary 082926108967452301") + exported("MF/DF.GSM/EF.LI", "update_binary 656e"),
-         ["MF/DF.GSM/EF.LI: the files of ADF.USIM lie in the folder of DF.GSM here"]),
+         ["MF/DF.GSM/EF.LI: the files of ADF.USIM lie in DF.GSM here"]),
         (exported("MF/DF.TELECOM/EF.NEW", "update_binary 00"), ["MF/DF.TELECOM/EF.NEW: no identifier is told for EF.NEW"]),
-        (exported("MF/7F10/6F99", "set_data 0x80 00", fcp=OBJECTS_FCP), ["MF/7F10/6F99: `set_data` writes nothing"]),
+        (exported("MF/7F10/6F99", "set_data 0x80 00", fcp=OBJECTS_FCP), ["MF/7F10/6F99: `set_data` writes an object of a file of the structure BER-TLV"]),
         (exported("MF/7F10/6F99", "update_binary 00", fcp=OBJECTS_FCP), ["it is neither transparent, linear fixed nor cyclic"]),
         (exported("MF/7F10/6F99", "update_binary 00", structure="ber_tlv"), ["it is neither transparent, linear fixed nor cyclic"]),
         (exported("MF/7F10/6F99", "update_binary 0"), ["MF/7F10/6F99: `0` are no bytes"]),
@@ -193,7 +193,7 @@ class LeavingOut(unittest.TestCase):
         (exported("MF/7F10/6F99", "update_binary 00", structure="cyclic"), ["it has records, and one content is told"]),
         (exported("MF/7F10/6F99", "update_record 1 " + "00" * 256), ["LENGTH is 1 to 255, not 256"]),
         (exported("MF/EF.ICCID", "update_binary 00"), ["MF/EF.ICCID: 2FE2 EF.ICCID is there already"]),
-        (exported("MF/EF.ICCID/6F99", "update_binary 00"), ["MF/EF.ICCID/6F99: 2FE2 EF.ICCID is no folder"]),
+        (exported("MF/EF.ICCID/6F99", "update_binary 00"), ["MF/EF.ICCID/6F99: 2FE2 EF.ICCID is no DF"]),
         (exported("MF/ADF.USIM/EF.LOCI", "update_binary_decoded '{\"tmsi\": \"00\"}'"), ["its decoded content isn't read: export it"]),
         (exported("MF/ADF.USIM/EF.IMSI", "update_binary_decoded '{\"imsi\": \"1\"}'"), ["(an IMSI has 6 to 15 digits, and `1` is none)"]),
         (exported("MF/7F10/6F99", "update_record 99999999999 00"), ["a file here has at most 254 records, and this one 99999999999"]),
@@ -202,7 +202,7 @@ class LeavingOut(unittest.TestCase):
          ["a service stands beyond 1 bytes"]),
         (exported("MF/DF.TELECOM/EF.X\x7f", "update_binary 0", identifiers="3f00/7f10/6f99"), ["`0` are no bytes"]),
         ("update_binary 00\n", ["line 9: no file is selected"]),
-        ("pySIM-shell (00:MF)> export\n", ["line 9: `pySIM-shell` writes nothing"]),
+        ("pySIM-shell (00:MF)> export\n", ["line 9: `pySIM-shell` isn't known: select, update_binary"]),
         ("# directory: MF (3f00)\n# bad file: MF/EF.UMPC, SW match failed! Expected 9000 and got 6a82: File not found\n", []),
         (exported("MF/ADF.USIM/EF.LOCI").removesuffix("#\n")
          + "# bad file: MF/ADF.USIM/EF.LOCI, SW match failed! Expected 9000 and got 6982: Security status not satisfied\n",
@@ -226,7 +226,7 @@ class LeavingOut(unittest.TestCase):
         card, _, faults = imported(exported("MF/ADF.USIM/EF.IMSI", "update_binary 082926108967452301", fcp=IMSI_FCP)
                                    + exported("MF/ADF.USIM/6F99", "update_binary 00", fcp=fcp))
         self.assertEqual([card.files[("7F20", name)].short for name in ("6F07", "6F99")], [7, None])
-        self.assertEqual(faults[:1], ["MF/ADF.USIM/6F99: comes without its short identifier 7, which 7F20/6F07 EF.IMSI has"])
+        self.assertEqual(faults[:1], ["MF/ADF.USIM/6F99: comes without its SFI 7, which 7F20/6F07 EF.IMSI has"])
 
     def test_as_many_files_as_there_is_room_for(self):
         """127 beside the MF, EF_ARR and the folder with them."""
@@ -373,7 +373,7 @@ class Command(unittest.TestCase):
                 done = self.tool(*words)
                 self.assertEqual((done.returncode, done.stdout, done.stderr), (0, "", ""))
             shown = self.tool("profile", "tree", script).stdout
-            for part in ("6F07 EF.IMSI       9 bytes, short 7", "262019876543210", "1: Anna: +999901005550"):
+            for part in ("6F07 EF.IMSI       9 bytes, SFI 7", "262019876543210", "1: Anna: +999901005550"):
                 self.assertIn(part, shown)
 
     def test_a_file_that_is_no_dump(self):

@@ -154,7 +154,7 @@ class Scripts(unittest.TestCase):
         ("ef 6F07 t 1 - 2F06:2\nef 2F06 l 4 2 - -\nstart\n", "play", [(1, "warning", "record 2 of 2F06 is no rule: it is empty")]),
         ("ef 6F07 t 1 - 2F06:1\nef 2F06 t 4 - -\nstart\n", "play", [(1, "warning", "is no linear fixed file")]),
         ("ef 7F106F3A t 1 - -\nstart\n", "play", [(1, "bad", "`df 7F10` has to stand before")]),
-        ("ef 2FE2 t 1 2 -\nef 2F05 t 1 2 -\nstart\n", "play", [(2, "bad", "the short identifier 2 is taken by 2FE2 (line 1)")]),
+        ("ef 2FE2 t 1 2 -\nef 2F05 t 1 2 -\nstart\n", "play", [(2, "bad", "the SFI 2 is taken by 2FE2 (line 1)")]),
         ("ef 2FE2 t 1 - -\nef 2FE26F07 t 1 - -\nstart\n", "play", [(2, "bad", "2FE2 is an EF, and no DF (line 1)")]),
         ("df 7F10\ndf 7F10\nstart\n", "play", [(2, "bad", "7F10 is there already (line 1)")]),
         ("ef 2FE2 t 2 - -\nfill 2FE2 1 0000\nstart\n", "play", [(2, "bad", "would end after byte 3")]),

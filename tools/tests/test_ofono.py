@@ -6,7 +6,7 @@ import tempfile
 import unittest
 
 from common import TOOLS
-from uicc import Card, NotBuilt, modemmanager, ofono, ofono_tries, process, sim
+from uicc import Card, NotBuilt, daemon, modemmanager, ofono, ofono_tries, process, sim
 
 
 def is_built():
@@ -177,6 +177,17 @@ class Tool(unittest.TestCase):
         self.assertEqual(ran.returncode, 2)
         self.assertIn("ofono: ", ran.stderr)
         self.assertNotIn("Traceback", ran.stderr)
+
+
+@unittest.skipUnless(daemon.python_with_dbus(), "D-Bus for Python isn't here")
+class Bus(unittest.TestCase):
+    def test_a_bus_leaves_nothing_where_it_is_started(self):
+        """Its folder is named from the root: a relative one is refused, and nothing is written."""
+        with tempfile.TemporaryDirectory() as folder:
+            code = f"import sys; sys.path.insert(0, {TOOLS!r}); import ofono_client; ofono_client.bus_in('.', None)"
+            done = subprocess.run([daemon.python_with_dbus(), "-B", "-c", code], cwd=folder, capture_output=True, text=True, check=False)
+            self.assertEqual((done.returncode, os.listdir(folder)), (1, []))
+            self.assertIn("the folder of a bus is named from the root", done.stderr)
 
 
 if __name__ == "__main__":

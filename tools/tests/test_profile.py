@@ -6,7 +6,7 @@ import unittest
 
 import fuzz_profile
 from common import in_process
-from uicc import access, checking, lint, located, names, process, profile, rules
+from uicc import access, checking, contents, lint, located, names, process, profile, rules
 
 EXAMPLES = os.path.join(process.TOP, "examples")
 
@@ -97,8 +97,8 @@ class Building(unittest.TestCase):
         ('[default]\nread = "pin1"\nupdate = "never"\n["7F10/6F99"]\nhex = "01"\n[EF_SPN]\nspn = "a"\n[EF_LI]\nlanguages = ["de"]\n',
          {"2FE2": "read: always; update: never", "7F206FB7": "read: always; update: adm", "2F06": "read: always; update: adm",
           "2F05": "read: always; update: pin1 or adm", "7F206F07": "read: pin1; update: adm",
-          # what the profile names goes by its [default], and keeps what the template says of it
-          "7F106F99": "read: pin1; update: never", "7F206F46": "read: pin1; update: never", "7F206F05": "read: pin1; update: pin1"}),
+          # [default] is for the file that the template hasn't got: naming one of the template leaves its rule
+          "7F106F99": "read: pin1; update: never", "7F206F46": "read: always; update: adm", "7F206F05": "read: always; update: pin1"}),
         ('[default]\nread = "pin1"\n[EF_ICCID]\nread = "adm"\n', {"2FE2": "read: adm; update: never", "7F206FB7": "read: always; update: adm"}),
         ('[default]\nread = "pin1"\n[EF_ICCID]\nrule = "none"\n', {"2FE2": None}),
         ('["7F10/6F99"]\nhex = "01"\n', {"7F106F99": "read: always; update: adm"}),
@@ -126,26 +126,66 @@ class Doubts(unittest.TestCase):
     def test_numbers(self):
         """A PUK of other than eight digits, and the wrong check digit of an ICCID, are warnings of build, with their lines, and of check."""
         made = profile.made_in(b'like = "usim"\n[pins]\npin1 = { unblock = "1234" }\n[EF_ICCID]\niccid = "8999901000000123451"\n', "card.toml")
-        self.assertEqual(made.warnings, ["card.toml, line 3: [pins] pin1 unblock: a PUK has 8 digits, and 1234 4",
+        self.assertEqual(made.warnings, ["card.toml, line 3: [pins] pin1 unblock: an UNBLOCK PIN has 8 digits, and 1234 4",
                                          "card.toml, line 4: [EF_ICCID]: the check digit of 8999901000000123451 is 1, and should be 0"])
         self.assertEqual(list(checking.findings(lint.read(made.text).card, "usim")),
                          ["2FE2 EF.ICCID: the check digit of 8999901000000123451 is 1, and should be 0",
-                          "PIN 1: its PUK has 4 digits, and should have 8"])
+                          "PIN 1: its UNBLOCK PIN has 4 digits, and should have 8"])
 
 
     # the tables of a profile over a usim, and the warnings of build
     TABLE = [
-        ('[EF_IMSI]\nimsi = "26242000000001"\n', ["line 2: [EF_IMSI]: nearly every IMSI has 15 digits, and 26242000000001 14"]),
+        ('[EF_IMSI]\nimsi = "26242000000001"\n', ["line 2: [EF_IMSI]: 26242000000001 has 14 digits: nearly all IMSIs have 15"]),
         ('[EF_ADN]\nread = "always or pin1"\nupdate = "never and pin1"\n',
          ["line 3: [EF_ADN] read: `always or pin1` comes to `always`", "line 4: [EF_ADN] update: `never and pin1` comes to `never`"]),
         ('[EF_ADN]\nupdate = "pin1 and (adm or pin2)"\n', []),
-        ('[EF_ADN]\nincrease = "pin1"\n', ["line 3: [EF_ADN] increase: no file is increased but a cyclic one, and this is linear fixed"]),
+        ('[EF_ADN]\nincrease = "pin1"\n', ["line 3: [EF_ADN] increase: INCREASE is of cyclic files alone, and this one is linear fixed"]),
         # what the standard has otherwise, of files that the profile names
         ('[EF_ADN]\nlength = 10\n', ["line 2: [EF_ADN] has 10 bytes a record, and should have at least 14"]),
         ('[EF_ICCID]\niccid = "8999901000000123450"\nread = "pin1"\n',
          ["line 2: [EF_ICCID]: everybody must be able to read it, and its rule says `pin1`"]),
         ('["7F66/5F40/6F01"]\nsize = 100\n', []),
+        ('["7F66/7F66/6F01"]\nsize = 100\n', ['line 2: ["7F66/7F66/6F01"]: no file has the identifier of a DF that it lies in']),
+        ('[EF_ECC]\nemergency = [{ number = "110", name = "Police", category = 99 }]\n',
+         ["line 2: [EF_ECC], record 1: its category 99 is for manual eCall and automatic eCall, which no number is dialled for: a category is the "
+          "sum of 1 (police), 2 (ambulance), 4 (fire brigade), 8 (marine guard), 16 (mountain rescue)"]),
+        ('[EF_ECC]\nemergency = [{ number = "110", category = 3 }]\n', []),
+        # the template's class is the last digit of the IMSI, whatever that is
+        ('[EF_IMSI]\nimsi = "262420000000010"\n', []),
+        ('[EF_IMSI]\nimsi = "262420000000010"\n[EF_ACC]\nacc = [5]\n',
+         ["line 4: [EF_ACC] has class 5, and the IMSI ends with 0: by its last digit cards are commonly given their class"]),
+        ('[EF_ACC]\nacc = [9, 11]\n', []),
+        ("[EF_UST]\nservices_off = [1]\n", ["line 2: [EF_UST]: 7F10/6F3A EF.ADN is there, and its service 1 (local phone book) is off in EF.UST"]),
+        ("[EF_FDN]\nentries = []\n", ["line 2: [EF_FDN] is there, and its service 2 (fixed dialling numbers) is off in EF.UST"]),
     ]
+
+    def test_check_says_what_build_says(self):
+        """One answer for one mistake: what build warns of the files of a card, check tells too, with the file in the place of the table."""
+        for text, warnings in self.TABLE:
+            made = profile.made_in(('like = "usim"\n' + text).encode(), "card.toml")
+            found = list(checking.findings(lint.read(made.text).card, "usim"))
+            for warning in warnings:
+                told = warning.partition("]")[2].lstrip('":, ')
+                with self.subTest(text=text):
+                    self.assertTrue("comes to" in told or "INCREASE is of" in told or any(told in one for one in found), (told, found))
+
+    def test_a_class_by_the_imsi(self):
+        """It is asked for by a word, and an IMSI that is blank gives none."""
+        for text, acc in (('[EF_IMSI]\nimsi = "262019876543213"\n', "0008"), ('[EF_IMSI]\nhex = "082926108967452371"\n', "0080"),
+                          ('[EF_IMSI]\nhex = "FF"\nsize = 9\n', "0000"), ("[EF_ACC]\nacc = [11]\n", "0800")):
+            card = lint.read(profile.made_in(('like = "usim"\n' + text).encode(), "card.toml").text).card
+            with self.subTest(text=text):
+                self.assertEqual(card.files[("7F20", "6F78")].content.hex().upper(), acc)
+        with self.assertRaises(profile.BadProfile) as caught:
+            profile.made_in(b'[EF_ACC]\nacc = "imsi"\n', "card.toml")
+        self.assertEqual(str(caught.exception), 'card.toml, line 2: [EF_ACC] acc = "imsi" is the last digit of the IMSI, and there is no EF_IMSI')
+
+    def test_services_that_are_added(self):
+        """The others stay, a service goes by its file too, and the file grows."""
+        text = 'like = "usim"\n[EF_UST]\nservices_on = ["FDN", "msisdn", 94]\nservices_off = ["GSM access"]\n'
+        card = lint.read(profile.made_in(text.encode(), "card.toml").text).card
+        content = bytes(card.files[("7F20", "6F38")].content)
+        self.assertEqual((contents.services_on("ust", content), len(content)), ({1, 2, 10, 12, 19, 20, 21, 33, 94}, 12))
 
     def test_warnings_of_build(self):
         for text, warnings in self.TABLE:
@@ -155,7 +195,7 @@ class Doubts(unittest.TestCase):
 
     def test_files_of_ones_own(self):
         """In a folder that is no standard one an identifier says nothing."""
-        self.assertEqual([names.name_of(path) for path in (("7F66", "5F40", "6F01"), ("7F77", "6F50"), ("7F20", "6F07"))], ["6F01", "6F50", "EF.IMSI"])
+        self.assertEqual([names.name_of(path) for path in (("7F66", "5F40", "6F01"), ("7F77", "6F50"), ("7F10", "6F31"), ("7F20", "6F07"))], ["6F01", "6F50", "6F31", "EF.IMSI"])
 
 
 class Quotes(unittest.TestCase):
@@ -182,10 +222,10 @@ class Mistakes(unittest.TestCase):
          ['line 3: [pins] pin1 is text, and has to be a table of value, unblock, on: pin1 = { value = "1234", unblock = "12345678" }']),
         ('[EF_IMSI]\nimsi = ["262019876543210"]', ['line 3: [EF_IMSI] imsi is a list, and has to be text in quotes: imsi = "262019876543210"']),
         ('[EF_ADN]\n\nentries = ["A"]',
-         ["line 4: [EF_ADN] entries has a wrong entry 1: it is text, and has to be a table of name, number: "
+         ["line 4: [EF_ADN] entries: entry 1 is text, and has to be a table of name, number: "
           'entries = [{ name = "Anna", number = "+491701234567" }]']),
         ('[EF_ADN]\nentries = [{ name = "A", nmber = "1" }]',
-         ["line 3: [EF_ADN] entries has a wrong entry 1: it has a wrong `nmber`: it isn't known: `number` is: "
+         ["line 3: [EF_ADN] entries: entry 1: `nmber` isn't known: `number` is: "
           'entries = [{ name = "Anna", number = "+491701234567" }]']),
         ('pins = "1234"', ["line 2: pins is text, and has to be a table of pin1, pin2, adm: [pins] and below it "
                            'pin1 = { value = "1234", unblock = "12345678" }']),
@@ -198,15 +238,15 @@ class Mistakes(unittest.TestCase):
         ("colour = 1", ["line 2: `colour` isn't known at the top of a profile: `like`, [pins], [default], [[applet]] and tables of files are"]),
         ('EF_IMSI = "262019876543210"', ["line 2: `EF_IMSI` is text, and has to be a table: [EF_IMSI] and below it what the file holds"]),
         ('[pins]\nadm1 = { value = "1234" }', ["line 3: [pins] adm1 isn't known: it is called `adm`"]),
-        ('[pins]\npuk1 = "12345678"', ["line 3: [pins] puk1 isn't known: the PUK of a PIN stands with it: "
+        ('[pins]\npuk1 = "12345678"', ["line 3: [pins] puk1 isn't known: the UNBLOCK PIN (PUK) stands with its PIN: "
                                       'pin1 = { value = "1234", unblock = "12345678" }']),
-        ("[7F20]", ['line 2: [7F20] is a folder (DF.GSM): its files have tables of their own, as ["7F20/EF_IMSI"]; `folder = true` alone '
+        ("[7F20]", ['line 2: [7F20] is a DF (DF.GSM): its files have tables of their own, as ["7F20/EF_IMSI"]; `folder = true` alone '
                     "makes an empty one"]),
         ('[EF_PNNN]\nhex = "00"', ["line 2: [EF_PNNN] EF_PNNN: no standard file is called so, but EF_PNN is; an identifier of four digits "
                                   "names any other"]),
         ('[EF_SPN]\nspn = "A"\nread = "adm1"', ["line 4: [EF_SPN] read: `adm1` is no condition, but `adm` is: always, never, pin1, pin2, adm, "
                                             "joined by `or` or `and`"]),
-        ('["ADF.USIM/EF.IMSI"]\nhex = "00"', ["line 2: [ADF.USIM/EF.IMSI] ADF.USIM: a card here has no ADF: the files of a USIM lie in the folder 7F20"]),
+        ('["ADF.USIM/EF.IMSI"]\nhex = "00"', ["line 2: [ADF.USIM/EF.IMSI] ADF.USIM: a card here has no ADF: the files of a USIM lie in the DF 7F20"]),
         ('["7F10.6F99"]\nhex = "00"', ['line 2: [7F10.6F99]: a path is written with slashes, ["7F10/6F99"]']),
         ('[EF_FOO]\nhex = "00"', ["line 2: [EF_FOO] EF_FOO: no standard file is called so; an identifier of four digits"]),
         ('[EF_ISMI]\nhex = "00"', ["line 2: [EF_ISMI] EF_ISMI: no standard file is called so, but EF_IMSI is"]),
@@ -221,10 +261,20 @@ class Mistakes(unittest.TestCase):
         ('[EF_AD]\nread = "adm)"', ["line 3: [EF_AD] read: `adm)` is no condition: a bracket is closed that isn't open"]),
         ('[EF_PL]\nlanguages = ["DE"]', ["line 3: [EF_PL] languages: a language is two small letters (ISO 639), as `de`, and not `DE`"]),
         ('[EF_DIR]\napplications = [{ aid = "A000" }]', ["line 3: [EF_DIR] applications: an AID has 5 to 16 bytes, and A000 2"]),
-        ('[EF_SPN]\nspn = "A"\nshort = 7', ["line 2: [EF_SPN]: the short identifier 7 is taken by 7F20/6F07"]),
+        ('[EF_SPN]\nspn = "A"\nshort = 7', ["line 2: [EF_SPN]: the SFI 7 is taken by 7F20/6F07"]),
         ('[EF_SPN]\nspn = "A"\nsize = 100000', ["line 4: [EF_SPN] size is 100000, and has to be a number from 1 to 32767: size = 17"]),
         ('["7F10/6F99"]\nsize = 5\ncyclic = true', ['line 2: ["7F10/6F99"]: `cyclic` is of files with records, and `size` of those without']),
         ('[EF_SPN]\niccid = "1"', ["line 3: [EF_SPN] iccid is nothing that EF.SPN holds: `spn = \"Nordlicht\"` is"]),
+        ('[EF_UST]\nservices_on = ["FDX"]', ["line 3: [EF_UST] services_on: `FDX` is no service by number or name: tools/profile services ust"]),
+        ("[EF_UST]\nservices_on = 2", ["line 3: [EF_UST] services_on is a number, and has to be a list of numbers or names of services"]),
+        ("[EF_SPN]\nservices_off = [2]", ["line 3: [EF_SPN] services_off is of files with services: EF_UST"]),
+        ("[EF_ECC]\nemergency = [112]", ["line 3: [EF_ECC] emergency: entry 1 is a number, and has to be text in quotes"]),
+        ("[pins]\npin1 = { value = 1234 }", ["line 3: [pins] pin1: `value` is a number, and has to be text in quotes"]),
+        ("[EF_HPPLMN]\nminutes = 7", ["line 3: [EF_HPPLMN] minutes: it is a multiple of 6 from 0 to 1530, and not 7"]),
+        ('[EF_AD]\nrule = "-"', ['line 2: [EF_AD]: `rule` is an EF_ARR and the number of a record in it, as "2F06:3", or "none"']),
+        ('["3F00"]\nhex = "00"', ["line 2: [3F00] is the MF, of which a profile says nothing"]),
+        ('[EF_AD]\nread = "pin1 AND adm"', ["line 3: [EF_AD] read: `pin1 AND adm` is no condition, but `and` and `or` in small letters"]),
+        ('[EF_AD]\nread = "or adm"', ["line 3: [EF_AD] read: a condition is missing before `or`"]),
         ('[[applet]]\nkind = "menu"\n[[applet]]\nkind = "menu"\nmenue = "x"', ["line 6: [[applet]] menue isn't known: `menu` is"]),
         ('[[applet]]\nkind = "table"\non = { locaton = ["show A"] }', ["line 2: [[applet]]: the applet on shelf 6: `locaton` is no event, but "
                                                                   "`location` is: "]),
@@ -254,9 +304,8 @@ class Mistakes(unittest.TestCase):
           "line 8: [default] update: `adm1` is no condition", "line 10: [EF_IMSI] imsi: an IMSI has", "line 11: [EF_IMSI] short is 99",
           "line 13: [EF_ACC] acc: entry 2: an access control class is", "line 13: [EF_ACC] acc: entry 4: an access control class is",
           "line 14: [EF_ACC] read: `pin3` is no condition", "line 16: [EF_SPN] spn: `too long for the file` has 21 bytes",
-          "line 18: [EF_ADN] entries has a wrong entry 3: it has a wrong `nme`: it isn't known: `name` is",
-          "line 18: [EF_ADN] entries has a wrong entry 3: it has a wrong `number`: it is a number",
-          "line 18: [EF_ADN] entries: entry 1: `x` is no number", "line 19: [EF_PNNN] EF_PNNN: no standard",
+          "line 18: [EF_ADN] entries: entry 1: `x` is no number", "line 18: [EF_ADN] entries: entry 3: `nme` isn't known: `name` is",
+          "line 18: [EF_ADN] entries: entry 3: `number` is a number", "line 19: [EF_PNNN] EF_PNNN: no standard",
           'line 21: ["7F20/6F46"] is the same file as [EF_SPN]', "line 23: [[applet]]: the applet on shelf 6: `locaton` is no event",
           "line 23: [[applet]]: the applet on shelf 6: `shw A` is no action", "line 23: [[applet]]: the applet on shelf 6: `tone`: tone has",
           "line 26: [[applet]]: an applet has a shelf, or a kind"]),
@@ -265,7 +314,7 @@ class Mistakes(unittest.TestCase):
         ('[EF_SPN]\nsp = "x"\n["7F10/6F99"]\nhx = "00"\n', ["line 2: [EF_SPN] sp isn't known", 'line 4: ["7F10/6F99"] hx isn\'t known']),
         # what only the script shows comes with the rest
         ('like = "usim"\n[EF_SPN]\nspn = "A"\nshort = 7\n[EF_ACC]\nacc = [10]\n',
-         ["line 2: [EF_SPN]: the short identifier 7 is taken by", "line 6: [EF_ACC] acc: an access control class"]),
+         ["line 2: [EF_SPN]: the SFI 7 is taken by", "line 6: [EF_ACC] acc: an access control class"]),
         # lines that are no TOML: each that is wrong by itself, and what stands in the others
         ('like = "usim"\n[EF_IMSI]\nimsi = 0123456\n[EF_SPN]\nspn = "Nord\n[EF_ACC]\nacc = [10]\n',
          ["line 3: Expected newline or end of document after a statement: digits that begin with 0", "line 5: Illegal character",
@@ -284,7 +333,7 @@ class Mistakes(unittest.TestCase):
                                                                           "line 5: [EF_ACC] read: `pin3` is no condition"]),
         # entries that are wrong beside others that are of no form
         ('like = "usim"\n[EF_ADN]\nentries = [{ name = "A", number = "x" }, { nme = "B" }, { name = "C", number = "1" }]\n',
-         ["line 3: [EF_ADN] entries has a wrong entry 2: it has a wrong `nme`", "line 3: [EF_ADN] entries: entry 1: `x` is no number"]),
+         ["line 3: [EF_ADN] entries: entry 1: `x` is no number", "line 3: [EF_ADN] entries: entry 2: `nme` isn't known"]),
     ]
 
     def test_all_mistakes_in_one_run(self):

@@ -52,7 +52,7 @@ TABLE = [
     (["80140000" + "0C810301218082028281830100"], "6985", "no command that was fetched waits for a response"),
     ([VERIFY_ADM, "F0E60102" + "03014000"], "6985", "an applet is registered there already"),
     ([VERIFY_ADM, "F0E60103" + "03014500"], "6985", "the applet on shelf 2 has call control already"),
-    ([VERIFY_ADM, "00E0000011620F8202412183026F5080020004880128"], "6A89", "2F05 EF.PL has the short identifier 5"),
+    ([VERIFY_ADM, "00E0000011620F8202412183026F5080020004880128"], "6A89", "2F05 EF.PL has the SFI 5"),
     ([VERIFY_ADM, "00E0000011620F8202412183022F058002000488" + "0178"], "6A89", "2F05 EF.PL is there already"),
     ([VERIFY_ADM, "00E40000027F10"], "6985", "7F10/6F3A EF.ADN lies in it"),
     ([VERIFY_ADM, "00E000000A62088202782183027F20", "00E40000027F20"], None, None),

@@ -77,6 +77,34 @@ class Files(unittest.TestCase):
             with self.subTest(text=text):
                 self.assertEqual(decode.hexed(read("command " + text)[0].steps[0].raw), raw)
 
+    # the standard's names for objects, and what is shorter
+    NAMES = [
+        ("SET UP CALL address 123 alpha-identifier \"Go\"", "SET UP CALL address 123 alpha \"Go\"", "SET UP CALL address 123 title \"Go\""),
+        ("GET INPUT text-string A response-length 1 2 default-text B", "GET INPUT text A length 1 2 default B"),
+        ("RECEIVE DATA channel-data-length 5", "RECEIVE DATA count 5"), ("SEND DATA channel-data 41", "SEND DATA data 41"),
+        ("OPEN CHANNEL bearer-description 03 buffer-size 5 transport-level 021F90", "OPEN CHANNEL bearer 03 size 5 transport 021F90"),
+        ("TIMER MANAGEMENT timer-identifier 1 timer-value 00:05:00", "TIMER MANAGEMENT timer 1 time 00:05:00"),
+        ("SET UP EVENT LIST event-list location", "SET UP EVENT LIST events location"), ("LANGUAGE NOTIFICATION language de", "35 language de"),
+    ]
+
+    def test_names_of_objects(self):
+        for texts in self.NAMES:
+            with self.subTest(texts=texts):
+                self.assertEqual(len({read("command " + text)[0].steps[0].raw for text in texts}), 1)
+
+    def test_numbers_are_read_back(self):
+        """A number in a sequence is as tools/explain shows it, of whatever type it is."""
+        for value in ("911032042143651C2C", "8121F3", "A121F3", "912143", "FF1A2BDC", "80214365", "91E1"):
+            shown = decode.object_text(0x06, bytes.fromhex(value), True)
+            with self.subTest(value=value, shown=shown):
+                raw = read("command SET UP CALL address " + shown)[0].steps[0].raw
+                self.assertEqual(tlv.first(tlv.template(raw)[1], 0x06).hex().upper(), value)
+
+    def test_comments(self):
+        for text in ("SET UP CALL address *21# alpha \"#1\"", "SET UP CALL address *21# alpha '#1' # a call", "SET UP CALL address '*21#' alpha \"#1\"  #"):
+            with self.subTest(text=text):
+                self.assertEqual(decode.hexed(read("command " + text)[0].steps[0].raw), "D012810301100082028183" "8603812AB1" "85022331")
+
     def test_commands_are_numbered(self):
         found = read("command MORE TIME", "response result 00", "command MORE TIME", "response result 00")[0].commands()
         self.assertEqual([one.details[0] for one in found], [1, 2])
@@ -87,25 +115,31 @@ class Files(unittest.TestCase):
             self.assertEqual(read("command " + text)[0].needs, [needed])
         self.assertEqual(read("needs UCS2 display", "command MORE TIME")[0].needs, ["UCS2 display", "MORE TIME"])
         self.assertEqual(read("command FE")[0].needs, [])
-        # a command without a name here, and a bit of the profile
-        self.assertEqual(read("command 35 language de")[0].needs, ["byte 9 bit 6"])
+        # one that is written by its type, and a bit of the profile
+        self.assertEqual(read("command 35 language de")[0].needs, ["LANGUAGE NOTIFICATION"])
+        self.assertEqual(read("command 34")[0].needs, ["RUN AT COMMAND"])
+        self.assertEqual(read("command GET READER STATUS qualifier 01")[0].needs, ["GET READER STATUS: identifier"])
+        self.assertEqual(read("command COMMAND CONTAINER")[0].needs, ["COMMAND CONTAINER and ENCAPSULATED SESSION CONTROL"])
         self.assertEqual(read("needs byte 9 bit 6", "command MORE TIME")[0].needs, ["byte 9 bit 6", "MORE TIME"])
         profile = bytes(8) + b"\x20"
         self.assertEqual([sequence.has(profile, need) for need in ("byte 9 bit 6", "byte 9 bit 5", "byte 10 bit 1", "DISPLAY TEXT")],
                          [True, False, False, False])
 
     def test_commands_without_a_response(self):
-        """They are told: whatever the terminal answers, such a sequence passes."""
+        """They are refused: whatever the terminal answered, such a sequence would pass."""
         lines = ("command MORE TIME", "command MORE TIME", "response result 00", "command REFRESH qualifier 04", "restart")
-        self.assertEqual([step.line for step in read(*lines)[0].unanswered()], [2])
+        self.assertEqual([(one.line, one.text) for one in sequence.forgotten(read(*lines))], [(2, "command MORE TIME")])
+        self.assertEqual(sequence.forgotten(read("command MORE TIME", "response any")), [])
 
     # what a line is, and why it is bad
     BAD = [
         ("commend MORE TIME", "no line begins with `commend`: sequence, section, needs, command"),
-        ("command", "command, nor a type of two digits is missing"),
-        ("command SHOW TEXT", "`SHOW` is no command"), ("command DISPLAY TXT", "`DISPLAY TXT` is no command, nor a type of two digits: "),
-        ("command SELECT", "`SELECT` is no command"), ("command GET text A", "`GET text"),
-        ("command DISPLAY TEXT txt \"A\"", "`txt` is no object: details, result"),
+        ("command", "the command is missing"),
+        ("command SHOW TEXT", "`SHOW` is no command"), ("command DISPLAY TXT", "is `DISPLAY TEXT` or `DISPLAY MULTIMEDIA MESSAGE` meant?"),
+        ("command SELECT", "`SELECT` is no command: is `SELECT ITEM` meant?"), ("command GET text A", "`GET text"),
+        ("command LANGUAGE NOTIFY", "is `LANGUAGE NOTIFICATION` meant?"), ("command display text text A", "is `DISPLAY TEXT` or `DISPLAY MULTIMEDIA MESSAGE` meant?"),
+        ("command DISPLAY TEXT txt \"A\"", "`txt` is no object: is `text` meant?"),
+        ("command DISPLAY TEXT alpha-id \"A\"", "`alpha-id` is no object: is `alpha"),
         ("command DISPLAY TEXT text \"A", "quotes come in pairs"),
         ("command DISPLAY TEXT text", "the text is missing"),
         ("command DISPLAY TEXT text \"Ж\"", "`Ж` is no letter of eight bits: write `ucs2`"),
@@ -114,34 +148,33 @@ class Files(unittest.TestCase):
         ("command DISPLAY TEXT optional text \"A\"", "a command is given as it is"),
         ("command DISPLAY TEXT qualifier 8", "a qualifier is two hexadecimal digits, not 8"),
         ("command DISPLAY TEXT to screen", "`screen` is no device: keypad, display"),
-        ("command DISPLAY TEXT without text", "`text` is no part that a command may be without: details, devices"),
+        ("command DISPLAY TEXT without text", "`text` is no part that a command may be without"),
         ("command SET UP MENU item 0 \"A\"", "the number of an item is 1 to 255, not 0"),
         ("command PLAY TONE duration 1 hours", "a duration is in minutes, seconds or tenths, not in hours"),
         ("command TIMER MANAGEMENT time 1:00", "a time is HH:MM:SS, not 1:00"),
-        ("command SET UP EVENT LIST events rain", "`rain` is no event: mt-call"),
+        ("command SET UP EVENT LIST events rain", "`rain` is no event, nor a code of two digits"),
         ("command SET UP CALL address 12a", "a number that is dialled is"),
         ("command PROVIDE LOCAL INFORMATION language EN", "a language is two letters, not EN"),
         ("command DISPLAY TEXT object 00 41", "00 is no tag of one byte"),
-        ("command DISPLAY TEXT object 8D 4", "a value is hexadecimal digits, two for each byte"),
+        ("command DISPLAY TEXT object 8D 4", "hexadecimal digits are wanted for a value, two for each byte"),
         ("command DISPLAY TEXT text \"" + "x" * 250 + "\"", "a command has 1 to 256 bytes, and this one 267"),
         ("command DISPLAY TEXT text " + "x" * 70000, "the objects of this one are longer"),
         ("command MORE TIME number " + "9" * 5000, "the number of a command is 0 to 255, not 999"),
         ("command bytes", "the bytes of a command is missing"),
         ("command bytes D0 00", "`00` is too much"),
-        ("command bytes D", "the bytes of a command is hexadecimal digits"),
+        ("command bytes D", "hexadecimal digits are wanted for the bytes of a command"),
         ("then MORE TIME", "no command stands before this one"),
         ("response result 00", "no command stands before this response"),
-        ("needs PAY", "a terminal profile has no `PAY`: CLOSE CHANNEL"),
+        ("needs PAY", "`PAY` is no name in a terminal profile"),
         ("section", "the section of 3GPP TS 31.124 is missing"),
         ("shown", "what is shown is missing"), ("shown foo", "no terminal shows `foo`: shown text T, ask T"),
         ("user dance", "and in a sequence help and refuse"),
-        ("command DISPLAY TXT", "one that has no name here is written by its type, as `command 35`"),
-        ("command SET UP CALL alpha \"A\"", "`alpha` is no object: the alpha identifier of a command is its `title`"),
-        ("needs PAY", "or a bit of it, as `byte 9 bit 6`"), ("command GET INPUT length 1", "the greatest length is missing"),
+        ("needs LANGUAGE", "is `LANGUAGE NOTIFICATION` meant?"), ("needs PAY", "a bit is written as `byte 9 bit 6`"),
+        ("response any result 00", "after `response any` stands nothing"), ("command GET INPUT length 1", "the greatest length is missing"),
         ("user dance", "a user does no `dance`"),
         ("net echo 1 1", "this is for `bip`"),
         ("time", "N is missing"),
-        ("envelope", "envelope is missing: menu selection, call control, event, timer expiration"),
+        ("envelope", "the envelope is missing"),
         ("envelope letter", "`letter` is no envelope"),
         ("no response", "after `no` stands `envelope`"),
         ("within 1000", "the seconds is 0 to 999, not 1000"),
@@ -175,8 +208,9 @@ class Files(unittest.TestCase):
         with self.assertRaises(BadSequence) as refused:
             sequence.read("shown text A\n" * 30, "a.sequence")
         self.assertEqual(len(refused.exception.lines), 1)
-        with self.assertRaisesRegex(BadSequence, "\nand 10 bad lines more$"):
+        with self.assertRaises(BadSequence) as refused:
             read(*["shown"] * 30)
+        self.assertEqual(str(refused.exception).count("what is shown is missing"), 30)
 
     def test_bad_files(self):
         """Of several files the bad lines of all are told."""
@@ -730,14 +764,14 @@ class Verdicts(unittest.TestCase):
     def test_reasons(self):
         able = undertest.InPython(able_terminal.AbleTerminal)
         for lines, kind, why, step in (
-                (("command MORE TIME", "response result 00", "response result 00"), verdict.FAILED, "no TERMINAL RESPONSE comes at once",
+                (("command MORE TIME", "response result 00", "response result 00"), verdict.FAILED, "no TERMINAL RESPONSE comes",
                  "response result 00"),
                 (("command MORE TIME",), verdict.FAILED, "a TERMINAL RESPONSE comes that no step asks for", None),
-                (("command MORE TIME", "response result 00", "restart"), verdict.FAILED, "the card isn't reset at once", "restart"),
+                (("command MORE TIME", "response result 00", "restart"), verdict.FAILED, "the card isn't reset", "restart"),
                 (("command REFRESH qualifier 04",), verdict.FAILED, "the card is reset, and no step asks for it", None),
                 (("command MORE TIME", "response result 00", "status"), verdict.PASSED, "", None),
-                (("command MORE TIME", "response result 00", "net poll", "status", "status"), verdict.FAILED, "no STATUS comes at once", "status"),
-                (("command MORE TIME", "response result 00", "envelope event events 04"), verdict.FAILED, "no ENVELOPE comes at once",
+                (("command MORE TIME", "response result 00", "net poll", "status", "status"), verdict.FAILED, "no STATUS comes", "status"),
+                (("command MORE TIME", "response result 00", "envelope event events 04"), verdict.FAILED, "no ENVELOPE comes",
                  "envelope event events 04"),
                 (("command SET UP EVENT LIST events user-activity", "response result 00", "user press"), verdict.FAILED,
                  "an ENVELOPE comes that no step asks for", None),
@@ -888,7 +922,7 @@ class OverApplets(unittest.TestCase):
 
         outcome = self.played("row 1 1 00044D656E75", undertest.InPython(Twice), ("command MORE TIME", "response result 00"))
         self.assertEqual((outcome.verdict, outcome.why),
-                         (verdict.FAILED, "a TERMINAL RESPONSE comes for a command that wasn't fetched, or was answered already, SET UP MENU"))
+                         (verdict.FAILED, "a TERMINAL RESPONSE comes for SET UP MENU, number 1, which was answered already"))
 
     def test_those_in_the_box(self):
         """Over a card that greets, watches and has a menu the able terminal passes all that it passes over one without applets."""
@@ -922,20 +956,25 @@ class Tool(unittest.TestCase):
             self.assertEqual((done.returncode, done.stderr), (1, ""))
             for part in (
                     f"FAILED  {path}:6: it fails\n    line 9, `response result 00|01 text any`: the TERMINAL RESPONSE isn't as it must be\n",
-                    "* result: 00 or 01                                      result: 11 gone back by the user\n",
+                    "* result: 00 or 01                                      result: 11 backward move requested by the user\n",
                     "* text: *                                               (nothing)\n",
                     "NOT SUPPORTED  ", "its terminal profile doesn't have POLLING OFF", "INCONCLUSIVE  ", "its user can't `help`",
-                    "DISPLAY TEXT  80 normal priority, cleared by the user  00 done                        27.22.4.1  1          1\n",
+                    "DISPLAY TEXT  80 normal priority, cleared by the user  00 done                                        27.22.4.1  1          1\n",
+                    "80 normal priority, cleared by the user  00 done or 01 done with partial comprehension  ",
                     "4 sequences on the handset in Python: 1 passed, 1 failed, 1 inconclusive, 1 not supported"):
                 self.assertIn(part, done.stdout)
             suite = xml.etree.ElementTree.parse(os.path.join(folder, "report.xml")).getroot()
             self.assertEqual([suite.get(name) for name in ("tests", "failures", "skipped")], ["4", "1", "2"])
             self.assertEqual([[child.tag for child in case] for case in suite], [[], ["failure"], ["skipped"], ["skipped"]])
-            self.assertIn("gone back by the user", suite[1][0].text)
+            self.assertIn("backward move requested by the user", suite[1][0].text)
+            # where it failed, the same on each machine, and why in a line
+            self.assertEqual([(case.get("classname"), case.get("file"), case.get("line")) for case in suite], [("a.sequence", "a.sequence", line) for line in ("1", "9", "10", "15")])
+            self.assertEqual(suite[1][0].get("message"), "line 9, `response result 00|01 text any`: the TERMINAL RESPONSE isn't as it must be: result must be "
+                             "00 or 01 and is 11 backward move requested by the user")
             with open(os.path.join(folder, "traces", "001-it-passes.trace"), encoding="utf-8") as trace:
                 lines = trace.read().splitlines()
-            self.assertEqual(lines[4:7], ["* card, with a status by the player", "> 80F2000C", "< 910F"])
-            self.assertIn("* player", lines)
+            self.assertEqual(lines[4:7], ["* player: this is answered by the card, but for its status", "> 80F2000C", "< 910F"])
+            self.assertIn("* player: this is answered by the player", lines)
             self.assertEqual(subprocess.run([sys.executable, "-B", os.path.join(TOOLS, "explain"), "-"], input="\n".join(lines) + "\n", text=True,
                                             capture_output=True, check=False).returncode, 0)
 
@@ -961,22 +1000,44 @@ class Tool(unittest.TestCase):
         """All words of a file, a list each."""
         done = tool("--words")
         self.assertEqual((done.returncode, done.stderr), (0, ""))
-        for part in ("commands (others are written by their type, as `command 35`):\n    REFRESH,", "objects:\n    details,", "needs (or a bit"):
+        for part in ("commands (one that has no name is written by its type, as `command 35`):\n    REFRESH,", "objects:\n    command-details or details, result,", "needs (or a bit"):
             self.assertIn(part, done.stdout)
 
     def test_long_texts(self):
         """Of two long texts what stands around the place from which they differ is shown."""
         command = load("sequence")
         one, other = (command.beside("text: " + "a" * 100 + end + "b" * 100, "text: " + "a" * 100 + "b" * 100) for end in ("", "c"))
-        self.assertEqual(one[0], one[1])
-        self.assertEqual(other, [".." + "a" * 16 + "c" + "b" * 31 + "..", ".." + "a" * 16 + "b" * 32 + ".."])
-
-    def test_a_command_without_a_response_is_told(self):
+        self.assertEqual((one[0][0], one[1]), (one[0][1], None))
+        self.assertEqual(other, ([".." + "a" * 16 + "c" + "b" * 31 + "..", ".." + "a" * 16 + "b" * 32 + ".."], 107))
         with tempfile.TemporaryDirectory() as folder:
-            path = self.put(folder, "sequence it forgets", "command MORE TIME")
+            text = "x" * 100
+            path, report = self.put(folder, "sequence it types", "command GET INPUT qualifier 01 text \"A\" length 0 200", "user type " + "x" * 30,
+                                    f"response result 00 text \"{'x' * 29}{text}\""), os.path.join(folder, "report.xml")
+            done = tool(path, "--junit", report)
+            suite = xml.etree.ElementTree.parse(report).getroot()
+        for told in (done.stdout, suite[0][0].text):
+            self.assertIn("\n        they differ from character 31 of the text on\n", told + "\n")
+
+    def test_a_command_without_a_response(self):
+        with tempfile.TemporaryDirectory() as folder:
+            path = self.put(folder, "sequence it forgets", "command DISPLAY TEXT qualifier 80 text A")
             done = tool(path)
-        self.assertEqual((done.returncode, done.stderr),
-                         (1, f"sequence: {path}:2: no `response` stands after this command, so that any is taken\n"))
+            wide = tool(self.put(folder, "sequence it takes any", "command DISPLAY TEXT qualifier 80 text A", "user back", "response any"), "--table")
+        self.assertEqual((done.returncode, done.stderr), (2, f"sequence: {path}:2: no `response` stands after this command: `response result 00`, say, or "
+                                                          "`response any` where every one will do\n    command DISPLAY TEXT qualifier 80 text A\n"))
+        self.assertEqual(wide.returncode, 0, wide)
+        self.assertIn("80 normal priority, cleared by the user  any ", wide.stdout)
+
+    def test_bad_words(self):
+        """Each bad line is told with the tool's name before it, and the way to the words that there are once."""
+        with tempfile.TemporaryDirectory() as folder:
+            done = tool(self.put(folder, "sequence bad", "command SHOW TEXT", "command MORE TIME alpah \"A\"", "shown"))
+        heads = [line for line in done.stderr.splitlines() if not line.startswith(" ")]
+        self.assertEqual((done.returncode, len(heads)), (2, 4))
+        self.assertTrue(all(line.startswith("sequence: ") for line in heads), heads)
+        self.assertIn("`alpah` is no object: is `alpha` meant?", heads[1])
+        self.assertIn("`tools/sequence --words` prints all words", heads[3])
+        self.assertLess(max(map(len, heads)), 260)
 
     def test_as_a_program(self):
         with tempfile.TemporaryDirectory() as folder:
@@ -1026,6 +1087,9 @@ class Tool(unittest.TestCase):
         suite = xml.etree.ElementTree.parse(os.path.join(folder, "report.xml")).getroot()
         return [[child.get("message") for child in case] for case in suite]
 
+    WHY = ("line 9, `response result 00|01 text any`: the TERMINAL RESPONSE isn't as it must be: result must be 00 or 01 and is 11 backward move "
+           "requested by the user")
+
     def test_verdicts_before_a_complaint(self):
         """A terminal that can't be closed: of the sequences it is told all the same."""
         for text, why in (("raise OSError('stuck')", "the terminal can't be closed: OSError: stuck, at "),
@@ -1037,7 +1101,7 @@ class Tool(unittest.TestCase):
                 self.assertEqual((done.returncode, done.stderr.count("\n")), (2, 1))
                 self.assertIn(why, done.stderr)
                 self.assertIn("2 sequences on the handset in Python: 1 passed, 1 failed", done.stdout)
-                self.assertEqual(self.kinds(folder), [[], ["the TERMINAL RESPONSE isn't as it must be"]])
+                self.assertEqual(self.kinds(folder), [[], [self.WHY]])
                 self.assertIn("ok 1 - it passes\nnot ok 2 - it fails\n", tool(path, *on, "--tap").stdout)
 
     def test_places_that_cannot_be_written(self):
@@ -1118,7 +1182,7 @@ class Tool(unittest.TestCase):
                     ((good, "--on", "telephone"), "no terminal is called telephone: python, phone, ofono, modem, reader, or FILE.py:CLASS"),
                     ((good, "--on", "modem:70000"), "a port is 0 to 65535, and not 70000"), ((good, "--on", "reader:x"), "a port is 0 to 65535, and not x"),
                     ((good, "--on", own + ":No"), "has no class No that is an UnderTest"),
-                    ((good, "--on", own + ":None"), "has no class None"), ((good, "--on", folder + "/x.py:Y"), "is no file of Python"),
+                    ((good, "--on", own + ":None"), "has no class None"), ((good, "--on", folder + "/x.py:Y"), "/x.py: no file is there"),
                     ((good, "--on", folder + "/broken.py:Y"), "can't be loaded: ModuleNotFoundError"),
                     ((good, "--on", folder + "/broken.py:Y"), "broken.py:1\n"), ((good, "--on", folder + "/made.py:Made"), "can't be made: TypeError"),
                     ((good, "--on", folder + "/made.py:Made"), "made.py:3\n"),

@@ -39,7 +39,7 @@ class Shell(unittest.TestCase):
         ("verify pin1 1111\n" * 3 + "unblock PIN1 12345678 5555\nverify pin1 5555\ntree\n", 1,
          ["63C0", "9000\n  9000\n", "PIN 1: 5555, enabled, 3 tries left"]),
         ("unblock PIN1 87654321 5555\n", 1, ["63C9"]), ("change ADM1 88888888 77777777\nverify ADM1 77777777\n", 0, ["9000\n  9000\n"]),
-        ("unblock ADM1 12345678 1234\n", 1, ["ADM1 has no PUK: nothing unblocks it"]),
+        ("unblock ADM1 12345678 1234\n", 1, ["ADM1 has no UNBLOCK PIN: nothing unblocks it"]),
         ("verify pin1 1234\nwrite EF.ADN 4 entries = [{ name = \"Ö\", number = \"110\" }]\nread EF.ADN 4\nsay EF.ADN\nsay EF.ADN 4\n", 0,
          ["Ö: 110", "that is record 1 of 50: say EF.ADN N says another one"]),
         ("verify pin1 1234\nwrite EF.ADN 4 entries = [{ name = \"A\" }, { name = \"B\" }]\n", 1, ["entries has 2 entries, and record 4 holds one"]),

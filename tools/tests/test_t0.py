@@ -73,7 +73,7 @@ class Read(unittest.TestCase):
         words = [sys.executable, "-B", os.path.join(TOOLS, "explain")]
         done = subprocess.run(words, input=TRACE, capture_output=True, text=True, timeout=60, check=False)
         self.assertEqual(done.returncode, 0, done.stderr)
-        for part in ("6114 20 bytes wait for GET RESPONSE", "GET RESPONSE 20 bytes\n", "control parameters\n", "file descriptor: transparent EF",
+        for part in ("6114 20 bytes wait for GET RESPONSE", "GET RESPONSE 20 bytes\n", "FCP\n", "file descriptor: transparent EF",
                      "UPDATE BINARY from byte 0: 2 bytes (2FE2 EF.ICCID)"):
             self.assertIn(part, done.stdout)
 

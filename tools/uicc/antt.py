@@ -35,20 +35,20 @@ class Reader:
     def peek(self):
         return self.tokens[self.at] if self.at < len(self.tokens) else None
 
-    def next(self):
+    def next(self, wanted="more"):
         token = self.peek()
         if token is None:
-            raise Unreadable("it ends too early")
+            raise Unreadable(f"it ends where {wanted} has to stand")
         self.at += 1
         return token
 
     def expect(self, wanted):
-        token = self.next()
+        token = self.next(f"`{wanted}`")
         if token != wanted:
             raise Unreadable(f"`{token}` stands where `{wanted}` is read")
 
     def name(self):
-        token = self.next()
+        token = self.next("a name")
         if not re.fullmatch(r"[A-Za-z_][\w'-]*", token) or token in WORDS:
             raise Unreadable(f"`{token}` stands where a name is read")
         return token
@@ -78,7 +78,7 @@ class Reader:
         return parts[0]
 
     def pattern_atom(self):
-        token = self.next()
+        token = self.next("a pattern")
         if token == "(":
             found = self.pattern()
             self.expect(")")
@@ -144,7 +144,7 @@ class Reader:
         return parts[0] if len(parts) == 1 else ["call", parts[0], parts[1:]]
 
     def atom(self):
-        token = self.next()
+        token = self.next("a value")
         if token == "(":
             found = self.expression()
             if self.peek() == ",":
@@ -243,6 +243,13 @@ class File:
                 break
         return found
 
+    @staticmethod
+    def offset_of(text, word):
+        """On which line of a clause a word stands first, from 0 on."""
+        word = shown_word(word)
+        found = re.search(rf"(?<![\w'+]){re.escape(word)}(?![\w'+])", text)
+        return text.count("\n", 0, found.start()) if found else 0
+
     def clauses(self, name):
         """What is defined under a name, clause by clause."""
         found = []
@@ -257,6 +264,11 @@ class File:
         return found
 
 
+def shown_word(word):
+    """A name as a file imports it, as it stands in a text: `++` for `◌++◌`."""
+    return "if" if word.startswith("if◌") else word.strip("◌")
+
+
 def names_in(body):
     """The names of functions and constants that stand in a body, those that it binds too."""
     if not isinstance(body, list):
@@ -266,6 +278,21 @@ def names_in(body):
     if body[:1] == ["record"]:
         return names_in(body[1]) | set().union(*map(names_in, body[2].values()))
     return set().union(*map(names_in, body))
+
+
+def parts_of(body):
+    """The bodies that stand in a body."""
+    kind, *rest = body
+    if kind in ("name", "number", "truth"):
+        return []
+    if kind == "record":
+        return [*filter(None, rest[:1]), *rest[1].values()]
+    if kind == "call":
+        return [rest[0], *rest[1]]
+    if kind == "field":
+        return rest[:1]
+    # what a `let` and a lambda bind is no body
+    return rest[1:] if kind in ("let", "lambda") else rest
 
 
 # the signs of a body, by the names under which a file imports them

@@ -7,12 +7,23 @@ import re
 
 from . import process
 from .evaluation import Made, Unknown
+from .kind_faults import PARTS, parts_in_words
 
 TABLE = os.path.join("crates", "unit_trials", "data", "applets.table")
 LONG_RUN = 8
 LONGEST_TEXT = 20
-# what stands before why a definition says nothing
-UNKNOWN = "not known: "
+# what stands before why a definition says nothing, and before the line after which a row isn't tried
+UNKNOWN, NOT_TRIED = "not known: ", "not tried, after line "
+# the forms of rows, and those that go on with the applet of the rows before
+FORMS = {
+    "applet": ["`applet KIND KEPT`"], "wake": ["`wake KEPT`"], "on": ["`on STIMULUS`"], "boxed": ["`boxed KIND KEPT STIMULUS`"],
+    "shelf": ["`shelf NUMBER`", "`shelf NUMBER KEPT STIMULUS`"],
+}
+OF_APPLET = ("wake", "on")
+
+
+# the words of each stimulus
+STIMULI = {"event": ("CODE", "BODY"), "response": ("RESULT", "ITEM", "TEXT"), "timer": ("TIMER",), "went": (), "refused": ()}
 
 
 class NotARow(Exception):
@@ -36,23 +47,47 @@ def bytes_of(word):
             found += part[1:-1].encode()
         elif "*" in part:
             byte, _, count = part.partition("*")
-            found += bytes.fromhex(byte) * int(count)
+            found += digits_of(byte) * number_of("how often a byte stands", count)
         elif part != "-":
-            found += bytes.fromhex(part)
+            found += digits_of(part)
     return found
 
 
+def digits_of(part):
+    if not re.fullmatch(r"([0-9A-Fa-f]{2})+", part):
+        raise NotARow(f"`{part}` is no bytes: these are pairs of hexadecimal digits, a text in quotes, or `-` for none")
+    return bytes.fromhex(part)
+
+
+def byte_of(name, word):
+    if not re.fullmatch(r"[0-9A-Fa-f]{1,2}", word):
+        raise NotARow(f"{name} is a byte in two hexadecimal digits, and not `{word}`")
+    return int(word, 16)
+
+
+def number_of(name, word, most=255):
+    if not re.fullmatch(r"[0-9]+", word) or int(word) > most:
+        raise NotARow(f"{name} is a number from 0 to {most}, and not `{word}`")
+    return int(word)
+
+
 def stimulus(words):
-    match words:
-        case ["event", code, body]:
-            return Made("Event", (int(code, 16), tuple(bytes_of(body))))
-        case ["response", result, item, text]:
-            return Made("Response", (int(result, 16), int(item), tuple(bytes_of(text))))
-        case ["timer", number]:
-            return Made("Timer", (int(number),))
-        case ["went" | "refused" as name]:
-            return Made(name.capitalize(), ())
-    raise NotARow(" ".join(words))
+    name, *given = words or [""]
+    if name not in STIMULI:
+        raise NotARow(f"a stimulus is {', '.join(STIMULI)}, and not `{name}`")
+    if len(given) != len(STIMULI[name]):
+        lacking = STIMULI[name][len(given):]
+        raise NotARow(f"`{' '.join((name, *STIMULI[name]))}` "
+                      + (f"lacks {' and '.join(lacking)}" + (", which is `-` where it is empty" if lacking[-1] in ("BODY", "TEXT") else "")
+                         if lacking else f"has {parts_in_words(len(given) - len(STIMULI[name]))} too many"))
+    match name, given:
+        case "event", [code, body]:
+            return Made("Event", (byte_of("CODE", code), tuple(bytes_of(body))))
+        case "response", [result, item, text]:
+            return Made("Response", (byte_of("RESULT", result), number_of("ITEM", item), tuple(bytes_of(text))))
+        case "timer", [number]:
+            return Made("Timer", (number_of("TIMER", number),))
+    return Made(name.capitalize(), ())
 
 
 # an act in the words of a row
@@ -98,10 +133,15 @@ ACTS = {
 
 
 def act_shown(act):
+    for made in (act, *act.parts[:1]) if isinstance(act, Made) and act.name == "Send" else (act,):
+        if not isinstance(made, Made) or made.name not in (SENT if made is not act else ACTS):
+            raise Unknown("what is to be done is no " + ("command" if made is not act else "act"))
+        if len(made.parts) != PARTS.get(made.name, 0):
+            raise Unknown(f"{made.name} is done with {parts_in_words(len(made.parts))}, and has {PARTS.get(made.name, 0)}")
     try:
         return ACTS[act.name](*act.parts)
-    except (AttributeError, KeyError, TypeError) as fault:
-        raise Unknown(f"what is to be done is no act with all its parts ({fault})") from None
+    except (AttributeError, KeyError, TypeError, ValueError):
+        raise Unknown(f"{act.name} is done with parts that don't fit") from None
 
 
 def spelling(row, shown):
@@ -127,10 +167,11 @@ def rows_of(text):
 
 
 class Trial:
-    """Rows carried out by the definitions, one after the other: the applet that woke last takes the next stimulus."""
+    """Rows carried out by the definitions, one after the other: the applet that woke last takes the next stimulus. `lost` is the row after which
+    it isn't known what that one does: it could not be read, or what comes of it could not be worked out."""
 
     def __init__(self, known):
-        self.known, self.mind = known, None
+        self.known, self.mind, self.lost = known, None, None
 
     def carry_out(self, words):
         """What a row comes to."""
@@ -138,22 +179,27 @@ class Trial:
         match word, rest:
             case "applet", [kind, kept]:
                 return self._woken(self._shelf_of(kind), kept)
-            case "wake", [kept] if self.mind:
+            case ("wake", [_]) | ("on", _) if not self.mind:
+                raise NotARow("no `applet` stands before it")
+            case "wake", [kept]:
                 return self._woken(self.known.shelves_of(self.known.names[self.mind["kind"] - 1])[0], kept)
-            case "on", told if self.mind:
+            case "on", told:
                 return self._turned(told)
             case "boxed", [kind, kept, *told]:
                 return self._alone(self._shelf_of(kind), kept, told)
             case "shelf", [number, kept, *told]:
-                return self._alone(int(number), kept, told)
+                return self._alone(self._shelf(number), kept, told)
             case "shelf", [number]:
-                return f"kind {self.known.data['shelves'][int(number)]}"
-        raise NotARow(" ".join(words))
+                return f"kind {self.known.data['shelves'][self._shelf(number)]}"
+        raise NotARow(f"it is {' or '.join(FORMS[word])}" if word in FORMS else f"a row is {', '.join(FORMS)}, and not `{word}`")
 
     def _shelf_of(self, kind):
         if kind not in self.known.names:
-            raise NotARow(f"there is no kind {kind}")
+            raise NotARow(f"there is no kind {kind}: {', '.join(self.known.names)}")
         return self.known.shelves_of(kind)[0]
+
+    def _shelf(self, number):
+        return number_of("the shelf", number, len(self.known.data["shelves"]) - 1)
 
     def _woken(self, shelf, kept):
         self.mind = self.known.fresh(shelf, bytes_of(kept))
@@ -168,18 +214,29 @@ class Trial:
         return f"kind {self.known.on(shelf)}, {act_shown(does)}"
 
 
+    def shown(self, row):
+        """What a row comes to, or why that isn't known."""
+        if row.words[0] in OF_APPLET and self.lost:
+            return f"{NOT_TRIED}{self.lost.line}"
+        if row.words[0] == "applet":
+            self.mind = self.lost = None
+        try:
+            return self.carry_out(row.words)
+        except NotARow as fault:
+            found = f"not a row: {fault}"
+        except Unknown as fault:
+            found = f"{UNKNOWN}{fault}"
+        self.lost = self.lost or (row if row.words[0] in ("applet", *OF_APPLET) else None)
+        return found
+
+
 def differing(known, text):
     """The rows that differ, each with what it comes to, and how many rows there are."""
     trial, count, found = Trial(known), 0, []
     for row in rows_of(text):
         count += 1
-        try:
-            shown = trial.carry_out(row.words)
-        except (NotARow, ValueError) as fault:
-            shown = f"no row: {fault}"
-        except Unknown as fault:
-            shown = f"{UNKNOWN}{fault}"
-        if (shown == row.wanted) == row.differs:
+        shown = trial.shown(row)
+        if shown.startswith(NOT_TRIED) or (shown == row.wanted) == row.differs:
             found.append((row, shown))
     return found, count
 

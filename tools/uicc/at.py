@@ -41,6 +41,10 @@ class Final(Exception):
     """A final result that is neither OK nor an error, as NO CARRIER after a call."""
 
 
+class Text(str):
+    """An argument that stands in quotation marks."""
+
+
 @dataclasses.dataclass(frozen=True)
 class Command:
     """A command of a line: its name in capitals (`+CPIN`, `E`, `&F`, `S0`), how it is given, and its arguments, None where one is
@@ -73,6 +77,12 @@ class Command:
         if len(text) % 2 or not set(text) <= set(string.hexdigits):
             raise Failed(BAD_LETTERS)
         return bytes.fromhex(text)
+
+    def quoted_content(self, place):
+        """The argument at a place, bytes in hexadecimal digits and in quotation marks; BAD_PARAMETERS where it has none."""
+        if not isinstance(self.text(place), Text):
+            raise Failed(BAD_PARAMETERS)
+        return self.content(place)
 
     def at_most(self, count):
         """BAD_PARAMETERS, where more arguments are given."""
@@ -139,7 +149,7 @@ def argument(text, at):
         end = text.find(QUOTE, at + 1)
         if end < 0 or text[end + 1:end + 2] not in ("", ",", ";"):
             raise NoCommand(text)
-        return text[at + 1:end], end + 1
+        return Text(text[at + 1:end]), end + 1
     end = at
     while end < len(text) and text[end] not in ",;":
         if text[end] == QUOTE:

@@ -1,4 +1,5 @@
 """Many cards of one profile: a row of a list for each, with its numbers and PINs."""
+import collections
 import contextlib
 import csv
 import io
@@ -6,21 +7,25 @@ import itertools
 import os
 import subprocess
 
-from . import checking, contents, follow, forms, lint, process, profile
+from . import checking, contents, fields, follow, forms, lint, names, process, profile
 from .coding import BadContent, is_blank
 
-# a column of the list, and the keys of a profile that it says
+# a column of the list, and the keys of a profile that it says; any other is called FILE:KEY
 COLUMNS = {
     "iccid": ("EF_ICCID", "iccid"), "imsi": ("EF_IMSI", "imsi"), "spn": ("EF_SPN", "spn"),
-    "pin1": ("pins", "pin1", "value"), "puk1": ("pins", "pin1", "unblock"), "pin2": ("pins", "pin2", "value"),
-    "puk2": ("pins", "pin2", "unblock"), "adm": ("pins", "adm", "value"), "acc": ("EF_ACC", "acc"), "msisdn": ("EF_MSISDN", "entries"),
+    "pin1": ("pins", "pin1", "value"), "unblock1": ("pins", "pin1", "unblock"), "pin2": ("pins", "pin2", "value"),
+    "unblock2": ("pins", "pin2", "unblock"), "adm": ("pins", "adm", "value"), "acc": ("EF_ACC", "acc"), "msisdn": ("EF_MSISDN", "number"),
 }
+# what lists of operators call some of them
+ALSO = {"puk1": "unblock1", "puk2": "unblock2"}
 # names of columns that others use
-SLIPS = {"puk": "puk1", "pin": "pin1", "adm1": "adm", "number": "msisdn", "chv1": "pin1", "chv2": "pin2"}
+SLIPS = {"puk": "unblock1", "unblock": "unblock1", "pin": "pin1", "adm1": "adm", "number": "msisdn", "chv1": "pin1", "chv2": "pin2"}
+# columns that say what no card here has
+NO_KEY = "a card here has no AUTHENTICATE, so that it has no key for it"
+ABSENT = {**dict.fromkeys(("ki", "k", "op", "opc", "ki_enc", "eki"), NO_KEY),
+          **{f"adm{number}": "a card here has the PINs pin1, pin2 and adm alone" for number in range(2, 10)}}
 # what two cards may not have alike, and what they should not
-ALIKE, HARDLY_ALIKE = ("iccid", "imsi"), ("puk1", "puk2", "adm")
-# how what a cell says is written in a profile, where that isn't text
-CODED = {"acc": lambda cell: [int(word) for word in cell.split()]}
+ALIKE, HARDLY_ALIKE = ("iccid", "imsi"), ("unblock1", "unblock2", "adm")
 REPORT = "report.csv"
 # the ending of a file that isn't whole yet
 NEW = ".new"
@@ -38,8 +43,7 @@ class Card:
     def __init__(self, line, values, made):
         self.line, self.values, self.made = line, values, made
         card = lint.read(made.text).card
-        kind = "usim" if follow.is_usim_card(card) else "sim"
-        self.findings = list(checking.findings(card, kind))
+        self.found = list(checking.found(card, "usim" if follow.is_usim_card(card) else "sim"))
         self.files = len(card.files) - 1
         # what it has in the end, whether its row says it or the profile
         self.own = own_of(card)
@@ -48,6 +52,11 @@ class Card:
     def name(self):
         return self.values["iccid"]
 
+    @property
+    def findings(self):
+        """What `check` tells of the card."""
+        return [finding.text for finding in self.found]
+
 
 def own_of(card):
     """What should be a card's alone, by the columns that say it; where it has none, nothing."""
@@ -55,7 +64,7 @@ def own_of(card):
     with contextlib.suppress(BadContent):
         if file and not file.is_df and not is_blank(file.content):
             found["imsi"] = contents.decode_imsi(bytes(file.content))
-    for column, key, part in (("puk1", 0x01, "unblock"), ("puk2", 0x81, "unblock"), ("adm", 0x0A, "value")):
+    for column, key, part in (("unblock1", 0x01, "unblock"), ("unblock2", 0x81, "unblock"), ("adm", 0x0A, "value")):
         if key in card.pins:
             found[column] = pin_text(getattr(card.pins[key], part))
     return found
@@ -78,7 +87,7 @@ def rows_in(content, name):
     delimiter = max(",;\t", key=head.count)
     reader, found, faults = csv.reader(io.StringIO(text, newline=""), delimiter=delimiter), [], []
     try:
-        columns = [word.strip().lower() for word in next(reader, [])]
+        columns = [column_of(word.strip()) for word in next(reader, [])]
         check_columns(columns, name)
         for cells in reader:
             if not any(cell.strip() for cell in cells):
@@ -95,16 +104,55 @@ def rows_in(content, name):
     return found
 
 
+def column_of(word):
+    """A column by the first line of a list: that of a file keeps its letters."""
+    return word if ":" in word else ALSO.get(word.lower(), word.lower())
+
+
 def check_columns(columns, name):
     for column in columns:
-        if column not in COLUMNS:
+        if ":" in column:
+            with told_of(f"{name}, line 1: the column `{column}`"):
+                field_of(*column.split(":", 1))
+        elif column in ABSENT:
+            raise BadList(f"{name}, line 1: {ABSENT[column]}: the column `{column}` has no place")
+        elif column not in COLUMNS:
             meant = SLIPS.get(column) or forms.near(column, list(COLUMNS))
-            raise BadList(f"{name}, line 1: no column is called `{column}`"
-                          + (f", but `{meant}` is" if meant else f": {', '.join(COLUMNS)} are"))
+            raise BadList(f"{name}, line 1: no column is called `{column}`, "
+                          + (f"but `{meant}` is" if meant else f"but {', '.join(COLUMNS)} are, and FILE:KEY, as EF_SMSP:centre"))
         if columns.count(column) > 1:
             raise BadList(f"{name}, line 1: the column `{column}` stands there twice")
     if "iccid" not in columns:
         raise BadList(f"{name}, line 1: the column `iccid` is missing, by which the cards are called")
+
+
+@contextlib.contextmanager
+def told_of(where):
+    """What is wrong in here is told of a place in a list."""
+    try:
+        yield
+    except (BadContent, profile.BadProfile) as fault:
+        raise BadList(f"{where}: {fault}") from None
+
+
+# a column of a file: the kind of what the file holds, and the form of what a cell says: of a whole content (`field` is None), or of a field of
+# its table or of its first entry
+Field = collections.namedtuple("Field", "kind field form")
+
+
+def field_of(file, key):
+    """What a column FILE:KEY says. BadContent, where it says nothing."""
+    path = profile.path_of(file)
+    entry = names.file(path, True) or names.file(path, False)
+    if key in fields.KEYS:
+        kind = fields.kind_for(key, entry)
+        return Field(kind, None, kind.form)
+    kind = fields.KINDS.get((entry or {}).get("content"))
+    table = kind and forms.table_in(kind.form)
+    if table is None or key not in table.keys:
+        known = [*(table.keys if table else ()), *([kind.key] if kind else ()), fields.HEX]
+        raise BadContent(f"`{key}` isn't known: {', '.join(known)} {'is' if len(known) == 1 else 'are'}")
+    return Field(kind, key, table.keys[key])
 
 
 def wrong_rows(rows, name):
@@ -114,7 +162,7 @@ def wrong_rows(rows, name):
             yield f"{name}, line {line}: it has no iccid"
             continue
         try:
-            contents.check_iccid(contents.encode_iccid(values["iccid"]))
+            contents.encode_iccid(values["iccid"])
         except BadContent as fault:
             rounded = ": a spreadsheet has rounded it, and its cells have to be of text" if "E+" in values["iccid"].upper() else ""
             yield f"{name}, line {line}: iccid `{values['iccid']}`: {fault}{rounded}"
@@ -134,10 +182,20 @@ def alike(rows, column):
 
 
 def doubts(made, rows, list_name, name):
-    """What cards have alike that each should have for itself, a line each."""
+    """What cards have alike that each should have for itself, and what is doubtful in them, a line each."""
     found = [f"{list_name}, {text}" for column in HARDLY_ALIKE for text in (*alike(rows, column), *alike_by_profile(made, column, name))]
-    return found + [f"{list_name}, line {line}: its imsi {values['imsi']} has {len(values['imsi'])} digits, and nearly every IMSI 15"
-                    for line, values in rows if len(values.get("imsi", "")) not in (0, 15)]
+    by_text = {}
+    for card in made:
+        # what a run of the card has too is among the profile's warnings
+        for text in (*card.made.warnings, *(finding.text for finding in card.found if not finding.is_of_rules)):
+            by_text.setdefault(text, []).append(card)
+    return found + [f"{list_name}, {lines_of(cards)}: {text}" for text, cards in by_text.items()]
+
+
+def lines_of(cards):
+    lines = [str(card.line) for card in cards]
+    more = f" and {len(lines) - MOST_NAMED} more" if len(lines) > MOST_NAMED else ""
+    return f"line{'s' * (len(lines) > 1)} {', '.join(lines[:MOST_NAMED])}{more}"
 
 
 def alike_by_profile(made, column, name):
@@ -148,9 +206,7 @@ def alike_by_profile(made, column, name):
             groups.setdefault(card.own[column], []).append(card)
     for value, alike_ones in groups.items():
         if len(alike_ones) > 1 and any(column not in card.values for card in alike_ones):
-            lines = [str(card.line) for card in alike_ones]
-            more = f" and {len(lines) - MOST_NAMED} more" if len(lines) > MOST_NAMED else ""
-            yield (f"lines {', '.join(lines[:MOST_NAMED])}{more}: their cards have the same {column}, {value}, which {name} or its template "
+            yield (f"{lines_of(alike_ones)}: their cards have the same {column}, {value}, which {name} or its template "
                    f"says: a column `{column}` gives each its own")
 
 
@@ -158,19 +214,36 @@ def keys_of(values, base):
     """The profile that a row says, to be laid over another one."""
     found = {}
     for column, value in values.items():
+        if ":" in column or column == "msisdn":
+            file, key = column.split(":", 1) if ":" in column else COLUMNS[column]
+            lay_field(found, base, file, field_of(file, key), value)
+            continue
         *above, last = COLUMNS[column]
         table = found
         for key in above:
             table = table.setdefault(key, {})
-        table[last] = with_number(base, value) if column == "msisdn" else CODED[column](value) if column in CODED else value
+        table[last] = [int(word) for word in value.split()] if column == "acc" else value
     return found
 
 
-def with_number(base, number):
-    """The entries of EF_MSISDN in a profile, the first of them with this number: its name and the other entries stay."""
-    told = base.get(profile.same_file(base, "EF_MSISDN"), {}).get("entries")
-    first, *others = told or [{"name": ""}]
-    return [{**first, "number": number}, *others]
+def lay_field(found, base, file, field, cell):
+    """Lays what a cell says of a file into the profile that its row says. Beside a field what the profile has of the file stays: the other
+    fields, and the other entries."""
+    table, value, key = found.setdefault(file, {}), forms.of_text(field.form, cell), field.kind.key
+    if field.field is None:
+        table[key] = value
+        return
+    told = table.get(key, base.get(profile.same_file(base, file), {}).get(key))
+    if isinstance(field.kind.form, forms.ListOf):
+        first, *others = told or [{}]
+        table[key] = [with_field(field.kind.form.one, first, field.field, value), *others]
+    else:
+        table[key] = with_field(field.kind.form, told or {}, field.field, value)
+
+
+def with_field(form, told, key, value):
+    """A table with another value of a key; where it is told by a text alone, that is its first key."""
+    return {**(told if isinstance(told, dict) else {next(iter(forms.table_in(form).keys)): told}), key: value}
 
 
 def cards(content, name, rows, list_name, step):
@@ -209,7 +282,7 @@ def write(made, folder, with_images, with_force, step):
     report = next(path for path in report_paths(folder) if not os.path.exists(path))
     with open(report, "x", encoding="utf-8", newline="") as out:
         writer = csv.writer(out, lineterminator="\n")
-        writer.writerow(["script", "line", "iccid", "imsi", "files", "to mend"])
+        writer.writerow(["script", "line", "iccid", "imsi", "files", "warnings"])
         for card in made:
             writer.writerow([card.name + ".script", card.line, card.values["iccid"], card.own.get("imsi", ""), card.files,
                              "; ".join(card.findings)])

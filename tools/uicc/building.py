@@ -7,7 +7,7 @@ from .profile_names import ARR, OPERATIONS, PIN_KEYS, Fault, is_arr_in_folder, i
 
 MOST_EVENTS = len(layout.EVENTS)
 LONGEST_COMMENT = 130
-PUK_DIGITS = 8
+UNBLOCK_DIGITS = 8
 
 
 # the shape and the content of a file
@@ -197,9 +197,8 @@ class Builder:
             rule = self._rule_of(name, given)
         try:
             made = described(path, given, self.usim)
-            self._doubt_number(name, path, made[1])
             if "increase" in given and made[0].structure != "c":
-                self.doubts.append(Fault((name, "increase"), f"{told_origin((name,))} increase: no file is increased but a cyclic one, and this is "
+                self.doubts.append(Fault((name, "increase"), f"{told_origin((name,))} increase: INCREASE is of cyclic files alone, and this one is "
                                          + tree.STRUCTURES[made[0].structure]))
             return name, path, made, rule
         except ValueError as fault:
@@ -208,19 +207,6 @@ class Builder:
                 with self._told(name, *keys):
                     raise BadContent(reason) from None
         return None
-
-    def _doubt_number(self, name, path, content):
-        """Notes a card's number whose check digit is wrong, and an IMSI of other than 15 digits."""
-        kind = (names.file(path, self.usim) or {}).get("content")
-        if kind not in ("iccid", "imsi") or not isinstance(content, bytes) or coding.is_blank(content):
-            return
-        try:
-            if kind == "iccid":
-                contents.check_iccid(content)
-            else:
-                contents.check_imsi(content)
-        except BadContent as fault:
-            self.doubts.append(Fault((name,), f"{told_origin((name,))}: {fault}"))
 
     # lines
 
@@ -232,9 +218,9 @@ class Builder:
             for what in ("value", "unblock"):
                 with self._told("pins", name, what):
                     found[what] = pin_value(given.get(what, "00000000"))
-            puk = str(given.get("unblock", "00000000"))
-            if "unblock" in found and len(puk) < PUK_DIGITS:
-                self.doubts.append(Fault(("pins", name, "unblock"), f"[pins] {name} unblock: a PUK has {PUK_DIGITS} digits, and {puk} {len(puk)}"))
+            unblock = str(given.get("unblock", "00000000"))
+            if "unblock" in found and len(unblock) < UNBLOCK_DIGITS:
+                self.doubts.append(Fault(("pins", name, "unblock"), f"[pins] {name} unblock: an UNBLOCK PIN has {UNBLOCK_DIGITS} digits, and {unblock} {len(unblock)}"))
             if len(found) == 2:
                 on = given.get("on", True)
                 self.say(f"{names.key(PIN_KEYS[name])}: {given.get('value', '00000000')}, {'on' if on else 'off'}")
@@ -324,7 +310,7 @@ class Builder:
 def named_rule(word):
     """The rule that a profile names: the identifier of an EF_ARR and the number of a record; None where everybody may do all."""
     try:
-        return None if word == "none" else grammar.read_rule(word)
+        return None if word == "none" else grammar.read_rule(word if word != "-" else "")
     except grammar.Wrong:
         raise BadContent(f"`rule` is an EF_ARR and the number of a record in it, as \"2F06:3\", or \"none\", by which everybody may do all, "
                          f"and not \"{word}\"") from None
@@ -385,7 +371,7 @@ def faults_of_words(applet):
         yield from told_by(event_code, event)
         wrong = forms.TEXTS.wrong(actions)
         if wrong:
-            yield f"on: `{event}` {wrong}: on = {{ location = [\"show A\"] }}"
+            yield f"on: {forms.about(f'`{event}`', wrong)}: on = {{ location = [\"show A\"] }}"
             continue
         for action in actions:
             yield from told_by(action_bytes, action)

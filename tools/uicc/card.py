@@ -22,6 +22,9 @@ MOST = 256
 PIN_LENGTH = 8
 PIN_NAMES = {**profile.PIN_KEYS, "adm1": profile.PIN_KEYS["adm"]}
 PIN_COMMANDS = (0x20, 0x24, 0x26, 0x28, 0x2C)
+# objects of a proactive command, and the bit of a tag that says that the terminal must know it
+TITLE, TEXT, TONE, COMPREHENSION = 0x05, 0x0D, 0x0E, 0x80
+GET_INKEY, GET_INPUT, SELECT_ITEM = 0x22, 0x23, 0x24
 
 
 class CardError(Exception):
@@ -87,14 +90,25 @@ class Proactive:
         return names.of_toolkit("commands", self.command, f"type {self.command:02X}")
 
     def value(self, tag: int) -> bytes | None:
-        """The value of the first object with a tag; None where there is none."""
-        return next((value for found, _, value in self.objects if found == tag), None)
+        """The value of the first object with a tag; None where there is none. A tag is given with or without its highest bit, the flag
+        (comprehension required): 0x0E and 0x8E both give the tone of PLAY TONE. 0x04 is a duration, 0x05 a title, 0x0D a text, 0x0E a tone, 0x0F an
+        item, 0x11 how long a response may be, 0x19 an event list, 0x24 a timer, and 0x25 its value; `uicc explain` names each object of a trace."""
+        wanted = tag & ~COMPREHENSION if tag <= 0xFF else tag
+        return next((value for found, _, value in self.objects if found == wanted), None)
 
     @property
-    def text(self) -> str:
-        """The text that it shows or asks by; the title of a menu or of a list."""
-        value = self.value(0x0D)
-        return value[1:].decode("latin-1") if value else (self.value(0x05) or b"").decode("latin-1")
+    def text(self) -> str | None:
+        """The text that it shows or asks by; the title of a menu or of a list. None where it has none, as PLAY TONE."""
+        text = self.value(TEXT)
+        # the first byte says in which letters it is
+        shown = self.value(TITLE) if text is None else text[1:]
+        return None if shown is None else shown.decode("latin-1")
+
+    @property
+    def tone(self) -> int | None:
+        """The tone that PLAY TONE plays, 0x10 is the general beep; None of another command, and where the terminal chooses it."""
+        value = self.value(TONE)
+        return value[0] if value else None
 
     @property
     def items(self) -> dict[int, str]:
@@ -103,6 +117,10 @@ class Proactive:
 
     def __str__(self):
         return "; ".join(f"{line.label} {line.text}" for line in decode.proactive(self.raw)[1:])
+
+
+# what is said where a file of an ADF is asked for
+NO_ADF = "a card here has no ADF: the files of a USIM lie in 7F20, and those of an ISIM in 7FF2"
 
 
 def as_bytes(content):
@@ -303,6 +321,8 @@ class Card:
     def path(self, name: str) -> tuple[str, ...]:
         """The path of a file by identifiers and names from the MF: "MF/DF.TELECOM/EF.ADN", "7F10/6F3A", or a name alone that one
         file of the card has."""
+        if not isinstance(name, str):
+            raise TypeError(f"a file is named by text, as \"EF.ADN\" or \"7F10/6F3A\", and not by {name!r}")
         parts = [part for part in name.replace("\\", "/").split("/") if part]
         if parts and parts[0].upper() in ("MF", "3F00"):
             parts = parts[1:]
@@ -317,7 +337,8 @@ class Card:
         for file in self.holds.children(path):
             if self._is_called(file.path, part):
                 return file.path
-        raise NoSuchFile(f"{whole}: no file {part} lies in {names.shown(path)}")
+        hint = f": {NO_ADF}" if names.is_adf(part) else ""
+        raise NoSuchFile(f"{whole}: no file {part} lies in {names.shown(path)}{hint}")
 
     def _is_called(self, path, part):
         wanted = names.normal(part)
@@ -326,13 +347,15 @@ class Card:
 
     def _named(self, part):
         found = [file.path for file in self.holds.files.values() if file.path and self._is_called(file.path, part)]
+        if not found and names.is_adf(part):
+            raise NoSuchFile(f"{part}: {NO_ADF}")
         if len(found) != 1:
             raise NoSuchFile(f"{part}: {len(found) or 'no'} files are called so" + "".join(f", {names.shown(path)}" for path in found))
         return found[0]
 
     def select(self, name: str = "MF", channel: int = 0) -> dict[str, str]:
         """Selects a file, and answers its control parameters."""
-        path = self.path(name) if name.upper() not in ("MF", "3F00") else ()
+        path = () if str(name).upper() in ("MF", "3F00") else self.path(name)
         if path:
             answer = self._command(decode.SELECT, 8, 4, bytes.fromhex("".join(path)), channel=channel)
         else:
@@ -384,6 +407,8 @@ class Card:
 
     def increase(self, amount: int, width: int = 3) -> int:
         """Adds to record 1 of a cyclic EF, and answers the sum."""
+        if not isinstance(amount, int) or not 0 <= amount < 1 << 8 * width:
+            raise ValueError(f"the amount of INCREASE is a number of {width} bytes, and not {amount!r}")
         answer = self._command(decode.INCREASE, 0, 0, amount.to_bytes(width, "big"), toolkit=True)
         return int.from_bytes(answer.data[:-width], "big")
 
@@ -512,10 +537,12 @@ class Card:
         return self._fetched
 
     def respond(self, result: int = 0x00, text: str | None = None, item: int | None = None, objects: bytes | str = b"") -> Answer:
-        """TERMINAL RESPONSE to the command that was fetched last: a result, and a text, an item, or objects as they are."""
+        """TERMINAL RESPONSE to the command that was fetched last: a result, and a text, an item, or objects as they are. ValueError, where the
+        command asks for no such text or item; `objects` are sent whatever they are."""
         if self._fetched is None:
             raise CardError("no command was fetched that could be responded to")
         one = self._fetched
+        _expect_asked(one, text, item)
         content = tlv.written(0x01, bytes((one.number, one.command, one.qualifier))) + b"\x82\x02\x82\x81" + tlv.written(0x03, bytes((result,)))
         if text is not None:
             content += tlv.written(0x0D, b"\x04" + text.encode())
@@ -528,7 +555,14 @@ class Card:
         return self._command(decode.ENVELOPE, 0, 0, as_bytes(content), toolkit=True)
 
     def pick(self, item: int) -> Answer:
-        """The user picks an entry of the card's menu."""
+        """The user picks an entry of the card's menu: the shelf of its applet plus one. CardError, where the menu has no such entry; `envelope`
+        sends one all the same."""
+        if not isinstance(item, int) or not 0 <= item <= 0xFF:
+            raise ValueError(f"an entry of the menu is picked by its number, of one byte, and not by {item!r}")
+        entries = self._toolkit.menu()
+        if not self._toolkit.doubt and item not in entries:
+            listed = ", ".join(f"{number} ({text.decode('latin-1')})" for number, text in sorted(entries.items()))
+            raise CardError(f"the card's menu has no entry {item}: {listed or 'it is empty'}; an entry is the shelf of its applet plus one")
         return self.envelope(b"\xD3\x07\x82\x02\x01\x81" + tlv.written(0x10, bytes((item,))))
 
     def install(self, shelf: int, priority: int, content: bytes | str) -> Answer:
@@ -563,6 +597,18 @@ class Card:
         self.trace.append(process.RESET if self._has_power else process.CUT)
         if not self._has_power:
             raise PowerLost("the power was lost in the reset")
+
+
+def _expect_asked(command, text, item):
+    """What a user answers is something that the command asks for: no text to a menu, say."""
+    if text is not None and command.command not in (GET_INKEY, GET_INPUT):
+        raise ValueError(f"{command.name} asks for no text")
+    if text is not None and command.command == GET_INKEY and len(text) != 1:
+        raise ValueError(f"GET INKEY asks for one character, and not for `{text}`")
+    if item is not None and command.command != SELECT_ITEM:
+        raise ValueError(f"{command.name} offers no items")
+    if item is not None and item not in command.items:
+        raise ValueError(f"SELECT ITEM offers no item {item}: {', '.join(f'{number} ({shown})' for number, shown in command.items.items())}")
 
 
 def _made(make, given):

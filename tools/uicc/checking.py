@@ -1,34 +1,72 @@
 """Whether a card is as it should be: the mandatory files of its kind, their shapes, what they hold, their services and rules."""
+import contextlib
+import typing
+
 from . import access, contents, names, rules, tree
 from .coding import BadContent
 
 # what a terminal reads before a PIN is entered (ETSI TS 102 221, 13; 3GPP TS 31.102, 4.2)
 READ_BY_ALL = {("2F00",), ("2F05",), ("2F06",), ("2FE2",), ("7F20", "6F46"), ("7F20", "6FAD"), ("7F20", "6FB7")}
+IMSI, ACC = ("7F20", "6F07"), ("7F20", "6F78")
 # the key of the administrator, which nothing unblocks
 ADM = 0x0A
 # the service table of a kind of card
 TABLES = {"usim": (("7F20", "6F38"), "ust"), "sim": (("7F20", "6F38"), "sst")}
 
 
+class Finding(typing.NamedTuple):
+    """What a card lacks, or what can't be right in it, and the paths of the files that it is of. `is_of_rules`: a run of the card has it
+    too, so that lint tells it."""
+    text: str
+    paths: tuple = ()
+    is_of_rules: bool = False
+
+
 def findings(card, kind):
-    """What a card lacks of the mandatory files of a kind (usim or sim), and what can't be right in it."""
+    """What a card lacks of the mandatory files of a kind (usim or sim), and what can't be right in it, as texts."""
+    return [finding.text for finding in found(card, kind)]
+
+
+def found(card, kind):
+    """The same, each with the files that it is of."""
     usim = kind == "usim"
     for entry in names.table("files")["files"]:
         if kind in entry.get("mandatory", ()):
             path = standard_path(entry, kind)
             if path not in card.files:
-                yield f"{names.shown(path, usim)} is missing: {entry['title']}"
+                yield Finding(f"{names.shown(path, usim)} is missing: {entry['title']}")
     for file in card.files.values():
+        yield from wrong_identifier(file, usim)
         if not file.is_df:
             yield from wrong_file(card, file, usim)
     yield from unreadable(card, usim)
     for pin in card.pins.values():
         digits = pin.unblock.rstrip(b"\xFF")
         if pin.key != ADM and digits.isdigit() and len(digits) < len(pin.unblock):
-            yield f"{names.key(pin.key)}: its PUK has {len(digits)} digits, and should have {len(pin.unblock)}"
+            yield Finding(f"{names.key(pin.key)}: its UNBLOCK PIN has {len(digits)} digits, and should have {len(pin.unblock)}")
     yield from wrong_services(card, kind)
+    yield from wrong_class(card, usim)
     for files, rule, why in access.pointless(card):
-        yield f"{names.shown(files[0].path, usim)}, rule {rule[0]}:{rule[1]}, {why}{access.others(files)}"
+        yield Finding(f"{names.shown(files[0].path, usim)}, rule {rule[0]}:{rule[1]}, {why}{access.others(files)}",
+                      tuple(file.path for file in files), True)
+
+
+def wrong_identifier(file, usim):
+    """A file never has the identifier of a DF that it lies in (ETSI TS 102 221, 8.3)."""
+    if file.path and file.path[-1] in ("3F00", *file.path[:-1]):
+        yield Finding(f"{names.shown(file.path, usim)}: no file has the identifier of a DF that it lies in", (file.path,))
+
+
+def wrong_class(card, usim):
+    """An access control class from 0 to 9 that isn't the last digit of the IMSI, by which cards are commonly given theirs."""
+    imsi, acc = (card.files.get(path) for path in (IMSI, ACC))
+    with contextlib.suppress(BadContent, IndexError):
+        if imsi and acc and imsi.structure == acc.structure == "t" and not contents.is_blank(imsi.content):
+            digit = int(contents.decode_imsi(bytes(imsi.content))[-1])
+            classes = [number for number in contents.classes_of(bytes(acc.content)) if number < 10]
+            if len(classes) == 1 and classes != [digit]:
+                yield Finding(f"{names.shown(ACC, usim)} has class {classes[0]}, and the IMSI ends with {digit}: by its last digit cards are "
+                              f"commonly given their class", (ACC, IMSI))
 
 
 def unreadable(card, usim):
@@ -38,7 +76,7 @@ def unreadable(card, usim):
         if file.rule and not card.about_rule(file):
             asked = access.condition(card, file, "read")
             if access.effective(card, asked) != access.EVERYBODY:
-                yield f"{names.shown(path, usim)}: everybody must be able to read it, and its rule says `{rules.in_words(asked)}`"
+                yield Finding(f"{names.shown(path, usim)}: everybody must be able to read it, and its rule says `{rules.in_words(asked)}`", (path,))
 
 
 def standard_path(entry, kind):
@@ -46,10 +84,15 @@ def standard_path(entry, kind):
 
 
 def wrong_file(card, file, usim):
-    entry, name = names.file(file.path, usim), names.shown(file.path, usim)
+    name = names.shown(file.path, usim)
     why = card.about_rule(file) if file.rule else None
     if why:
-        yield f"{name}: its rule {file.rule[0]}:{file.rule[1]} allows nothing: {why}"
+        yield Finding(f"{name}: its rule {file.rule[0]}:{file.rule[1]} allows nothing: {why}", (file.path,), True)
+    yield from (Finding(text, (file.path,)) for text in otherwise(file, names.file(file.path, usim), name))
+
+
+def otherwise(file, entry, name):
+    """What the standard has otherwise of a file, as texts."""
     if not entry or "structure" not in entry:
         return
     if file.structure != entry["structure"]:
@@ -68,8 +111,7 @@ def wrong_content(file, entry, name):
     for number, record in enumerate(file.records(), 1):
         try:
             contents.decode(entry["content"], record)
-            if entry["content"] == "iccid":
-                contents.check_iccid(record)
+            contents.check(entry["content"], record)
         except BadContent as fault:
             yield f"{name}{'' if file.structure == 't' else f', record {number}'}: {fault}"
 
@@ -89,7 +131,7 @@ def wrong_services(card, kind):
         needs = entry.get("needs", {}).get(table, ())
         if needs and not on.intersection(needs):
             wanted = " or ".join(f"{number} ({known[number - 1]})" for number in needs)
-            yield f"{names.shown(file.path, usim)} is there, and its service {wanted} is off in {name}"
+            yield Finding(f"{names.shown(file.path, usim)} is there, and its service {wanted} is off in {name}", (file.path, path))
     for entry in names.table("files")["files"]:
         for number in entry.get("needs", {}).get(table, ()):
             files_for.setdefault(number, []).append(entry["name"])
@@ -97,4 +139,4 @@ def wrong_services(card, kind):
     for number in sorted(on.intersection(files_for)):
         if not there.intersection(files_for[number]):
             few = list(dict.fromkeys(files_for[number]))[:3]
-            yield f"service {number} ({known[number - 1]}) is on in {name}, and no file of it is there: {', '.join(few)}"
+            yield Finding(f"service {number} ({known[number - 1]}) is on in {name}, and no file of it is there: {', '.join(few)}", (path,))

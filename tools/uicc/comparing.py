@@ -2,14 +2,12 @@
 import dataclasses
 import os
 
-from . import access, contents, decode, kinds, names, rules, tree
+from . import access, contents, decode, fields, kinds, names, rules, tree
 from .follow import is_usim_card
 
 ONE, OTHER = "- ", "+ "
 # how much of what is alike stands before a difference in a long text
 BEFORE = 20
-# the kinds of tables of services
-SERVICES = ("ust", "sst", "ist", "est")
 
 
 @dataclasses.dataclass(frozen=True)
@@ -53,11 +51,11 @@ def pair(one, other, label=""):
 def of_file(one, other, path, usim, exactly):
     files = [card.files.get(path) for card in (one, other)]
     if None in files or files[0].is_df or files[1].is_df:
-        yield from pair(*(file and (("folder" if file.is_df else "file") + f", {tree.facts(card, file)}" * (not file.is_df))
+        yield from pair(*(file and (("DF" if file.is_df else "EF") + f", {tree.facts(card, file)}" * (not file.is_df))
                           for card, file in zip((one, other), files)))
         return
     yield from pair(*(f"{tree.STRUCTURES[file.structure]}, {tree.shape(file)}" for file in files), "shape")
-    yield from pair(*(str(file.short or "none") for file in files), "short identifier")
+    yield from pair(*(str(file.short or "none") for file in files), "SFI")
     if exactly:
         yield from pair(*(f"{file.rule[0]}:{file.rule[1]}" if file.rule else "none" for file in files), "rule")
     for operation in access.OPERATIONS:
@@ -85,7 +83,7 @@ def of_content(one, other, usim, exactly):
 
 def of_services(kind, one, other):
     """The services that one table alone has on, with their names; none where the tables differ otherwise."""
-    if kind not in SERVICES:
+    if kind not in contents.SERVICES:
         return []
     on, known = [contents.services_on(kind, bytes(content)) or set() for content in (one, other)], names.table("files")[kind]
     found = [(sign, sorted(own - others)) for sign, own, others in ((ONE, *on), (OTHER, *reversed(on)))]
@@ -100,12 +98,35 @@ def texts(kind, *held):
     """What two contents say, or their bytes where they say the same: from where they differ, where they are long."""
     said = [content if content is None else tree.whole_meaning(kind, content) or "blank" for content in held]
     if said[0] == said[1]:
-        said = [decode.hexed(content) for content in held]
+        return by_fields(kind, *held) or by_bytes(*held)
     if None in said:
         return said
     begin = len(os.path.commonprefix(said))
     begin = max(0, begin - BEFORE) if max(map(len, said)) > tree.LONGEST else 0
     return [".." * bool(begin) + tree.shortened(text[begin:]) for text in said]
+
+
+def by_fields(kind, one, other):
+    """The fields that differ in two contents, by the keys of a profile; nothing where these say the same, or don't say it."""
+    try:
+        values = [fields.KINDS[kind].value(content) for content in (one, other)]
+    except (KeyError, IndexError, ValueError, TypeError):
+        return None
+    if values[0] == values[1]:
+        return None
+    if all(isinstance(value, dict) for value in values):
+        values = [{key: value[key] for key in value if value[key] != beside.get(key)} for value, beside in (values, values[::-1])]
+    return [contents.in_words(value) or "nothing" for value in values]
+
+
+def by_bytes(one, other):
+    """The bytes of two contents: of those of one length, from the first that differs to the last."""
+    if len(one) != len(other):
+        return [decode.hexed(one), decode.hexed(other)]
+    places = [place for place, (mine, yours) in enumerate(zip(one, other)) if mine != yours]
+    first, last = places[0], places[-1]
+    where = f"byte {first + 1}" if first == last else f"bytes {first + 1} to {last + 1}"
+    return [f"{where}: {tree.shortened(decode.hexed(content[first:last + 1]))}" for content in (one, other)]
 
 
 def of_pin(one, other, name):

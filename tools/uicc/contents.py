@@ -7,34 +7,44 @@ from . import rules, structured
 from .coding import (
     UPDATES, BadContent, coded_text, decode_plmn, dialled_digits, digits_of, encode_plmn, exact_bytes, is_blank, is_digits,
     packed, text_of)
-from .names import table
+from .names import by_name, table
 
 IMSI_DIGITS = 15
 # the services of an emergency call, by the bits of its category (3GPP TS 24.008, 10.5.4.33)
 EMERGENCIES = ("police", "ambulance", "fire brigade", "marine guard", "mountain rescue", "manual eCall", "automatic eCall", "spare")
+# the first of them that isn't for a number that is dialled; and the byte of a number without category
+FIRST_UNDIALLED, NO_CATEGORY = 5, 0xFF
 
 
 def decode_iccid(content):
     digits = digits_of(content)
     if len(digits) < 18:
-        raise BadContent(f"a card's number has 18 to 20 digits, and this one {len(digits)}")
+        raise BadContent(f"an ICCID has 18 to 20 digits, and this one {len(digits)}")
     return digits + ("" if len(digits) == 18 or luhn(digits[:-1]) == digits[-1] else f" (its check digit would be {luhn(digits[:-1])})")
 
 
 def check_iccid(content):
-    """BadContent, where the check digit of a card's number is wrong: one of 18 digits may have none."""
+    """BadContent, where the check digit of an ICCID is wrong: one of 18 digits may have none."""
     digits = digits_of(content)
     if is_blank(content):
-        raise BadContent("the card has no number")
+        raise BadContent("it is blank")
     if len(digits) > 18 and luhn(digits[:-1]) != digits[-1]:
         raise BadContent(f"the check digit of {digits} is {digits[-1]}, and should be {luhn(digits[:-1])}")
 
 
 def check_imsi(content):
     """BadContent, where an IMSI hasn't the digits that nearly every one has."""
-    digits = decode_imsi(content)
-    if len(digits) != IMSI_DIGITS:
-        raise BadContent(f"nearly every IMSI has {IMSI_DIGITS} digits, and {digits} {len(digits)}")
+    digits = "" if is_blank(content) else decode_imsi(content)
+    if digits and len(digits) != IMSI_DIGITS:
+        raise BadContent(f"{digits} has {len(digits)} digits: nearly all IMSIs have {IMSI_DIGITS}")
+
+
+def check_ecc(record):
+    """BadContent, where the category of an emergency number has bits of services that nobody dials, or a spare one."""
+    wrong = [name for bit, name in enumerate(EMERGENCIES) if bit >= FIRST_UNDIALLED and record[-1] >> bit & 1]
+    if record[-1] != NO_CATEGORY and wrong:
+        raise BadContent(f"its category {record[-1]} is for {' and '.join(wrong)}, which no number is dialled for: a category is the sum of "
+                         f"{', '.join(f'{1 << bit} ({name})' for bit, name in enumerate(EMERGENCIES[:FIRST_UNDIALLED]))}")
 
 
 def luhn(digits):
@@ -48,7 +58,7 @@ def luhn(digits):
 
 def encode_iccid(digits):
     if not 18 <= len(digits) <= 20:
-        raise BadContent(f"a card's number has 18 to 20 digits, and not {len(digits)}")
+        raise BadContent(f"an ICCID has 18 to 20 digits, and not {len(digits)}")
     return packed(digits, 10)
 
 
@@ -177,6 +187,7 @@ def decode_spn(content):
     if shown == 0xFF and is_blank(content[1:]):
         return "none"
     when = ["the network's name is shown too"] if shown & 1 else ["the network's name isn't asked for at home"]
+    when += ["it isn't shown abroad"] if shown & 2 else []
     return f"{text_of(content[1:])} ({', '.join(when)})"
 
 
@@ -187,8 +198,8 @@ def encode_spn(name, size=17, shown=1):
 # bits
 
 def decode_acc(content):
-    bits = int.from_bytes(content, "big")
-    return "classes " + (", ".join(str(n) for n in range(16) if bits >> n & 1 and n != 10) or "none")
+    found = [str(number) for number in classes_of(content) if number != 10]
+    return f"class{'es' * (len(found) != 1)} {', '.join(found)}" if found else "no class"
 
 
 def encode_acc(classes):
@@ -223,6 +234,10 @@ def encode_ad(given):
     return bytes((mode, 0, 0, given.get("network_digits", 2)))
 
 
+# the kinds of tables of services, and the bits that each service has in one
+SERVICES = {"ust": 1, "sst": 2, "ist": 1, "est": 1}
+
+
 def decode_ust(content):
     return decode_bits(content, table("files")["ust"])
 
@@ -234,6 +249,11 @@ def decode_bits(content, names):
         if content[place // 8] >> place % 8 & 1:
             found.append(f"{place + 1} {names[place]}" if place < len(names) else str(place + 1))
     return ", ".join(found) or "none"
+
+
+def classes_of(content):
+    bits = int.from_bytes(content, "big")
+    return [number for number in range(16) if bits >> number & 1]
 
 
 def decode_sst(content):
@@ -249,20 +269,32 @@ def decode_sst(content):
 MOST_SERVICES = 2040
 
 
-def services(given, names):
+def services(given, kind):
+    """The numbers of services that are said by numbers, by names, or by the one file that a service is for (`FDN`, `EF_FDN`)."""
+    known = {name.lower(): number for number, name in enumerate(table("files")[kind], 1)}
     for one in given:
         if isinstance(one, int) and not isinstance(one, bool) and 1 <= one <= MOST_SERVICES:
             yield one
-        elif one in names:
-            yield names.index(one) + 1
-        else:
-            meant = difflib.get_close_matches(str(one), names, 1)
-            raise BadContent(f"`{one}` is no service by number or name" + (f", but `{meant[0]}` is" if meant else ""))
+            continue
+        word = str(one).lower()
+        number = known.get(word) or service_of_file(str(one), kind)
+        if number is None:
+            meant = difflib.get_close_matches(word, known, 1)
+            raise BadContent(f"`{one}` is no service by number or name" + (f", but `{table('files')[kind][known[meant[0]] - 1]}` is" if meant else "")
+                             + f": tools/profile services {kind} lists them")
+        yield number
+
+
+def service_of_file(word, kind):
+    """The service that a standard file is for, by the file's name; None where it is for none, or for one of several."""
+    needs = {tuple(entry.get("needs", {}).get(kind, ())) for entry in by_name(word)} - {()}
+    found = needs.pop() if len(needs) == 1 else ()
+    return found[0] if len(found) == 1 else None
 
 
 def encode_ust(given, size=None, kind="ust"):
     bits = 0
-    for number in services(given, table("files")[kind]):
+    for number in services(given, kind):
         bits |= 1 << number - 1
     return sized(bits, size or max(1, (bits.bit_length() + 7) // 8))
 
@@ -278,7 +310,7 @@ def services_on(kind, content):
 
 def encode_sst(given, size=None):
     bits = 0
-    for number in services(given, table("files")["sst"]):
+    for number in services(given, "sst"):
         bits |= 3 << 2 * (number - 1)
     return sized(bits, size or max(2, (bits.bit_length() + 7) // 8))
 
@@ -339,7 +371,7 @@ def encode_languages(languages):
 
 
 def decode_minutes(content):
-    return "no search" if content[0] == 0 else f"each {6 * content[0]} minutes"
+    return "no search" if content[0] == 0 else f"every {6 * content[0]} minutes"
 
 
 def decode_application(record):
@@ -359,7 +391,7 @@ def decode_ecc(record):
     if is_blank(record):
         return None
     services = [name for bit, name in enumerate(EMERGENCIES) if record[-1] >> bit & 1]
-    category = f", category {record[-1]}: {', '.join(services)}" if len(record) > 3 and record[-1] not in (0x00, 0xFF) else ""
+    category = f", category {record[-1]}: {', '.join(services) or 'none'}" if len(record) > 3 and record[-1] != NO_CATEGORY else ""
     return digits_of(record[:3]) + (f" ({text_of(record[3:-1])})" if len(record) > 4 and not is_blank(record[3:-1]) else "") + category
 
 
@@ -431,6 +463,16 @@ DECODERS = {
     "suci": told(structured.concealing_of), "supi-nai": told(structured.identifiers_of), "uri": told(structured.uri_of),
     "uris": told(structured.uri_of), "servers": told(structured.server_of),
 }
+
+
+# what is said of contents that can be read, and that are hardly right
+CHECKS = {"iccid": check_iccid, "imsi": check_imsi, "ecc": check_ecc}
+
+
+def check(kind, content):
+    """BadContent, where the bytes of this kind can be read and are hardly right."""
+    if kind in CHECKS:
+        CHECKS[kind](bytes(content))
 
 
 def decode(kind, content):

@@ -9,13 +9,10 @@ HEADS = ("command", "qualifier", "result", "31.124", "sequences", *verdict.VERDI
 
 
 def results_in(step):
-    """The general results that a response may have; it has one at least."""
-    one = next(one for one in step.objects if one.tag == RESULT)
-    return [part[:2] for part in one.pattern.split("|")]
-
-
-def result_name(code):
-    return names.table("toolkit")["results"].get(code, "")
+    """The general results that a response may have, each with its name."""
+    pattern = next((one.pattern for one in step.objects if one.tag == RESULT), "")
+    codes = dict.fromkeys(part[:2] for part in pattern.split("|"))
+    return " or ".join(f"{code} {names.table('toolkit')['results'].get(code, '')}".strip() for code in codes) or "any"
 
 
 def covered(sequence):
@@ -25,9 +22,9 @@ def covered(sequence):
         if isinstance(step, Give):
             given = step
         elif given and isinstance(step, Respond):
-            yield given, "|".join(results_in(step)), result_name(results_in(step)[0])
+            yield given, results_in(step)
         elif given and isinstance(step, Restart):
-            yield given, "", "the card is reset"
+            yield given, "the card is reset"
 
 
 def qualifier_text(given):
@@ -42,8 +39,7 @@ def rows(outcomes):
     counts, sections = collections.defaultdict(collections.Counter), collections.defaultdict(set)
     for outcome in outcomes:
         sequence = outcome.sequence
-        keys = {(given.details[1], given.name, qualifier_text(given), f"{codes} {name}".strip()): given
-                for given, codes, name in covered(sequence)}
+        keys = {(given.details[1], given.name, qualifier_text(given), result): given for given, result in covered(sequence)}
         for key, given in keys.items():
             counts[key][outcome.verdict] += 1
             if sequence.section and given is sequence.commands()[-1]:

@@ -104,7 +104,7 @@ def title_select(apdu):
 
 def title_binary(apdu):
     if apdu.p1 & 0x80:
-        where = f"of the short identifier {apdu.p1 & 31}, from byte {apdu.p2}"
+        where = f"by SFI {apdu.p1 & 31}, from byte {apdu.p2}"
     else:
         where = f"from byte {apdu.p1 << 8 | apdu.p2}"
     if apdu.ins == READ_BINARY:
@@ -121,7 +121,7 @@ def title_record(apdu):
         which = str(apdu.p1) if apdu.p1 else "at the record pointer"
     else:
         which = RECORD_MODES.get(mode, f"mode {mode}")
-    where = f" of the short identifier {short}" if short else ""
+    where = f" by SFI {short}" if short else ""
     return which + where
 
 
@@ -136,7 +136,7 @@ def title_channel(apdu):
 
 
 def title_increase(apdu):
-    where = f" of the short identifier {apdu.p1 & 31}" if apdu.p1 & 0x80 else ""
+    where = f" by SFI {apdu.p1 & 31}" if apdu.p1 & 0x80 else ""
     return f"by {int.from_bytes(apdu.data, 'big')}{where}"
 
 
@@ -167,15 +167,15 @@ TITLES = {
     UPDATE_RECORD: title_record, SEARCH_RECORD: title_record, INCREASE: title_increase, CHANNEL: title_channel,
     FETCH: lambda apdu: amount(apdu.le or 256) if apdu.le is not None else "",
     GET_RESPONSE: lambda apdu: amount(apdu.le or 256) if apdu.le is not None else "",
-    STATUS: lambda apdu: "" if apdu.p2 == 0x0C else "with the control parameters",
+    STATUS: lambda apdu: "" if apdu.p2 == 0x0C else "with the FCP",
     INSTALL: lambda apdu: f"on shelf {apdu.p2}, priority {apdu.p1}",
     CREATE_FILE: title_create, DELETE: title_delete, RESIZE_FILE: title_resize,
     **{ins: title_pin for ins in PINS},
 }
 
 
-def details(apdu):
-    """What stands in the data of a command, object by object."""
+def details(apdu, path=None, usim=True):
+    """What stands in the data of a command, object by object. `path` is that of the file which CREATE FILE makes, where it is known."""
     if not apdu.ok or not apdu.data:
         return []
     if apdu.ins == RESPONSE:
@@ -187,7 +187,7 @@ def details(apdu):
     if apdu.ins == INSTALL:
         return installation(apdu.data)
     if apdu.ins == CREATE_FILE:
-        return fcp(apdu.data)
+        return fcp(apdu.data, path, usim)
     if apdu.ins in PINS:
         return [Line(0, label, pin_value(apdu.data[n:n + 8])) for label, n in zip(("value", "new value"), range(0, len(apdu.data), 8))]
     return []
@@ -307,7 +307,9 @@ def location_text(value, _):
 
 
 def address_text(value, _):
-    return contents.dialled_digits(value[1:], value[0])
+    """A number as it is dialled: with a + before an international one, and with its type where that is another one than usual."""
+    kind = "" if value[0] in (0x81, 0x91) else f" type {value[0]:02X}"
+    return contents.dialled_digits(value[1:], value[0]) + kind
 
 
 def bearer_text(value, _):
@@ -475,8 +477,8 @@ def fcp(data, path=None, usim=True):
         tag, content = tlv.template(data)
         found = list(rules.objects(content))
     except ValueError as fault:
-        return [Line(0, "bad control parameters", str(fault))]
-    lines = [Line(0, "control parameters" if tag == 0x62 else f"template {tag:02X}", "")]
+        return [Line(0, "bad FCP", str(fault))]
+    lines = [Line(0, "FCP" if tag == 0x62 else f"template {tag:02X}", "")]
     for tag, value in found:
         name, text = FCP.get(tag, (f"object {tag:02X}", hexed))
         if tag == IDENTIFIER:
@@ -541,5 +543,5 @@ FCP = {
     0x8B: ("access rule", lambda value: f"record {value[2]} of {hexed(value[:2])}"),
     0xC6: ("PINs", lambda value: pin_status_text(value) if 0x83 in value else "none"),
     0x80: ("size", lambda value: amount(int.from_bytes(value, 'big'))),
-    0x88: ("short identifier", lambda value: str(value[0] >> 3) if value else "none"),
+    0x88: ("SFI", lambda value: str(value[0] >> 3) if value else "none"),
 }

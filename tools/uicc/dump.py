@@ -8,13 +8,15 @@ import dataclasses
 import json
 import re
 
-from . import contents, names, rules
+from . import contents, forms, names, rules
 
 STRUCTURES = {"transparent": "t", "linear_fixed": "l", "cyclic": "c"}
 # the low bits of a file descriptor, and the byte of the structure in the answer of a SIM (3GPP TS 51.011, 9.2.1)
 BY_DESCRIPTOR = {1: "t", 2: "l", 6: "c"}
 BY_SIM = {0: "t", 1: "l", 3: "c"}
 NOT_FOUND = "6a82"
+# what the lines of an export begin with
+WORDS = ["select", "update_binary", "update_binary_decoded", "update_record", "update_record_decoded"]
 # where the card here has the files of an application
 FOLDERS = {"ADF.USIM": "7F20", "ADF.ISIM": "7FF2"}
 FOREIGN = "foreign"
@@ -103,7 +105,7 @@ def shape_of(fcp):
     try:
         return shape_by_parameters(fcp) if fcp[:1] == b"\x62" else shape_by_sim(fcp)
     except (rules.NoRule, IndexError, KeyError):
-        raise Unread("its control parameters can't be read") from None
+        raise Unread("its FCP can't be read") from None
 
 
 def shape_by_parameters(fcp):
@@ -217,7 +219,10 @@ class Export:
                 raise Unread(f"`{number}` is no number of a record")
             self.opened().records[int(number)] = value_of(word, value)
         else:
-            raise Unread(f"`{word}` writes nothing that a file of a card here holds")
+            if word == "set_data":
+                raise Unread("`set_data` writes an object of a file of the structure BER-TLV, which a card here can't hold")
+            meant = forms.near(word, WORDS)
+            raise Unread(f"`{word}` isn't known: " + (f"`{meant}` is" if meant else f"{', '.join(WORDS)} are"))
 
     def select(self, name):
         parts = name.split("/")

@@ -56,7 +56,7 @@ def encode_emergency(given, length):
         raise BadContent(f"a record of emergency numbers has at least 4 bytes, and not {length}")
     name = contents.coded_text(given.get("name", ""), length - 4).ljust(length - 4, b"\xFF")
     category = given.get("category", 0xFF)
-    return contents.packed(str(given["number"]), 3) + name + bytes((category,))
+    return contents.packed(given["number"], 3) + name + bytes((category,))
 
 
 def emergency_of(record):
@@ -85,13 +85,8 @@ def encode_barred(entry, length):
 
 def encode_minutes(minutes, _):
     if minutes % 6 or not 0 <= minutes <= 6 * 255:
-        raise BadContent(f"{minutes} minutes: it is a number from 0 to {6 * 255} that six divides")
+        raise BadContent(f"it is a multiple of 6 from 0 to {6 * 255}, and not {minutes}")
     return bytes((minutes // 6,))
-
-
-def classes_of(content):
-    bits = int.from_bytes(content, "big")
-    return [number for number in range(16) if bits >> number & 1]
 
 
 def services_of(content):
@@ -126,7 +121,7 @@ BYTE = forms.Bounded(0, 255)
 SERVICES = forms.ListOf(forms.NUMBER_OR_TEXT, "numbers or names of services")
 PLMNS = forms.ListOf(TEXT, "PLMNs in quotes")
 ENTRIES, ENTRY = forms.ListOf(TABLE({"name": TEXT, "number": TEXT}), "tables"), '[{ name = "Anna", number = "+491701234567" }]'
-EMERGENCY = TABLE({"number": forms.NUMBER_OR_TEXT, "name": TEXT, "category": BYTE}, ("number",))
+EMERGENCY = TABLE({"number": TEXT, "name": TEXT, "category": BYTE}, ("number",))
 LOCATION = TABLE(dict.fromkeys(("guti", "plmn", "area", "status"), TEXT), ("plmn",))
 AREAS = forms.ListOf(TABLE({"plmn": TEXT, "from": TEXT, "to": TEXT, "name": forms.Bounded(0, 254)}, ("plmn", "name")), "tables")
 
@@ -136,7 +131,7 @@ KINDS = {
     "imsi": Kind("imsi", TEXT, '"262019876543210"', lambda value, _: contents.encode_imsi(value), contents.decode_imsi),
     "spn": Kind("spn", forms.OneOf(TEXT, TABLE({"name": TEXT, "with_network": TRUTH, "abroad": TRUTH}, ("name",))), '"Nordlicht"', encode_name,
                 name_of),
-    "acc": Kind("acc", forms.ListOf(NUMBER, "numbers"), "[9]", lambda value, _: contents.encode_acc(value), classes_of),
+    "acc": Kind("acc", forms.ListOf(NUMBER, "numbers"), "[9]", lambda value, _: contents.encode_acc(value), contents.classes_of),
     "ad": Kind("ad", TABLE({"mode": TEXT, "network_digits": NUMBER}), '{ mode = "normal", network_digits = 2 }',
                lambda value, _: contents.encode_ad(value), mode_of),
     "loci": Kind("loci", TABLE({"tmsi": TEXT, "plmn": TEXT, "area": TEXT, "status": TEXT}, ("plmn",)),
@@ -154,7 +149,7 @@ KINDS = {
     "barred": Kind("entries", ENTRIES, ENTRY, encode_barred, lambda record: dialling_of(record[:-1]), True, 29),
     "application": Kind("applications", forms.ListOf(TABLE({"aid": TEXT, "label": TEXT}, ("aid",)), "tables"),
                         '[{ aid = "A0000000871002FFFFFFFF8907090000", label = "USIM" }]', encode_application, application_of, True),
-    "ecc": Kind("emergency", forms.ListOf(forms.OneOf(forms.NUMBER_OR_TEXT, EMERGENCY), "numbers in quotes"), '["112"]', encode_emergency,
+    "ecc": Kind("emergency", forms.ListOf(forms.OneOf(TEXT, EMERGENCY), "numbers in quotes"), '["112"]', encode_emergency,
                 emergency_of, True),
     "psloci": Kind("psloci", TABLE(dict.fromkeys(("ptmsi", "signature", "plmn", "area", "routing", "status"), TEXT), ("plmn",)),
                    '{ plmn = "001-01", area = "0001", routing = "01", status = "updated" }',
@@ -239,7 +234,7 @@ def written(key, value, entry, size, record=None):
         given = value
     wrong = kind.form.wrong(given)
     if wrong:
-        raise BadContent(f"{key} {wrong}: {key} = {kind.example}")
+        raise BadContent(f"{forms.about(key, wrong)}: {key} = {kind.example}")
     content = kind.encoded(given, size)
     longest = max(map(len, content), default=0) if kind.of_records else len(content)
     if longest > size:

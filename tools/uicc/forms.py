@@ -1,6 +1,7 @@
 """What values of TOML have to be: each form says of a value what is wrong with it, and nothing where it is in order."""
 import datetime
 import difflib
+import tomllib
 
 
 def called(value):
@@ -24,6 +25,28 @@ def near(word, known):
     """Of which known word another one is a slip; None where it is of none."""
     found = difflib.get_close_matches(str(word).lower(), known, 1, 0.65)
     return found[0] if found else None
+
+
+def table_in(form):
+    """The table that a value is told by, or each entry of a list; None where it is told by none."""
+    if isinstance(form, ListOf):
+        return table_in(form.one)
+    return form if isinstance(form, TableOf) else form.table if isinstance(form, OneOf) and isinstance(form.table, TableOf) else None
+
+
+def of_text(form, text):
+    """The value that a text says without the quotes of TOML: itself, where it may be a text and begins no table."""
+    if str in form.classes and not (dict in form.classes and text.startswith("{")):
+        return text
+    try:
+        return tomllib.loads(f"value = {text}")["value"]
+    except (tomllib.TOMLDecodeError, RecursionError):
+        return text
+
+
+def about(subject, wrong):
+    """What is said of a subject, where a form finds something wrong: of itself, or of a part of it."""
+    return subject + ("" if wrong.startswith(":") else " ") + wrong
 
 
 class Form:
@@ -70,7 +93,7 @@ class ListOf(Form):
 
     def faults_within(self, value):
         for place, each in enumerate(value, 1):
-            yield from (f"has a wrong entry {place}: it {wrong}" for wrong in self.one.faults(each))
+            yield from (f": {about(f'entry {place}', wrong)}" for wrong in self.one.faults(each))
 
 
 class TableOf(Form):
@@ -82,7 +105,7 @@ class TableOf(Form):
 
     def faults_within(self, value):
         for key, each in value.items():
-            yield from (f"has a wrong `{key}`: it {wrong}" for wrong in self.faults_of_key(key, each))
+            yield from (f": {about(f'`{key}`', wrong)}" for wrong in self.faults_of_key(key, each))
         yield from (f"has no `{key}`" for key in self.needed if key not in value)
 
     def faults_of_key(self, key, value):

@@ -59,10 +59,10 @@ class Import:
     def _keep(self, file):
         path = file.path()
         if self.with_usim and path[0] == "7F20" and "ADF.USIM" not in file.name.split("/"):
-            raise Unread("the files of ADF.USIM lie in the folder of DF.GSM here")
+            raise Unread("the files of ADF.USIM lie in DF.GSM here")
         for depth in range(1, len(path)):
             if path[:depth] in self.card.files and not self.card.files[path[:depth]].is_df:
-                raise Unread(f"{names.shown(path[:depth])} is no folder")
+                raise Unread(f"{names.shown(path[:depth])} is no DF")
         if path in self.card.files:
             raise Unread(f"{names.shown(path)} is there already")
         shape, records = told_shape(file, path)
@@ -103,7 +103,7 @@ class Import:
         short = file.shape.short if file.shape.short is not None else (names.file(path) or {}).get("short", NO_SHORT)
         taken = [other for other in self.card.children(path[:-1]) if short and other.short == short]
         if taken:
-            self.faults.append(f"{file.name}: comes without its short identifier {short}, which {names.shown(taken[0].path)} has")
+            self.faults.append(f"{file.name}: comes without its SFI {short}, which {names.shown(taken[0].path)} has")
         return grammar.Ef(path, shape.structure, shape.length, shape.count, short if 1 <= short <= 30 and not taken else None, None)
 
     def _add(self, shape):

@@ -3,9 +3,7 @@ code is proved to follow.
 
 `data/kinds.json` has them for where no sources are; `tools/applet write` writes it, and a test compares it with the sources. Of a program
 that is built here, or of a draft, the sources themselves are asked. What a kind is called in a sentence (`does`) stands in that file alone.
-
-`findings` tells what the prover or the compiler would not take, as far as that is seen here: names that a file doesn't import, acts and
-commands with another number of parts, phases of the code that have no number."""
+`kind_faults` tells what the prover would not take of them."""
 import functools
 import json
 import os
@@ -19,7 +17,6 @@ TABLE = "table"
 # where the sources say it
 TURNS, MINDS = ("applet_trait", "specs", "Turns.antt"), ("applet_trait", "specs", "Minds.antt")
 SHELVES, SIZES = ("boxed_applets", "specs", "Casts.antt"), ("card_state", "src", "sizes.rt")
-PHASES = ("boxed_applets", "specs")
 HOW_MANY = 32
 # what isn't read from a definition, but is here once for all
 PRIMITIVES = ("value_in",)
@@ -123,19 +120,6 @@ class Collected:
         else:
             self.unreadable[name] = f"{own} is no constant that is read here"
 
-    def findings(self):
-        """What is wrong with the definitions: a file, a line and why, each."""
-        found = [(self.places[name], self.lines[name] or 1, f"the definition of {name} isn't read: {why}")
-                 for name, why in self.unreadable.items() if name in self.places]
-        for name, clauses in self.definitions.items():
-            file = self.file(self.places[name])
-            for (line, text), (patterns, body) in zip(file.texts(name), clauses):
-                found += [(file.path, line + offset_of(text, word), f"{name} uses `{shown_word(word)}`, which the file neither defines nor imports")
-                          for word in sorted(antt.used_in(patterns, body) - {*file.heads, *file.uses})]
-                found += [(file.path, line + offset_of(text, word), f"{name}: {word} stands with {count} of its {wanted} parts")
-                          for word, count, wanted in wrong_counts(body)]
-        return sorted(set(found))
-
     def made_of(self, name, seen=()):
         """What a definition lacks that is made of some which can't be read, or None."""
         if name in self.unreadable:
@@ -144,39 +128,6 @@ class Collected:
             return None
         used = set().union(*(antt.names_in(body) for _, body in self.definitions[name]))
         return next(filter(None, (self.made_of(each, (*seen, name)) for each in sorted(used))), None)
-
-
-def shown_word(word):
-    """A name as a file imports it, as it stands in a text: `++` for `◌++◌`."""
-    return "if" if word.startswith("if◌") else word.strip("◌")
-
-
-def offset_of(text, word):
-    """On which line of a clause a word stands first, from 0 on."""
-    word = shown_word(word)
-    found = re.search(rf"(?<![\w'+]){re.escape(word)}(?![\w'+])", text)
-    return text.count("\n", 0, found.start()) if found else 0
-
-
-# how many parts an act or a command has
-PARTS = {
-    "Refresh": 1, "PollInterval": 1, "SetUpEventList": 1, "PlayTone": 1, "DisplayText": 1, "GetInkey": 1, "GetInput": 4, "SelectItem": 2, "SetUpMenu": 2,
-    "LocalInformation": 1, "TimerManagement": 3, "IdleText": 1, "Send": 1, "Keep": 1, "Register": 1, "Deregister": 1, "FreeTimer": 1, "Answer": 1,
-}
-
-
-def wrong_counts(body, given=0):
-    """The acts and commands of a body that stand with another number of parts than they have: each with that number and the right one."""
-    if isinstance(body, dict):
-        return [each for part in body.values() for each in wrong_counts(part)]
-    if not isinstance(body, list) or not body:
-        return []
-    if body[0] == "name":
-        wanted = PARTS.get(body[1], given)
-        return [(body[1], given, wanted)] if given != wanted else []
-    if body[0] == "call":
-        return wrong_counts(body[1], len(body[2])) + [each for part in body[2] for each in wrong_counts(part)]
-    return [each for part in body[1:] for each in wrong_counts(part)]
 
 
 def collected_from(crates, path, name, *needed):
@@ -206,49 +157,6 @@ def collected_turns(crates):
     collected = collected_from(crates, source(crates, *TURNS), "act", "by_kind")
     collected.add(source(crates, *MINDS), "fresh")
     return collected
-
-
-def findings(crates):
-    """What the prover would not take in the kinds of the sources, as far as that is seen here: a file, a line and why, each."""
-    return collected_turns(crates).findings() + unnumbered(crates)
-
-
-def unnumbered(crates):
-    """The phases of the code that have no number of their own in the definition of its mind, or aren't imported there."""
-    folder, found, declared = source(crates, *PHASES), [], declared_phases(source(crates, "boxed_applets", "src"))
-    for path in (os.path.join(folder, name) for name in sorted(os.listdir(folder)) if name.endswith(".antt")):
-        file = antt.File(path)
-        module = next((place.split(".")[4] for place, _ in file.uses.values() if place.endswith(".Phase")), None)
-        if not module or "phase_of" not in file.heads:
-            continue
-        line = file.line_of("phase_of")
-        if module not in declared:
-            found.append((path, line, f"boxed_applets/src/{module}.rt, whose phases have numbers here, has no phases or isn't there"))
-            continue
-        _, phases = declared.pop(module)
-        numbers = [pair for _, clause in file.texts("phase_of") for pair in re.findall(r"^phase_of (\w+) = *(\S+)", clause)]
-        numbered = {phase for phase, _ in numbers}
-        for number in sorted({number for _, number in numbers}):
-            alike = [phase for phase, other in numbers if other == number]
-            if len(alike) > 1:
-                found.append((path, line, f"phase_of gives {' and '.join(alike)} the same number, {number}"))
-        for phase in phases:
-            if phase not in numbered and "_" not in numbered:
-                found.append((path, line, f"phase_of has no number for {phase}, a phase of boxed_applets/src/{module}.rt"))
-        found += [(path, line, f"phase_of uses `{phase}`, which the file neither defines nor imports") for phase in sorted(numbered - {*file.uses, "_"})]
-    found += [(path, 1, "no file of boxed_applets/specs gives its phases numbers (phase_of)") for path, _ in declared.values()]
-    return found
-
-
-def declared_phases(folder):
-    """The files of the applets' code that declare phases, by their modules, each with the names of the phases."""
-    found = {}
-    for name in sorted(os.listdir(folder)):
-        with open(os.path.join(folder, name), encoding="utf-8") as text:
-            declared = re.search(r"^enum Phase \{\n(.*?)^\}", text.read(), re.MULTILINE | re.DOTALL)
-        if declared:
-            found[name.removesuffix(".rt")] = os.path.join(folder, name), re.findall(r"^    (\w+)", declared[1], re.MULTILINE)
-    return found
 
 
 def of_sources(crates, known=()):

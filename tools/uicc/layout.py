@@ -184,7 +184,7 @@ class Card:
         self._free_place(said.path)
         taken = next((file for file in self.children(said.path[:-1]) if said.short and file.short == said.short), None)
         if taken:
-            raise Wrong(f"the short identifier {said.short} is taken by {shown_path(taken.path)} (line {taken.line})")
+            raise Wrong(f"the SFI {said.short} is taken by {shown_path(taken.path)} (line {taken.line})")
         self._add_file(File(said.path, said.structure, said.length, said.count, said.short, said.rule,
                             bytearray(b"\xFF" * said.size), line=line))
 

@@ -4,7 +4,7 @@ import re
 
 from . import image
 
-IMAGE, SCRIPT, PROFILE, TRACE, LIST = "image", "script", "profile", "trace", "list"
+IMAGE, SCRIPT, PROFILE, TRACE, LIST, SEQUENCE = "image", "script", "profile", "trace", "list", "sequence"
 # what each is called, and what takes it
 ABOUT = {
     IMAGE: ("the image of a card", "tools/profile tree shows it, export makes a profile of it, and tools/shell --image opens it"),
@@ -12,10 +12,12 @@ ABOUT = {
     PROFILE: ("a profile", "tools/profile build makes a script of it"),
     TRACE: ("a trace", "tools/explain shows it"),
     LIST: ("a list of cards", "tools/profile batch PROFILE LIST.csv -o FOLDER takes it"),
+    SEQUENCE: ("a file of sequences", "tools/sequence plays it to a terminal"),
 }
 # how a profile begins, after empty lines and comments: with the head of a table, or with a key
 OF_PROFILE = re.compile(rb"\s*(?:#[^\n]*\n\s*)*(?:\[|[\w\"'.-]+[ \t]*=)")
 OF_SCRIPT = re.compile(rb"(?:start|(?:df|ef|fill|rec|pin|row) [0-9A-Fa-f]+ .*|df [0-9A-Fa-f]+)\s*")
+OF_SEQUENCE = re.compile(rb"sequence [^=]*")
 OF_TRACE = re.compile(rb"[<>] [0-9A-Fa-f]+\s*|! (?:reset|cut|off)\s*|\* .*|@ [0-9]+\.[0-9]{6}\s*")
 
 
@@ -32,7 +34,7 @@ def kind_of(content):
     first = next((line for line in lines if line and not line.startswith(b"#")), b"")
     if b"iccid" in [cell.strip(b' "').lower() for cell in re.split(rb"[,;\t]", first)] and OF_PROFILE.match(first) is None:
         return LIST
-    for kind, form in ((SCRIPT, OF_SCRIPT), (TRACE, OF_TRACE)):
+    for kind, form in ((SCRIPT, OF_SCRIPT), (TRACE, OF_TRACE), (SEQUENCE, OF_SEQUENCE)):
         if form.fullmatch(first):
             return kind
     return PROFILE if OF_PROFILE.match(content) else None

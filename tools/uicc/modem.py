@@ -28,8 +28,8 @@ Where an answer's status is 91XX, the modem fetches the command and tells its cl
 whose command is to be sent now can answer 91XX. `take`, `poll`, `attend`, `arrive` and `leave` have to be called by one thread at a time:
 `lock` is for those who have several, and the lines of modem_line.py hold it.
 
-The modem and the toolkit. The modem begins with its radio off (+CFUN: 4), and the SIM has power. At AT+CFUN=1 it sends TERMINAL
-PROFILE; from then on it fetches what the card has to say, one command at a time, and says +CUSATP: HEX. The client answers by
+The modem and the toolkit. The modem begins with its radio off (+CFUN: 4), and the SIM has power. At AT+CFUN=1, or at AT+CUSATD=1 before that,
+it sends TERMINAL PROFILE, once; from then on it fetches what the card has to say, one command at a time, and says +CUSATP: HEX. The client answers by
 AT+CUSATT=HEX, the data of TERMINAL RESPONSE, and sends envelopes by AT+CUSATE=HEX, whose answer is +CUSATER: HEX. +CUSATEND says that
 the card has nothing more. A client that says AT+CFUN=1 once more is told the command that isn't answered yet once more."""
 import contextlib
@@ -253,17 +253,17 @@ class Modem:
 
     def set_functionality(self, wanted):
         """+CFUN: off and on is a reset of the SIM, and so is on where it lost its power."""
-        before, self.functionality = self.functionality, wanted
+        self.functionality = wanted
         if wanted == OFF:
             self.has_power = False
             self._forget_session()
         elif not self.has_power:
             self.power_on()
         if wanted == FULL and self.has_power:
-            if before != FULL or not self.is_told:
-                self.tell_profile()
-            else:
+            if self.is_told:
                 self.tell_command()
+            else:
+                self.tell_profile()
 
     def power_on(self):
         self._forget_session()

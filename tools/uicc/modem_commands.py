@@ -334,8 +334,8 @@ def any_command(modem, given):
 
 
 def counted(given, place):
-    """The bytes of a command, before which stands the number of their digits."""
-    content = given.content(place + 1)
+    """The bytes of a command, a string, before which stands the number of their digits."""
+    content = given.quoted_content(place + 1)
     if given.number(place) != 2 * len(content) or not 1 <= len(content) <= process.LONGEST_COMMAND:
         raise at.Failed(at.BAD_PARAMETERS)
     return content
@@ -641,11 +641,13 @@ def storages(_modem, given):
     return (f"{given.name}: ({PROFILE_OF_CLIENT})",)
 
 
+@command("+CUSATR", DO)
+@command("+CUSATR", READ)
 @command("+CUSATR", SET)
 def profile(modem, given):
-    """The profile that TERMINAL PROFILE has."""
+    """The profile that TERMINAL PROFILE has; there is one alone."""
     given.at_most(1)
-    if given.number(0) != PROFILE_OF_CLIENT:
+    if given.number(0, PROFILE_OF_CLIENT) != PROFILE_OF_CLIENT:
         raise at.Failed(at.BAD_PARAMETERS)
     return (f"+CUSATR: {PROFILE_OF_CLIENT},{quoted(decode.hexed(modem.profile))}",)
 

@@ -1,4 +1,5 @@
-"""Lines by which a client comes to a modem: a TCP port, a Unix socket, or a terminal of its own (a pty). One client at a time.
+"""Lines by which a client comes to a modem: a TCP port, a Unix socket, a terminal of its own (a pty), or standard input and output. One
+client at a time.
 
     with TcpLine("127.0.0.1", 12345) as line:
         line.serve(Modem(card, line.write))
@@ -6,8 +7,10 @@
 `serve` goes on until `stop` is called, by another thread or a signal."""
 import contextlib
 import os
+import re
 import select
 import socket
+import sys
 import tty
 
 # what a client hasn't taken yet; one that lets more than this stand is dropped
@@ -216,3 +219,27 @@ class PtyLine(_Line):
         with contextlib.suppress(BlockingIOError):
             sent = os.write(self._ours, self._waiting)
             del self._waiting[:sent]
+
+
+class StandardLine(_Line):
+    """Standard input and output: what is typed, or comes by a pipe, a line of commands each. Of what the modem says no empty line is shown."""
+
+    def _read_from(self):
+        return [sys.stdin]
+
+    def _write_to(self):
+        return []
+
+    def _turn(self, modem, readable, writable):
+        if sys.stdin not in readable:
+            return
+        content = os.read(sys.stdin.fileno(), PART)
+        modem.take(content.replace(b"\n", b"\r") or b"\r")
+        if not content:
+            self.stop()
+
+    def _send(self):
+        *lines, rest = re.split(rb"[\r\n]+", bytes(self._waiting))
+        self._waiting = bytearray(rest)
+        for line in filter(None, lines):
+            print(line.decode("latin-1"), flush=True)

@@ -33,7 +33,7 @@ def instruction(ins, class_=0x00):
 
 
 def key(reference):
-    return table("commands")["keys"].get(f"{reference:02X}", f"key {reference:02X}")
+    return table("commands")["keys"].get(f"{reference:02X}", f"key reference {reference:02X}")
 
 
 def of_toolkit(kind, value, default=None):
@@ -68,7 +68,11 @@ def places(folder, usim=True):
 
 def usual_folder(entry):
     """The path of the folder in which a standard file lies."""
-    place = entry["in"][0]
+    return folder_of(entry["in"][0])
+
+
+def folder_of(place):
+    """The path of a folder by its name in data/files.json."""
     if place in FOLDERS:
         return FOLDERS[place]
     above = next(one for one in table("files")["files"] if one["name"] == "DF." + place)
@@ -82,8 +86,8 @@ def in_folder(found, folder, usim=True):
 
 @functools.cache
 def file(path, usim=True):
-    """The standard file at a path from the MF; None where there is none. In 7F20 it is that of a USIM where `usim` is so, else
-    that of GSM. In a standard folder that no standard has it in it is the one file that goes by its identifier."""
+    """The standard file at a path from the MF; None where there is none: an identifier means something in its DF alone. In 7F20 it is that
+    of a USIM where `usim` is so, else that of GSM."""
     if not path:
         return files_of("3F00")[0]
     found = files_of(path[-1])
@@ -91,7 +95,7 @@ def file(path, usim=True):
         for entry in found:
             if place in entry["in"]:
                 return entry
-    return found[0] if len(found) == 1 and len(path) > 1 and places(path[:-1], usim) and found[0]["in"][0] in FOLDERS else None
+    return None
 
 
 # what the folders hold whose files are found by their standard short identifiers
@@ -116,6 +120,11 @@ def shown(path, usim=True):
     text = "/".join(path) if path else "3F00"
     entry = file(path, usim)
     return f"{text} {entry['name']}" if entry else text
+
+
+def is_adf(word):
+    """Whether a part of a path names an ADF, which no card here has."""
+    return normal(word).startswith("ADF") or word.upper() == "7FFF"
 
 
 def normal(word):

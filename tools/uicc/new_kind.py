@@ -3,7 +3,7 @@ Also a text that applets show, in each place where it stands."""
 import os
 import re
 
-from . import antt, kinds
+from . import antt, kinds, rooms
 
 NUMBERS = ("no", "one", "two", "three", "four", "five", "six", "seven", "eight", "nine", "ten", "eleven", "twelve")
 # words that a kind can't be called by
@@ -343,8 +343,11 @@ def put_text(crates, name, text):
     that were changed, and the text that was there."""
     if not re.fullmatch(r"[A-Z]+(_[A-Z]+)*", name):
         raise Refused(f"a text is called by large letters, as `ASK_FOR_NOTE`, and not {name}")
-    if not re.fullmatch(r'[ !#-\[\]-~]{1,255}', text):
-        raise Refused('a text has 1 to 255 letters from 20 to 7E, without `"` and `\\`')
+    if not re.fullmatch(rf'[ !#-\[\]-~]{{1,{rooms.MOST}}}', text):
+        raise Refused(f'a text has 1 to {rooms.MOST} letters from 20 to 7E, without `"` and `\\`, and not {len(text)} as this one')
+    room = rooms.room_for(kinds.collected_turns(crates), name)
+    if room and len(text) > room[0]:
+        raise Refused(rooms.why_too_long(name, len(text), room))
     texts, numbers = Text(crates, "applet_trait", "src", "texts.rt"), Text(crates, "uicc_run", "specs", "StandardNumbers.antt")
     old = antt.constants_of(texts.path).get(name)
     spelled = "(" + " ∷ ".join(f"0x{byte:02X}" for byte in text.encode()) + " ∷ [])"
@@ -387,20 +390,47 @@ def in_proofs(crates, old, new):
 
 
 def places_with(crates, text):
-    """The stored rows, the cases and the worked proofs that show a text, which nobody changes: their files, and how many lines do."""
-    quoted, spelled = f'"{text}"', f"8D{len(text) + 1:02X}04{text.encode().hex().upper()}"
-    in_bytes = " ∷ ".join(f"0x{byte:02X}" for byte in text.encode())
-    for path in sorted(files_above(crates, "data")) + sorted(files_above(crates, os.path.join("proofs", "worked"))):
-        with open(os.path.join(crates, path), encoding="utf-8", errors="replace") as content:
-            count = sum(quoted in line or spelled in line or in_bytes in line for line in content)
+    """What shows a text, and nobody changes: stored rows, cases, worked proofs and what programs print, examples and documents. Their files, and
+    how many lines do."""
+    top = os.path.dirname(crates)
+    shows = showing(text)
+    for path in [*(os.path.join(crates, path) for path in files_above(crates)), *files_beside(top)]:
+        with open(path, encoding="utf-8", errors="replace") as content:
+            count = sum(bool(shows.search(line)) for line in content)
         if count:
-            yield f"crates/{path}", count
+            yield os.path.relpath(path, top), count
 
 
-def files_above(crates, folder):
-    """The files of a folder in the crates that stand on the applets' one."""
+def showing(text):
+    """Lines that show a text: in quotes, as a trace notes it or as the bytes of an object, and in a proof."""
+    quoted, digits, length = re.escape(text), text.encode().hex().upper(), len(text)
+    as_object = rf"(?:8D|0D){length + 1:02X}04{digits}|(?:85|05){length:02X}{digits}|(?:8F|0F){length + 1:02X}[0-9A-F]{{2}}{digits}"
+    in_proof = " ∷ ".join(f"0x{byte:02X}" for byte in text.encode())
+    return re.compile(rf"[\"\'`“]{quoted}[\"\'`”]|\* (?:text|ask|idle) {quoted}$|{as_object}|{in_proof}")
+
+
+def files_above(crates):
+    """The files of the crates that stand on the applets' one, in which a text may be shown."""
     with open(os.path.join(os.path.dirname(crates), "crates.txt"), encoding="utf-8") as rows:
-        names = [line.split(":")[0].strip() for line in rows if re.search(r":.* applet_trait\b", line)]
-    for name in names:
-        for place, _, files in os.walk(os.path.join(crates, name, folder)):
-            yield from (os.path.relpath(os.path.join(place, file), crates) for file in files)
+        below = {line.split(":")[0].split()[0]: line.split(":")[1].split() for line in rows if re.match(r"\w", line)}
+    above = {"applet_trait"}
+    while more := {name for name, parts in below.items() if above & {*parts}} - above:
+        above |= more
+    for name in sorted(above - {"applet_trait"}):
+        for part in ("data", os.path.join("proofs", "worked"), "stdin", "stdout"):
+            yield from (os.path.relpath(path, crates) for path in files_in(os.path.join(crates, name, part)))
+
+
+def files_beside(top):
+    """The examples, the documents and the tests of the tools."""
+    for part in ("README.md", "docs", "examples", os.path.join("tools", "tests")):
+        yield from files_in(os.path.join(top, part))
+
+
+def files_in(place):
+    """A file, or all files of a folder."""
+    if os.path.isfile(place):
+        yield place
+    for folder, folders, names in os.walk(place):
+        folders[:] = sorted(name for name in folders if name != "__pycache__")
+        yield from (os.path.join(folder, name) for name in sorted(names))

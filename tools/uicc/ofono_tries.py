@@ -1,7 +1,7 @@
 """What oFono is tried with: what it reads of a card, PINs, the commands of the toolkit, and losses of power. `all_tries` makes a report.
 
 A try passes where oFono does what the standard asks for, fails where it does something else, and isn't supported where oFono says so
-itself, by the general results 30 and 31 (beyond the terminal's capabilities, type not understood)."""
+itself, by the general results 30 and 31 (command beyond terminal's capabilities, command type not understood)."""
 import dataclasses
 import os
 
@@ -29,7 +29,7 @@ MOST_WRITES = 12
 # what is known of a version: the tries that don't pass
 KNOWN = {"1.31": {
     "after PIN 1 the SIM is read on, with no word of the modem's": FAILED,
-    "who asked for that update is told that it failed": FAILED,
+    "whoever asked for that update hears that it failed": FAILED,
     "REFRESH that initialises the application": FAILED,
     "REFRESH that resets the card": UNSUPPORTED,
     "SET UP EVENT LIST": UNSUPPORTED,
@@ -142,12 +142,12 @@ class Session:
         self.phone.register_agent()
         self.phone.answer("Milk")
         self.phone.go_online()
-        self.until(lambda: "NetworkRegistration" in self.phone.interfaces and self.is_quiet(), "the toolkit's first session ends")
+        self.until(lambda: "NetworkRegistration" in self.phone.interfaces and self.is_quiet(), "the toolkit's first session doesn't end")
 
     def until(self, look, what, seconds=SECONDS):
         found = self.phone.until(look, seconds)
         if not found:
-            raise Wrong(f"it isn't so within {seconds} seconds that {what}")
+            raise Wrong(f"{what} within {seconds} seconds")
         return found
 
     def asked(self):
@@ -243,7 +243,7 @@ def after_pin(report, session):
     report.attempt("EF_AD parts the codes of the country and the network", lambda: expect(
         (phone.sim.get("MobileCountryCode"), phone.sim.get("MobileNetworkCode")), ("001", "01"), "the codes"))
     report.attempt("EF_MSISDN is the own number", lambda: expect(
-        session.until(lambda: phone.sim.get("SubscriberNumbers"), "a number comes"), [OWN_NUMBER], "SubscriberNumbers"))
+        session.until(lambda: phone.sim.get("SubscriberNumbers"), "no number comes"), [OWN_NUMBER], "SubscriberNumbers"))
     report.attempt("EF_ECC is an emergency number", lambda: expect(
         "911" in phone.properties("VoiceCallManager").get("EmergencyNumbers", []), True, "911 among the EmergencyNumbers"))
     report.attempt("EF_ADN is the telephone book", lambda: telephone_book(phone))
@@ -313,7 +313,7 @@ def block(session):
     phone = session.phone
     for _ in range(3):
         refused(lambda: phone.ask("call", "org.ofono.SimManager", "EnterPin", "pin", "0000"), "a wrong PIN")
-    session.until(lambda: phone.sim.get("PinRequired") == "puk", "the unblock value is asked for")
+    session.until(lambda: phone.sim.get("PinRequired") == "puk", "the unblock value isn't asked for")
 
 
 def unblock(session):
@@ -326,7 +326,7 @@ def toolkit(report, session):
     phone = session.phone
     session.begin()
     report.attempt("EF_SPN is the provider's name", lambda: expect(
-        session.until(lambda: phone.sim.get("ServiceProviderName"), "a name comes"), "Example Mobile", "ServiceProviderName"))
+        session.until(lambda: phone.sim.get("ServiceProviderName"), "no name comes"), "Example Mobile", "ServiceProviderName"))
     report.attempt("SET UP EVENT LIST", lambda: result_is(session.answered(EVENT_LIST), "00"))
     report.attempt("SET UP MENU is the main menu", lambda: set_up_menu(session))
     report.attempt("POLL INTERVAL", lambda: expect(session.answered(POLL_INTERVAL).value(DURATION), b"\x01\x1E", "the interval"))
@@ -336,15 +336,15 @@ def toolkit(report, session):
     for name, entry, answers, tried in (
             ("SELECT ITEM has an item chosen", "Menu", [1, None], select_item), ("PLAY TONE plays the tone", "Menu", [1, None], play_tone),
             ("DISPLAY TEXT shows the text until the user has seen it", "Menu", [0, None], display_text),
-            ("SELECT ITEM, gone back", "Menu", [ofono.GO_BACK], results(SELECT_ITEM, "11")),
-            ("SELECT ITEM, ended by the user", "Menu", [ofono.END_SESSION], results(SELECT_ITEM, "10")),
-            ("DISPLAY TEXT, gone back", "Menu", [0, ofono.GO_BACK], results(DISPLAY_TEXT, "11")),
-            ("DISPLAY TEXT, ended by the user", "Menu", [0, ofono.END_SESSION], results(DISPLAY_TEXT, "10")),
+            ("SELECT ITEM, backward move", "Menu", [ofono.GO_BACK], results(SELECT_ITEM, "11")),
+            ("SELECT ITEM, terminated by the user", "Menu", [ofono.END_SESSION], results(SELECT_ITEM, "10")),
+            ("DISPLAY TEXT, backward move", "Menu", [0, ofono.GO_BACK], results(DISPLAY_TEXT, "11")),
+            ("DISPLAY TEXT, terminated by the user", "Menu", [0, ofono.END_SESSION], results(DISPLAY_TEXT, "10")),
             ("DISPLAY TEXT, while the screen is busy", "Menu", [0, ofono.BUSY], results(DISPLAY_TEXT, "2001")),
-            ("GET INPUT, ended by the user", "Note", [ofono.END_SESSION], results(GET_INPUT, "10")),
+            ("GET INPUT, terminated by the user", "Note", [ofono.END_SESSION], results(GET_INPUT, "10")),
             ("GET INPUT takes no text that is too long", "Note", ["A" * 21], results(GET_INPUT, None)),
             ("GET INKEY asks for a key", "Key", ["5", None], get_inkey),
-            ("GET INKEY, gone back", "Key", [ofono.GO_BACK], results(GET_INKEY, "11")),
+            ("GET INKEY, backward move", "Key", [ofono.GO_BACK], results(GET_INKEY, "11")),
             ("PROVIDE LOCAL INFORMATION, date and time", "Local", [], local(3, 0x26)),
             ("PROVIDE LOCAL INFORMATION, language", "Local", [], local(4, 0x2D)),
             ("PROVIDE LOCAL INFORMATION, location", "Local", [], local(0, 0x13)), ("MORE TIME", "Local", [], results(MORE_TIME, "00")),
@@ -371,7 +371,7 @@ def picked(session, entry, answers, tried):
         session.heard.clear()
         before = len(session.proactive())
         session.phone.pick(MENU.index(entry), *answers)
-        session.until(session.is_over, "the session ends")
+        session.until(session.is_over, "the session doesn't end")
         tried(session, before)
     return attempt
 
@@ -440,7 +440,7 @@ def pin_alone(report, session):
     phone.modem.is_phonesim = False
     phone.ask("call", "org.ofono.SimManager", "EnterPin", "pin", PIN)
     report.attempt("after PIN 1 the SIM is read on, with no word of the modem's", lambda: session.until(
-        lambda: phone.sim.get("SubscriberIdentity"), "the IMSI is read", SECONDS_WITHOUT))
+        lambda: phone.sim.get("SubscriberIdentity"), "the IMSI isn't read", SECONDS_WITHOUT))
 
 
 def without_agent(report, session):
@@ -507,7 +507,7 @@ def due(session):
     def look():
         return next((data for data in (decode.Apdu(one.command).data for one in session.exchanges()
                                        if decode.Apdu(one.command).ins == decode.ENVELOPE) if data[:1] == b"\xD7"), None)
-    content = tlv.template(session.until(look, "TIMER EXPIRATION comes"))[1]
+    content = tlv.template(session.until(look, "no TIMER EXPIRATION comes"))[1]
     expect(tlv.first(content, TIMER_IDENTIFIER), b"\x08", "the timer")
     expect(tlv.first(content, DEVICES), FROM_TERMINAL, "the devices")
     expect(tlv.first(content, 0x25) in (b"\0\0\x20", b"\0\0\x30"), True, "a time of two or three seconds")
@@ -519,12 +519,12 @@ def cuts(report):
     """The own number is changed, and the power goes in each memory write of that in turn."""
     replies = []
     report.attempt("an update that loses power leaves the old number or the new one", lambda: cut_in_turn(replies))
-    report.attempt("who asked for that update is told that it failed", lambda: told(replies))
+    report.attempt("whoever asked for that update hears that it failed", lambda: told(replies))
 
 
 def told(replies):
     if not replies or any("NoReply" in reply for reply in replies):
-        raise Wrong(f"no reply comes within {SECONDS_OF_UPDATE} seconds")
+        raise Wrong(f"no reply within {SECONDS_OF_UPDATE} seconds")
 
 
 def cut_in_turn(replies):
@@ -543,7 +543,7 @@ def cut_in_turn(replies):
             if phone.modem.has_power:
                 break
             replies.append(reply)
-            session.until(lambda: phone.sim.get("Present") is False, "oFono sees that the SIM is gone")
+            session.until(lambda: phone.sim.get("Present") is False, "oFono doesn't see that the SIM is gone")
             phone.power_off()
             phone.power_on()
             phone.enter_pin(PIN)
@@ -562,7 +562,7 @@ def asked_for(phone, number):
 
 
 def own_number(session):
-    return session.until(lambda: session.phone.sim.get("SubscriberNumbers"), "the own number is read")[0]
+    return session.until(lambda: session.phone.sim.get("SubscriberNumbers"), "the own number isn't read")[0]
 
 
 class Cut:

@@ -18,6 +18,8 @@ TOOLKIT_CLASS = 0x80
 WRONG_LENGTH = "6C"
 
 PLAYER, CARD, BOTH = "player", "card", "card, with a status by the player"
+# the mark before a command in a trace, where the card alone didn't answer it
+MARKS = {PLAYER: "* player: this is answered by the player", BOTH: "* player: this is answered by the card, but for its status"}
 
 # what is heard of a terminal; a response to a command of the card's own is one `for the card`
 FETCHED, RESPONDED, STRAY, TOLD, PROFILED, ASKED, RESET = "fetch", "response", "stray response", "envelope", "profile", "status", "reset"
@@ -128,8 +130,8 @@ class Player:
             lines, exchanges = list(self.trace), iter(list(self.exchanges))
         for line in lines:
             whose = next(exchanges).whose if line.startswith("> ") else CARD
-            if whose != CARD:
-                yield f"* {whose}"
+            if whose in MARKS:
+                yield MARKS[whose]
             yield line
 
     def leave(self):

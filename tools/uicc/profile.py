@@ -6,7 +6,7 @@ import re
 import tomllib
 import typing
 
-from . import checking, dump, fields, forms, lint, located, names
+from . import checking, coding, contents, dump, fields, forms, lint, located, names
 from .building import Builder, described, nearest_arr
 from .profile_faults import OF_FILE, faults_at_top, faults_of_file
 from .profile_names import (
@@ -19,6 +19,10 @@ __all__ = ["ARR", "OF_FILE", "PIN_KEYS", "BadProfile", "build", "described", "is
 TEMPLATES = os.path.join(names.DATA, "profiles")
 # the keys of a file's table that say its shape
 SHAPE = ("size", "length", "count", "cyclic")
+# what a profile says of an access control class that is the last digit of the IMSI
+BY_IMSI = "imsi"
+# what a table of services says of a few of them
+CHANGES_OF_SERVICES = ("services_on", "services_off")
 # what a reason says of the lines of a script
 OF_SCRIPT = re.compile(r" \(line \d+\)")
 
@@ -87,7 +91,7 @@ def laid_over_template(given):
     like, faults, base = given.get("like", "none"), [], {}
     wrong = forms.TEXT.wrong(like)
     if wrong:
-        faults.append(Fault(("like",), f"like {wrong}: like = \"usim\""))
+        faults.append(Fault(("like",), f"{forms.about('like', wrong)}: like = \"usim\""))
     else:
         try:
             base = template(like)
@@ -98,13 +102,12 @@ def laid_over_template(given):
 
 
 def with_own_rules(base, given):
-    """A template whose files keep the rules of its own [default], where a profile has another one and doesn't name the file: some of
-    them everybody has to be able to read."""
+    """A template whose files keep the rules of its own [default], where a profile has another one: that is for the files which the
+    template hasn't got, so that naming a file changes nothing but what is said of it."""
     if not isinstance(given.get("default"), dict):
         return base
-    named = {same_file(base, name) for name, value in given.items() if is_file_table(name, value)}
-    return {name: {**base.get("default", {}), **value} if is_file_table(name, value) and name not in named and goes_by_default(name, value)
-            else value for name, value in base.items()}
+    return {name: {**base.get("default", {}), **value} if is_file_table(name, value) and goes_by_default(name, value) else value
+            for name, value in base.items()}
 
 
 def goes_by_default(name, given):
@@ -184,7 +187,9 @@ def judged(profile, is_part=False, own=()):
     """The lines of the script of a profile, what is doubtful in it and what is wrong with it: a fault each. A key with a fault is left out
     for what is found after it; what may come of that is no fault, and neither is what may be missing in the part of a profile. Of the
     files that are named in `own`, it is doubtful too what the standard has otherwise."""
-    faults = list(faults_at_top(profile))
+    profile, faults = with_class_by_imsi(profile)
+    profile, more = with_services(profile)
+    faults += [*more, *faults_at_top(profile)]
     tables = [(name, value) for name, value in profile.items() if is_file_table(name, value)]
     usim = is_usim(path for name, _ in tables if (path := path_or_none(name)))
     for name, value in tables:
@@ -201,19 +206,85 @@ def judged(profile, is_part=False, own=()):
     return builder.lines, builder.doubts + doubtful, faults
 
 
+def with_class_by_imsi(profile):
+    """A profile whose `acc = "imsi"` is the class that the last digit of its IMSI says; none where the file of the IMSI is blank or wrong.
+    And why there is none, where it has no such file."""
+    by_path = {path: name for name, value in profile.items() if is_file_table(name, value) and (path := path_or_none(name))}
+    acc, imsi = (by_path.get(path) for path in (checking.ACC, checking.IMSI))
+    if acc is None or profile[acc].get("acc") != BY_IMSI:
+        return profile, []
+    faults = [] if imsi else [Fault((acc, "acc"), f"{shown_name(acc)} acc = \"{BY_IMSI}\" is the last digit of the IMSI, and there is no "
+                                    "EF_IMSI")]
+    classes = [int(digit) for digit in last_digit(profile.get(imsi, {}))]
+    return {**profile, acc: {**profile[acc], "acc": classes}}, faults
+
+
+def with_services(profile):
+    """A profile whose services are all told by `services`: where a table of a file says `services_on` or `services_off`, the others stay
+    as they are. And what is wrong with those words."""
+    found, faults = {}, []
+    for name, given in profile.items():
+        if is_file_table(name, given) and any(key in given for key in CHANGES_OF_SERVICES) and path_or_none(name):
+            found[name], more = services_changed(name, given)
+            faults += more
+    return {**profile, **found}, faults
+
+
+def services_changed(name, given):
+    """The table of a file with all its services, and what is wrong with the change of them. It grows where it has no room for one."""
+    kept, faults, changes = {key: value for key, value in given.items() if key not in CHANGES_OF_SERVICES}, [], {}
+    path = path_of(name)
+    kind = (names.file(path, True) or names.file(path, False) or {}).get("content")
+    for key in filter(given.__contains__, CHANGES_OF_SERVICES):
+        try:
+            changes[key] = numbers_of(key, given[key], kind)
+        except contents.BadContent as fault:
+            faults.append(Fault((name, key), f"{shown_name(name)} {fault}"))
+    if faults:
+        return kept, faults
+    with contextlib.suppress(ValueError, TypeError):
+        # a ValueError or TypeError: the services that are told are wrong, which is said of them
+        numbers = set(contents.services(kept.get("services", []), kind)) | changes.get("services_on", set())
+        numbers -= changes.get("services_off", set())
+        kept["services"] = sorted(numbers)
+        needed = -(-max(numbers, default=1) * contents.SERVICES[kind] // 8)
+        if isinstance(kept.get("size"), int) and kept["size"] < needed:
+            kept["size"] = needed
+    return kept, []
+
+
+def numbers_of(key, given, kind):
+    """The numbers of the services that a change names. BadContent, where it can't be."""
+    if kind not in contents.SERVICES:
+        raise contents.BadContent(f"{key} is of files with services: EF_UST, EF_SST, EF_IST and EF_EST")
+    wrong = fields.SERVICES.wrong(given)
+    if wrong:
+        raise contents.BadContent(f"{forms.about(key, wrong)}: {key} = [\"FDN\"]")
+    try:
+        return set(contents.services(given, kind))
+    except contents.BadContent as fault:
+        raise contents.BadContent(f"{key}: {fault}") from None
+
+
+def last_digit(given):
+    """The last digit of the IMSI that the table of its file says; nothing where it says none."""
+    with contextlib.suppress(ValueError, IndexError, TypeError):
+        told = given["imsi"] if "imsi" in given else contents.decode_imsi(bytes.fromhex(given.get("hex", "")))
+        return told[-1] if isinstance(told, str) and coding.is_digits(told) else ""
+    return ""
+
+
 def faults_by_standard(card, own, usim):
-    """What the standard has otherwise of files of a card, by the tables of a profile that name them: a fault each."""
-    found, unreadable = [], list(checking.unreadable(card, usim))
-    for name in own:
-        path = path_or_none(name) if is_file_table(name, own[name]) else None
-        file = card.files.get(path)
-        if file and not file.is_df:
-            shown = names.shown(path, usim)
-            # that a rule allows nothing is said by lint
-            told = [text for text in checking.wrong_file(card, file, usim) if not text.startswith(f"{shown}: its rule")]
-            told += [text for text in unreadable if text.startswith(f"{shown}:")]
-            found += [Fault((name,), told_origin((name,)) + text.removeprefix(shown)) for text in told]
-    return found
+    """What `check` tells of files of a card, by the tables of a profile that name them: a fault each, of the first of the tables."""
+    named = {path: name for name in own if is_file_table(name, own[name]) and (path := path_or_none(name))}
+    faults = []
+    for finding in checking.found(card, "usim" if usim else "sim"):
+        about = [(path, name) for path in finding.paths for own_path, name in named.items() if own_path[:len(path)] == path]
+        if about and not finding.is_of_rules:
+            (path, name), text = about[0], finding.text
+            shown, origin = names.shown(path, usim), told_origin((name,))
+            faults.append(Fault((name,), origin + text.removeprefix(shown) if text.startswith(shown) else f"{origin}: {text}"))
+    return faults
 
 
 def faults_beside(name, given, faults, usim):

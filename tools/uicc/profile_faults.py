@@ -23,11 +23,11 @@ SLIPS = {
     "resize": BY_ADM.format("RESIZE FILE"), "sfi": "it is called `short`", "structure": SHAPE, "type": SHAPE, "record_length": "it is called `length`",
     "record_count": "it is called `count`", "content": "it is called `hex`, or `records`", "data": "it is called `hex`, or `records`",
 }
-PIN = forms.TableOf({"value": forms.NUMBER_OR_TEXT, "unblock": forms.NUMBER_OR_TEXT, "on": forms.TRUTH},
+PIN = forms.TableOf({"value": forms.TEXT, "unblock": forms.TEXT, "on": forms.TRUTH},
                     slips={"puk": "it is called `unblock`", "pin": "it is called `value`", "off": "`on = false` is"})
-PUK = 'the PUK of a PIN stands with it: pin1 = { value = "1234", unblock = "12345678" }'
+UNBLOCK = 'the UNBLOCK PIN (PUK) stands with its PIN: pin1 = { value = "1234", unblock = "12345678" }'
 PINS = forms.TableOf(dict.fromkeys(PIN_KEYS, PIN), slips={
-    "adm1": "it is called `adm`", "puk": PUK, "puk1": PUK, "puk2": PUK, "pin": "it is called `pin1`", "chv1": "it is called `pin1`",
+    "adm1": "it is called `adm`", "puk": UNBLOCK, "puk1": UNBLOCK, "puk2": UNBLOCK, "pin": "it is called `pin1`", "chv1": "it is called `pin1`",
     "chv2": "it is called `pin2`"})
 DEFAULT = forms.TableOf(dict.fromkeys(OPERATIONS, forms.TEXT))
 APPLET = forms.TableOf({"kind": forms.TEXT, "shelf": forms.Bounded(0, layout.SHELVES - 1), "priority": forms.Bounded(1, 255),
@@ -81,11 +81,11 @@ def faults_of_table(name, value, form, example):
 def faults_of_part(head, value, form, example):
     if not isinstance(form, forms.TableOf) or not isinstance(value, dict):
         for wrong in form.faults(value):
-            yield (), dump.printable(f"{head.strip('[]')} {wrong}: {example}")
+            yield (), dump.printable(f"{forms.about(head.strip('[]'), wrong)}: {example}")
         return
     for key, each in value.items():
         for wrong in form.faults_of_key(key, each):
-            yield (key,), dump.printable(f"{head} {key} {wrong}" + (f": {key} = {EXAMPLES[key]}" if key in EXAMPLES else ""))
+            yield (key,), dump.printable(forms.about(f"{head} {key}", wrong) + (f": {key} = {EXAMPLES[key]}" if key in EXAMPLES else ""))
 
 
 def faults_of_file(name, given, usim):
@@ -102,11 +102,11 @@ def faults_of_file(name, given, usim):
 def faults_of_keys(path, given, entry):
     folder = is_folder(path, entry)
     if folder and given != {"folder": True}:
-        yield (), (f"is a folder{f' ({entry_name})' if (entry_name := entry and entry['name']) else ''}: its files have tables of their own, "
+        yield (), (f"is a DF{f' ({entry_name})' if (entry_name := entry and entry['name']) else ''}: its files have tables of their own, "
                    f"as [\"{'/'.join(path)}/EF_IMSI\"]; `folder = true` alone makes an empty one")
         return
     if "folder" in given and given != {"folder": True}:
-        yield ("folder",), "says `folder`, and a folder has nothing else"
+        yield ("folder",), "says `folder`, and the table of a DF has nothing else"
         return
     told = [key for key in given if key in fields.KEYS]
     for key, value in given.items():
@@ -118,7 +118,7 @@ def faults_of_keys(path, given, entry):
         else:
             found, example = [about_key(key, value, entry)], None
         for wrong in found:
-            yield (key,), dump.printable(f"{key} {wrong}" + (f": {key} = {example}" if example else ""))
+            yield (key,), dump.printable(forms.about(key, wrong) + (f": {key} = {example}" if example else ""))
     if len(told) > 1:
         yield (told[1],), f"says what it holds by {' and '.join(told)}, and one of them does"
     words = [key for key in OPERATIONS if key in given]
@@ -141,7 +141,7 @@ def faults_of_content(key, value, entry):
 
 def about_key(key, value, entry):
     if isinstance(value, dict):
-        return "is a table in it: a file in a folder is called [\"7F20/EF_IMSI\"], in quotes and with a slash"
+        return "is a table in it: a file in a DF is called [\"7F20/EF_IMSI\"], in quotes and with a slash"
     if key.lower() in SLIPS:
         return f"isn't known: {SLIPS[key.lower()]}"
     meant = forms.near(key, list(OF_FILE))

@@ -39,7 +39,8 @@ def parts_of(name):
     if parts and parts[0].upper() in ("MF", "3F00"):
         parts = parts[1:]
     if not parts:
-        raise BadProfile(f"[{dump.printable(name)}] names no file", name)
+        raise BadProfile(f"[{dump.printable(name)}] is the MF, of which a profile says nothing: each file in it has a table of its own, as "
+                         "[EF_ICCID]", name)
     found = ()
     for part in parts:
         found += (identifier_of(part, found if found or len(parts) > 1 else None, name),)
@@ -48,8 +49,8 @@ def parts_of(name):
 
 def identifier_of(part, folder, whole):
     """The identifier of a file by itself or by its standard name, in a folder where one is told."""
-    if names.normal(part).startswith("ADF") or part.upper() == "7FFF":
-        raise BadProfile(f"[{dump.printable(whole)}] {dump.printable(part)}: a card here has no ADF: the files of a USIM lie in the folder 7F20, as "
+    if names.is_adf(part):
+        raise BadProfile(f"[{dump.printable(whole)}] {dump.printable(part)}: a card here has no ADF: the files of a USIM lie in the DF 7F20, as "
                          "[\"7F20/EF_IMSI\"], and those of an ISIM in 7FF2", whole)
     if dump.is_identifier(part):
         return part.upper()

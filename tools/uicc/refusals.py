@@ -124,7 +124,7 @@ def of_doubles(follower, apdu, card):
     if path in card.files:
         return f"{names.shown(path, follower.usim)} is there already"
     other = next((file for file in card.children(path[:-1]) if made.short and file.short == made.short), None)
-    return other and f"{names.shown(other.path, follower.usim)} has the short identifier {made.short}"
+    return other and f"{names.shown(other.path, follower.usim)} has the SFI {made.short}"
 
 
 # 6A84

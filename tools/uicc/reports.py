@@ -1,7 +1,10 @@
 """Reports of what was tried, for programs: the Test Anything Protocol, and JUnit's XML for build servers."""
 import dataclasses
+import os
 import re
 from xml.sax.saxutils import escape, quoteattr
+
+from . import process
 
 PASSED, FAILED, SKIPPED = "passed", "failed", "skipped"
 # what no XML may have in it
@@ -10,13 +13,15 @@ NOT_OF_XML = re.compile("[^\t\n\r\x20-\ud7ff\ue000-\ufffd\U00010000-\U0010ffff]"
 
 @dataclasses.dataclass(frozen=True)
 class Result:
-    """A case: the file that it is of, its name, how it went, and in a word why, with lines that say more."""
+    """A case: the file that it is of, its name, how it went, and in a word why, with lines that say more; `line` is that at which it begins, or
+    at which it failed."""
     path: str
     name: str
     kind: str
     seconds: float = 0.0
     why: str = ""
     lines: tuple = ()
+    line: int | None = None
 
 
 def tap(results):
@@ -30,6 +35,16 @@ def tap(results):
             yield from ("#" + line for line in one.lines)
 
 
+def portable(path):
+    """A path that is the same on each machine: from the folder on in which this runs, or from that of the tools, where it lies below."""
+    path = os.path.abspath(path)
+    for top in (os.getcwd(), process.TOP):
+        short = os.path.relpath(path, top)
+        if not short.startswith(os.pardir):
+            return short
+    return os.path.basename(path)
+
+
 def junit(results, suite, seconds):
     """The text of a report in JUnit's form."""
     kinds = [one.kind for one in results]
@@ -37,7 +52,9 @@ def junit(results, suite, seconds):
              f'<testsuite name={quoteattr(suite)} tests="{len(results)}" failures="{kinds.count(FAILED)}" '
              f'skipped="{kinds.count(SKIPPED)}" time="{seconds:.3f}">']
     for one in results:
-        head = f'  <testcase classname={quoteattr(one.path)} name={quoteattr(one.name)} time="{one.seconds:.3f}"'
+        place = quoteattr(portable(one.path))
+        line = "" if one.line is None else f' line="{one.line}"'
+        head = f'  <testcase classname={place} name={quoteattr(one.name)} file={place}{line} time="{one.seconds:.3f}"'
         if one.kind == PASSED:
             lines.append(head + "/>")
         elif one.kind == SKIPPED:

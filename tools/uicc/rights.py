@@ -46,12 +46,12 @@ def outcomes(card, wanted):
 
 
 def lines(card):
-    """The table, what is open to everybody, and what no key opens."""
+    """The table, what is open to everybody, and what to nobody."""
     table = [HEAD, *((name, *cells) for name, cells in rows(card))]
     widths = [max(len(row[column]) for row in table) for column in range(len(HEAD))]
     for row in table:
         yield "  ".join(text.ljust(width) for text, width in zip(row, widths)).rstrip()
-    for wanted, title in ((access.EVERYBODY, "open to everybody"), (access.NOBODY, "opened by no key")):
+    for wanted, title in ((access.EVERYBODY, "open to everybody"), (access.NOBODY, "open to nobody")):
         yield ""
         yield title
         found = list(outcomes(card, wanted))

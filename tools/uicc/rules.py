@@ -12,7 +12,8 @@ INSTRUCTIONS = {0xB0: "read binary", 0xB2: "read record", 0xA2: "search record",
                 INCREASE: "increase", 0x04: "deactivate", 0x44: "activate"}
 KEYS = {"pin1": 0x01, "pin2": 0x81, "adm": 0x0A}
 # what is written for a condition that has another name here
-SLIPS = {"adm1": "adm", "alw": "always", "nev": "never", "chv1": "pin1", "chv2": "pin2", "1": "pin1", "2": "pin2"}
+SLIPS = {"nobody": "never", "everybody": "always", "all": "always", "adm1": "adm", "alw": "always", "nev": "never", "chv1": "pin1", "chv2": "pin2", "1": "pin1", "2": "pin2"}
+KNOWN = f"always, never, {', '.join(KEYS)}, joined by `or` or `and`"
 KEY_NAMES = {key: name for name, key in KEYS.items()}
 ALWAYS, NEVER, BY_KEY, ONE_OF, ALL_OF = 0x90, 0x97, 0xA4, 0xA0, 0xAF
 DEEPEST = 4
@@ -88,7 +89,7 @@ def in_words(tree):
     if tag in (ALWAYS, NEVER):
         return "always" if tag == ALWAYS else "never"
     if tag == BY_KEY:
-        return KEY_NAMES.get(inner[0], f"key {inner[0]:02X}, which no card has")
+        return KEY_NAMES.get(inner[0], f"key reference {inner[0]:02X}, which no card has")
     texts = map(in_words, inner)
     return (" or " if tag == ONE_OF else " and ").join(f"({text})" if " " in text and len(inner) > 1 else text for text in texts)
 
@@ -143,13 +144,17 @@ def single(parts, levels):
     end = next((place for place, part in enumerate(parts) if part in ("or", "and", "(", ")")), len(parts))
     words = " ".join(parts[:end])
     del parts[:end]
+    if not words:
+        raise NoRule(f"a condition is missing{f' before `{parts[0]}`' if parts else ''}: {KNOWN}")
     if words in ("always", "never"):
         return bytes((ALWAYS if words == "always" else NEVER, 0))
     if words in KEYS:
         return bytes((BY_KEY, 6, 0x83, 1, KEYS[words], 0x95, 1, 8))
     meant = SLIPS.get(words.lower(), words.lower())
-    meant = f", but `{meant}` is" if meant in (*KEYS, "always", "never") else ""
-    raise NoRule(f"`{words}` is no condition{meant}: always, never, {', '.join(KEYS)}, joined by `or` or `and`")
+    hint = f", but `{meant}` is" if meant in (*KEYS, "always", "never") else ""
+    if any(word in ("AND", "OR", "And", "Or") for word in words.split()):
+        hint = ", but `and` and `or` in small letters join some"
+    raise NoRule(f"`{words}` is no condition{hint}: {KNOWN}")
 
 
 def written(words):

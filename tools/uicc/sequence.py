@@ -7,30 +7,39 @@ import re
 
 from . import decode, grammar, names, tlv
 from .handset import details_of
-from .wording import Object, Words, Wrong, device, label_of, read_object
+from .wording import Object, UnknownWord, Words, Wrong, device, label_of, read_object, unknown
 
 CARD, TERMINAL = 0x81, 0x82
 DETAILS, DEVICE_IDENTITIES, RESULT = 0x01, 0x02, 0x03
 LONGEST_COMMAND = 256
 LONGEST_WAIT = 999
-# so many bad lines are told
-MOST_TOLD = 20
 COMMANDS = {name: int(code, 16) for code, name in names.table("toolkit")["commands"].items()}
 # envelopes by their words: the template, and the device that they are from
 ENVELOPES = {"menu selection": (0xD3, 0x01), "call control": (0xD4, TERMINAL), "event": (0xD6, TERMINAL),
              "timer expiration": (0xD7, TERMINAL)}
 # the device that a command is for, where that isn't the terminal
+NETWORK, FIRST_READER, FIRST_CHANNEL = 0x83, 0x11, 0x21
 DESTINATIONS = {
-    "PLAY TONE": 0x03, "DISPLAY TEXT": 0x02, "SET UP CALL": 0x83, "SEND SS": 0x83, "SEND USSD": 0x83, "SEND SHORT MESSAGE": 0x83,
-    "SEND DTMF": 0x83, "CLOSE CHANNEL": 0x21, "RECEIVE DATA": 0x21, "SEND DATA": 0x21}
-# the bits of a terminal's profile for commands that are written by their types (ETSI TS 102 223, 5.2): byte and bit
-OF_TYPES = {0x30: (7, 3), 0x31: (7, 1), 0x32: (7, 2), 0x33: (7, 4), 0x34: (8, 6), 0x35: (9, 6)}
+    "PLAY TONE": 0x03, "DISPLAY TEXT": 0x02,
+    **dict.fromkeys(("SET UP CALL", "SEND SS", "SEND USSD", "SEND SHORT MESSAGE", "SEND DTMF", "RETRIEVE MULTIMEDIA MESSAGE",
+                     "SUBMIT MULTIMEDIA MESSAGE"), NETWORK),
+    **dict.fromkeys(("PERFORM CARD APDU", "POWER ON CARD", "POWER OFF CARD"), FIRST_READER),
+    **dict.fromkeys(("CLOSE CHANNEL", "RECEIVE DATA", "SEND DATA"), FIRST_CHANNEL)}
 BIT = re.compile(r"byte ([0-9]{1,3}) bit ([1-8])")
 # what a terminal's profile says of a command whose bit has another name
 OF_TIMERS = {0x00: "TIMER MANAGEMENT start and stop", 0x01: "TIMER MANAGEMENT start and stop", 0x02: "TIMER MANAGEMENT get"}
-LOCAL_INFORMATION = {0x02: "network measurement results", 0x03: "date and time", 0x04: "language", 0x05: "timing advance", 0x06: "access technology"}
+# two commands have one bit
+OF_CONTAINERS = dict.fromkeys(("COMMAND CONTAINER", "ENCAPSULATED SESSION CONTROL"), "COMMAND CONTAINER and ENCAPSULATED SESSION CONTROL")
+# commands with a bit for some of their qualifiers: `NAME: WHAT`
+BY_QUALIFIER = {
+    "PROVIDE LOCAL INFORMATION": {0x02: "network measurement results", 0x03: "date and time", 0x04: "language", 0x05: "timing advance",
+                                  0x06: "access technology", 0x08: "IMEISV"},
+    "GET READER STATUS": {0x01: "identifier"}}
+# a response of any objects
+ANY = "any"
 # a command that the card has ready when the one before it is answered
 THEN = "then"
+UNANSWERED = "no `response` stands after this command: `response result 00`, say, or `response any` where every one will do"
 # what a terminal notes of what it shows, and how that is written
 NOTES = ("text", "ask", "default", "choose", "menu", "tone", "idle", "call", "barred", "busy")
 SHOWN = "text T, ask T, default T, choose N, menu N, tone HH or idle T"
@@ -59,6 +68,13 @@ class Give(Step):
     def name(self):
         return decode.details_name(self.details[1])
 
+    @property
+    def title(self):
+        """Its name with its qualifier, where a terminal may take it for its qualifier's sake."""
+        _, kind, qualifier = self.details
+        meaning = names.qualifier(kind, qualifier)
+        return self.name if not qualifier and not meaning else f"{self.name} with the qualifier {qualifier:02X}" + (f" ({meaning})" if meaning else "")
+
 
 @dataclasses.dataclass(frozen=True)
 class Shown(Step):
@@ -74,7 +90,8 @@ class Act(Step):
 
 @dataclasses.dataclass(frozen=True)
 class Respond(Step):
-    """The terminal must answer the command that was given last; `has_more`: other objects may stand in its response too."""
+    """The terminal must answer the command that was given last; `has_more`: other objects may stand in its response too. Where there are
+    no objects any response will do."""
     objects: tuple
     has_more: bool
     seconds: float | None
@@ -133,11 +150,12 @@ class Orphan(Wrong):
 
 @dataclasses.dataclass(frozen=True)
 class BadLine:
-    """A bad line of a file, and why it is bad."""
+    """A bad line of a file, and why it is bad; `is_of_words`: a word in it is none of those that there are."""
     path: str
     line: int
     text: str
     why: str
+    is_of_words: bool = False
 
     def __str__(self):
         return f"{self.path}:{self.line}: {self.why}\n    {self.text}"
@@ -147,8 +165,7 @@ class BadSequence(Exception):
     """Lines of files are bad. `path`, `line` and `why` are of the first of them, `lines` are all."""
 
     def __init__(self, lines):
-        more = [f"and {len(lines) - MOST_TOLD} bad lines more"] if len(lines) > MOST_TOLD else []
-        super().__init__("\n".join([*map(str, lines[:MOST_TOLD]), *more]))
+        super().__init__("\n".join(map(str, lines)))
         self.lines = lines
         self.path, self.line, self.why = lines[0].path, lines[0].line, lines[0].why
 
@@ -166,14 +183,13 @@ def has(profile, need):
     return 0 < byte <= len(profile) and bool(profile[byte - 1] >> bit - 1 & 1)
 
 
-def needs_of(name, qualifier, kind=None):
+def needs_of(name, qualifier):
     """What a terminal's profile must have for a command; None where the profile tells nothing of it."""
-    if kind in OF_TYPES:
-        return "byte {} bit {}".format(*OF_TYPES[kind])
     if name == "TIMER MANAGEMENT":
         return OF_TIMERS.get(qualifier)
-    if name == "PROVIDE LOCAL INFORMATION" and qualifier in LOCAL_INFORMATION:
-        return f"{name}: {LOCAL_INFORMATION[qualifier]}"
+    if qualifier in BY_QUALIFIER.get(name, ()):
+        return f"{name}: {BY_QUALIFIER[name][qualifier]}"
+    name = OF_CONTAINERS.get(name, name)
     return name if name in known_profile() else None
 
 
@@ -219,7 +235,8 @@ class Reader:
     def needs(self, _, __, rest):
         for name in (part.strip() for part in rest.split(",")):
             if name not in known_profile() and not BIT.fullmatch(name):
-                raise Wrong(f"a terminal profile has no `{name}`: {', '.join(sorted(known_profile()))}, or a bit of it, as `byte 9 bit 6`")
+                raise UnknownWord(f"{unknown([name], 'name in a terminal profile', sorted(known_profile()))}; a bit is written "
+                                  f"as `byte 9 bit 6`")
             self.sequence().needs.append(name)
 
     def command(self, number, text, rest):
@@ -232,7 +249,7 @@ class Reader:
         step = Give(number, text, raw, text.startswith(THEN))
         if step.follows and not self.sequence().commands():
             raise Orphan("no command stands before this one")
-        needed = needs_of(step.name, step.details[2], step.details[1])
+        needed = needs_of(step.name, step.details[2])
         if needed and needed not in self.sequence().needs:
             self.sequence().needs.append(needed)
         self.add(step)
@@ -242,10 +259,7 @@ class Reader:
         name = None
         kind = int(words.take(""), 16) if words and is_code(words.left[0]) else None
         if kind is None:
-            try:
-                kind = words.take_name(COMMANDS, "command, nor a type of two digits")
-            except Wrong as fault:
-                raise Wrong(f"{fault}; one that has no name here is written by its type, as `command 35`") from None
+            kind = words.take_name(COMMANDS, "command")
         name = decode.details_name(kind)
         number, qualifier, source, destination = len(self.sequence().commands()) + 1, 0, CARD, DESTINATIONS.get(name, TERMINAL)
         without, found = set(), []
@@ -279,11 +293,18 @@ class Reader:
         self.add(Act(number, text, act_in(text)))
 
     def respond(self, number, text, rest):
-        objects, has_more = expected(Words(rest))
+        words = Words(rest)
+        takes_any = bool(words.take_if(ANY))
+        objects, has_more = expected(words)
+        if takes_any and objects:
+            raise Wrong("after `response any` stands nothing: it takes every response")
         if not any(isinstance(step, Give) for step in self.sequence().steps):
             raise Orphan("no command stands before this response")
+        if takes_any:
+            self.add(Respond(number, text, (), True, self.waits()))
+            return
         if not any(one.tag == RESULT for one in objects):
-            raise Wrong("a response has a result: response result 00, say")
+            raise Wrong("a response has a result: `response result 00`, say, or `response any`")
         given = self.sequence().commands()[-1]
         flag = flag_of(given.raw)
         heads = [Object(DETAILS, decode.hexed(given.details), flag), Object(DEVICE_IDENTITIES, f"{TERMINAL:02X}{CARD:02X}")]
@@ -366,6 +387,11 @@ def act_in(text):
     return said
 
 
+def forgotten(sequences):
+    """The lines of commands after which no response is asked for, as bad ones: whatever a terminal did there would pass."""
+    return [BadLine(one.path, step.line, step.text, UNANSWERED) for one in sequences for step in one.unanswered()]
+
+
 def read(text, path):
     """The sequences in the text of a file. BadSequence, with all its bad lines."""
     reader, bad = Reader(path), []
@@ -379,7 +405,7 @@ def read(text, path):
             # what a line belongs to may be a bad line above
             if isinstance(fault, Orphan) and bad:
                 continue
-            bad.append(BadLine(path, number, line, str(fault)))
+            bad.append(BadLine(path, number, line, str(fault), isinstance(fault, UnknownWord)))
     if not bad:
         bad += [BadLine(path, one.line, f"sequence {one.name}", "the sequence has no step") for one in reader.sequences if not one.steps]
     if not bad and not reader.sequences:

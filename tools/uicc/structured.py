@@ -52,8 +52,7 @@ def minutes_of(validity):
 def validity_of(minutes):
     found = next((validity for validity in range(256) if minutes_of(validity) == minutes), None)
     if found is None:
-        raise BadContent(f"a validity of {minutes} minutes can't be said: it is 5, 10 .. 720, 750 .. 1440, or whole days up to 30, or weeks "
-                         "up to 63")
+        raise BadContent(f"no validity period has {minutes} minutes: it has 5, 10 .. 720, 750 .. 1440, or whole days up to 30, or weeks up to 63")
     return found
 
 

@@ -59,13 +59,15 @@ def ended(main):
 
 
 class Progress:
-    """A line on standard error that says how much of a work is done; none where that is no terminal."""
+    """A line on standard error that says how much of a work is done. Where that is no terminal there is none, or a new one each so many
+    seconds (`each`)."""
 
     WIDTH = 30
 
-    def __init__(self, total, what):
-        self.total, self.what, self.done = total, what, 0
+    def __init__(self, total, what, each=None):
+        self.total, self.what, self.done, self.each = total, what, 0, each
         self.on, self.last, self.began = sys.stderr.isatty(), 0.0, time.monotonic()
+        self.told = self.began
         self.lock = threading.Lock()
         self._show()
 
@@ -73,6 +75,9 @@ class Progress:
         """Counts what is done; several threads may."""
         with self.lock:
             self.done += count
+            if not self.on and self.each and time.monotonic() - self.told >= self.each and self.done < self.total:
+                self.told = time.monotonic()
+                print(f"  {self.done} of {self.total} {self.what}{self._left()}", file=sys.stderr, flush=True)
             if time.monotonic() - self.last > 0.1 or self.done >= self.total:
                 self._show()
 

@@ -444,7 +444,7 @@ class Toolkit:
         if events != self.announced_events and self._allows(IN_PROFILE[SET_UP_EVENT_LIST]):
             self.announced_events = events
             return Command(SET_UP_EVENT_LIST, objects=tlv.written(EVENT_LIST, bytes(events)))
-        menu = tuple((applet.shelf + 1, applet.row.text) for applet in self.by_shelf() if applet.row.text)
+        menu = tuple(self.menu().items())
         if menu != self.announced_menu and self._allows(IN_PROFILE[SET_UP_MENU]):
             self.announced_menu = menu
             return choice(SET_UP_MENU, b"Menu", menu)
@@ -452,6 +452,10 @@ class Toolkit:
             self.has_poll = True
             return Command(POLL_INTERVAL, objects=bytes((0x84, 2, SECONDS, POLLED_EACH)))
         return None
+
+    def menu(self):
+        """The entries of the card's menu, the texts by their numbers."""
+        return {applet.shelf + 1: applet.row.text for applet in self.by_shelf() if applet.row.text}
 
     def by_shelf(self):
         return [applet for _, applet in sorted(self.applets.items())]

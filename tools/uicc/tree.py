@@ -22,7 +22,7 @@ def facts(card, file):
     """The shape of a file, its short identifier, and who may do what with it."""
     found = [shape(file)]
     if file.short:
-        found.append(f"short {file.short}")
+        found.append(f"SFI {file.short}")
     if file.rule:
         found.append(f"rule {file.rule[0]}:{file.rule[1]}")
         if card.about_rule(file):
@@ -105,7 +105,7 @@ def below(card, path, margin, usim, with_contents, whole):
         last = place == len(children) - 1
         branch, rest = ("└─ ", "   ") if last else ("├─ ", "│  ")
         entry = names.file(file.path, usim)
-        name = f"{file.path[-1]} {entry['name'] if entry else ''}".rstrip()
+        name = f"{file.path[-1]} {entry['name'] if entry else ''}".rstrip() + " (the files of ADF.USIM here)" * (usim and file.path == ("7F20",))
         if file.is_df:
             yield f"{margin}{branch}{name}"
             yield from below(card, file.path, margin + rest, usim, with_contents, whole)

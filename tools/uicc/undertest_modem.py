@@ -13,9 +13,10 @@ PIN = "1234"
 PIN_1, IMSI = 0x01, ("7F20", "6F07")
 # the card that has all that oFono needs
 ITS_CARD = "examples/telephone.script"
-# what the modem tells the card for oFono 1.31: without what it says of itself that it doesn't understand, which are SET UP EVENT LIST, POLLING
-# OFF, channels, and local information other than date, time and language
-OFONO_PROFILE = bytes.fromhex("29 60 BF 3F 00 00 00 1F 4A")
+# what the modem tells the card for oFono 1.31: what that does over this modem. It answers as not understood POLLING OFF, SET UP EVENT LIST, SEND SS,
+# RUN AT COMMAND and channels, and as beyond the terminal's capabilities messages and USSD, which this modem can't send, and local information
+# other than date, time and language (tools/tests/test_under_test.py tries each)
+OFONO_PROFILE = bytes.fromhex("29 60 BF 31 00 00 00 1F 6A")
 HERE = "127.0.0.1"
 ITEM, DEFAULT = 0x0F, 0x17
 CALL, BROWSER, OPEN_CHANNEL = 0x10, 0x15, 0x40

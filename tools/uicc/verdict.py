@@ -5,11 +5,11 @@ import time
 
 from . import decode, grammar, handset, names, tlv
 from .handset import DETAILS, details_of
-from .player import ASKED, FETCHED, MISFETCHED, PROFILED, RESET, RESPONDED, STRAY, TOLD, UNANNOUNCED, Player
+from .player import ASKED, FETCHED, FOR_CARD, MISFETCHED, PROFILED, RESET, RESPONDED, STRAY, TOLD, UNANNOUNCED, Player
 from .process import Ended, NotBuilt
 from .sequence import Act, Give, Poll, Quiet, Respond, Restart, Shown, Step, Tell, has
 from .undertest import Lost, NotBack, Unable, Unsupported, limited, place_of, told, wrong_value
-from .wording import label_of
+from .wording import flag_text, label_of
 
 PASSED, FAILED, INCONCLUSIVE, UNSUPPORTED = "passed", "failed", "inconclusive", "not supported"
 VERDICTS = (PASSED, FAILED, INCONCLUSIVE, UNSUPPORTED)
@@ -66,9 +66,12 @@ class Outcome:
     lost: str = ""
 
 
-def told_by(tag, flag, value, shows_flag):
-    text = decode.object_text(tag, value, False)
-    return text + (", with the flag" if flag else ", without the flag") * shows_flag
+def row_of(one, flag, value):
+    """An object that must come beside the one that came. What the flag says is told where it is another one."""
+    wanted, found = one.told(), decode.object_text(one.tag, value, False)
+    if one.flag not in (None, flag):
+        wanted, found = f"{wanted}, {flag_text(one.flag)}", f"{found}, {flag_text(flag)}"
+    return Row(one.label, wanted, found, one.fits(flag, value))
 
 
 def compared(wanted, found, has_more):
@@ -79,9 +82,9 @@ def compared(wanted, found, has_more):
         if place is None:
             rows.append(Row(one.label, one.told(), None, one.optional))
             continue
-        tag, flag, value = left.pop(place)
-        rows.append(Row(one.label, one.told(), told_by(tag, flag, value, one.flag is not None), one.fits(flag, value)))
-    return rows + [Row(label_of(tag), None, told_by(tag, flag, value, False), has_more) for tag, flag, value in left]
+        _, flag, value = left.pop(place)
+        rows.append(row_of(one, flag, value))
+    return rows + [Row(label_of(tag), None, decode.object_text(tag, value, False), has_more) for tag, _, value in left]
 
 
 def objects_in(content, what):
@@ -112,7 +115,8 @@ class Run:
         self.seconds = terminal.seconds if seconds is None else seconds
         self.limit = limit_of(terminal, seconds)
         self.taken, self.noted = set(), 0
-        self.step = None
+        # the step that is played, the command that was given last, and the one that the card has ready after it
+        self.step = self.given = self.following = None
         # how many of the card's own commands the terminal's user was asked about, and which method of the terminal was called last
         self.of_card, self.method = 0, None
         # the details of the command that was fetched last
@@ -159,8 +163,9 @@ class Run:
         return self.player.heard[place[0]]
 
     def _told_seconds(self, step):
+        """Within which time something didn't come; at a terminal that is done when its methods come back there is none."""
         seconds = self.seconds if step.seconds is None else step.seconds
-        return f"within {seconds:g} seconds" if self.terminal.seconds else "at once"
+        return f" within {seconds:g} seconds" if self.terminal.seconds else ""
 
     # steps
 
@@ -217,6 +222,8 @@ class Run:
         return [decode.title_proactive(raw) for raw in list(self.player.of_card)]
 
     def _give(self, step, after):
+        following = next((other for other in after if isinstance(other, Give)), None)
+        self.given, self.following = step, following if following and following.follows else None
         if not step.follows:
             self._let_card_begin()
             # those that are announced by the answers to the responses before them have to be there by then
@@ -248,8 +255,10 @@ class Run:
             if self._find(STRAY) is not None:
                 raise Differs(self._stray())
             if asked and self.terminal.has_person:
-                raise Undecided(f"the terminal's user did nothing {self._told_seconds(step)}")
-            raise Differs(f"no TERMINAL RESPONSE comes {self._told_seconds(step)}")
+                raise Undecided(f"the terminal's user did nothing{self._told_seconds(step)}")
+            raise Differs(f"no TERMINAL RESPONSE comes{self._told_seconds(step)}")
+        if not step.objects:
+            return
         try:
             check("the TERMINAL RESPONSE", self._objects(step), heard.data, step.has_more)
         except Differs:
@@ -267,8 +276,8 @@ class Run:
         asked, self.is_user_asked = self.is_user_asked, False
         if heard is None:
             if asked and self.terminal.has_person:
-                raise Undecided(f"the terminal's user did nothing {self._told_seconds(step)}")
-            raise Differs(f"no ENVELOPE comes {self._told_seconds(step)}")
+                raise Undecided(f"the terminal's user did nothing{self._told_seconds(step)}")
+            raise Differs(f"no ENVELOPE comes{self._told_seconds(step)}")
         try:
             tag, content = tlv.template(heard.data)
         except tlv.BadTlv as fault:
@@ -285,11 +294,11 @@ class Run:
     def _restart(self, step):
         for kind, what in ((RESET, "the card isn't reset"), (PROFILED, "no TERMINAL PROFILE comes after the reset")):
             if self._wait(kind, step.seconds) is None:
-                raise Differs(f"{what} {self._told_seconds(step)}{self._answered()}")
+                raise Differs(f"{what}{self._told_seconds(step)}{self._answered()}")
 
     def _poll(self, step):
         if self._wait(ASKED, step.seconds) is None:
-            raise Differs(f"no STATUS comes {self._told_seconds(step)}")
+            raise Differs(f"no STATUS comes{self._told_seconds(step)}")
 
     def _shown(self, step):
         if not self.terminal.is_seen:
@@ -300,9 +309,18 @@ class Run:
         if place:
             self.noted = place
             return
-        shown = [line[2:] for line in self.player.trace[self.noted:] if line.startswith("* ")]
-        raise Differs(("something else is shown" if shown else "nothing is shown") + self._answered(),
+        shown = self._shown_for_command()
+        raise Differs(f"{'something else' if shown else 'nothing'} is shown{self._answered()}",
                       [Row("shown", step.note, "; ".join(shown) or None, False)])
+
+    def _shown_for_command(self):
+        """What was shown since the last note that was asked for. At a terminal that is done when its methods come back it isn't what was shown
+        for a command that was fetched after this one; another one may tell it later."""
+        lines = self.player.trace[self.noted:]
+        if self.following and not self.terminal.seconds:
+            fetched = f"< {decode.hexed(self.following.raw)}9000"
+            lines = itertools.takewhile(lambda line: line != fetched, lines)
+        return [line[2:] for line in lines if line.startswith("* ")]
 
     def _look_for(self, note):
         """The place after a note in the trace; None where it doesn't come in time."""
@@ -318,9 +336,12 @@ class Run:
         return next((n for n, line in enumerate(self.player.trace, 1) if n > self.noted and line.rstrip() == "* " + note), None)
 
     def _answered(self):
-        """What the terminal answered already, where it did."""
+        """What the terminal answered already, and to which command, where it did."""
         place = self._find(RESPONDED)
-        return "" if place is None else f", and the answer is {decode.title_response(self.player.heard[place].data)}"
+        if place is None:
+            return ""
+        command = f" to {self.given.title}" if self.given else ""
+        return f", and the answer{command} is {decode.title_response(self.player.heard[place].data)}"
 
     def _act(self, step):
         # what was sent before is not what this leads to
@@ -333,14 +354,28 @@ class Run:
         except Unable as why:
             raise Undecided(str(why)) from None
 
-    def _stray(self):
-        """What is said of a response to no command that waits for one: it names the command that it is for."""
+    def _details_in(self, data):
+        """The details in a terminal's response; none where it has none of three bytes."""
         try:
-            details = tlv.first(self.player.heard[self._find(STRAY)].data, DETAILS)
+            found = tlv.first(data, DETAILS)
         except tlv.BadTlv:
-            details = None
-        named = f", {decode.details_name(details[1])}" if details and len(details) > 1 else ""
-        return f"a TERMINAL RESPONSE comes for a command that wasn't fetched, or was answered already{named}"
+            return None
+        return found if found and len(found) == 3 else None
+
+    def _stray(self):
+        """What is said of a response to no command that waits for one. It counts for the command that it names, where that is one of these."""
+        details = self._details_in(self.player.heard[self._find(STRAY)].data)
+        if details is None:
+            return "a TERMINAL RESPONSE comes for a command that wasn't fetched, or was answered already"
+        self.step = self.step or self._given_with(details)
+        name = f"{decode.details_name(details[1])}, number {details[0]}"
+        is_answered = any(heard.kind in (RESPONDED, FOR_CARD) and self._details_in(heard.data) == details for heard in self.player.heard)
+        return f"a TERMINAL RESPONSE comes for {name}, which was answered already" if is_answered else (
+            f"a TERMINAL RESPONSE comes for {name}, which wasn't fetched")
+
+    def _given_with(self, details):
+        """The command of the sequence that has these details."""
+        return next((step for step in self.sequence.commands() if step.details == details), None)
 
     def _end(self):
         """Nothing came that no step asks for."""

@@ -3,6 +3,7 @@
 An object is its word and what it needs: `text "Toolkit Test 1"`, `item 2 "Two"`, `duration 10 seconds`, `result 00|01`. What must come may be
 a pattern: hexadecimal digits, in which `?` is any digit and `*` at the end any bytes, and several of them with `|` between them."""
 import dataclasses
+import difflib
 import re
 import shlex
 
@@ -10,9 +11,12 @@ from . import alphabet, decode, names, tlv
 from .coding import DIALLED
 
 DEVICES = {"keypad": 0x01, "display": 0x02, "earpiece": 0x03, "card": 0x81, "terminal": 0x82, "network": 0x83,
-           **{f"channel{number}": 0x20 + number for number in range(1, 8)}}
+           **{f"reader{number}": 0x10 + number for number in range(8)}, **{f"channel{number}": 0x20 + number for number in range(1, 8)}}
+USUAL_TYPES = (0x81, 0x91)
 UNITS = {"minutes": 0, "seconds": 1, "tenths": 2}
 SEVEN_BIT, EIGHT_BIT, UCS2 = 0x00, 0x04, 0x08
+# how like a name is that may be meant, and how many such are told
+LIKE, MOST_HINTS = 0.7, 2
 # the value of a text, where there may be none: with a coding, or without
 EMPTY_TEXTS = "|00|04|08"
 
@@ -31,12 +35,44 @@ class Wrong(Exception):
     """Why a line is bad."""
 
 
+class UnknownWord(Wrong):
+    """A word that is none of a list which is too long to be told with each: `tools/sequence --words` prints it."""
+
+
+def likeness(words, name):
+    """How much of a name the next words are, from 0 to 1."""
+    return difflib.SequenceMatcher(None, " ".join(words[:len(name.split())]).lower(), name.lower()).ratio()
+
+
+def unknown(words, what, known):
+    """What is said where the next words make none of some names: of those the ones that may be meant."""
+    begins = [name for name in known if name.split()[0].lower() == words[0].lower()]
+    near = sorted(begins or [name for name in known if likeness(words, name) >= LIKE], key=lambda name: -likeness(words, name))[:MOST_HINTS]
+    # of a name of several words that begins so, as many are told as it has
+    count = max((len(name.split()) for name in begins), default=1)
+    hint = f": is {' or '.join(f'`{name}`' for name in near)} meant?" if near else ""
+    return UnknownWord(f"`{' '.join(words[:count])}` is no {what}{hint}")
+
+
+def without_comment(line):
+    """A line up to a # that begins a word."""
+    quote, before = None, " "
+    for place, letter in enumerate(line):
+        if letter == "#" and before.isspace() and not quote:
+            return line[:place]
+        if letter in "\"'" and before != "\\":
+            quote = None if quote == letter else quote or letter
+        before = letter
+    return line
+
+
 class Words:
-    """The words of a line that are still to be read; a text in quotes is one."""
+    """The words of a line that are still to be read; a text in quotes is one. What comes after a # at the beginning of a word is a comment:
+    in a word it is a key of the telephone."""
 
     def __init__(self, line):
         try:
-            self.left = shlex.split(line, comments=True)
+            self.left = shlex.split(without_comment(line))
         except ValueError as fault:
             raise Wrong(f"{str(fault).lower()}: quotes come in pairs") from None
 
@@ -59,10 +95,8 @@ class Words:
                 del self.left[:count]
                 return known[name]
         if not self.left:
-            raise Wrong(f"{what} is missing: {', '.join(known)}")
-        # of a name of several words that begins so, as many are told as it has
-        meant = max((len(name.split()) for name in known if name.split()[0] == self.left[0]), default=1)
-        raise Wrong(f"`{' '.join(self.left[:meant])}` is no {what}: {', '.join(known)}")
+            raise Wrong(f"the {what} is missing")
+        raise unknown(self.left, what, known)
 
     def number(self, what, least, most):
         word = self.take(what)
@@ -79,14 +113,14 @@ class Words:
     def hexadecimal(self, what):
         word = self.take(what)
         if not re.fullmatch("([0-9A-Fa-f]{2})*", word):
-            raise Wrong(f"{what} is hexadecimal digits, two for each byte, not {word}")
+            raise Wrong(f"hexadecimal digits are wanted for {what}, two for each byte, not {word}")
         return bytes.fromhex(word)
 
     def pattern(self, what):
         word = self.take(what).upper()
         if not all(re.fullmatch(r"([0-9A-F?]{2})*\*?", part) for part in word.split("|")):
-            raise Wrong(f"{what} is hexadecimal digits, two for each byte, where `?` is any digit, `*` at the end any bytes, and `|` stands "
-                        f"between alternatives, not {word}")
+            raise Wrong(f"hexadecimal digits are wanted for {what}, two for each byte, where `?` is any digit, `*` at the end any bytes, and "
+                        f"`|` stands between alternatives, not {word}")
         return word
 
 
@@ -117,10 +151,13 @@ class Object:
     def told(self):
         """What it must be, in words."""
         if self.is_exact:
-            text = decode.object_text(self.tag, bytes.fromhex(self.pattern), False)
-        else:
-            text = " or ".join(part or "nothing" for part in self.pattern.split("|"))
-        return text + {None: "", True: ", with the flag", False: ", without the flag"}[self.flag]
+            return decode.object_text(self.tag, bytes.fromhex(self.pattern), False)
+        return " or ".join(part or "nothing" for part in self.pattern.split("|"))
+
+
+def flag_text(flag):
+    """What the flag of an object's tag says: whether it has to be understood (ETSI TS 102 223, 6.5.4)."""
+    return "comprehension required" if flag else "comprehension not required"
 
 
 def label_of(tag):
@@ -169,7 +206,7 @@ def text_value(words):
 
 
 def alpha_bytes(words):
-    """A title or an item's text: in eight bits, or 80 and UCS2 (3GPP TS 31.102, annex A)."""
+    """An alpha identifier or an item's text: in eight bits, or 80 and UCS2 (3GPP TS 31.102, annex A)."""
     if words.take_if("ucs2"):
         return b"\x80" + words.take("the text").encode("utf-16-be")
     return eight_bit(words.take("the text"))
@@ -185,7 +222,7 @@ def duration_value(words):
     if words.take_if("any"):
         return "????"
     count = words.number("a duration", 0, 255)
-    unit = words.take("the unit of a duration: minutes, seconds or tenths")
+    unit = words.take("the unit of a duration (minutes, seconds or tenths)")
     if unit not in UNITS:
         raise Wrong(f"a duration is in minutes, seconds or tenths, not in {unit}")
     return f"{UNITS[unit]:02X}{count:02X}"
@@ -199,18 +236,20 @@ def events_value(words):
     codes = [known.get(part, part) for part in word.split(",")]
     wrong = next((code for code in codes if not re.fullmatch("[0-9A-Fa-f]{2}", code)), None)
     if wrong is not None:
-        raise Wrong(f"`{wrong}` is no event: {', '.join(known)}, or a code of two digits")
+        raise unknown([wrong], "event, nor a code of two digits", known)
     return "".join(codes).upper()
 
 
 def address_value(words):
-    """A number as it is dialled, with + before an international one."""
+    """A number as it is dialled, with + before an international one, and its type where that is neither of the usual two: as
+    `tools/explain` shows it."""
     word = words.take("a number that is dialled")
-    if not re.fullmatch(r"\+?[0-9*#pw]{1,40}", word):
-        raise Wrong(f"a number that is dialled is + and digits, *, #, p (a pause) and w (a wild value), and not {word}")
+    if not re.fullmatch(r"\+?[0-9*#pw?]{1,40}", word):
+        raise Wrong(f"a number that is dialled is + and digits, *, #, p (a pause), w (a wild value) and ? (an expansion digit), and not {word}")
     digits = "".join(f"{DIALLED.index(letter):X}" for letter in word.lstrip("+"))
     digits += "F" * (len(digits) % 2)
-    return ("91" if word[0] == "+" else "81") + "".join(digits[n + 1] + digits[n] for n in range(0, len(digits), 2))
+    kind = words.byte("the type of a number") if words.take_if("type") else USUAL_TYPES[word[0] == "+"]
+    return f"{kind:02X}" + "".join(digits[n + 1] + digits[n] for n in range(0, len(digits), 2))
 
 
 def time_value(words):
@@ -249,38 +288,60 @@ def language_value(words):
     return word.encode("ascii").hex().upper()
 
 
-# the word of an object, its tag, and how its value is read
-OBJECTS = {
-    "details": (0x01, bytes_value("details")),
-    "result": (0x03, bytes_value("a result")), "duration": (0x04, duration_value),
-    "title": (0x05, lambda words: alpha_bytes(words).hex().upper()), "address": (0x06, address_value),
-    "capability": (0x07, bytes_value("a capability")), "subaddress": (0x08, bytes_value("a subaddress")), "ss": (0x09, bytes_value("an SS string")),
-    "ussd": (0x0A, bytes_value("a USSD string")), "tpdu": (0x0B, bytes_value("a TPDU")), "text": (0x0D, text_value),
-    "tone": (0x0E, bytes_value("a tone")), "item": (0x0F, item_value), "identifier": (0x10, number_value("the number of an item")),
-    "length": (0x11, length_value), "files": (0x12, bytes_value("a file list")), "location": (0x13, bytes_value("a location")),
-    "imei": (0x14, bytes_value("an IMEI")), "help": (0x15, lambda words: ""), "measurements": (0x16, bytes_value("measurements")),
-    "default": (0x17, text_value), "events": (0x19, events_value), "location-status": (0x1B, bytes_value("a location status")),
-    "icon": (0x1E, icon_value), "icons": (0x1F, bytes_value("icons")), "timer": (0x24, number_value("the number of a timer")),
-    "time": (0x25, time_value), "time-left": (0x25, bytes_value("a time")), "date": (0x26, bytes_value("a date")),
-    "dtmf": (0x2C, bytes_value("digits")), "language": (0x2D, language_value), "timing-advance": (0x2E, bytes_value("a timing advance")),
-    "url": (0x31, lambda words: eight_bit(words.take("a URL")).hex().upper()), "bearer": (0x35, bytes_value("a bearer")),
-    "data": (0x36, bytes_value("channel data")), "count": (0x37, number_value("a count of bytes")),
-    "channel-status": (0x38, bytes_value("a channel status")), "size": (0x39, size_value), "transport": (0x3C, bytes_value("a transport level")),
-    "other-address": (0x3E, bytes_value("an address")), "access-technology": (0x3F, bytes_value("an access technology")),
-    "imeisv": (0x62, bytes_value("an IMEISV")),
-}
+def letters_value(what):
+    return lambda words: eight_bit(words.take(what)).hex().upper()
 
 
-# the standard's terms for objects that have another word here
-SLIPS = {
-    **dict.fromkeys(("alpha", "alpha-identifier", "alphaid"), "the alpha identifier of a command is its `title`"),
-    **dict.fromkeys(("default-text", "defaulttext"), "the default text is `default`"),
-    **dict.fromkeys(("channel-data", "channeldata"), "channel data is `data`"),
-    **dict.fromkeys(("channel-data-length", "data-length"), "the channel data length is `count`"),
-    **dict.fromkeys(("buffer-size", "buffersize"), "the buffer size is `size`"),
-    **dict.fromkeys(("response-length", "responselength"), "the response length is `length`"),
-    **dict.fromkeys(("event-list", "eventlist"), "the event list is `events`"), "command-details": "the command details are `details`",
-}
+# the words of an object, its tag, and how its value is read: first the standard's name (ETSI TS 102 223, 8), then what is shorter
+READ_AS = (
+    ("command-details details", 0x01, bytes_value("details")),
+    ("result", 0x03, bytes_value("a result")),
+    ("duration", 0x04, duration_value),
+    ("alpha-identifier alpha title", 0x05, lambda words: alpha_bytes(words).hex().upper()),
+    ("address", 0x06, address_value),
+    ("capability-configuration-parameters capability", 0x07, bytes_value("capability configuration parameters")),
+    ("subaddress", 0x08, bytes_value("a subaddress")),
+    ("ss-string ss", 0x09, bytes_value("an SS string")),
+    ("ussd-string ussd", 0x0A, bytes_value("a USSD string")),
+    ("sms-tpdu tpdu", 0x0B, bytes_value("a TPDU")),
+    ("text-string text", 0x0D, text_value),
+    ("tone", 0x0E, bytes_value("a tone")),
+    ("item", 0x0F, item_value),
+    ("item-identifier identifier", 0x10, number_value("the number of an item")),
+    ("response-length length", 0x11, length_value),
+    ("file-list files", 0x12, bytes_value("a file list")),
+    ("location-information location", 0x13, bytes_value("a location")),
+    ("imei", 0x14, bytes_value("an IMEI")),
+    ("help-request help", 0x15, lambda words: ""),
+    ("network-measurement-results measurements", 0x16, bytes_value("measurements")),
+    ("default-text default", 0x17, text_value),
+    ("event-list events", 0x19, events_value),
+    ("location-status", 0x1B, bytes_value("a location status")),
+    ("icon-identifier icon", 0x1E, icon_value),
+    ("item-icon-identifier-list icons", 0x1F, bytes_value("icons")),
+    ("timer-identifier timer", 0x24, number_value("the number of a timer")),
+    ("timer-value time", 0x25, time_value),
+    ("time-left", 0x25, bytes_value("a time")),
+    ("date-time-and-time-zone date", 0x26, bytes_value("a date")),
+    ("at-command", 0x28, letters_value("an AT command")),
+    ("at-response", 0x29, bytes_value("an AT response")),
+    ("dtmf-string dtmf", 0x2C, bytes_value("digits")),
+    ("language", 0x2D, language_value),
+    ("timing-advance", 0x2E, bytes_value("a timing advance")),
+    ("url", 0x31, letters_value("a URL")),
+    ("bearer-description bearer", 0x35, bytes_value("a bearer")),
+    ("channel-data data", 0x36, bytes_value("channel data")),
+    ("channel-data-length count", 0x37, number_value("a count of bytes")),
+    ("channel-status", 0x38, bytes_value("a channel status")),
+    ("buffer-size size", 0x39, size_value),
+    ("transport-level transport", 0x3C, bytes_value("a transport level")),
+    ("other-address", 0x3E, bytes_value("an address")),
+    ("access-technology", 0x3F, bytes_value("an access technology")),
+    ("imeisv", 0x62, bytes_value("an IMEISV")),
+)
+OBJECTS = {word: (tag, value) for words, tag, value in READ_AS for word in words.split()}
+# what stands in the place of an object that has no word
+RAW = "object"
 
 
 def raw_object(words):
@@ -294,12 +355,10 @@ def raw_object(words):
 def read_object(words):
     optional = bool(words.take_if("optional"))
     word = words.take("an object")
-    if word == "object":
+    if word == RAW:
         return dataclasses.replace(raw_object(words), optional=optional)
-    if word.lower() in SLIPS:
-        raise Wrong(f"`{word}` is no object: {SLIPS[word.lower()]}")
     if word not in OBJECTS:
-        raise Wrong(f"`{word}` is no object: {', '.join(OBJECTS)}, or object TAG VALUE")
+        raise unknown([word, *words.left], "object", OBJECTS)
     tag, value = OBJECTS[word]
     return Object(tag, value(words), None, optional)
 

@@ -4,7 +4,7 @@ import { amount, bigEndian, hexByte, hexed, printable } from "./bytes.js";
 import { dialledDigits, plmn } from "./contents.js";
 import { isTable } from "./kinds.js";
 import { installation } from "./layout.js";
-import { filesOf, instructionName, keyName, profileBits, qualifierName, toolkitName } from "./names.js";
+import { instructionName, keyName, profileBits, qualifierName, toolkitName } from "./names.js";
 import { shortObjects } from "./rules.js";
 import { objectsOf, templateOf } from "./tlv.js";
 
@@ -86,7 +86,7 @@ const TITLES = {
     [CHANNEL]: (apdu) => (apdu.p1 === 0x80 ? `close ${apdu.p2 || apdu.channel}` : `open ${apdu.p2 || "the next free one"}`),
     [FETCH]: (apdu) => (apdu.le === undefined ? "" : amount(apdu.le || 256)),
     [GET_RESPONSE]: (apdu) => (apdu.le === undefined ? "" : amount(apdu.le || 256)),
-    [STATUS]: (apdu) => (apdu.p2 === 0x0c ? "" : "with the control parameters"),
+    [STATUS]: (apdu) => (apdu.p2 === 0x0c ? "" : "with the FCP"),
     [INSTALL]: (apdu) => `on shelf ${apdu.p2}, priority ${apdu.p1}`,
     [DELETE]: (apdu) => (apdu.isOnApplets ? `of shelf ${apdu.p2}` : hexed(apdu.data)),
     [CREATE_FILE](apdu) {
@@ -107,11 +107,11 @@ const TITLES = {
 };
 
 function shortPlace(short) {
-    return short ? ` of the short identifier ${short}` : "";
+    return short ? ` by SFI ${short}` : "";
 }
 
 function binaryPlace(apdu) {
-    return apdu.p1 & 0x80 ? `of the short identifier ${apdu.p1 & 31}, from byte ${apdu.p2}` : `from byte ${(apdu.p1 << 8) | apdu.p2}`;
+    return apdu.p1 & 0x80 ? `by SFI ${apdu.p1 & 31}, from byte ${apdu.p2}` : `from byte ${(apdu.p1 << 8) | apdu.p2}`;
 }
 
 function recordPlace(apdu) {
@@ -218,7 +218,7 @@ const OBJECTS = {
     },
     0x04: ([unit, count]) => `${count} ${["minutes", "seconds", "tenths of a second"][unit]}`,
     0x05: (value) => `\`${printable(value)}\``,
-    0x06: (value) => dialledDigits(value.slice(1), value[0]),
+    0x06: (value) => dialledDigits(value.slice(1), value[0]) + ([0x81, 0x91].includes(value[0]) ? "" : ` type ${hexByte(value[0])}`),
     0x0d: textWords,
     0x0e: ([tone]) => `${hexByte(tone)} ${toolkitName("tones", tone, "unknown")}`,
     0x0f: (value) => (value.length ? `${value[0]} \`${printable(value.slice(1))}\`` : "none"),
@@ -286,12 +286,12 @@ const PARAMETERS = {
         const kind = KINDS[value[0] & 0x7f] ?? hexByte(value[0]);
         return value.length === 5 ? `${kind}, ${value[4]} records of ${amount(bigEndian(value.slice(2, 4)))}` : kind;
     }],
-    0x83: ["identifier", (value) => `${hexed(value)} ${filesOf(hexed(value))[0]?.name ?? ""}`],
+    0x83: ["identifier", hexed],
     0x8a: ["life cycle", ([life]) => LIVES[life] ?? hexByte(life)],
     0x8b: ["access rule", (value) => `record ${value[2]} of ${hexed(value.slice(0, 2))}`],
     0xc6: ["PINs", pinStatus],
     0x80: ["size", (value) => amount(bigEndian(value))],
-    0x88: ["short identifier", (value) => (value.length ? String(value[0] >> 3) : "none")],
+    0x88: ["SFI", (value) => (value.length ? String(value[0] >> 3) : "none")],
 };
 
 const STRUCTURES = { 0x41: "t", 0x42: "l", 0x46: "c" };
@@ -325,11 +325,11 @@ function pinStatus(value) {
 
 // The control parameters of a file (ETSI TS 102 221, 11.1.1.3).
 export function parameterLines(data) {
-    return decoded("bad control parameters", () => {
+    return decoded("bad FCP", () => {
         const found = shortObjects(templateOf(data).value).map(({ tag, value }) => {
             const [label, words] = PARAMETERS[tag] ?? [`object ${hexByte(tag)}`, hexed];
             return line(1, label, words(value));
         });
-        return [line(0, "control parameters"), ...found];
+        return [line(0, "FCP"), ...found];
     });
 }

@@ -14,7 +14,7 @@ function factsOf(file) {
     const facts = [file.structure === "t" ? `${STRUCTURES.t}, ${plural(file.size, "byte")}`
         : `${STRUCTURES[file.structure]}, ${plural(file.count, "record")} of ${plural(file.length, "byte")}`];
     if (file.short) {
-        facts.push(`short identifier ${file.short}`);
+        facts.push(`SFI ${file.short}`);
     }
     if (file.rule) {
         facts.push(`rule ${file.rule.file}:${file.rule.record}`);

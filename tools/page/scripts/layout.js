@@ -183,7 +183,7 @@ export class Card {
         this.checkPlace(said.path);
         const taken = said.short && this.children(said.path.slice(0, -1)).find((file) => file.short === said.short);
         if (taken) {
-            throw new Wrong(`the short identifier ${said.short} is taken by ${shown(taken.path)} (line ${taken.line})`);
+            throw new Wrong(`the SFI ${said.short} is taken by ${shown(taken.path)} (line ${taken.line})`);
         }
         this.addFile(new File(said.path, said, line));
     }

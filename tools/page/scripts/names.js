@@ -6,7 +6,6 @@ import { hexByte } from "./bytes.js";
 const APPLICATIONS = {
     "7F10": ["TELECOM"], "7F20": ["USIM", "GSM"], "7F21": ["GSM"], "7FF0": ["USIM"], "7FF2": ["ISIM"], "7FFF": ["USIM"],
 };
-const PLACES = ["MF", "TELECOM", "USIM", "GSM", "ISIM"];
 
 // A status word of four digits in words.
 export function statusWords(word) {
@@ -26,7 +25,7 @@ export function instructionName(ins, cla) {
 }
 
 export function keyName(reference) {
-    return tables.commands.keys[hexByte(reference)] ?? `key ${hexByte(reference)}`;
+    return tables.commands.keys[hexByte(reference)] ?? `key reference ${hexByte(reference)}`;
 }
 
 // The name of a byte among the toolkit's `commands`, `tags`, `results` ..
@@ -46,7 +45,7 @@ export function services(kind) {
     return tables.files[kind];
 }
 
-export function filesOf(identifier) {
+function filesOf(identifier) {
     return tables.files.files.filter((entry) => entry.id === identifier);
 }
 
@@ -63,17 +62,14 @@ function places(folder, usim) {
     return entry?.name.startsWith("DF.") ? [entry.name.slice(3)] : [];
 }
 
-// The standard file at a path from the MF; undefined where there is none. In 7F20 it is that of a USIM where `usim` is so, else
-// that of GSM. In a folder where no standard has it it is the one file that goes by its identifier.
+// The standard file at a path from the MF; undefined where there is none: an identifier means something in its DF alone. In 7F20 it is
+// that of a USIM where `usim` is so, else that of GSM.
 export function standardFile(path, usim) {
     if (!path.length) {
         return filesOf("3F00")[0];
     }
     const found = filesOf(path.at(-1));
-    const placed = places(path.slice(0, -1), usim)
-        .map((place) => found.find((entry) => entry.in.includes(place))).find(Boolean);
-    const alone = found.length === 1 && path.length > 1 && PLACES.includes(found[0].in[0]);
-    return placed ?? (alone ? found[0] : undefined);
+    return places(path.slice(0, -1), usim).map((place) => found.find((entry) => entry.in.includes(place))).find(Boolean);
 }
 
 // A path with its standard name after it.

@@ -72,7 +72,7 @@ function condition({ tag, value }, levels) {
 }
 
 function keyWord(key) {
-    return KEYS[key] ?? `key ${hexByte(key)}, which no card has`;
+    return KEYS[key] ?? `key reference ${hexByte(key)}, which no card has`;
 }
 
 // A condition in words, in which each PIN has its name.
