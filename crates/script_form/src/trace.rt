@@ -110,11 +110,14 @@ pub fn write_command<W: Sink>(sink: &mut W, apdu: &[u8]) -> Result<(), Failed>
 {
     // Most lines show few bytes, and are put together in a short buffer, since all of a buffer is filled with zeros before and raised after.
     match apdu.len() {
-        0..=15 => put_command::<34, W>(sink, apdu),
-        16..=31 => put_command::<66, W>(sink, apdu),
+        0..=23 => put_command::<50, W>(sink, apdu),
+        24..=31 => put_command::<66, W>(sink, apdu),
         _ => put_command::<LONGEST, W>(sink, apdu),
     }
 }
+
+/// The bytes of a command's header (ISO 7816-4, 5.1).
+const HEADER: usize = 4;
 
 #[tactic(auto, unfolding(crate::specs::Traces::trace_text))]
 fn put_command<const N: usize, W: Sink>(sink: &mut W, apdu: &[u8]) -> Result<(), Failed>
@@ -124,7 +127,11 @@ fn put_command<const N: usize, W: Sink>(sink: &mut W, apdu: &[u8]) -> Result<(),
     ensures cause { CountsFailure (W.faults sink.old) (W.faults sink.new) (IsErr result) }
 {
     let mut text = ArrayVec::from([0; N]);
-    let size = fill_line(text.as_mut_slice(), b'>', apdu, &[]);
+    // The digits of the header, whose length is known here, are written without a loop.
+    let size = match apdu.split_at_checked(HEADER) {
+        Some((header, rest)) => fill_line(text.as_mut_slice(), b'>', header, rest),
+        None => fill_line(text.as_mut_slice(), b'>', apdu, &[]),
+    };
     sink.put(&text.as_slice()[..size])
 }
 
@@ -140,7 +147,8 @@ pub fn write_answer<W: Sink>(sink: &mut W, answer: &Answer) -> Result<(), Failed
     match body.len() {
         0 => put_answer::<18, W>(sink, body, answer.status),
         1..=13 => put_answer::<34, W>(sink, body, answer.status),
-        14..=29 => put_answer::<66, W>(sink, body, answer.status),
+        14..=21 => put_answer::<50, W>(sink, body, answer.status),
+        22..=29 => put_answer::<66, W>(sink, body, answer.status),
         _ => put_answer::<LONGEST, W>(sink, body, answer.status),
     }
 }

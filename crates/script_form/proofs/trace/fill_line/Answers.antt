@@ -1,5 +1,5 @@
 -- A line is its mark, a space and the digits.
-use Rattle.std.proofs.Common.{◌≡◌, ◌+◌, ◌*◌, ◌++◌, ◌∷◌, [], ◌∙◌, ℕ, List, length, take, slice_set, ap, arith}
+use Rattle.std.proofs.Common.{◌≡◌, ◌∷◌, ◌∙◌, ℕ, List, length, slice_set, ap, arith}
 use Rattle.std.proofs.lemmas.List.{length-set}
 use Rattle.script_form.proofs.EncodeWithLemmas.{line_marked}
 use Rattle.script_form.proofs.trace.fill_line.Goals as goal
