@@ -7,6 +7,7 @@ use Rattle.file_model.specs.Access.{keys_seen}
 use Rattle.file_model.specs.Files.{descriptor_in, descriptors_in, file_found}
 use Rattle.file_model.specs.Pins.{pin_found}
 use Rattle.file_model.specs.Selections.{chosen, chosen_by_identifier}
+use Rattle.file_model.specs.declared.selections.TheConstants.Selection.{AT_START}
 use Rattle.toolkit_model.specs.Commands.{woken_boxes}
 use Rattle.toolkit_model.specs.Orderly.{asks}
 use Rattle.card_model.specs.States.{CardState, nothing_verified, woken}
@@ -115,6 +116,15 @@ toolkit_commands : refused_with first_card (
     ≡ Some 0x6A86 ∷ Some 0x6700 ∷ Some 0x6700 ∷ Some 0x6985 ∷ Some 0x6985 ∷ Some 0x6881 ∷ []
 unfolding command_in fields_in woken woken_boxes
 toolkit_commands = refl
+
+-- on another channel than the basic one they are refused for that, before their P1 and P2
+abbrev card_of_two_channels : CardState
+card_of_two_channels = record first_card { channels = Some AT_START ∷ Some AT_START ∷ None ∷ None ∷ [] }
+
+other_channel : refused_with card_of_two_channels ((0x81 ∷ 0x12 ∷ 0x01 ∷ 0x00 ∷ []) ∷ (0x80 ∷ 0x12 ∷ 0x01 ∷ 0x00 ∷ []) ∷ (0x01 ∷ 0x70 ∷ 0x80 ∷ 0x01 ∷ []) ∷ (0x01 ∷ 0x12 ∷ 0x00 ∷ 0x00 ∷ []) ∷ [])
+    ≡ Some 0x6881 ∷ Some 0x6A86 ∷ None ∷ Some 0x6E00 ∷ []
+unfolding command_in fields_in woken woken_boxes
+other_channel = refl
 
 -- INSTALL and DELETE: without the administrator's key, and with it
 abbrev verified_card : CardState
