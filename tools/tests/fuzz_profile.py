@@ -113,9 +113,11 @@ keeps = "0102"
 """
 VALUES = ("5", "-1", "0", "255", "256", "99999999999999999999", "true", '"x"', '""', "[]", "{}", "1.5", "nan", "1979-05-27", "07:32:00", "[[1]]",
           '[""]', "[1]", "[-1]", "[true]", '"\u0661\u0662\u0663\u0664"', '"\\u0000"', '"\\n"', "'''\n'''", '"' + "9" * 400 + '"', '"' + "A" * 4000 + '"',
-          '{ value = "1234" }', "{ a = 1 }", '[{ name = 5 }]', '["A"]', '"pin1 or "', '"always and (adm)"', '"2F06:9"', '"262-01"', '"imsi"', '["FDN"]', '"FF"', '"0"',
+          '{ value = "1234" }', "{ a = 1 }", '[{ name = 5 }]', '["A"]', '"pin1 or "', '"always and (adm)"', '"2F06:9"', '"262-01"', '"imsi"',
+          '["FDN"]', '"FF"', '"0"',
           '"register"', '{ location = ["register  "] }', '{ menu = "x" }', '{ location = [5] }', "[" * 2000, '["' + "x" * 300 + '"]')
-KEYS = ("size", "length", "count", "cyclic", "short", "rule", "folder", "read", "increase", "hex", "records", "imsi", "entries", "plmns", "services", "services_on", "services_off", "acc", "kind",
+KEYS = ("size", "length", "count", "cyclic", "short", "rule", "folder", "read", "increase", "hex", "records", "imsi", "entries", "plmns", "services",
+        "services_on", "services_off", "acc", "kind",
         "shelf", "on", "menu", "keeps", "pin1", "puk1", "like", "acces", "a.b", '""', '"\u00e4"', "value", "unblock")
 HEADS = ("[7F20]", "[pins]", "[default]", "[[applet]]", "[[EF_IMSI]]", '[""]', '["/"]', '["MF"]', "[7F20.EF_IMSI]", '["7F20/EF_IMSI"]', '["7F20/6F07"]',
          '["3F00/7FFF/6F07"]', '["7F10/3F00"]', '["' + "7F10/" * 9 + '6F99"]', "[EF_ARR]", "[EF_NONE]", '["EF_IMSI/EF_SPN"]', "[like]", '["7F10/\\n"]', "[[pins]]")

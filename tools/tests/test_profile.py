@@ -126,7 +126,7 @@ class Doubts(unittest.TestCase):
     def test_numbers(self):
         """A PUK of other than eight digits, and the wrong check digit of an ICCID, are warnings of build, with their lines, and of check."""
         made = profile.made_in(b'like = "usim"\n[pins]\npin1 = { unblock = "1234" }\n[EF_ICCID]\niccid = "8999901000000123451"\n', "card.toml")
-        self.assertEqual(made.warnings, ["card.toml, line 3: [pins] pin1 unblock: an UNBLOCK PIN has 8 digits, and 1234 4",
+        self.assertEqual(made.warnings, ["card.toml, line 3: [pins] pin1 unblock: an UNBLOCK PIN has 8 digits, and 1234 has 4",
                                          "card.toml, line 4: [EF_ICCID]: the check digit of 8999901000000123451 is 1, and should be 0"])
         self.assertEqual(list(checking.findings(lint.read(made.text).card, "usim")),
                          ["2FE2 EF.ICCID: the check digit of 8999901000000123451 is 1, and should be 0",
@@ -260,7 +260,7 @@ class Mistakes(unittest.TestCase):
         ('[EF_AD]\nread = "pin1 and (adm"', ["line 3: [EF_AD] read: a bracket isn't closed in a condition"]),
         ('[EF_AD]\nread = "adm)"', ["line 3: [EF_AD] read: `adm)` is no condition: a bracket is closed that isn't open"]),
         ('[EF_PL]\nlanguages = ["DE"]', ["line 3: [EF_PL] languages: a language is two small letters (ISO 639), as `de`, and not `DE`"]),
-        ('[EF_DIR]\napplications = [{ aid = "A000" }]', ["line 3: [EF_DIR] applications: an AID has 5 to 16 bytes, and A000 2"]),
+        ('[EF_DIR]\napplications = [{ aid = "A000" }]', ["line 3: [EF_DIR] applications: an AID has 5 to 16 bytes, and A000 has 2"]),
         ('[EF_SPN]\nspn = "A"\nshort = 7', ["line 2: [EF_SPN]: the SFI 7 is taken by 7F20/6F07"]),
         ('[EF_SPN]\nspn = "A"\nsize = 100000', ["line 4: [EF_SPN] size is 100000, and has to be a number from 1 to 32767: size = 17"]),
         ('["7F10/6F99"]\nsize = 5\ncyclic = true', ['line 2: ["7F10/6F99"]: `cyclic` is of files with records, and `size` of those without']),

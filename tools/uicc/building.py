@@ -1,7 +1,7 @@
 """Makes the lines of a script of a profile."""
 import contextlib
 
-from . import access, coding, contents, dump, fields, forms, grammar, kinds, layout, names, rules, structured, tree
+from . import access, coding, dump, fields, forms, grammar, kinds, layout, names, rules, structured, tree
 from .coding import BadContent
 from .profile_names import ARR, OPERATIONS, PIN_KEYS, Fault, is_arr_in_folder, is_file_table, path_of, told_origin
 
@@ -220,7 +220,8 @@ class Builder:
                     found[what] = pin_value(given.get(what, "00000000"))
             unblock = str(given.get("unblock", "00000000"))
             if "unblock" in found and len(unblock) < UNBLOCK_DIGITS:
-                self.doubts.append(Fault(("pins", name, "unblock"), f"[pins] {name} unblock: an UNBLOCK PIN has {UNBLOCK_DIGITS} digits, and {unblock} {len(unblock)}"))
+                self.doubts.append(Fault(("pins", name, "unblock"), f"[pins] {name} unblock: an UNBLOCK PIN has {UNBLOCK_DIGITS} digits, and "
+                                                                    f"{unblock} has {len(unblock)}"))
             if len(found) == 2:
                 on = given.get("on", True)
                 self.say(f"{names.key(PIN_KEYS[name])}: {given.get('value', '00000000')}, {'on' if on else 'off'}")

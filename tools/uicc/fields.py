@@ -35,7 +35,7 @@ def texts_of(shown):
 def encode_application(given, length):
     aid, label = structured.hexadecimal(given["aid"]), contents.coded_text(given.get("label", ""))
     if not 5 <= len(aid) <= 16:
-        raise BadContent(f"an AID has 5 to 16 bytes, and {given['aid']} {len(aid)}")
+        raise BadContent(f"an AID has 5 to 16 bytes, and {given['aid']} has {len(aid)}")
     content = rules.spelled(0x4F, aid) + (rules.spelled(0x50, label) if label else b"")
     return rules.spelled(0x61, content).ljust(length or 0, b"\xFF")
 
