@@ -44,6 +44,9 @@ for line in sys.stdin:
         sys.exit(2)
 """
 
+# what is said once of a process where the release is of other sources than stand here, which is none of a test's matters
+OTHER_SOURCES = "uicc_run: the released program runs, and the sources that stand here are other ones: "
+
 
 def load(name):
     """A command of tools/ as a module."""
@@ -71,7 +74,8 @@ def in_process(name, *words, text=""):
             status = command.main()
         except SystemExit as end:
             status = end.code
-    return Done(status or 0, *(written(stream) for stream in streams[1:]))
+    out, said = (written(stream) for stream in streams[1:])
+    return Done(status or 0, out, "".join(line for line in said.splitlines(keepends=True) if not line.startswith(OTHER_SOURCES)))
 
 
 def written(stream):

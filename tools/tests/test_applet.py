@@ -225,7 +225,9 @@ def new_kind_event(code, body):
 
 
 class Words(Copy):
-    def told(self, *words):
+    def told(self, *words, behind=False):
+        """The status, the lines and what is said on standard error; that the list of kinds is behind the sources stands among the lines only
+        where that is asked for."""
         out, said = io.StringIO(), io.StringIO()
         place = os.path.join(self.folder, "kinds.json")
         if not os.path.exists(place):
@@ -233,7 +235,8 @@ class Words(Copy):
         with mock.patch.object(applet, "CRATES", self.crates), mock.patch.object(kinds, "PLACE", place), mock.patch.object(process, "TOP", self.folder), \
                 mock.patch.object(sys, "argv", ["applet", *words]), contextlib.redirect_stdout(out), contextlib.redirect_stderr(said):
             status = applet.main()
-        return status, out.getvalue().splitlines(), said.getvalue()
+        shown = out.getvalue().splitlines()
+        return status, [line for line in shown if behind or not line.startswith("kinds.json has other definitions")], said.getvalue()
 
     def test_words(self):
         status, shown, _ = self.told("new", "parrot", "--does", "says again what is typed")
@@ -377,6 +380,25 @@ class Words(Copy):
                 self.assertEqual(shown[2:-1], [f"{path}:{line + 1}: " + ("on event 40 - => done" if lost == 3 else "on response 00 0 - => done"),
                                                f"    not tried, after line {line}" + ("; the same in 2 more rows" if lost == 3 else "")] if lost else [])
                 self.assertEqual(shown[-1], "328 rows, 1 differ" + (f", {lost} not tried" if lost else ""))
+
+    def test_the_list_is_behind(self):
+        """That the list of kinds has other definitions than the sources is told until it is written."""
+        self.told("new", "parrot")
+        self.change("parrot mind _ = done mind", "parrot mind Refused = done mind\nparrot mind _ = done mind", "applet_trait", "specs", "Tables.antt")
+        status, shown, _ = self.told("rows", behind=True)
+        self.assertEqual((status, shown[0]), (0, "328 rows, 0 differ"))
+        self.assertRegex(shown[1], r"^kinds\.json has other definitions, for the page and an installation: .* write$")
+        self.told("write")
+        self.assertEqual(self.told("rows", behind=True)[1], ["328 rows, 0 differ"])
+
+    def test_what_there_is_to_use(self):
+        """The page names each function by which the code makes an act, as it stands in acts.rt, and each name of an act's definition."""
+        with open(os.path.join(process.TOP, "docs", "APPLETS.md"), encoding="utf-8") as page:
+            table = page.read().partition("## What a definition and the code may use")[2].partition("\n## ")[0]
+        with open(os.path.join(CRATES, "boxed_applets", "src", "acts.rt"), encoding="utf-8") as source:
+            acts = re.findall(r"^pub fn (\w+)\(does: &mut Act((?:, \w+: [^,)]+)*)\)", source.read(), re.MULTILINE)
+        called = [f"{name}({', '.join(['does', *found])})" for name, found in ((name, re.findall(r", (\w+):", parts)) for name, parts in acts)]
+        self.assertEqual(sorted(called), sorted(re.findall(r"`((?!self)\w+\(does[^)]*\))`", table)))
 
     def test_phases_without_a_number(self):
         """A phase of the code that has no number, and one whose name isn't imported, are told; the rows know nothing of them."""
