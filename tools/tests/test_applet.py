@@ -105,7 +105,7 @@ class New(Copy):
 
     # a name and what it does, and why there can be no such kind
     REFUSED = [
-        ("Parrot", "x", "small letters"), ("2x", "x", "small letters"), ("a__b", "x", "small letters"), ("", "x", "small letters"), ("menu", "x", "`menu` is a name"),
+        ("Parrot", "x", "lower-case letters"), ("2x", "x", "lower-case letters"), ("a__b", "x", "lower-case letters"), ("", "x", "lower-case letters"), ("menu", "x", "`menu` is a name"),
         ("done", "x", "`done` is a name"), ("fn", "x", "`fn` is a name"), ("map", "x", "`map` is a name"), ("state", "x", "is a name"), ("cast", "x", "`casts` is a name"),
         ("act", "x", "`act` is a name"), ("parrot", "Says", "a few words"), ("parrot", "says\nagain", "a few words"), ("parrot", "says. More", "a few words"),
         ("parrot", "s" * 70, "a few words"), ("parrot", "*/ x", "a few words"),
@@ -194,8 +194,8 @@ class Texts(Copy):
                 self.assertEqual(bool(new_kind.showing("Moved").search(line)), wanted)
 
     # a name, a text, and why there can be no such one
-    REFUSED = [("say", "Say?", "large letters"), ("SAY", "", "1 to 239 letters"), ("SAY", 'a"b', "1 to 239 letters"), ("SAY", "é", "1 to 239 letters"),
-               ("SAY", "x" * 240, "1 to 239 letters .* and not 240"), ("MINUTES", "x", "the name of a number"),
+    REFUSED = [("say", "Say?", "capital letters"), ("SAY", "", "1 to 239 characters"), ("SAY", 'a"b', "1 to 239 characters"), ("SAY", "é", "and `é` is none"),
+               ("SAY", "x" * 240, "1 to 239 characters .* and not 240"), ("MINUTES", "x", "the name of a number"),
                ("CHOICE_TITLE", "far too long", "CHOICE_TITLE has 12 letters, and the title of a list has room for 10"),
                ("TEXT_ITEM", "far too long", "an entry of a list has room for 10"), ("ASK_FOR_NOTE", "x" * 236, "GET INPUT has room for 235")]
 

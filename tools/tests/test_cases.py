@@ -51,6 +51,13 @@ class Reading(unittest.TestCase):
         ("#case a\n#each cut 1\n", "a plan has K"),
         ("#case a\n#shows 0 00\n", "no run stands before it"),
         ("start\n#case a\n", "line 1 of the file: no word of a case"),
+        *((f"start\n{line}\n", f"line 2 of the file: {why}") for line, why in (
+            ("#< 9111 | 9000", "a further alternative is a whole line of the trace: `< 9111 | < 9000`"),
+            ("#< 91??", "`?` is no pattern here: `..` stands for any bytes"), ("#< 911x", "bytes are hexadecimal digits without spaces, two for each, and not `911x`"),
+            ("#< 9110|9000", "alternatives stand with a space on each side of `|`"), ("#< 9110 or 9000", "bytes are hexadecimal digits without spaces, two for each, and not `9110 or 9000`"),
+            ("#< 69", "an answer ends with a status of two bytes, and `69` is none"), ("#< D0..4869 9000", "bytes are hexadecimal digits without spaces"),
+            ("#< 9f10", "a trace has its hexadecimal digits in capital letters: `9F10`"),
+            ("#<9110", "a space stands between `#<` and what is shown: `#< 9110`"))),
     ]
 
     def test_what_must_be_shown(self):
@@ -285,6 +292,17 @@ class Expect(unittest.TestCase):
         self.assertIn("# SKIP", done.stdout)
         with open(report, encoding="utf-8") as text:
             self.assertIn('tests="4" failures="1" skipped="1"', text.read())
+
+    def test_a_report_that_cannot_be_written(self):
+        """It is refused before anything is played."""
+        done = self.expect(self.put("a.cases", FILE), "--junit", os.path.join(self.folder, "none", "x.xml"))
+        self.assertEqual((done.returncode, done.stdout), (2, ""))
+        self.assertIn("x.xml", done.stderr)
+
+    def test_a_profile_is_not_repeated(self):
+        done = self.expect(self.put("script", "start\napdu 80100000082900BF6171000013\n#< 9110\n"))
+        self.assertIn("the command: TERMINAL PROFILE\n", done.stdout)
+        self.assertNotIn("the terminal knows", done.stdout)
 
     def test_answers_are_written(self):
         path = self.put("script", "start\n# a comment\napdu 00A4000C023F00\n#< 6A82\nreset\napdu 00B0000001\n")

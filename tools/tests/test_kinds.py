@@ -240,6 +240,23 @@ class Rows(unittest.TestCase):
         ('boxed notebook "AB"+07*9 event 40 - => kind 6, send display text 4142+07*9\n', []),
         ("shelf 1 => kind 1\n", [1]),
     ]
+    # rows of which none comes to what they say, and what is told
+    NEVER = [
+        ("on event 40 -", "what it comes to is missing"), ("on event 40 - =>", "what it comes to is missing"),
+        ('on event 40 - => send display txt "Moin"', "is nothing that a row comes to: is `send display text TEXT` meant?"),
+        ('differs on event 40 - => send display txt "Moin"', "is `send display text TEXT` meant?"),
+        ("on event 40 - => send get input Say? 0 to 20 digits", "is `send get input TEXT N to N digits` meant?"),
+        ('on event 40 - => send get input "Say?" 20 digits', "is `send get input TEXT N to N digits` meant?"),
+        (" => done", "a row is applet, wake, on, boxed, shelf, and not `=>`"),
+    ]
+
+    def test_what_no_row_comes_to(self):
+        for line, why in self.NEVER:
+            with self.subTest(line=line):
+                found, count = applet_rows.differing(kinds.told(False), "applet greeter - => kind 1\n" + line + "\n")
+                self.assertEqual(([row.line for row, _ in found], count), ([2], 2))
+                self.assertIn("not a row: ", found[0][1])
+                self.assertIn(why, found[0][1])
 
     def test_differing(self):
         for text, lines in self.TABLE:

@@ -186,7 +186,11 @@ class Files(unittest.TestCase):
         ("envelope", "the envelope is missing"),
         ("envelope letter", "`letter` is no envelope"),
         ("no response", "after `no` stands `envelope`"),
-        ("within 1000", "the seconds is 0 to 999, not 1000"),
+        ("within 1000", "N, in seconds, is 0 to 999, not 1000"), ("within 5 now", "`now` is too much"),
+        ("within 5", "nothing stands below it that may take so long"),
+        ("status nonsense here", "`nonsense` is too much"), ("restart within 5", "`within` is too much"),
+        ("section abc", "a section of 3GPP TS 31.124 is numbers with points between them, as `27.22.4.1`, and not `abc`"),
+        ("command SET UP CALL ussd bytes 00", "between alternatives, not bytes"),
         ("sequence one", "a sequence of this name stands above"),
         ("sequence", "the name of the sequence is missing"),
     ]
@@ -701,7 +705,7 @@ class Verdicts(unittest.TestCase):
         """It fails the sequence, and those after it are played."""
         why = failed(BreaksDown, [one for one in in_the_box() if one.name in ("SET UP MENU, an entry is picked", "MORE TIME")], Obliging())
         place = f"{undertest.shown(os.path.abspath(__file__))}:{BreaksDown._menu.__code__.co_firstlineno + 1}"
-        self.assertEqual(why, {"SET UP MENU, an entry is picked": (verdict.FAILED, f"the terminal broke down: KeyError: 'menu', at {place}")})
+        self.assertEqual(why, {"SET UP MENU, an entry is picked": (verdict.FAILED, f"the terminal's class raised KeyError: 'menu', at {place}")})
 
     # what a method of a class does, and what is told of it
     BROKEN = [
@@ -713,12 +717,12 @@ class Verdicts(unittest.TestCase):
         ("begin", "def begin(self, player):\n    data, status = player.transmit('00A4000C023F00')", "TypeError: an Answer is one object, and no pair"),
         ("begin", "def begin(self, player):\n    print(player.transmit('00A4000C023F00')[0])", "it has `data` and `status`, at own.py:2"),
         ("happen", "def happen(self, said):\n    self.terminal.card.read()", "'Player' object has no attribute 'read', at own.py:2"),
-        ("end", "def end(self):\n    raise OSError('gone')", "the terminal broke down: OSError: gone, at own.py:2"),
+        ("end", "def end(self):\n    raise OSError('gone')", "the terminal's class raised OSError: gone, at own.py:2"),
         ("poll", "def poll(self):\n    self.terminal.card.note(None)", "TypeError: `note` takes what is shown as text, and not None, at own.py:2"),
         ("poll", "def poll(self):\n    self.terminal.card.note('text a\\nb')", "ValueError: a note is one line of text, and not 'text a\\nb', at own.py:2"),
         ("poll", "def poll(self):\n    self.terminal.card.note('text a\\r')", "ValueError: a note is one line of text, and not 'text a\\r', at own.py:2"),
         ("poll", "def poll(self):\n    self.terminal.card.note('')", "ValueError: a note is one line of text, and not '', at own.py:2"),
-        ("poll", "class Odd(BaseException):\n    pass\ndef poll(self):\n    raise Odd('odd')", "the terminal broke down: Odd: odd, at own.py:4"),
+        ("poll", "class Odd(BaseException):\n    pass\ndef poll(self):\n    raise Odd('odd')", "the terminal's class raised Odd: odd, at own.py:4"),
     ]
 
     def test_where_it_breaks_down(self):
@@ -736,7 +740,7 @@ class Verdicts(unittest.TestCase):
             pass
 
         self.assertEqual(self.told(Bare(), "command MORE TIME")[:2],
-                         (verdict.FAILED, "the terminal broke down: NotImplementedError: the class has no method `begin`"))
+                         (verdict.FAILED, "the terminal's class raised NotImplementedError: the class has no method `begin`"))
 
     # methods that never come back, each in another way
     HUNG = {
@@ -853,6 +857,17 @@ class Verdicts(unittest.TestCase):
     def test_a_profile_that_lacks_something(self):
         self.assertEqual(self.told(undertest.InPython(), "needs UCS2 entry", "command POLLING OFF", "response result 00")[:2],
                          (verdict.UNSUPPORTED, "its terminal profile doesn't have UCS2 entry, POLLING OFF"))
+
+    def test_what_its_user_cannot_do(self):
+        """It is inconclusive, and named by its line, where no response comes."""
+        for command, act, why in (("SELECT ITEM alpha \"Pick\" item 1 \"A\" item 2 \"B\"", "user pick 3", "the command has no item 3"),
+                                  ("GET INPUT text \"A\" length 2 4", "user type x", "`x` has 1 character, and the command asks for 2 to 4")):
+            with self.subTest(act=act):
+                self.assertEqual(self.told(undertest.InPython(), f"command {command}", act, "response result 00 more"),
+                                 (verdict.INCONCLUSIVE, why, act))
+        # what he does after it counts
+        self.assertEqual(self.told(undertest.InPython(), "command GET INPUT text \"A\" length 2 4", "user type x", "user type xy",
+                                   "response result 00 more")[0], verdict.PASSED)
 
     def test_no_profile(self):
         class Mute(undertest.InPython):
@@ -1037,7 +1052,7 @@ class Tool(unittest.TestCase):
         """All words of a file, a list each."""
         done = tool("--words")
         self.assertEqual((done.returncode, done.stderr), (0, ""))
-        for part in ("commands (one that has no name is written by its type, as `command 35`):\n    REFRESH,", "objects:\n    command-details or details, result,", "needs (or a bit"):
+        for part in ("commands (one that has no name is written by its type, as `command 6F`):\n    REFRESH,", "objects:\n    command-details or details, result,", "needs (or a bit"):
             self.assertIn(part, done.stdout)
 
     def test_the_page_shows_objects(self):
@@ -1110,6 +1125,20 @@ class Tool(unittest.TestCase):
             done = subprocess.run(words, capture_output=True, text=True, timeout=300, check=False)
         self.assertEqual((done.returncode, done.stdout, done.stderr),
                          (0, "1 sequence on the handset in Python: 1 passed, 0 failed, 0 inconclusive, 0 not supported\n", ""))
+
+    def test_a_table_in_the_protocol(self):
+        """Its lines are comments there."""
+        with tempfile.TemporaryDirectory() as folder:
+            lines = tool(self.put(folder, *self.PASSES), "--tap", "--table").stdout.splitlines()
+        self.assertEqual(lines[:3], ["TAP version 13", "1..1", "ok 1 - it passes"])
+        self.assertRegex(lines[3], "^# command +qualifier")
+        self.assertEqual([line for line in lines[3:] if not line.startswith("# ")], [])
+
+    def test_a_command_without_details(self):
+        with tempfile.TemporaryDirectory() as folder:
+            done = tool(self.put(folder, "sequence one", "command MORE TIME without details", "response any"), "--table")
+        self.assertIn("\n(no details)  ", done.stdout)
+        self.assertNotIn("type 00", done.stdout)
 
     def test_the_protocol(self):
         with tempfile.TemporaryDirectory() as folder:
@@ -1225,7 +1254,7 @@ class Tool(unittest.TestCase):
         changed.seconds = "ten"
         outcome = verdict.judged(read("command MORE TIME")[0], changed, Obliging())
         self.assertEqual((outcome.verdict, outcome.why),
-                         (verdict.FAILED, "the terminal broke down: `seconds` is a number of seconds from 0 on, and not 'ten'"))
+                         (verdict.FAILED, "the terminal's class is wrong: `seconds` is a number of seconds from 0 on, and not 'ten'"))
 
     def test_refusals(self):
         with tempfile.TemporaryDirectory() as folder:

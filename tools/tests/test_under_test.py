@@ -238,6 +238,13 @@ class AtCommands(unittest.TestCase):
         self.assertIn("  please say yes, or that it was seen, or take what stands there", told)
         self.assertIn("  it must show now: text Toolkit Test 1", told)
 
+    def test_nobody(self):
+        """That no client is there says nothing of the terminal."""
+        terminal = AtClient(0, lambda text: None)
+        self.addCleanup(terminal.close)
+        self.assertEqual(verdicts(terminal, in_the_box("MORE TIME"), 0.5)["MORE TIME"],
+                         (verdict.INCONCLUSIVE, f"no client connected to port {terminal.line.address[1]} within 0.5 seconds"))
+
     def test_a_port_that_is_taken(self):
         with socket.create_server(("127.0.0.1", 0)) as other, self.assertRaisesRegex(undertest.Lost, "no modem can be at port"):
             AtClient(other.getsockname()[1], lambda text: None)

@@ -3,6 +3,7 @@ records and constructors.
 
 A definition is the list of its clauses, each with its patterns and its body; a body is a list that begins with what it is, so that data in
 JSON can hold it: `number`, `name`, `call`, `lambda`, `if`, `let`, `list`, `pair`, `record`, `field`, or an operator with its two sides."""
+import difflib
 import os
 import re
 
@@ -210,6 +211,11 @@ def clause(text):
     return [reader.patterns(), as_body(body)]
 
 
+class NoHead(Exception):
+    """A file has no head of a definition: `line` is that of one which is called nearly so."""
+    line = None
+
+
 class File:
     """The definitions of a file of specs/."""
 
@@ -221,6 +227,13 @@ class File:
         self.uses = {name.strip().split(" as ")[-1]: (place, name.strip().split(" as ")[0])
                      for place, names in USE.findall(self.text) for name in names.split(",")}
         self.heads = {found[1]: found.end() for found in HEAD.finditer(self.text)}
+
+    def no_head(self, name):
+        """Why a name has no head here, with the one that is called nearly so and has no clauses of its own."""
+        near = [head for head in difflib.get_close_matches(name, self.heads) if not self.texts(head)]
+        fault = NoHead(f"no `abbrev` of {name} stands in {os.path.basename(self.path)}" + (f": is it called `{near[0]}` there?" if near else ""))
+        fault.line = self.line_of(near[0]) if near else None
+        return fault
 
     def line_of(self, name):
         """The number of the line on which the head of a definition stands."""
@@ -253,6 +266,8 @@ class File:
     def clauses(self, name):
         """What is defined under a name, clause by clause."""
         found = []
+        if name not in self.heads:
+            raise self.no_head(name)
         for number, text in self.texts(name):
             try:
                 found.append(clause(text))

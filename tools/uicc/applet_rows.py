@@ -1,6 +1,7 @@
 """What the definitions of the kinds say to the rows of applets (crates/unit_trials/data/applets.table), with nothing built: the same rows
 that the code is tried with. docs/CASES.md has their words."""
 import dataclasses
+import difflib
 import itertools
 import os
 import re
@@ -132,6 +133,22 @@ ACTS = {
 }
 
 
+# what a row may come to: each form, and what is of it
+WORDS = {"TEXT": r'(?:"[^"]*"|[0-9A-Fa-f*+-]+)', "BYTES": "[0-9A-Fa-f*+-]+", "HH": "[0-9A-Fa-f]{2}", "N": "[0-9]+",
+         "ITEMS": r'(?:none|[0-9]+ (?:"[^"]*"|[0-9A-Fa-f*+-]+)(?:, [0-9]+ (?:"[^"]*"|[0-9A-Fa-f*+-]+))*)', "TIME": "[0-9]{2}:[0-9]{2}:[0-9]{2}"}
+COMES_TO = ("done", "keep BYTES", "register HH", "deregister HH", "take timer", "free timer N", "allow", "bar", "send refresh N", "send more time",
+            "send poll interval N seconds", "send set up event list BYTES", "send play tone HH", "send display text TEXT", "send get inkey TEXT",
+            "send get input TEXT N to N digits", "send get input TEXT N to N characters", "send select item TEXT of ITEMS",
+            "send set up menu TEXT of ITEMS", "send local information HH", "send timer N action N TIME", "send idle text TEXT")
+
+
+def pattern_of(form):
+    return re.compile("(?:kind [0-9]+, )?" + re.sub("[A-Z]+", lambda word: WORDS[word[0]], form))
+
+
+SHOWN = {"kind N": re.compile("kind [0-9]+"), **{form: pattern_of(form) for form in COMES_TO}}
+
+
 def act_shown(act):
     for made in (act, *act.parts[:1]) if isinstance(act, Made) and act.name == "Send" else (act,):
         if not isinstance(made, Made) or made.name not in (SENT if made is not act else ACTS):
@@ -150,7 +167,7 @@ def spelling(row, shown):
         return bytes_shown(found[0][1:-1].encode())
     if row.differs or re.sub(r'"[^"]*"', in_bytes, row.wanted) != re.sub(r'"[^"]*"', in_bytes, shown):
         return None
-    return f"a text stands in quotes where it has at most {LONGEST_TEXT} letters and none is a space, and otherwise in hexadecimal digits"
+    return f"a text stands in quotes where it has at most {LONGEST_TEXT} characters and none is a space, and otherwise in hexadecimal digits"
 
 
 # rows
@@ -159,11 +176,20 @@ def rows_of(text):
     for number, line in enumerate(text.splitlines(), 1):
         if not line or line.startswith("#"):
             continue
-        given, arrow, wanted = line.partition(" => ")
+        given, _, wanted = line.partition(" => ")
         words = tuple(given.split())
-        if not arrow or not words:
-            raise NotARow(f"line {number}: {line}")
-        yield Row(number, words[words[0] == "differs":], wanted, words[0] == "differs")
+        yield Row(number, words[words[:1] == ("differs",):] or ("=>",), wanted, words[:1] == ("differs",))
+
+
+def why_never(wanted):
+    """Why no row comes to this; None where one may."""
+    if not wanted:
+        return "what it comes to is missing, as in `on event 40 - => done`"
+    if any(pattern.fullmatch(wanted) for pattern in SHOWN.values()):
+        return None
+    of_kind, comma, act = wanted.rpartition(", ") if wanted.startswith("kind ") else ("", "", wanted)
+    near = difflib.get_close_matches(act, SHOWN, 1, 0.4)
+    return f"`{wanted}` is nothing that a row comes to" + (f": is `{of_kind}{comma}{near[0]}` meant?" if near else "")
 
 
 class Trial:
@@ -235,7 +261,10 @@ def differing(known, text):
     trial, count, found = Trial(known), 0, []
     for row in rows_of(text):
         count += 1
-        shown = trial.shown(row)
+        shown, never = trial.shown(row), why_never(row.wanted)
+        if never and not shown.startswith(NOT_TRIED):
+            found.append((row, f"not a row: {never}"))
+            continue
         if shown.startswith(NOT_TRIED) or (shown == row.wanted) == row.differs:
             found.append((row, shown))
     return found, count

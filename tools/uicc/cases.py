@@ -4,6 +4,9 @@ import re
 
 ALWAYS, MET, UNMET = "always", "met", "unmet"
 SETTING_UP = ("#blank", "#plan", "#bytes", "#boxes", "#source", "#sink", "#switch", "#power")
+# what a line of a trace begins with, as a line of a case does, and as a further alternative of one
+SIGNS = ("#<", "#>", "#!", "#*")
+WHOLE = ("< ", "> ", "! ", "* ")
 EXPECTING = ("#<", "#>", "#!", "#*", "#=", "#..", "#met")
 
 
@@ -153,11 +156,13 @@ class RunDraft:
             self.run.script += content(rest).decode("latin-1")
         elif word == "#crlf":
             self.run.script += rest + "\r\n"
+        elif word.startswith(SIGNS):
+            raise Mistake(f"a space stands between `{word[:2]}` and what is shown: `{word[:2]} {word[2:]}`")
         else:
             raise Mistake("no word of a script with expectations")
 
     def _expect(self, when, text, place):
-        lines, command = [understood(line) for line in text.split(" | ")], self.command
+        lines, command = alternatives(text), self.command
         self.command = None
         if command and all(line.startswith(("< ", "! ")) for line in lines):
             self.run.expectations.append(Expectation(ALWAYS, [command], place))
@@ -333,11 +338,36 @@ def permitted(expectation, turn):
 ANY_ANSWER = "< *"
 OPEN = ".."
 OF_BYTES = ("< ", "> ")
+LEAST_ANSWER = 4
 
 
 def is_pattern(wanted):
     """Whether a line of bytes leaves some of them open."""
     return wanted.startswith(OF_BYTES) and OPEN in wanted
+
+
+def alternatives(text):
+    """The lines of which one must be shown. Mistake, where one can never be."""
+    lines = text.split(" | ")
+    for line in lines[1:]:
+        if lines[0].startswith(WHOLE) and not line.startswith(WHOLE):
+            raise Mistake(f"a further alternative is a whole line of the trace: `{lines[0]} | {lines[0][:2]}{line}`")
+    return [understood(line) for line in lines]
+
+
+def refuse_unlike(wanted):
+    """Mistake, where a line of bytes is none that a trace can have."""
+    digits = wanted[2:]
+    if "|" in digits:
+        raise Mistake("alternatives stand with a space on each side of `|`, and each is a whole line of the trace: `#< 9110 | < 9000`")
+    if "?" in digits:
+        raise Mistake("`?` is no pattern here: `..` stands for any bytes, and `#< *` for any answer")
+    if not re.fullmatch("(?:[0-9A-Fa-f]{2})*", digits):
+        raise Mistake(f"bytes are hexadecimal digits without spaces, two for each, and not `{digits}`")
+    if digits != digits.upper():
+        raise Mistake(f"a trace has its hexadecimal digits in capital letters: `{digits.upper()}`")
+    if wanted.startswith("< ") and len(digits) < LEAST_ANSWER:
+        raise Mistake(f"an answer ends with a status of two bytes, and `{digits}` is none")
 
 
 def understood(wanted):
@@ -346,11 +376,12 @@ def understood(wanted):
         return wanted
     if "*" in wanted:
         raise Mistake("`*` stands for any answer alone, as in `#< *`; some bytes of a line are left open by `..`, as in `#< ..9000`")
-    if is_pattern(wanted):
+    if is_pattern(wanted) and not set(" |?") & set(wanted[2:]):
         parts = wanted[2:].split(OPEN)
         if any(not re.fullmatch("(?:[0-9A-Fa-f]{2})*", part) for part in parts):
             raise Mistake("`..` stands for whole bytes, any number of them, between hexadecimal digits of whole bytes")
         return wanted[:2] + OPEN.join(parts).upper()
+    refuse_unlike(wanted)
     return wanted
 
 

@@ -27,6 +27,11 @@ def covered(sequence):
             yield given, "the card is reset"
 
 
+def title_of(given):
+    """What a command is, and its qualifier; without details it is neither."""
+    return (given.name, qualifier_text(given)) if given.has_details else ("(no details)", "")
+
+
 def qualifier_text(given):
     kind, qualifier = given.details[1:]
     name = names.qualifier(kind, qualifier)
@@ -39,7 +44,7 @@ def rows(outcomes):
     counts, sections = collections.defaultdict(collections.Counter), collections.defaultdict(set)
     for outcome in outcomes:
         sequence = outcome.sequence
-        keys = {(given.details[1], given.name, qualifier_text(given), result): given for given, result in covered(sequence)}
+        keys = {(given.details[1], *title_of(given), result): given for given, result in covered(sequence)}
         for key, given in keys.items():
             counts[key][outcome.verdict] += 1
             if sequence.section and given is sequence.commands()[-1]:

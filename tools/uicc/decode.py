@@ -12,6 +12,8 @@ SELECT, STATUS, READ_BINARY, UPDATE_BINARY = 0xA4, 0xF2, 0xB0, 0xD6
 READ_RECORD, UPDATE_RECORD, SEARCH_RECORD, INCREASE = 0xB2, 0xDC, 0xA2, 0x32
 PROFILE, FETCH, RESPONSE, ENVELOPE, INSTALL, DELETE, CHANNEL = 0x10, 0x12, 0x14, 0xC2, 0xE6, 0xE4, 0x70
 GET_RESPONSE = 0xC0
+# before the names in a terminal's profile
+KNOWS = "the terminal knows"
 # DELETE FILE has its instruction byte from DELETE, and another class
 CREATE_FILE, DELETE_FILE, RESIZE_FILE = 0xE0, 0xE4, 0xD4
 OWN_CLASS = 0xF0
@@ -183,7 +185,7 @@ def details(apdu, path=None, usim=True):
     if apdu.ins == ENVELOPE:
         return template(apdu.data, "bad data")
     if apdu.ins == PROFILE:
-        return [Line(0, "the terminal knows", ", ".join(profile(apdu.data)) or "nothing")]
+        return [Line(0, KNOWS, ", ".join(profile(apdu.data)) or "nothing")]
     if apdu.ins == INSTALL:
         return installation(apdu.data)
     if apdu.ins == CREATE_FILE:

@@ -17,6 +17,8 @@ TYPES = (
     {"Event": 2, "Response": 3, "Went": 0, "Refused": 0, "Timer": 1}, {"Some": 1, "None": 0}, {"[]": 0, "∷": 2}, {"true": 0, "false": 0}, {",": 2},
 )
 # the functions that make a turn, with the place of the phase after it
+# the parts of each stimulus
+STIMULUS_PARTS = {"Event": ("code", "body"), "Response": ("result", "item", "text"), "Timer": ("timer",), "Went": (), "Refused": ()}
 TURNS = {"turn": 2, "keeping": 2}
 
 
@@ -35,7 +37,7 @@ def of_definitions(collected):
     for name, clauses in collected.definitions.items():
         file = collected.file(collected.places[name])
         for (line, text), (patterns, body) in zip(file.texts(name), clauses):
-            wrong = unknown(file, patterns, body) + wrong_counts(body) + wrong_constants(collected.constants, body)
+            wrong = unknown(file, patterns, body) + wrong_patterns(patterns) + wrong_counts(body) + wrong_constants(collected.constants, body)
             found += [(file.path, line + file.offset_of(text, word), f"{name}{why}") for word, why in wrong]
         case = uncovered([patterns for patterns, _ in clauses])
         if case:
@@ -47,6 +49,18 @@ def unknown(file, patterns, body):
     """The words of a clause that its file doesn't know, each with what is said of it."""
     return [(word, f" uses `{antt.shown_word(word)}`, which the file neither defines nor imports")
             for word in sorted(antt.used_in(patterns, body) - {*file.heads, *file.uses})]
+
+
+def wrong_patterns(patterns):
+    """The stimuli of a clause's patterns that stand with another number of parts than they have."""
+    found = []
+    for pattern in patterns:
+        if pattern[0] == "made":
+            parts = STIMULUS_PARTS.get(pattern[1])
+            if parts is not None and len(pattern[2]) != len(parts):
+                found.append((pattern[1], f": {pattern[1]} stands with {parts_in_words(len(pattern[2]))}, and has {len(parts)}"
+                              + (f", {' and '.join(parts)}" if parts else "")))
+    return found
 
 
 def wrong_counts(body, given=0):

@@ -92,7 +92,7 @@ class Collected:
         self.places[name] = path
         try:
             self.definitions[name] = found = self.file(path).clauses(name)
-        except (antt.Unreadable, KeyError, OSError) as fault:
+        except (antt.Unreadable, antt.NoHead, OSError) as fault:
             self.unreadable[name] = str(fault)
             self.lines[name] = getattr(fault, "line", None)
             return

@@ -81,6 +81,11 @@ class _SocketLine(_Line):
     def _who(self, _address):
         return "another program"
 
+    @property
+    def has_client(self):
+        """Whether a client is there."""
+        return self._client is not None
+
     def close(self):
         if self._client:
             self._client.close()

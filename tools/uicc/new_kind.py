@@ -185,7 +185,7 @@ class Kind:
 
     def refuse(self, name, does):
         if not re.fullmatch(r"[a-z]+(_[a-z]+)*", name):
-            raise Refused(f"a kind is called by small letters, as `reminder` or `night_owl`, and not {name}")
+            raise Refused(f"a kind is called by lower-case letters, as `reminder` or `night_owl`, and not {name}")
         if not re.fullmatch(r"[a-z][ -~]{0,60}", does) or re.search(r"[.*/{}\"\\]", does):
             raise Refused(f"what it does are a few words that go on after `the applet that`, as `reminds of a call`, and not {does}")
         if self.shelf <= 0:
@@ -328,6 +328,10 @@ def write(kind):
     return ["/".join(("crates", *place)) for place in new], put(changed)
 
 
+def with_article(name):
+    return f"{'an' if name[0] in 'aeiou' else 'a'} {name}"
+
+
 def put(changed):
     """Writes files that were changed, and answers their places."""
     for text in changed:
@@ -338,13 +342,19 @@ def put(changed):
 
 # the texts of applets
 
+def why_no_text(text):
+    """Which of its characters a text may not have, or how many it has."""
+    wrong = next((letter for letter in text if not re.fullmatch(r"[ !#-\[\]-~]", letter)), None)
+    return f"not {len(text)} as this one" if wrong is None else f"`{wrong}` is none"
+
+
 def put_text(crates, name, text):
     """Puts a text under a name wherever the sources have it: a new one, or another one under a name that is there. Answers the places
     that were changed, and the text that was there."""
     if not re.fullmatch(r"[A-Z]+(_[A-Z]+)*", name):
-        raise Refused(f"a text is called by large letters, as `ASK_FOR_NOTE`, and not {name}")
+        raise Refused(f"a text is called by capital letters, as `ASK_FOR_NOTE`, and not {name}")
     if not re.fullmatch(rf'[ !#-\[\]-~]{{1,{rooms.MOST}}}', text):
-        raise Refused(f'a text has 1 to {rooms.MOST} letters from 20 to 7E, without `"` and `\\`, and not {len(text)} as this one')
+        raise Refused(f'a text has 1 to {rooms.MOST} characters from 20 to 7E, without `"` and `\\`, and {why_no_text(text)}')
     room = rooms.room_for(kinds.collected_turns(crates), name)
     if room and len(text) > room[0]:
         raise Refused(rooms.why_too_long(name, len(text), room))

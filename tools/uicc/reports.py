@@ -35,6 +35,15 @@ def tap(results):
             yield from ("#" + line for line in one.lines)
 
 
+def refuse_unwritable(path):
+    """OSError, where no file can be written at a path; what is there stays as it is."""
+    is_there = os.path.exists(path)
+    with open(path, "a", encoding="utf-8"):
+        pass
+    if not is_there:
+        os.remove(path)
+
+
 def portable(path):
     """A path that is the same on each machine: from the folder on in which this runs, or from that of the tools, where it lies below."""
     path = os.path.abspath(path)

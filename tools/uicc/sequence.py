@@ -30,6 +30,7 @@ YES_OR_NO, UCS2_ENTRY = 0x04, 0x03
 EVENTS = 0x19
 # where an object says that its letters are UCS2: for its tag the place, and the bytes that may stand there
 UCS2_IN = {0x0D: (0, b"\x08"), 0x17: (0, b"\x08"), 0x05: (0, b"\x80\x81\x82"), 0x0F: (1, b"\x80\x81\x82")}
+SECTION = re.compile(r"[0-9]+(\.[0-9]+)*")
 BIT = re.compile(r"byte ([0-9]{1,3}) bit ([1-8])")
 # what a terminal's profile says of a command whose bit has another name
 OF_TIMERS = {0x00: "TIMER MANAGEMENT start and stop", 0x01: "TIMER MANAGEMENT start and stop", 0x02: "TIMER MANAGEMENT get"}
@@ -68,6 +69,10 @@ class Give(Step):
     @property
     def details(self):
         return details_of(self.raw)
+
+    @property
+    def has_details(self):
+        return any(tag == DETAILS and len(value) == 3 for tag, _, value in objects_of(self.raw) or ())
 
     @property
     def name(self):
@@ -163,7 +168,7 @@ class BadLine:
     is_of_words: bool = False
 
     def __str__(self):
-        return f"{self.path}:{self.line}: {self.why}\n    {self.text}"
+        return f"{self.path}:{self.line}: {self.why}" + (f"\n    {self.text}" if self.text else "")
 
 
 class BadSequence(Exception):
@@ -224,6 +229,8 @@ class Reader:
 
     def __init__(self, path):
         self.path, self.sequences, self.seconds = path, [], None
+        # the last line `within`, as long as no line is there that it is for
+        self.waiting = None
 
     def sequence(self):
         if not self.sequences:
@@ -241,8 +248,13 @@ class Reader:
 
     def waits(self):
         """The seconds of a line `within`, which are those of the next line alone."""
-        seconds, self.seconds = self.seconds, None
+        seconds, self.seconds, self.waiting = self.seconds, None, None
         return seconds
+
+    def ended(self):
+        """A bad line `within`, where the sequence ends and no line came that it is for."""
+        waiting, self.seconds, self.waiting = self.waiting, None, None
+        return [BadLine(self.path, *waiting, "nothing stands below it that may take so long")] if waiting else []
 
     # lines
 
@@ -256,6 +268,8 @@ class Reader:
     def section(self, _, __, rest):
         if not rest:
             raise Wrong("the section of 3GPP TS 31.124 is missing: section NUMBER")
+        if not SECTION.fullmatch(rest):
+            raise Wrong(f"a section of 3GPP TS 31.124 is numbers with points between them, as `27.22.4.1`, and not `{rest}`")
         self.sequence().section = rest
 
     def needs(self, _, __, rest):
@@ -268,8 +282,7 @@ class Reader:
     def command(self, number, text, rest):
         words = Words(rest)
         raw = words.hexadecimal("the bytes of a command") if words.take_if("bytes") else self.spelled(words)
-        if words:
-            raise Wrong(f"`{words.take('')}` is too much")
+        words.end()
         if not 1 <= len(raw) <= LONGEST_COMMAND:
             raise Wrong(f"a command has 1 to {LONGEST_COMMAND} bytes, and this one {len(raw)}")
         step = Give(number, text, raw, text.startswith(THEN))
@@ -350,15 +363,18 @@ class Reader:
             raise Wrong("after `no` stands `envelope`")
         self.add(Quiet(number, text))
 
-    def within(self, _, __, rest):
+    def within(self, number, text, rest):
         words = Words(rest)
         self.sequence()
-        self.seconds = words.number("the seconds", 0, LONGEST_WAIT)
+        self.seconds, self.waiting = words.number("N, in seconds,", 0, LONGEST_WAIT), (number, text)
+        words.end()
 
-    def restart(self, number, text, _):
+    def restart(self, number, text, rest):
+        Words(rest).end()
         self.add(Restart(number, text, self.waits()))
 
-    def status(self, number, text, _):
+    def status(self, number, text, rest):
+        Words(rest).end()
         self.add(Poll(number, text, self.waits()))
 
 
@@ -425,6 +441,8 @@ def read(text, path):
         line = line.strip()
         if not line or line.startswith("#"):
             continue
+        if line.split()[0] == "sequence":
+            bad += reader.ended()
         try:
             reader.take(number, line)
         except Wrong as fault:
@@ -432,6 +450,7 @@ def read(text, path):
             if isinstance(fault, Orphan) and bad:
                 continue
             bad.append(BadLine(path, number, line, str(fault), isinstance(fault, UnknownWord)))
+    bad += reader.ended()
     if not bad:
         bad += [BadLine(path, one.line, f"sequence {one.name}", "the sequence has no step") for one in reader.sequences if not one.steps]
     if not bad and not reader.sequences:

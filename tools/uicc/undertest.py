@@ -126,6 +126,9 @@ class UnderTest:
         after that. Unable, where it can't."""
         raise NotImplementedError("the class has no method `happen`")
 
+    def missing(self):
+        """Why nobody is at this terminal, where its user has to bring it first; None where one is."""
+
     def must_show(self, note):
         """Is told what it must show now; for terminals whose user is a person who looks."""
 

@@ -238,6 +238,9 @@ class AtClient(UnderTest):
                 self.modem.tell_profile()
             self.modem.attend()
 
+    def missing(self):
+        return None if self.line.has_client else f"no client connected to port {self.line.address[1]}"
+
     def _serve(self):
         try:
             self.line.serve(self.modem)

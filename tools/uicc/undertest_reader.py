@@ -56,9 +56,10 @@ class OfReader(UnderTest):
         self.tool, self.port, self.tell = reader_tool(), port, tell
         self.given = argparse.Namespace(protocol=self.tool.AS_THEY_COME, atr=atr.OF_BOTH, cut=None, host="localhost", port=port)
         self.tool.log = lambda text: None
-        self.link, self.server, self.fault = None, None, None
+        self.link, self.server, self.fault, self.player = None, None, None, None
 
     def begin(self, player):
+        self.player = player
         self._take_out()
         inserted = self.tool.Inserted(self.given, AsSimulator(player), None)
         try:
@@ -88,6 +89,9 @@ class OfReader(UnderTest):
         self.link = None
         # pcscd has to see that there is no card
         time.sleep(self.tool.SECONDS_AWAY)
+
+    def missing(self):
+        return None if self.player.exchanges else "no program sent the card a command"
 
     def poll(self):
         """It polls by itself, as terminals do."""

@@ -3,7 +3,7 @@ import dataclasses
 import itertools
 import time
 
-from . import decode, grammar, handset, names, tlv
+from . import decode, grammar, handset, names, tlv, tree
 from .handset import DETAILS, details_of
 from .player import ASKED, FETCHED, FOR_CARD, MISFETCHED, PROFILED, RESET, RESPONDED, STRAY, TOLD, UNANNOUNCED, Player
 from .process import Ended, NotBuilt
@@ -18,6 +18,7 @@ QUIET_SECONDS = 1
 # how often a terminal is asked what it shows
 LOOK_SECONDS = 0.2
 NO_RESPONSE = 0x12
+ITEM, LENGTH = 0x0F, 0x11
 # what counts for no step where it comes before the sequence's first command, or between the card's own
 BESIDE = (RESET, PROFILED, ASKED, MISFETCHED, UNANNOUNCED)
 # how long a method of a terminal may take that says nothing else, and at least
@@ -100,6 +101,20 @@ def check(what, wanted, content, has_more):
         raise Differs(f"{what} isn't as it must be", rows)
 
 
+def vain(said, raw):
+    """Why a user can't do something at a command, by what the command says; None where he can."""
+    kind, found = details_of(raw)[1], handset.objects_of(raw) or ()
+    if said.act == "pick" and kind == handset.ITEMS:
+        items = [value[0] for tag, _, value in found if tag == ITEM and value]
+        return None if said.value in items else f"the command has no item {said.value}"
+    length = next((value for tag, _, value in found if tag == LENGTH and len(value) == 2), None)
+    if said.act == "type" and kind == handset.INPUT and length:
+        count = len(said.value)
+        return None if length[0] <= count <= length[1] else (
+            f"`{said.value}` has {tree.plural(count, 'character')}, and the command asks for {length[0]} to {length[1]}")
+    return None
+
+
 def seconds_text(number):
     return f"{number:g} second{'' if number == 1 else 's'}"
 
@@ -127,6 +142,8 @@ class Run:
         self.details = None
         # the user of this terminal is asked for something that has not come yet
         self.is_user_asked = False
+        # the step in which its user was to do what can't be done at this command, and why it can't
+        self.vain = None
         self.unseen = []
         # why nothing can be played after this
         self.lost = ""
@@ -177,6 +194,9 @@ class Run:
         told = self._wait(PROFILED)
         if told is None:
             self.step = Step(self.sequence.line, f"sequence {self.sequence.name}")
+            nobody = self.call("missing")
+            if nobody:
+                raise Undecided(f"{nobody} within {seconds_text(self.seconds)}")
             raise Differs("no TERMINAL PROFILE comes")
         lacking = [name for name in self.sequence.needs if not has(told.data, name)]
         if lacking:
@@ -228,6 +248,7 @@ class Run:
     def _give(self, step, after):
         following = next((other for other in after if isinstance(other, Give)), None)
         self.given, self.following = step, following if following and following.follows else None
+        self.vain = None
         if not step.follows:
             self._let_card_begin()
             # those that are announced by the answers to the responses before them have to be there by then
@@ -258,6 +279,9 @@ class Run:
         if heard is None:
             if self._find(STRAY) is not None:
                 raise Differs(self._stray())
+            if self.vain:
+                self.step, why = self.vain
+                raise Undecided(why)
             if asked and self.terminal.has_person:
                 raise Undecided(f"the terminal's user did nothing{self._told_seconds(step)}")
             raise Differs(f"no TERMINAL RESPONSE comes{self._told_seconds(step)}")
@@ -351,6 +375,9 @@ class Run:
         # what was sent before is not what this leads to
         self.taken |= {n for n, heard in enumerate(self.player.heard) if heard.kind == ASKED}
         self.is_user_asked = True
+        if step.said.word == "user":
+            why = self.given and vain(step.said, self.given.raw)
+            self.vain = (step, why) if why else None
         # at a terminal whose methods come back at once time doesn't pass
         more = step.said.value if step.said.word == "time" and self.terminal.seconds else 0
         try:
@@ -427,7 +454,7 @@ def verdict_of(run, act):
         return INCONCLUSIVE, run.lost, []
     except BaseException as fault:
         # the terminal's own, whose code is anybody's
-        return FAILED, f"the terminal broke down: {told(fault, run.method)}", []
+        return FAILED, f"the terminal's class raised {told(fault, run.method)}", []
     return PASSED, "", []
 
 
@@ -437,7 +464,7 @@ def judged(sequence, terminal, card, seconds=None):
     outcome = Outcome(sequence, player=Player(card))
     wrong = wrong_value(terminal)
     if wrong:
-        outcome.verdict, outcome.why = FAILED, f"the terminal broke down: {wrong}"
+        outcome.verdict, outcome.why = FAILED, f"the terminal's class is wrong: {wrong}"
         return outcome
     run = Run(sequence, terminal, outcome.player, seconds)
     began = time.monotonic()

@@ -117,11 +117,16 @@ class Words:
         return bytes.fromhex(word)
 
     def pattern(self, what):
-        word = self.take(what).upper()
-        if not all(re.fullmatch(r"([0-9A-F?]{2})*\*?", part) for part in word.split("|")):
+        word = self.take(what)
+        if not all(re.fullmatch(r"([0-9A-Fa-f?]{2})*\*?", part) for part in word.split("|")):
             raise Wrong(f"hexadecimal digits are wanted for {what}, two for each byte, where `?` is any digit, `*` at the end any bytes, and "
                         f"`|` stands between alternatives, not {word}")
-        return word
+        return word.upper()
+
+    def end(self):
+        """Wrong, where words are left."""
+        if self.left:
+            raise Wrong(f"`{self.left[0]}` is too much")
 
 
 @dataclasses.dataclass(frozen=True)
