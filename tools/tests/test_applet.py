@@ -288,6 +288,25 @@ class Words(Copy):
             self.change(new, old, *place)
         self.assertEqual(self.told("rows")[:2], (0, ["328 rows, 0 differ"]))
 
+    def test_a_stimulus_that_lacks_a_part(self):
+        self.told("new", "parrot")
+        old, place = "parrot mind _ = done mind", ("applet_trait", "specs", "Tables.antt")
+        at = self.text_of(*place).split(old)[0].count("\n") + 1
+        self.change(old, f"parrot mind (Event code) = done mind\n{old}", *place)
+        self.assertIn(f"crates/applet_trait/specs/Tables.antt:{at}: parrot: Event stands with one part, and has 2, code and body", self.told("rows")[1])
+
+    def test_a_head_of_another_name(self):
+        """The line is that of the one that is meant."""
+        self.told("new", "parrot")
+        place = ("applet_trait", "specs", "Tables.antt")
+        at = self.text_of(*place).split("abbrev pub parrot :")[0].count("\n") + 1
+        self.change("abbrev pub parrot :", "abbrev pub parot :", *place)
+        said = f"Tables.antt:{at}: the definition of parrot isn't read: no `abbrev` of parrot stands in Tables.antt: is it called `parot` there?"
+        self.assertIn(said, "\n".join(self.told("rows")[1]))
+
+    def test_articles(self):
+        self.assertEqual([new_kind.with_article(name) for name in ("alarm", "reminder")], ["an alarm", "a reminder"])
+
     # the same, where each row comes to what it says by the definitions
     UNSEEN = [
         ("parrot mind (Event code []) = done mind\nparrot mind (Response 3 item text) = turn mind (Send (GetInkey GREETING)) 1\nparrot mind Went = done mind\n"
