@@ -143,6 +143,9 @@ class Cards(unittest.TestCase):
             for given, why in (({"text": "12"}, "GET INKEY asks for one character, and not for `12`"), ({"item": 4}, "GET INKEY offers no items")):
                 with self.assertRaisesRegex(ValueError, why):
                     card.respond(**given)
+            for result in (300, -1, "ok"):
+                with self.assertRaisesRegex(ValueError, f"a result is a number of one byte, 0x00 to 0xFF, and not {result!r}"):
+                    card.respond(result)
             self.assertEqual(len(card.trace), sent)
             card.respond(text="5")
             played = card.fetch()

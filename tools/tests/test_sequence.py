@@ -1126,6 +1126,15 @@ class Tool(unittest.TestCase):
         self.assertEqual((done.returncode, done.stdout, done.stderr),
                          (0, "1 sequence on the handset in Python: 1 passed, 0 failed, 0 inconclusive, 0 not supported\n", ""))
 
+    def test_the_cause_of_a_result(self):
+        """It is at the end of what is shown, and isn't cut off."""
+        with tempfile.TemporaryDirectory() as folder:
+            done = tool(self.put(folder, "sequence one", "command SET UP CALL address 123", "response result 00"),
+                        *self.own(folder, "def begin(self, player):", "    from uicc.handset import Reply, Terminal",
+                                  "    self.make = lambda card: Terminal(card, answers={'SET UP CALL': Reply(bytes.fromhex('219D'))}, profile=b'\\xFF' * 20)",
+                                  "    super().begin(player)"))
+        self.assertIn("result: 21 network currently unable to process command, 9D", done.stdout)
+
     def test_a_table_in_the_protocol(self):
         """Its lines are comments there."""
         with tempfile.TemporaryDirectory() as folder:

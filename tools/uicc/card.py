@@ -541,6 +541,8 @@ class Card:
         command asks for no such text or item; `objects` are sent whatever they are."""
         if self._fetched is None:
             raise CardError("no command was fetched that could be responded to")
+        if not isinstance(result, int) or not 0 <= result <= 0xFF:
+            raise ValueError(f"a result is a number of one byte, 0x00 to 0xFF, and not {result!r}")
         one = self._fetched
         _expect_asked(one, text, item)
         content = tlv.written(0x01, bytes((one.number, one.command, one.qualifier))) + b"\x82\x02\x82\x81" + tlv.written(0x03, bytes((result,)))
