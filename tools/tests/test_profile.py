@@ -451,6 +451,35 @@ class Command(unittest.TestCase):
             done = self.profile("build", given)
             self.assertEqual((done.returncode, "9 bytes, and its size is 3" in done.stderr), (2, True))
 
+    def test_nothing_is_written_over_that_would_be_lost(self):
+        """Neither what a file is made of, nor lines after `start`, nor a file of another kind; --force does, and a script that is built anew goes."""
+        with tempfile.TemporaryDirectory() as folder:
+            given, script, other, dump = (os.path.join(folder, name) for name in ("card.toml", "card.script", "other.toml", "card.export"))
+            for path, text in ((given, 'like = "usim"\n'), (other, "# mine\n"), (dump, "select MF/EF.ICCID\nupdate_binary 981032547698103214F6\n")):
+                with open(path, "w", encoding="ascii") as out:
+                    out.write(text)
+            self.assertEqual([self.profile("build", given, "-o", script).returncode for _ in range(2)], [0, 0])
+            with open(given, "a", encoding="ascii") as out:
+                out.write('[EF_SPN]\nspn = "Z"\n')
+            self.assertEqual(self.profile("build", given, "-o", script).returncode, 0)
+            with open(script, "a", encoding="ascii") as out:
+                out.write("apdu 00A4000C023F00\n")
+            for words, reason in ((("build", given, "-o", given), "is what this is made of"), (("export", given, "-o", given), "is what this is made of"),
+                                  (("import", dump, "-o", dump), "is what this is made of"), (("build", given, "-o", script), "has lines after `start` (1)"),
+                                  (("build", given, "-o", other), "would be written over"), (("export", script, "-o", given), "would be written over")):
+                with self.subTest(words=words[0], reason=reason):
+                    with open(words[-1], "rb") as before:
+                        content = before.read()
+                    done = self.profile(*words)
+                    self.assertEqual(done.returncode, 2)
+                    self.assertIn(reason, done.stderr)
+                    self.assertIn("--force", done.stderr)
+                    with open(words[-1], "rb") as after:
+                        self.assertEqual(after.read(), content)
+            self.assertEqual(self.profile("build", given, "-o", script, "--force").returncode, 0)
+            with open(script, encoding="utf-8") as built:
+                self.assertTrue(built.read().endswith("start\n"))
+
     def test_a_tree_is_whole(self):
         """What is decoded goes on in a next line, and of other bytes a line is shown, or all."""
         text = 'like = "usim"\n["7F10/6F99"]\nhex = "' + "AB" * 120 + '"\n'
