@@ -6,7 +6,7 @@ import tomllib
 import unittest
 
 from common import in_process
-from uicc import Card, CardError, NoSuchFile, NotBuilt, PowerLost, Status, StatusError, cutting, image, importing, lint, process, profile, terminal
+from uicc import Card, CardError, Ended, NoSuchFile, NotBuilt, PowerLost, Status, StatusError, cutting, image, importing, lint, process, profile, terminal
 
 EXAMPLES = os.path.join(process.TOP, "examples")
 USIM, MENU = (os.path.join(EXAMPLES, name + ".script") for name in ("usim", "menu"))
@@ -182,6 +182,66 @@ class Cards(unittest.TestCase):
             with self.assertRaises(StatusError) as failed:
                 card.update_binary(b"\x00")
             self.assertEqual(failed.exception.status, "6581")
+
+    def test_a_fault_is_for_what_is_called_next(self):
+        """It isn't spent on a SELECT, whether `write` sends that or the test does."""
+        for act in (lambda card: card.write("EF.SPN", spn="Z"), lambda card: (card.select("EF.SPN"), card.update_binary(b"\x00"))):
+            with Card(USIM) as card:
+                card.verify("adm", "88888888")
+                before = card.say("EF.SPN")
+                card.cut(1)
+                with self.assertRaises(PowerLost):
+                    act(card)
+                card.reset()
+                self.assertEqual(card.say("EF.SPN"), before)
+                card.verify("adm", "88888888")
+                card.fail(1)
+                with self.assertRaisesRegex(StatusError, "UPDATE BINARY .* 6581"):
+                    act(card)
+                card.fail_reading(1)
+                with self.assertRaisesRegex(StatusError, "READ BINARY .* 6581"):
+                    card.say("EF.SPN")
+                card.verify("adm", "88888888")
+                card.cut(1)
+                card.transmit("00A4000C023F00")
+                card.write("EF.SPN", spn="Z")
+                self.assertEqual(card.say("EF.SPN"), {"spn": "Z"})
+
+    def test_more_than_a_command_carries(self):
+        """A transparent file is written in pieces, as it is read; anything else is refused in words."""
+        with Card(USIM) as card:
+            card.verify("adm", "88888888")
+            card.create_ef("6F51", "t", 600)
+            content = bytes(number % 251 for number in range(599))
+            card.update_binary(content, 1)
+            self.assertEqual(card.read_binary(), b"\xFF" + content)
+            with self.assertRaisesRegex(ValueError, "a command carries at most 255 bytes, and not 300"):
+                card.update_record(1, bytes(300))
+            with self.assertRaisesRegex(StatusError, "from byte 510"):
+                card.update_binary(bytes(601))
+
+    def test_a_fault_that_no_command_has(self):
+        """It is refused before anything is sent, and the card goes on."""
+        with Card(USIM) as card:
+            for plan in (lambda: card.cut(0), lambda: card.cut(-1), lambda: card.cut("1"), lambda: card.cut(1, 65), lambda: card.cut(1, 0, 256),
+                         lambda: card.fail(0), lambda: card.fail(1, -1), lambda: card.fail_reading(0)):
+                with self.assertRaisesRegex(ValueError, " is a number from [01] to "):
+                    plan()
+            self.assertEqual(card.transmit("00A4000C023F00").status, "9000")
+
+    def test_a_card_that_ended(self):
+        """It says so at each later call."""
+        with Card(USIM) as card:
+            pass
+        for call in (card.select, card.reset, lambda: card.cut(1), lambda: card.transmit("00A4000C023F00")):
+            with self.assertRaisesRegex(ValueError, "the card is closed"):
+                call()
+        with Card(USIM) as card:
+            with self.assertRaisesRegex(Ended, "status 2"):
+                card._simulator.exchange(b"", "no-word")
+            for call in (card.select, card.reset):
+                with self.assertRaisesRegex(Ended, "status 2"):
+                    call()
 
     def test_an_image_is_kept(self):
         with tempfile.TemporaryDirectory() as folder:

@@ -47,6 +47,18 @@ class Export(unittest.TestCase):
         self.assertIn('[default]\nread = "', text)
         self.assertIn('update = "adm"', text.partition("[pins]")[0])
 
+    def test_nothing_unblocks_the_administrators_pin(self):
+        """An export says no UNBLOCK PIN of ADM1, but for one that a profile without it wouldn't have; tree and diff say none."""
+        card = made('like = "usim"\n[pins]\nadm = { value = "88888888" }\n')
+        self.assertIn('adm = { value = "88888888" }\n', self.again(card))
+        other = made('like = "usim"\n[pins]\nadm = { value = "91111111", unblock = "11111111" }\n')
+        self.assertIn('adm = { value = "91111111", unblock = "11111111" }\n', self.again(other))
+        self.assertIn("ADM1: 88888888, enabled, 3 tries left, can't be unblocked", list(tree.lines(card)))
+        lines = shown(card, other)
+        self.assertEqual(lines[lines.index("ADM1"):][:3], ["ADM1", "- 88888888, on", "+ 91111111, on"])
+        with self.assertRaisesRegex(profile.BadProfile, r'adm = \{ value = "88888888" \}$'):
+            made('like = "usim"\n[pins]\nadm = "88888888"\n')
+
     def test_a_profile_with_all_kinds_of_content(self):
         text = self.again(made(fuzz_profile.GOOD))
         for part in ('imsi = "262019876543210"', 'spn = "Nordlicht"', "acc = [0, 9]", '"262-01 by UTRAN+GSM"', "minutes = 60", 'rule = "2F06:1"', "folder = true",
