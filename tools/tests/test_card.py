@@ -220,6 +220,18 @@ class Cards(unittest.TestCase):
             with self.assertRaisesRegex(StatusError, "from byte 510"):
                 card.update_binary(bytes(601))
 
+    def test_services_are_changed(self):
+        """As in a profile: the others stay."""
+        with Card(USIM) as card:
+            card.verify("adm", "88888888")
+            before = set(card.say("EF.UST")["services"])
+            card.write("EF.UST", services_on=[28, "FDN"])
+            self.assertEqual(set(card.say("EF.UST")["services"]), before | {2, 28})
+            card.write("EF.UST", services_off=[28])
+            self.assertEqual(set(card.say("EF.UST")["services"]), before | {2})
+            with self.assertRaisesRegex(ValueError, "services_on is of files with services"):
+                card.write("EF.SPN", services_on=[1])
+
     def test_a_fault_that_no_command_has(self):
         """It is refused before anything is sent, and the card goes on."""
         with Card(USIM) as card:

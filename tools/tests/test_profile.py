@@ -156,6 +156,7 @@ class Doubts(unittest.TestCase):
          ["line 4: [EF_ACC] has class 5, and the IMSI ends with 0: by its last digit cards are commonly given their class"]),
         ('[EF_ACC]\nacc = [9, 11]\n', []),
         ("[EF_UST]\nservices_off = [1]\n", ["line 2: [EF_UST]: 7F10/6F3A EF.ADN is there, and its service 1 (local phone book) is off in EF.UST"]),
+        ("[EF_UST]\nservices_on = [200, 150]\n", ["line 2: [EF_UST]: service 150, 200 is on in EF.UST, and the standard's list ends with 146"]),
         ("[EF_FDN]\nentries = []\n", ["line 2: [EF_FDN] is there, and its service 2 (fixed dialling numbers) is off in EF.UST"]),
     ]
 
@@ -266,6 +267,7 @@ class Mistakes(unittest.TestCase):
         ('["7F10/6F99"]\nsize = 5\ncyclic = true', ['line 2: ["7F10/6F99"]: `cyclic` is of files with records, and `size` of those without']),
         ('[EF_SPN]\niccid = "1"', ["line 3: [EF_SPN] iccid is nothing that EF.SPN holds: `spn = \"Nordlicht\"` is"]),
         ('[EF_UST]\nservices_on = ["FDX"]', ["line 3: [EF_UST] services_on: `FDX` is no service by number or name: tools/profile services ust"]),
+        ("[EF_UST]\nservices_on = [27, 2]\nservices_off = [27]", ["line 4: [EF_UST] services_off: 27 is in services_on too"]),
         ("[EF_UST]\nservices_on = 2", ["line 3: [EF_UST] services_on is a number, and has to be a list of numbers or names of services"]),
         ("[EF_SPN]\nservices_off = [2]", ["line 3: [EF_SPN] services_off is of files with services: EF_UST"]),
         ("[EF_ECC]\nemergency = [112]", ["line 3: [EF_ECC] emergency: entry 1 is a number, and has to be text in quotes"]),

@@ -110,31 +110,31 @@ def column_of(word):
 
 
 def check_columns(columns, name):
-    for column in columns:
-        if column.startswith(":") or column.endswith(":"):
-            raise BadList(f"{name}, line 1: the column `{column}`: a column of a file is FILE:KEY, as EF_SMSP:centre")
-        if ":" in column:
-            with told_of(f"{name}, line 1: the column `{column}`"):
-                field_of(*column.split(":", 1))
-        elif column in ABSENT:
-            raise BadList(f"{name}, line 1: {ABSENT[column]}: the column `{column}` has no place")
-        elif column not in COLUMNS:
-            meant = SLIPS.get(column) or forms.near(column, list(COLUMNS))
-            raise BadList(f"{name}, line 1: no column is called `{column}`, "
-                          + (f"but `{meant}` is" if meant else f"but {', '.join(COLUMNS)} are, and FILE:KEY, as EF_SMSP:centre"))
-        if columns.count(column) > 1:
-            raise BadList(f"{name}, line 1: the column `{column}` stands there twice")
+    """BadList, with all that is wrong with the first line of a list."""
+    faults = [fault for column in dict.fromkeys(columns) if (fault := about_column(column))]
+    faults += [f"the column `{column}` stands there twice" for column in dict.fromkeys(columns) if columns.count(column) > 1]
     if "iccid" not in columns:
-        raise BadList(f"{name}, line 1: the column `iccid` is missing, by which the cards are called")
+        faults.append("the column `iccid` is missing, by which the cards are called")
+    if faults:
+        raise BadList("\n".join(f"{name}, line 1: {fault}" for fault in faults))
 
 
-@contextlib.contextmanager
-def told_of(where):
-    """What is wrong in here is told of a place in a list."""
-    try:
-        yield
-    except (BadContent, profile.BadProfile) as fault:
-        raise BadList(f"{where}: {fault}") from None
+def about_column(column):
+    """What is wrong with a column; None where nothing is."""
+    if column.startswith(":") or column.endswith(":"):
+        return f"the column `{column}`: a column of a file is FILE:KEY, as EF_SMSP:centre"
+    if ":" in column:
+        try:
+            field_of(*column.split(":", 1))
+        except (BadContent, profile.BadProfile) as fault:
+            return f"the column `{column}`: {fault}"
+        return None
+    if column in ABSENT:
+        return f"{ABSENT[column]}: the column `{column}` has no place"
+    if column in COLUMNS:
+        return None
+    meant = SLIPS.get(column) or forms.near(column, list(COLUMNS))
+    return f"no column is called `{column}`, " + (f"but `{meant}` is" if meant else f"but {', '.join(COLUMNS)} are, and FILE:KEY, as EF_SMSP:centre")
 
 
 # a column of a file: the kind of what the file holds, and the form of what a cell says: of a whole content (`field` is None), or of a field of

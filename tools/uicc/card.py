@@ -12,7 +12,7 @@ import contextlib
 import dataclasses
 import os
 
-from . import coding, decode, described, fields, grammar, image, kept, kinds, layout, lint, names, process, profile, refusals, tlv
+from . import coding, contents, decode, described, fields, grammar, image, kept, kinds, layout, lint, names, process, profile, refusals, tlv
 from .follow import Follower
 from .status import Status
 from .toolkit import MEMORY_PROBLEM, Toolkit, ToolkitNow
@@ -453,6 +453,8 @@ class Card:
             record_number(record)
         (key, value), = said.items()
         file = self._selected(name)
+        if key in profile.CHANGES_OF_SERVICES:
+            key, value = "services", self._services(file, key, value)
         content = fields.written(key, value, self._entry(file), file.length, record)
         if (file.structure == "t") != isinstance(content, bytes):
             raise ValueError(f"{key} is of files {'with' if file.structure == 't' else 'without'} records, and {names.shown(file.path)} is none")
@@ -464,6 +466,14 @@ class Card:
         else:
             for number, one in enumerate(content, record or 1):
                 self.update_record(number, one)
+
+    def _services(self, file, key, value):
+        """The services of a file, once some of them are changed."""
+        kind = (self._entry(file) or {}).get("content")
+        changed = profile.numbers_of(key, value, kind)
+        with self._sparing(*OF_WRITES, OF_READS):
+            on = contents.services_on(kind, self.read_binary()) or set()
+        return sorted(on | changed if key == profile.CHANGES_OF_SERVICES[0] else on - changed)
 
     def say(self, name: str, record: int | None = None) -> dict:
         """Selects a file, and answers what it holds as a profile says it: {"spn": "Example"}. Of a file with records that is of one."""

@@ -145,6 +145,9 @@ def wrong_services(card, kind):
     for entry in names.table("files")["files"]:
         for number in entry.get("needs", {}).get(table, ()):
             files_for.setdefault(number, []).append(entry["name"])
+    beyond = sorted(number for number in on if number > len(known))
+    if beyond:
+        yield Finding(f"service {', '.join(map(str, beyond))} is on in {name}, and the standard's list ends with {len(known)}", (path,))
     there = {entry["name"] for _, entry in here}
     for number in sorted(on.intersection(files_for)):
         if not there.intersection(files_for[number]):
