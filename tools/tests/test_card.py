@@ -222,7 +222,8 @@ class Cards(unittest.TestCase):
 
     def test_services_are_changed(self):
         """As in a profile: the others stay."""
-        with Card(USIM) as card:
+        with Card.from_profile({"like": "usim"}) as card:
+            card.verify("pin1", "1234")
             card.verify("adm", "88888888")
             before = set(card.say("EF.UST")["services"])
             card.write("EF.UST", services_on=[28, "FDN"])
@@ -231,6 +232,26 @@ class Cards(unittest.TestCase):
             self.assertEqual(set(card.say("EF.UST")["services"]), before | {2})
             with self.assertRaisesRegex(ValueError, "services_on is of files with services"):
                 card.write("EF.SPN", services_on=[1])
+
+    def test_why_a_pin_command_is_refused(self):
+        with Card(USIM) as card:
+            for call, why in ((lambda: card.disable_pin("adm", "88888888"), "ADM1 can't be disabled, and has no UNBLOCK PIN"),
+                              (lambda: card.unblock_pin("adm", "88888888", "88888888"), "ADM1 can't be disabled, and has no UNBLOCK PIN"),
+                              (lambda: card.verify(5, "1234"), "the keys of PINs are 01, 81")):
+                with self.assertRaisesRegex(StatusError, f"6A88: .*: {why}"):
+                    call()
+        with Card.from_text("pin 01 31323334FFFFFFFF on 3132333435363738\n") as card, self.assertRaisesRegex(StatusError, "the card has no PIN 2"):
+            card.verify("pin2", "1234")
+
+    def test_the_number_of_a_record(self):
+        """0 is none; that of the card is the current record."""
+        with Card(USIM) as card:
+            card.verify("pin1", "1234")
+            card.select("EF.ADN")
+            for number in (0, 256, -1):
+                with self.assertRaisesRegex(ValueError, "1 to 255"):
+                    card.read_record(number)
+            self.assertEqual(len(card.read_record(1)), 28)
 
     def test_a_fault_that_no_command_has(self):
         """It is refused before anything is sent, and the card goes on."""

@@ -156,7 +156,7 @@ class Doubts(unittest.TestCase):
          ["line 4: [EF_ACC] has class 5, and the IMSI ends with 0: by its last digit cards are commonly given their class"]),
         ('[EF_ACC]\nacc = [9, 11]\n', []),
         ("[EF_UST]\nservices_off = [1]\n", ["line 2: [EF_UST]: 7F10/6F3A EF.ADN is there, and its service 1 (local phone book) is off in EF.UST"]),
-        ("[EF_UST]\nservices_on = [200, 150]\n", ["line 2: [EF_UST]: service 150, 200 is on in EF.UST, and the standard's list ends with 146"]),
+        ("[EF_UST]\nservices_on = [200, 150]\n", ["line 2: [EF_UST]: services 150, 200 are on in EF.UST, and the standard's list ends with 146"]),
         ("[EF_FDN]\nentries = []\n", ["line 2: [EF_FDN] is there, and its service 2 (fixed dialling numbers) is off in EF.UST"]),
     ]
 

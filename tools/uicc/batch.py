@@ -138,8 +138,8 @@ def about_column(column):
 
 
 # a column of a file: the kind of what the file holds, and the form of what a cell says: of a whole content (`field` is None), or of a field of
-# its table or of its first entry
-Field = collections.namedtuple("Field", "kind field form")
+# its table or of its first entry; `key` is that of the table of the file
+Field = collections.namedtuple("Field", "kind field form key")
 
 
 def field_of(file, key):
@@ -148,13 +148,16 @@ def field_of(file, key):
     entry = names.file(path, True) or names.file(path, False)
     if key in fields.KEYS:
         kind = fields.kind_for(key, entry)
-        return Field(kind, None, kind.form)
+        return Field(kind, None, kind.form, key)
+    if key in profile.CHANGES_OF_SERVICES:
+        profile.numbers_of(key, [], (entry or {}).get("content"))
+        return Field(None, None, fields.SERVICES, key)
     kind = fields.KINDS.get((entry or {}).get("content"))
     table = kind and forms.table_in(kind.form)
     if table is None or key not in table.keys:
         known = [*(table.keys if table else ()), *([kind.key] if kind else ()), fields.HEX]
         raise BadContent(f"`{key}` isn't known: {', '.join(known)} {'is' if len(known) == 1 else 'are'}")
-    return Field(kind, key, table.keys[key])
+    return Field(kind, key, table.keys[key], kind.key)
 
 
 def wrong_rows(rows, name):
@@ -231,7 +234,7 @@ def keys_of(values, base):
 def lay_field(found, base, file, field, cell):
     """Lays what a cell says of a file into the profile that its row says. Beside a field what the profile has of the file stays: the other
     fields, and the other entries."""
-    table, value, key = found.setdefault(file, {}), forms.of_text(field.form, cell), field.kind.key
+    table, value, key = found.setdefault(file, {}), value_of(field.form, cell), field.key
     if field.field is None:
         table[key] = value
         return
@@ -241,6 +244,14 @@ def lay_field(found, base, file, field, cell):
         table[key] = [with_field(field.kind.form.one, first, field.field, value), *others]
     else:
         table[key] = with_field(field.kind.form, told or {}, field.field, value)
+
+
+def value_of(form, cell):
+    """What a cell says. A list is written as in TOML; a cell without its brackets is a list of one entry."""
+    if not isinstance(form, forms.ListOf) or cell.startswith("["):
+        return forms.of_text(form, cell)
+    is_number = int in form.one.classes and cell.isascii() and cell.isdecimal()
+    return [int(cell) if is_number else forms.of_text(form.one, cell)]
 
 
 def said_before(given, kind, file):

@@ -27,6 +27,8 @@ CUT, FAIL, OF_READS = "cut", "fail", "readfail"
 OF_WRITES = (CUT, FAIL)
 PIN_NAMES = {**profile.PIN_KEYS, "adm1": profile.PIN_KEYS["adm"]}
 PIN_COMMANDS = (0x20, 0x24, 0x26, 0x28, 0x2C)
+# those that there are of ADM1 too: VERIFY and CHANGE PIN
+FOR_ADM = (0x20, 0x24)
 # objects of a proactive command, and the bit of a tag that says that the terminal must know it
 TITLE, TEXT, TONE, COMPREHENSION = 0x05, 0x0D, 0x0E, 0x80
 GET_INKEY, GET_INPUT, SELECT_ITEM = 0x22, 0x23, 0x24
@@ -161,7 +163,7 @@ def pin_key(key):
 
 
 def record_number(number):
-    if not isinstance(number, int) or not 0 <= number <= 0xFF:
+    if not isinstance(number, int) or not 1 <= number <= 0xFF:
         raise ValueError(f"the number of a record is one byte, 1 to 255, and not {number!r}")
     return number
 
@@ -320,9 +322,16 @@ class Card:
     def why(self, command: bytes, status: Status) -> str | None:
         """Why a command was refused with 6982, 6985 or 6A84, before any other one is sent, or with 6A88 for the key of a PIN; None where
         that isn't known."""
-        if status == "6A88" and command[1:2] and command[1] in PIN_COMMANDS and command[3] not in PIN_NAMES.values():
-            return "the keys of PINs are 01, 81 (PIN 2) and 0A (ADM1)"
+        if status == "6A88" and command[1:2] and command[1] in PIN_COMMANDS:
+            return self._why_no_pin(command[1], command[3])
         return refusals.reason(self._follower, decode.Apdu(command), status, self.now) if status in refusals.STATUSES else None
+
+    def _why_no_pin(self, instruction, key):
+        if key not in PIN_NAMES.values():
+            return "the keys of PINs are 01, 81 (PIN 2) and 0A (ADM1)"
+        if key not in self.now.pins:
+            return f"the card has no {names.key(key)}"
+        return "ADM1 can't be disabled, and has no UNBLOCK PIN" if key == layout.ADM and instruction not in FOR_ADM else None
 
     def _command(self, ins, p1, p2, data=b"", le=None, toolkit=False, channel=0):
         content = bytes((0x80 * toolkit | channel, ins, p1, p2))
@@ -678,7 +687,7 @@ def _made(make, given):
 
 def _card_in(path, store):
     if not os.path.exists(path):
-        raise CardError(f"{path} isn't there: with a script beside it, it is made")
+        raise CardError(f"{path} isn't there: where a script or a profile is given too, it is made")
     with open(path, "rb") as content:
         held = content.read()
     try:

@@ -147,7 +147,8 @@ def wrong_services(card, kind):
             files_for.setdefault(number, []).append(entry["name"])
     beyond = sorted(number for number in on if number > len(known))
     if beyond:
-        yield Finding(f"service {', '.join(map(str, beyond))} is on in {name}, and the standard's list ends with {len(known)}", (path,))
+        told = f"service {beyond[0]} is" if len(beyond) == 1 else f"services {', '.join(map(str, beyond))} are"
+        yield Finding(f"{told} on in {name}, and the standard's list ends with {len(known)}", (path,))
     there = {entry["name"] for _, entry in here}
     for number in sorted(on.intersection(files_for)):
         if not there.intersection(files_for[number]):
