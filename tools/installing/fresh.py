@@ -37,8 +37,8 @@ TRIES = (
     ("no sources", ["sh", "-c", "uicc applet rows 2>&1 || true"], "the sources are not here"),
     ("the files of the package", ["dpkg", "--verify", "uicc-run"], ""),
 )
-# what is left of it when it was removed
-LEFT = ["find", "/", "-xdev", "(", "-path", "/proc", "-o", "-path", "/tmp", ")", "-prune", "-o", "-name", "*uicc*", "-print"]
+# what is left of it when it was removed; man keeps pages that it has shown, whose package is none of its matters
+LEFT = ["find", "/", "-xdev", "(", "-path", "/proc", "-o", "-path", "/tmp", "-o", "-path", "/var/cache/man", ")", "-prune", "-o", "-name", "*uicc*", "-print"]
 
 
 class Failed(Exception):

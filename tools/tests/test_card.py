@@ -6,7 +6,7 @@ import tomllib
 import unittest
 
 from common import in_process
-from uicc import Card, CardError, NoSuchFile, NotBuilt, PowerLost, Status, StatusError, cutting, image, importing, lint, process, profile, terminal
+from uicc import Card, CardError, Ended, NoSuchFile, NotBuilt, PowerLost, Status, StatusError, cutting, image, importing, lint, process, profile, terminal
 
 EXAMPLES = os.path.join(process.TOP, "examples")
 USIM, MENU = (os.path.join(EXAMPLES, name + ".script") for name in ("usim", "menu"))
@@ -185,6 +185,99 @@ class Cards(unittest.TestCase):
             with self.assertRaises(StatusError) as failed:
                 card.update_binary(b"\x00")
             self.assertEqual(failed.exception.status, "6581")
+
+    def test_a_fault_is_for_what_is_called_next(self):
+        """It isn't spent on a SELECT, whether `write` sends that or the test does."""
+        for act in (lambda card: card.write("EF.SPN", spn="Z"), lambda card: (card.select("EF.SPN"), card.update_binary(b"\x00"))):
+            with Card(USIM) as card:
+                card.verify("adm", "88888888")
+                before = card.say("EF.SPN")
+                card.cut(1)
+                with self.assertRaises(PowerLost):
+                    act(card)
+                card.reset()
+                self.assertEqual(card.say("EF.SPN"), before)
+                card.verify("adm", "88888888")
+                card.fail(1)
+                with self.assertRaisesRegex(StatusError, "UPDATE BINARY .* 6581"):
+                    act(card)
+                card.fail_reading(1)
+                with self.assertRaisesRegex(StatusError, "READ BINARY .* 6581"):
+                    card.say("EF.SPN")
+                card.verify("adm", "88888888")
+                card.cut(1)
+                card.transmit("00A4000C023F00")
+                card.write("EF.SPN", spn="Z")
+                self.assertEqual(card.say("EF.SPN"), {"spn": "Z"})
+
+    def test_more_than_a_command_carries(self):
+        """A transparent file is written in pieces, as it is read; anything else is refused in words."""
+        with Card(USIM) as card:
+            card.verify("adm", "88888888")
+            card.create_ef("6F51", "t", 600)
+            content = bytes(number % 251 for number in range(599))
+            card.update_binary(content, 1)
+            self.assertEqual(card.read_binary(), b"\xFF" + content)
+            with self.assertRaisesRegex(ValueError, "a command carries at most 255 bytes, and not 300"):
+                card.update_record(1, bytes(300))
+            with self.assertRaisesRegex(StatusError, "from byte 510"):
+                card.update_binary(bytes(601))
+
+    def test_services_are_changed(self):
+        """As in a profile: the others stay."""
+        with Card.from_profile({"like": "usim"}) as card:
+            card.verify("pin1", "1234")
+            card.verify("adm", "88888888")
+            before = set(card.say("EF.UST")["services"])
+            card.write("EF.UST", services_on=[28, "FDN"])
+            self.assertEqual(set(card.say("EF.UST")["services"]), before | {2, 28})
+            card.write("EF.UST", services_off=[28])
+            self.assertEqual(set(card.say("EF.UST")["services"]), before | {2})
+            with self.assertRaisesRegex(ValueError, "services_on is of files with services"):
+                card.write("EF.SPN", services_on=[1])
+
+    def test_why_a_pin_command_is_refused(self):
+        with Card(USIM) as card:
+            for call, why in ((lambda: card.disable_pin("adm", "88888888"), "ADM1 can't be disabled, and has no UNBLOCK PIN"),
+                              (lambda: card.unblock_pin("adm", "88888888", "88888888"), "ADM1 can't be disabled, and has no UNBLOCK PIN"),
+                              (lambda: card.verify(5, "1234"), "the keys of PINs are 01, 81")):
+                with self.assertRaisesRegex(StatusError, f"6A88: .*: {why}"):
+                    call()
+        with Card.from_text("pin 01 31323334FFFFFFFF on 3132333435363738\n") as card, self.assertRaisesRegex(StatusError, "the card has no PIN 2"):
+            card.verify("pin2", "1234")
+
+    def test_the_number_of_a_record(self):
+        """0 is none; that of the card is the current record."""
+        with Card(USIM) as card:
+            card.verify("pin1", "1234")
+            card.select("EF.ADN")
+            for number in (0, 256, -1):
+                with self.assertRaisesRegex(ValueError, "1 to 255"):
+                    card.read_record(number)
+            self.assertEqual(len(card.read_record(1)), 28)
+
+    def test_a_fault_that_no_command_has(self):
+        """It is refused before anything is sent, and the card goes on."""
+        with Card(USIM) as card:
+            for plan in (lambda: card.cut(0), lambda: card.cut(-1), lambda: card.cut("1"), lambda: card.cut(1, 65), lambda: card.cut(1, 0, 256),
+                         lambda: card.fail(0), lambda: card.fail(1, -1), lambda: card.fail_reading(0)):
+                with self.assertRaisesRegex(ValueError, " is a number from [01] to "):
+                    plan()
+            self.assertEqual(card.transmit("00A4000C023F00").status, "9000")
+
+    def test_a_card_that_ended(self):
+        """It says so at each later call."""
+        with Card(USIM) as card:
+            pass
+        for call in (card.select, card.reset, lambda: card.cut(1), lambda: card.transmit("00A4000C023F00")):
+            with self.assertRaisesRegex(ValueError, "the card is closed"):
+                call()
+        with Card(USIM) as card:
+            with self.assertRaisesRegex(Ended, "status 2"):
+                card._simulator.exchange(b"", "no-word")
+            for call in (card.select, card.reset):
+                with self.assertRaisesRegex(Ended, "status 2"):
+                    call()
 
     def test_an_image_is_kept(self):
         with tempfile.TemporaryDirectory() as folder:

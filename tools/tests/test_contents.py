@@ -187,7 +187,9 @@ class Commands(unittest.TestCase):
         ("00E000000162", "CREATE FILE of no file: the template is none"),
         ("00FF0000", "unknown instruction FF"),
         ("00A4", "no command: the bytes have no short form"),
-        ("00A400040300", "no command: the bytes have no short form"),
+        ("00A400040300", "no command: Lc says 3, and 1 byte follows"),
+        ("00A40004013F00FF", "no command: Lc says 1, and 3 bytes follow"),
+        ("00A40004003F00", "no command: the bytes have no short form"),
     ]
     # the data of an answer to FETCH, and the last lines of what it says
     PROACTIVE = [

@@ -47,6 +47,18 @@ class Export(unittest.TestCase):
         self.assertIn('[default]\nread = "', text)
         self.assertIn('update = "adm"', text.partition("[pins]")[0])
 
+    def test_nothing_unblocks_the_administrators_pin(self):
+        """An export says no UNBLOCK PIN of ADM1, but for one that a profile without it wouldn't have; tree and diff say none."""
+        card = made('like = "usim"\n[pins]\nadm = { value = "88888888" }\n')
+        self.assertIn('adm = { value = "88888888" }\n', self.again(card))
+        other = made('like = "usim"\n[pins]\nadm = { value = "91111111", unblock = "11111111" }\n')
+        self.assertIn('adm = { value = "91111111", unblock = "11111111" }\n', self.again(other))
+        self.assertIn("ADM1: 88888888, enabled, 3 tries left, can't be unblocked", list(tree.lines(card)))
+        lines = shown(card, other)
+        self.assertEqual(lines[lines.index("ADM1"):][:3], ["ADM1", "- 88888888, on", "+ 91111111, on"])
+        with self.assertRaisesRegex(profile.BadProfile, r'adm = \{ value = "88888888" \}$'):
+            made('like = "usim"\n[pins]\nadm = "88888888"\n')
+
     def test_a_profile_with_all_kinds_of_content(self):
         text = self.again(made(fuzz_profile.GOOD))
         for part in ('imsi = "262019876543210"', 'spn = "Nordlicht"', "acc = [0, 9]", '"262-01 by UTRAN+GSM"', "minutes = 60", 'rule = "2F06:1"', "folder = true",
@@ -396,6 +408,24 @@ class Batch(unittest.TestCase):
                                  "7F20/6FAD": "normal operation, the network's code has 3 digits",
                                  "7F20/6F46": "Example (the network's name isn't asked for at home)", "7F20/6F7B": "262-02", "7F10/6F99": "AABB"})
         self.assertEqual(held.pins[0x81].unblock, b"99999999")
+
+    def test_lists_in_cells(self):
+        """A list stands as in TOML, and a cell without brackets is a list of one entry; services are changed as in a profile."""
+        self.put(self.card, 'like = "usim"\n[EF_UST]\nservices_on = [28]\n')
+        for cell in ("262-42 by GSM", '"[""262-42 by GSM""]"'):
+            done = self.batch(f"iccid,EF_HPLMNwAcT:plmns,EF_UST:services_on,EF_FPLMN:plmns\n{self.ONE},{cell},29,262-03\n", "--force")
+            self.assertEqual(done.returncode, 1, done.stderr)
+            card = card_of(stored.read(os.path.join(self.folder, self.ONE + ".script")).decode(process.ENCODING))
+            self.assertEqual(bytes(card.files[("7F20", "6F62")].content)[:5].hex(), "62f2240080")
+            self.assertEqual(bytes(card.files[("7F20", "6F7B")].content)[:3].hex(), "62f230")
+            on = contents.services_on("ust", bytes(card.files[("7F20", "6F38")].content))
+            self.assertLessEqual({28, 29, 19}, on)
+
+    def test_all_mistakes_of_the_head(self):
+        done = self.batch("iccid,EF_XYZ:foo,EF_SPN:sp,ki,imsi,imsi\n")
+        self.assertEqual([line.partition("line 1: ")[2].split(":")[0] for line in done.stderr.splitlines()],
+                         ["the column `EF_XYZ", "the column `EF_SPN", "a card here has no AUTHENTICATE, so that it has no key for it",
+                          "the column `imsi` stands there twice"])
 
     def test_a_field_beside_bytes(self):
         """What a profile says in bytes stays too, as far as words say it; where they don't, the row is refused."""

@@ -43,6 +43,8 @@ class Kinds(unittest.TestCase):
         ("suci", {"schemes": [{"scheme": 2, "key": 1}, {"scheme": 1, "key": 2}, {"scheme": 0, "key": 0}],
                   "keys": [{"id": 27, "key": KEY_A}, {"id": 30, "key": KEY_B}]}, 90,
          "A006020101020000A14B80011B8120" + KEY_A + "80011E8121" + KEY_B + "FF" * 5),
+        ("suci", {"schemes": [{"scheme": 1, "key": 1}], "keys": [{"id": 27, "key": "5A" * 254}]}, 268,
+         "A0020101" + "A1820104" + "80011B" + "8181FE" + "5A" * 254),
         ("supi-nai", {"network_specific": "a@b"}, 5, "8003614062"),
         ("uri", "a@b", 8, "8003614062FFFFFF"),
         ("uris", "sip:a@b", 9, "80077369703A614062"),

@@ -156,6 +156,7 @@ class Doubts(unittest.TestCase):
          ["line 4: [EF_ACC] has class 5, and the IMSI ends with 0: by its last digit cards are commonly given their class"]),
         ('[EF_ACC]\nacc = [9, 11]\n', []),
         ("[EF_UST]\nservices_off = [1]\n", ["line 2: [EF_UST]: 7F10/6F3A EF.ADN is there, and its service 1 (local phone book) is off in EF.UST"]),
+        ("[EF_UST]\nservices_on = [200, 150]\n", ["line 2: [EF_UST]: services 150, 200 are on in EF.UST, and the standard's list ends with 146"]),
         ("[EF_FDN]\nentries = []\n", ["line 2: [EF_FDN] is there, and its service 2 (fixed dialling numbers) is off in EF.UST"]),
     ]
 
@@ -266,6 +267,7 @@ class Mistakes(unittest.TestCase):
         ('["7F10/6F99"]\nsize = 5\ncyclic = true', ['line 2: ["7F10/6F99"]: `cyclic` is of files with records, and `size` of those without']),
         ('[EF_SPN]\niccid = "1"', ["line 3: [EF_SPN] iccid is nothing that EF.SPN holds: `spn = \"Nordlicht\"` is"]),
         ('[EF_UST]\nservices_on = ["FDX"]', ["line 3: [EF_UST] services_on: `FDX` is no service by number or name: tools/profile services ust"]),
+        ("[EF_UST]\nservices_on = [27, 2]\nservices_off = [27]", ["line 4: [EF_UST] services_off: 27 is in services_on too"]),
         ("[EF_UST]\nservices_on = 2", ["line 3: [EF_UST] services_on is a number, and has to be a list of numbers or names of services"]),
         ("[EF_SPN]\nservices_off = [2]", ["line 3: [EF_SPN] services_off is of files with services: EF_UST"]),
         ("[EF_ECC]\nemergency = [112]", ["line 3: [EF_ECC] emergency: entry 1 is a number, and has to be text in quotes"]),
@@ -450,6 +452,35 @@ class Command(unittest.TestCase):
                 out.write("size = 3\n")
             done = self.profile("build", given)
             self.assertEqual((done.returncode, "9 bytes, and its size is 3" in done.stderr), (2, True))
+
+    def test_nothing_is_written_over_that_would_be_lost(self):
+        """Neither what a file is made of, nor lines after `start`, nor a file of another kind; --force does, and a script that is built anew goes."""
+        with tempfile.TemporaryDirectory() as folder:
+            given, script, other, dump = (os.path.join(folder, name) for name in ("card.toml", "card.script", "other.toml", "card.export"))
+            for path, text in ((given, 'like = "usim"\n'), (other, "# mine\n"), (dump, "select MF/EF.ICCID\nupdate_binary 981032547698103214F6\n")):
+                with open(path, "w", encoding="ascii") as out:
+                    out.write(text)
+            self.assertEqual([self.profile("build", given, "-o", script).returncode for _ in range(2)], [0, 0])
+            with open(given, "a", encoding="ascii") as out:
+                out.write('[EF_SPN]\nspn = "Z"\n')
+            self.assertEqual(self.profile("build", given, "-o", script).returncode, 0)
+            with open(script, "a", encoding="ascii") as out:
+                out.write("apdu 00A4000C023F00\n")
+            for words, reason in ((("build", given, "-o", given), "is what this is made of"), (("export", given, "-o", given), "is what this is made of"),
+                                  (("import", dump, "-o", dump), "is what this is made of"), (("build", given, "-o", script), "has lines after `start` (1)"),
+                                  (("build", given, "-o", other), "would be written over"), (("export", script, "-o", given), "would be written over")):
+                with self.subTest(words=words[0], reason=reason):
+                    with open(words[-1], "rb") as before:
+                        content = before.read()
+                    done = self.profile(*words)
+                    self.assertEqual(done.returncode, 2)
+                    self.assertIn(reason, done.stderr)
+                    self.assertIn("--force", done.stderr)
+                    with open(words[-1], "rb") as after:
+                        self.assertEqual(after.read(), content)
+            self.assertEqual(self.profile("build", given, "-o", script, "--force").returncode, 0)
+            with open(script, encoding="utf-8") as built:
+                self.assertTrue(built.read().endswith("start\n"))
 
     def test_a_tree_is_whole(self):
         """What is decoded goes on in a next line, and of other bytes a line is shown, or all."""

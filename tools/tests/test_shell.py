@@ -53,6 +53,8 @@ class Shell(unittest.TestCase):
         ("read EF.IMSI\n", 1, ["rule 2F06:2 asks for PIN 1 to read; PIN 1 isn't verified"]),
         ("apdu 00A4080C047F206F07\napdu 00B0000009\n", 0, ["6982  the access rule isn't satisfied: rule 2F06:2 asks for PIN 1 to read"]),
         (ADM + "deactivate EF.SPN\nread EF.SPN\nactivate EF.SPN\nread EF.SPN\n", 1, ["9000", "Example Mobile"]),
+        ("verify pin1 1234\nread EF.LND\n", 0, ["records are empty"]),
+        ("select A0000000871002\n", 1, ["a card here has no ADF"]),
         ("increase EF.LND x\n", 1, ["AMOUNT is a number, and not `x`"]), ("increase\n", 1, ["increase [FILE] AMOUNT"]),
         (ADM + "create ef 6F50 t 4 - -\nselect MF\ndelete 6F50\ntree\n", 0, ["9000"]),
     ]
@@ -112,7 +114,7 @@ class Shell(unittest.TestCase):
 
     # the content of an image, the words after --image, and what is said
     IMAGES = [
-        (None, [], "isn't there: with a script beside it, it is made"), (b"", [], "it has 0 bytes"),
+        (None, [], "isn't there: where a script or a profile is given too, it is made"), (b"", [], "it has 0 bytes"),
         (b"ef 2FE2 t 4 2 -\nstart\n", [], "it is no image of a card: it has 22 bytes"), (b"#" * 65_536, [], "the bytes begin with no card"),
         (b"UICC\x02\x00".ljust(image.JOURNAL_SIZE, b"\xFF"), ["--store", "pages"], "is opened without --store pages"),
         (b"UICC\x02\x01".ljust(image.PAGES_SIZE, b"\xFF"), [], "--store pages opens it"),

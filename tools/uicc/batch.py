@@ -110,36 +110,36 @@ def column_of(word):
 
 
 def check_columns(columns, name):
-    for column in columns:
-        if column.startswith(":") or column.endswith(":"):
-            raise BadList(f"{name}, line 1: the column `{column}`: a column of a file is FILE:KEY, as EF_SMSP:centre")
-        if ":" in column:
-            with told_of(f"{name}, line 1: the column `{column}`"):
-                field_of(*column.split(":", 1))
-        elif column in ABSENT:
-            raise BadList(f"{name}, line 1: {ABSENT[column]}: the column `{column}` has no place")
-        elif column not in COLUMNS:
-            meant = SLIPS.get(column) or forms.near(column, list(COLUMNS))
-            raise BadList(f"{name}, line 1: no column is called `{column}`, "
-                          + (f"but `{meant}` is" if meant else f"but {', '.join(COLUMNS)} are, and FILE:KEY, as EF_SMSP:centre"))
-        if columns.count(column) > 1:
-            raise BadList(f"{name}, line 1: the column `{column}` stands there twice")
+    """BadList, with all that is wrong with the first line of a list."""
+    faults = [fault for column in dict.fromkeys(columns) if (fault := about_column(column))]
+    faults += [f"the column `{column}` stands there twice" for column in dict.fromkeys(columns) if columns.count(column) > 1]
     if "iccid" not in columns:
-        raise BadList(f"{name}, line 1: the column `iccid` is missing, by which the cards are called")
+        faults.append("the column `iccid` is missing, by which the cards are called")
+    if faults:
+        raise BadList("\n".join(f"{name}, line 1: {fault}" for fault in faults))
 
 
-@contextlib.contextmanager
-def told_of(where):
-    """What is wrong in here is told of a place in a list."""
-    try:
-        yield
-    except (BadContent, profile.BadProfile) as fault:
-        raise BadList(f"{where}: {fault}") from None
+def about_column(column):
+    """What is wrong with a column; None where nothing is."""
+    if column.startswith(":") or column.endswith(":"):
+        return f"the column `{column}`: a column of a file is FILE:KEY, as EF_SMSP:centre"
+    if ":" in column:
+        try:
+            field_of(*column.split(":", 1))
+        except (BadContent, profile.BadProfile) as fault:
+            return f"the column `{column}`: {fault}"
+        return None
+    if column in ABSENT:
+        return f"{ABSENT[column]}: the column `{column}` has no place"
+    if column in COLUMNS:
+        return None
+    meant = SLIPS.get(column) or forms.near(column, list(COLUMNS))
+    return f"no column is called `{column}`, " + (f"but `{meant}` is" if meant else f"but {', '.join(COLUMNS)} are, and FILE:KEY, as EF_SMSP:centre")
 
 
 # a column of a file: the kind of what the file holds, and the form of what a cell says: of a whole content (`field` is None), or of a field of
-# its table or of its first entry
-Field = collections.namedtuple("Field", "kind field form")
+# its table or of its first entry; `key` is that of the table of the file
+Field = collections.namedtuple("Field", "kind field form key")
 
 
 def field_of(file, key):
@@ -148,13 +148,16 @@ def field_of(file, key):
     entry = names.file(path, True) or names.file(path, False)
     if key in fields.KEYS:
         kind = fields.kind_for(key, entry)
-        return Field(kind, None, kind.form)
+        return Field(kind, None, kind.form, key)
+    if key in profile.CHANGES_OF_SERVICES:
+        profile.numbers_of(key, [], (entry or {}).get("content"))
+        return Field(None, None, fields.SERVICES, key)
     kind = fields.KINDS.get((entry or {}).get("content"))
     table = kind and forms.table_in(kind.form)
     if table is None or key not in table.keys:
         known = [*(table.keys if table else ()), *([kind.key] if kind else ()), fields.HEX]
         raise BadContent(f"`{key}` isn't known: {', '.join(known)} {'is' if len(known) == 1 else 'are'}")
-    return Field(kind, key, table.keys[key])
+    return Field(kind, key, table.keys[key], kind.key)
 
 
 def wrong_rows(rows, name):
@@ -231,7 +234,7 @@ def keys_of(values, base):
 def lay_field(found, base, file, field, cell):
     """Lays what a cell says of a file into the profile that its row says. Beside a field what the profile has of the file stays: the other
     fields, and the other entries."""
-    table, value, key = found.setdefault(file, {}), forms.of_text(field.form, cell), field.kind.key
+    table, value, key = found.setdefault(file, {}), value_of(field.form, cell), field.key
     if field.field is None:
         table[key] = value
         return
@@ -241,6 +244,14 @@ def lay_field(found, base, file, field, cell):
         table[key] = [with_field(field.kind.form.one, first, field.field, value), *others]
     else:
         table[key] = with_field(field.kind.form, told or {}, field.field, value)
+
+
+def value_of(form, cell):
+    """What a cell says. A list is written as in TOML; a cell without its brackets is a list of one entry."""
+    if not isinstance(form, forms.ListOf) or cell.startswith("["):
+        return forms.of_text(form, cell)
+    is_number = int in form.one.classes and cell.isascii() and cell.isdecimal()
+    return [int(cell) if is_number else forms.of_text(form.one, cell)]
 
 
 def said_before(given, kind, file):

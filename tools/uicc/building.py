@@ -3,7 +3,7 @@ import contextlib
 
 from . import access, coding, dump, fields, forms, grammar, kinds, layout, names, rules, structured, tree
 from .coding import BadContent
-from .profile_names import ARR, OPERATIONS, PIN_KEYS, Fault, is_arr_in_folder, is_file_table, path_of, told_origin
+from .profile_names import ARR, NO_PIN, OPERATIONS, PIN_KEYS, Fault, is_arr_in_folder, is_file_table, path_of, told_origin
 
 MOST_EVENTS = len(layout.EVENTS)
 LONGEST_COMMENT = 130
@@ -217,8 +217,8 @@ class Builder:
             found = {}
             for what in ("value", "unblock"):
                 with self._told("pins", name, what):
-                    found[what] = pin_value(given.get(what, "00000000"))
-            unblock = str(given.get("unblock", "00000000"))
+                    found[what] = pin_value(given.get(what, NO_PIN))
+            unblock = str(given.get("unblock", NO_PIN))
             if "unblock" in found and len(unblock) < UNBLOCK_DIGITS:
                 self.doubts.append(Fault(("pins", name, "unblock"), f"[pins] {name} unblock: an UNBLOCK PIN has {UNBLOCK_DIGITS} digits, and "
                                                                     f"{unblock} has {len(unblock)}"))

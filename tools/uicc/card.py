@@ -8,20 +8,27 @@
         print(card.read_record(1))
 
 A command that isn't answered 9000, 91XX or a warning raises StatusError, which has the status word and what it says."""
+import contextlib
 import dataclasses
 import os
 
-from . import coding, decode, described, fields, image, kept, kinds, layout, lint, names, process, profile, refusals, tlv
+from . import coding, contents, decode, described, fields, grammar, image, kept, kinds, layout, lint, names, process, profile, refusals, tlv
 from .follow import Follower
 from .status import Status
 from .toolkit import MEMORY_PROBLEM, Toolkit, ToolkitNow
 
 PROFILE = bytes.fromhex("2900BF6171000013")
 WARNINGS = ("6282", "6283")
-MOST = 256
+# the bytes that a command asks for at most, and those that it carries
+MOST, MOST_DATA = 256, 255
 PIN_LENGTH = 8
+# the words of a script that plan a fault: of writes, and of reads
+CUT, FAIL, OF_READS = "cut", "fail", "readfail"
+OF_WRITES = (CUT, FAIL)
 PIN_NAMES = {**profile.PIN_KEYS, "adm1": profile.PIN_KEYS["adm"]}
 PIN_COMMANDS = (0x20, 0x24, 0x26, 0x28, 0x2C)
+# those that there are of ADM1 too: VERIFY and CHANGE PIN
+FOR_ADM = (0x20, 0x24)
 # objects of a proactive command, and the bit of a tag that says that the terminal must know it
 TITLE, TEXT, TONE, COMPREHENSION = 0x05, 0x0D, 0x0E, 0x80
 GET_INKEY, GET_INPUT, SELECT_ITEM = 0x22, 0x23, 0x24
@@ -156,8 +163,14 @@ def pin_key(key):
 
 
 def record_number(number):
-    if not isinstance(number, int) or not 0 <= number <= 0xFF:
+    if not isinstance(number, int) or not 1 <= number <= 0xFF:
         raise ValueError(f"the number of a record is one byte, 1 to 255, and not {number!r}")
+    return number
+
+
+def expect_number(what, number, least, most):
+    if not isinstance(number, int) or not least <= number <= most:
+        raise ValueError(f"{what} is a number from {least} to {most}, and not {number!r}")
     return number
 
 
@@ -187,6 +200,8 @@ class Card:
         self._image = os.path.abspath(image) if image else os.path.join(self._folder.name, "image")
         self._words += ["--image", self._image]
         self.trace, self.pending = [], None
+        # faults that are told to the card right before the command that they are for, and those that the next command isn't for
+        self._planned, self._spared = [], ()
         self._fetched = None
         kinds.warn()
         self._follower, self._toolkit = Follower(self.holds), Toolkit(dict(self.holds.rows))
@@ -265,6 +280,7 @@ class Card:
     def _exchange(self, command, word):
         if not 1 <= len(command) <= process.LONGEST_COMMAND:
             raise ValueError(f"a command has 1 to {process.LONGEST_COMMAND} bytes, and not {len(command)}")
+        self._arm()
         self.trace.append("> " + decode.hexed(command))
         answer = self._simulator.exchange(command, word)
         if answer is None:
@@ -306,12 +322,21 @@ class Card:
     def why(self, command: bytes, status: Status) -> str | None:
         """Why a command was refused with 6982, 6985 or 6A84, before any other one is sent, or with 6A88 for the key of a PIN; None where
         that isn't known."""
-        if status == "6A88" and command[1:2] and command[1] in PIN_COMMANDS and command[3] not in PIN_NAMES.values():
-            return "the keys of PINs are 01, 81 (PIN 2) and 0A (ADM1)"
+        if status == "6A88" and command[1:2] and command[1] in PIN_COMMANDS:
+            return self._why_no_pin(command[1], command[3])
         return refusals.reason(self._follower, decode.Apdu(command), status, self.now) if status in refusals.STATUSES else None
+
+    def _why_no_pin(self, instruction, key):
+        if key not in PIN_NAMES.values():
+            return "the keys of PINs are 01, 81 (PIN 2) and 0A (ADM1)"
+        if key not in self.now.pins:
+            return f"the card has no {names.key(key)}"
+        return "ADM1 can't be disabled, and has no UNBLOCK PIN" if key == layout.ADM and instruction not in FOR_ADM else None
 
     def _command(self, ins, p1, p2, data=b"", le=None, toolkit=False, channel=0):
         content = bytes((0x80 * toolkit | channel, ins, p1, p2))
+        if len(data) > MOST_DATA:
+            raise ValueError(f"a command carries at most {MOST_DATA} bytes, and not {len(data)}")
         if data:
             content += bytes((len(data),)) + data
         return self.send(content + (bytes((le & 0xFF,)) if le is not None else b""))
@@ -356,10 +381,11 @@ class Card:
     def select(self, name: str = "MF", channel: int = 0) -> dict[str, str]:
         """Selects a file, and answers its control parameters."""
         path = () if str(name).upper() in ("MF", "3F00") else self.path(name)
-        if path:
-            answer = self._command(decode.SELECT, 8, 4, bytes.fromhex("".join(path)), channel=channel)
-        else:
-            answer = self._command(decode.SELECT, 0, 4, b"\x3F\x00", channel=channel)
+        with self._sparing(*OF_WRITES):
+            if path:
+                answer = self._command(decode.SELECT, 8, 4, bytes.fromhex("".join(path)), channel=channel)
+            else:
+                answer = self._command(decode.SELECT, 0, 4, b"\x3F\x00", channel=channel)
         return {line.label: line.text for line in decode.fcp(answer.data, tuple(path))[1:]}
 
     @property
@@ -386,8 +412,13 @@ class Card:
                 return found
 
     def update_binary(self, content: bytes | str, offset: int = 0) -> Answer:
-        """Writes bytes of the current EF from an offset on."""
-        return self._command(decode.UPDATE_BINARY, offset >> 8, offset & 0xFF, as_bytes(content))
+        """Writes bytes of the current EF from an offset on: by several commands where they are more than the 255 that one carries. The answer
+        is that of the last one; where one is refused, those before it are written."""
+        content = as_bytes(content)
+        for at in range(0, max(len(content), 1), MOST_DATA):
+            place = offset + at
+            answer = self._command(decode.UPDATE_BINARY, place >> 8, place & 0xFF, content[at:at + MOST_DATA])
+        return answer
 
     def read_record(self, number: int) -> bytes:
         """A record of the current EF; the first one is 1."""
@@ -431,18 +462,27 @@ class Card:
             record_number(record)
         (key, value), = said.items()
         file = self._selected(name)
+        if key in profile.CHANGES_OF_SERVICES:
+            key, value = "services", self._services(file, key, value)
         content = fields.written(key, value, self._entry(file), file.length, record)
         if (file.structure == "t") != isinstance(content, bytes):
             raise ValueError(f"{key} is of files {'with' if file.structure == 't' else 'without'} records, and {names.shown(file.path)} is none")
         if file.structure == "t":
-            for at in range(0, len(content), MOST - 1):
-                self.update_binary(content[at:at + MOST - 1], at)
+            self.update_binary(content)
         elif file.structure == "c":
             for one in reversed(content):
                 self.add_record(one)
         else:
             for number, one in enumerate(content, record or 1):
                 self.update_record(number, one)
+
+    def _services(self, file, key, value):
+        """The services of a file, once some of them are changed."""
+        kind = (self._entry(file) or {}).get("content")
+        changed = profile.numbers_of(key, value, kind)
+        with self._sparing(*OF_WRITES, OF_READS):
+            on = contents.services_on(kind, self.read_binary()) or set()
+        return sorted(on | changed if key == profile.CHANGES_OF_SERVICES[0] else on - changed)
 
     def say(self, name: str, record: int | None = None) -> dict:
         """Selects a file, and answers what it holds as a profile says it: {"spn": "Example"}. Of a file with records that is of one."""
@@ -451,7 +491,8 @@ class Card:
         return dict([fields.said(content, self._entry(file))])
 
     def _selected(self, name):
-        self.select(name)
+        with self._sparing(*OF_WRITES, OF_READS):
+            self.select(name)
         file = self.holds.files.get(self.current)
         if file is None or file.is_df:
             raise NoSuchFile(f"{name} is no file that holds bytes")
@@ -578,23 +619,48 @@ class Card:
     # faults
 
     def cut(self, call: int, kept: int = 0, rest: int = 0xFF) -> None:
-        """Plans a loss of power in a memory write of the next command or reset: so many bytes of it are written, the others become
-        `rest`."""
-        self._simulator.say(f"cut {call} {kept} {rest:02X}")
+        """Plans a loss of power in a memory write of the next command or reset, the first one is 1: so many bytes of it are written, the others
+        become `rest`. `select`, which writes nothing, isn't that command, so that the plan holds for what is called after it; `write` selects
+        its file too. A command that writes less often passes, and the plan with it."""
+        self._plan(CUT, call, expect_number("how many bytes are kept", kept, 0, grammar.PAGE), expect_number("rest", rest, 0, 0xFF))
 
     def fail(self, call: int, rest: int = 0xFF) -> None:
-        """Plans a memory write of the next command or reset that fails, and leaves its bytes `rest`."""
-        self._simulator.say(f"fail {call} {rest:02X}")
+        """Plans a memory write of the next command or reset that fails, and leaves its bytes `rest`. `select` isn't that command, as of `cut`."""
+        self._plan(FAIL, call, expect_number("rest", rest, 0, 0xFF))
 
     def fail_reading(self, call: int) -> None:
-        """Plans a read of the memory that fails."""
-        self._simulator.say(f"readfail {call}")
+        """Plans a read of the memory that fails, in the next command or reset. That may be `select`; the SELECT that `write` and `say` send first
+        isn't it."""
+        self._plan(OF_READS, call)
+
+    def _plan(self, word, call, *more):
+        expect_number("the place of a write or a read", call, 1, grammar.MOST_COUNT)
+        self._simulator.expect_on()
+        numbers = [str(call), *map(str, more[:-1]), *(f"{rest:02X}" for rest in more[-1:])]
+        self._planned.append((word, " ".join([word, *numbers])))
+
+    @contextlib.contextmanager
+    def _sparing(self, *words):
+        """For a command that faults of these words aren't planned for."""
+        before, self._spared = self._spared, self._spared + words
+        try:
+            yield
+        finally:
+            self._spared = before
+
+    def _arm(self):
+        """Tells the card which faults are planned for the command that comes."""
+        told = [plan for plan in self._planned if plan[0] not in self._spared]
+        self._planned = [plan for plan in self._planned if plan not in told]
+        for _, line in told:
+            self._simulator.say(line)
 
     def reset(self) -> None:
         """Resets the card, which gives it power again. PowerLost, where it loses it in that."""
         self._follower.reset()
         self._toolkit.reset()
         self.pending = self._fetched = None
+        self._arm()
         self._has_power = self._simulator.reset()
         self.trace.append(process.RESET if self._has_power else process.CUT)
         if not self._has_power:
@@ -623,7 +689,7 @@ def _made(make, given):
 
 def _card_in(path, store):
     if not os.path.exists(path):
-        raise CardError(f"{path} isn't there: with a script beside it, it is made")
+        raise CardError(f"{path} isn't there: where a script or a profile is given too, it is made")
     with open(path, "rb") as content:
         held = content.read()
     try:

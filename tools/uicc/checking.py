@@ -2,14 +2,12 @@
 import contextlib
 import typing
 
-from . import access, contents, names, rules, tree
+from . import access, contents, layout, names, rules, tree
 from .coding import BadContent
 
 # what a terminal reads before a PIN is entered (ETSI TS 102 221, 13; 3GPP TS 31.102, 4.2)
 READ_BY_ALL = {("2F00",), ("2F05",), ("2F06",), ("2FE2",), ("7F20", "6F46"), ("7F20", "6FAD"), ("7F20", "6FB7")}
 TELECOM, IMSI, ACC = ("7F10",), ("7F20", "6F07"), ("7F20", "6F78")
-# the key of the administrator, which nothing unblocks
-ADM = 0x0A
 # the service table of a kind of card
 TABLES = {"usim": (("7F20", "6F38"), "ust"), "sim": (("7F20", "6F38"), "sst")}
 
@@ -42,7 +40,7 @@ def found(card, kind):
     yield from unreadable(card, usim)
     for pin in card.pins.values():
         digits = pin.unblock.rstrip(b"\xFF")
-        if pin.key != ADM and digits.isdigit() and len(digits) < len(pin.unblock):
+        if pin.key != layout.ADM and digits.isdigit() and len(digits) < len(pin.unblock):
             yield Finding(f"{names.key(pin.key)}: its UNBLOCK PIN has {len(digits)} digits, and should have {len(pin.unblock)}")
     yield from wrong_services(card, kind)
     yield from wrong_class(card, usim)
@@ -147,6 +145,10 @@ def wrong_services(card, kind):
     for entry in names.table("files")["files"]:
         for number in entry.get("needs", {}).get(table, ()):
             files_for.setdefault(number, []).append(entry["name"])
+    beyond = sorted(number for number in on if number > len(known))
+    if beyond:
+        told = f"service {beyond[0]} is" if len(beyond) == 1 else f"services {', '.join(map(str, beyond))} are"
+        yield Finding(f"{told} on in {name}, and the standard's list ends with {len(known)}", (path,))
     there = {entry["name"] for _, entry in here}
     for number in sorted(on.intersection(files_for)):
         if not there.intersection(files_for[number]):

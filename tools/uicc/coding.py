@@ -32,7 +32,8 @@ def is_digits(text):
 def packed(digits, size):
     """Digits two a byte, filled up with F."""
     if digits and not is_digits(digits):
-        raise BadContent(f"`{digits}` are no decimal digits")
+        other = next(letter for letter in digits if not is_digits(letter))
+        raise BadContent(f"`{digits}` are no decimal digits: `{other}` is none")
     if len(digits) > 2 * size:
         raise BadContent(f"{len(digits)} digits are more than {size} bytes hold")
     digits = digits.ljust(2 * size, "F")

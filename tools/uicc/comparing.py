@@ -2,7 +2,7 @@
 import dataclasses
 import os
 
-from . import access, contents, decode, fields, kinds, names, rules, tree
+from . import access, contents, decode, fields, kinds, layout, names, rules, tree
 from .follow import is_usim_card
 
 ONE, OTHER = "- ", "+ "
@@ -132,12 +132,16 @@ def by_bytes(one, other):
 def of_pin(one, other, name):
     yield from (Difference(name, lines) for lines in [tuple(pair(pin_words(one), pin_words(other)))] if lines)
     if one and other and (one.tries, one.unblock_tries) != (other.tries, other.unblock_tries):
-        lines = pair(*(f"{pin.tries} tries left, {pin.unblock_tries} of its UNBLOCK PIN" for pin in (one, other)))
+        lines = pair(*(f"{pin.tries} tries left" + f", {pin.unblock_tries} of its UNBLOCK PIN" * (pin.key != layout.ADM) for pin in (one, other)))
         yield Difference(name, tuple(lines), True)
 
 
 def pin_words(pin):
-    return pin and f"{decode.pin_value(pin.value)}, {'on' if pin.enabled else 'off'}, unblocked by {decode.pin_value(pin.unblock)}"
+    """What a PIN holds; of ADM1 without what would unblock it, which nothing does."""
+    if pin is None:
+        return None
+    unblocked = "" if pin.key == layout.ADM else f", unblocked by {decode.pin_value(pin.unblock)}"
+    return f"{decode.pin_value(pin.value)}, {'on' if pin.enabled else 'off'}{unblocked}"
 
 
 def row_words(row):

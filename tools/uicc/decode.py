@@ -59,6 +59,16 @@ class Apdu:
         return self.header[1] if self.ok else None
 
     @property
+    def fault(self):
+        """Why the bytes are no command, in words; None where they are one."""
+        if self.ok:
+            return None
+        sent = self.content[4:5]
+        if not sent or sent == b"\0":
+            return "the bytes have no short form"
+        return f"Lc says {sent[0]}, and {len(self.content) - 5} {'byte follows' if len(self.content) == 6 else 'bytes follow'}"
+
+    @property
     def on_applets(self):
         """Whether its class is the one of INSTALL and DELETE."""
         return self.ok and self.header[0] & 0xF0 == OWN_CLASS
@@ -88,7 +98,7 @@ def wanted(le):
 def title(apdu):
     """A command in one line."""
     if not apdu.ok:
-        return "no command: the bytes have no short form"
+        return f"no command: {apdu.fault}"
     name = names.instruction(apdu.ins, apdu.header[0])
     if name is None:
         return f"unknown instruction {apdu.ins:02X}"

@@ -4,6 +4,8 @@ import dataclasses
 from . import rules
 from .grammar import Df, Ef, Fill, Pin, Rec, Row, Wrong, shown_path
 
+# the key of the administrator, which nothing unblocks
+ADM = 0x0A
 MOST_FILES = 128
 ALL_BYTES = 61_568
 # with more bytes of files than this a card has no room for rows that only a wide one holds

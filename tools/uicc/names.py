@@ -122,9 +122,13 @@ def shown(path, usim=True):
     return f"{text} {entry['name']}" if entry else text
 
 
+# how the AIDs of 3GPP begin, USIM's and ISIM's among them
+TELEPHONES = "A000000087"
+
+
 def is_adf(word):
-    """Whether a part of a path names an ADF, which no card here has."""
-    return normal(word).startswith("ADF") or word.upper() == "7FFF"
+    """Whether a part of a path names an ADF, also by its AID, which no card here has."""
+    return normal(word).startswith(("ADF", TELEPHONES)) or word.upper() == "7FFF"
 
 
 def normal(word):

@@ -53,6 +53,13 @@ class Ended(Exception):
         self.line, self.status, self.said = line, status, said
 
 
+class Closed(ValueError):
+    """The simulator was closed, and takes no more commands."""
+
+    def __init__(self):
+        super().__init__("the card is closed, by `close` or at the end of its `with`: it takes no more commands")
+
+
 class NotBuilt(Exception):
     """The launcher can run the source too, but only with a script that is whole: it holds no dialogue."""
 
@@ -124,7 +131,7 @@ class Simulator:
     def __init__(self, words, section=()):
         self.process = subprocess.Popen([program(), *words], stdin=subprocess.PIPE, stdout=subprocess.PIPE, stderr=subprocess.PIPE,
                                         encoding=ENCODING, errors="replace", bufsize=1, start_new_session=True)
-        self._last, self._said = "", []
+        self._last, self._said, self._fault = "", [], None
         self._listener = threading.Thread(target=self._listen, daemon=True)
         self._listener.start()
         for line in section:
@@ -137,7 +144,15 @@ class Simulator:
                 self._said.append(line)
                 print(line, end="", file=sys.stderr, flush=True)
 
+    def expect_on(self):
+        """Closed, or Ended once more, where the simulator takes no more lines."""
+        if self._fault:
+            raise self._fault
+        if self.process.stdin.closed:
+            raise Closed()
+
     def say(self, line):
+        self.expect_on()
         try:
             self.process.stdin.write(line + "\n")
             self.process.stdin.flush()
@@ -159,7 +174,8 @@ class Simulator:
         rest = self.process.stdout.read().split("\n")
         status = self.process.wait()
         self._listener.join()
-        raise Ended(next((line for line in reversed(rest) if line), self._last), status, "".join(self._said))
+        self._fault = Ended(next((line for line in reversed(rest) if line), self._last), status, "".join(self._said))
+        raise self._fault
 
     def exchange(self, command, word="apdu"):
         """The answer (data and status) to the bytes of a command, or of a TPDU (`tpdu`), up to the longest; None where power was lost

@@ -57,7 +57,7 @@ def made_in(content, name):
 def tables_in(content, name):
     """The tables of a profile's bytes, over its template. BadProfile, where no script can be made of them."""
     made_in(content, name)
-    return over_template(read(content, name)[0])
+    return with_services(over_template(read(content, name)[0]))[0]
 
 
 def read(content, name):
@@ -240,6 +240,9 @@ def services_changed(name, given):
             changes[key] = numbers_of(key, given[key], kind)
         except contents.BadContent as fault:
             faults.append(Fault((name, key), f"{shown_name(name)} {fault}"))
+    both = sorted(set.intersection(*changes.values())) if len(changes) == len(CHANGES_OF_SERVICES) else []
+    if both:
+        faults.append(Fault((name, CHANGES_OF_SERVICES[1]), f"{shown_name(name)} services_off: {', '.join(map(str, both))} is in services_on too"))
     if faults:
         return kept, faults
     with contextlib.suppress(ValueError, TypeError):

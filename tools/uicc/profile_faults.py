@@ -42,7 +42,8 @@ AT_TOP = {
 }
 # how the keys in those tables are written
 EXAMPLES = {
-    **{key: '{ value = "1234", unblock = "12345678" }' for key in PIN_KEYS}, **{operation: '"pin1 or adm"' for operation in OPERATIONS},
+    **{key: '{ value = "1234", unblock = "12345678" }' for key in PIN_KEYS}, "adm": '{ value = "88888888" }',
+    **{operation: '"pin1 or adm"' for operation in OPERATIONS},
     "kind": '"greeter"', "shelf": "6", "priority": "1", "events": '["location"]', "menu": '"Tools"', "keeps": '"0102"',
     "keeps_text": '"Hello"', "on": '{ location = ["show A"] }',
 }

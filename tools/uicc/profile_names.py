@@ -5,6 +5,8 @@ import typing
 from . import dump, names, rules
 
 OPERATIONS = (*rules.OPERATIONS, "increase")
+# what a PIN is, and what unblocks it, where nothing is said
+NO_PIN = "00000000"
 PIN_KEYS = {"pin1": 0x01, "pin2": 0x81, "adm": 0x0A}
 ARR = ("2F06",)
 # a path whose identifiers stand together, or with something else than a slash between them

@@ -2,7 +2,7 @@
 same bytes, and in hexadecimal digits elsewhere."""
 import tomllib
 
-from . import comparing, dump, fields, layout, lint, located, names, profile, rules
+from . import comparing, dump, fields, layout, lint, located, names, profile, profile_names, rules
 
 NO_SHORT = 0
 BLANK = "FF"
@@ -120,8 +120,14 @@ def word_lines(words):
 
 
 def pin_line(pin):
-    value, unblock = (located.written(digits_of(content)) for content in (pin.value, pin.unblock))
-    return f"{PIN_NAMES[pin.key]} = {{ value = {value}, unblock = {unblock}{'' if pin.enabled else ', on = false'} }}"
+    """The line of a PIN. Nothing unblocks ADM1: what it holds for that is told only where a profile without it would have other bytes."""
+    value, unblock = digits_of(pin.value), digits_of(pin.unblock)
+    said = [f"value = {located.written(value)}"]
+    if pin.key != layout.ADM or unblock != profile_names.NO_PIN:
+        said.append(f"unblock = {located.written(unblock)}")
+    if not pin.enabled:
+        said.append("on = false")
+    return f"{PIN_NAMES[pin.key]} = {{ {', '.join(said)} }}"
 
 
 def digits_of(content):

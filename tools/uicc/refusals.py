@@ -1,9 +1,10 @@
-"""Why a card refuses a command: which condition of the access rule isn't met (6982), and which of their causes 6985, 6A84 and 6A89 have."""
+"""Why a card refuses a command: which condition of the access rule isn't met (6982), which of their causes 6985, 6A84 and 6A89
+have, and which object of CREATE FILE has no place (6A80)."""
 import re
 
-from . import decode, follow, layout, names, rules
+from . import decode, follow, layout, names, rules, tlv
 
-STATUSES = ("6982", "6985", "6A84", "6A89")
+STATUSES = ("6700", "6982", "6985", "6A80", "6A84", "6A89")
 KEY_WORD = r"\b(?:" + "|".join(rules.KEYS) + r")\b"
 ADM = 0x0A
 DEACTIVATE, ACTIVATE, ENABLE = 0x04, 0x44, 0x28
@@ -29,7 +30,7 @@ def reason(follower, apdu, status, card=None):
         return of_room(follower, apdu, card)
     if status == "6A89":
         return of_doubles(follower, apdu, card)
-    return None
+    return of_form(apdu, status)
 
 
 # 6982
@@ -125,6 +126,44 @@ def of_doubles(follower, apdu, card):
         return f"{names.shown(path, follower.usim)} is there already"
     other = next((file for file in card.children(path[:-1]) if made.short and file.short == made.short), None)
     return other and f"{names.shown(other.path, follower.usim)} has the SFI {made.short}"
+
+
+# 6A80 and 6700
+
+# the objects of CREATE FILE that a card here takes, in their order, and how a DF is described
+OF_DF = (0x82, 0x83)
+OF_EF = (*OF_DF, 0x8B, 0x80, 0x88)
+OPTIONAL = 0x8B
+DF = 0x78
+
+
+def of_form(apdu, status):
+    """What of ETSI TS 102 222 a card here doesn't take in the data of CREATE FILE and RESIZE FILE."""
+    if apdu.on_applets:
+        return None
+    if (apdu.ins, status) == (decode.CREATE_FILE, "6A80"):
+        return of_template(apdu.data)
+    if (apdu.ins, status) == (decode.RESIZE_FILE, "6700"):
+        return "here its data are four bytes, the identifier and the size, and no template" if apdu.data[:1] == b"\x62" else None
+    return None
+
+
+def of_template(data):
+    """Which object of a template has no place in it, or is missing; None where neither is so."""
+    try:
+        found = list(rules.objects(tlv.template(data)[1]))
+    except ValueError as fault:
+        return str(fault)
+    is_df = any(tag == OF_DF[0] and value[:1] == bytes((DF,)) for tag, value in found)
+    taken, tags = (OF_DF if is_df else OF_EF), [tag for tag, _ in found]
+    listed = f"{'a DF' if is_df else 'an EF'} has {' '.join(f'{tag:02X}' for tag in taken)}, in this order"
+    other = next((tag for tag in tags if tag not in taken), None)
+    if other is not None:
+        return f"the object {other:02X} isn't taken: {listed}"
+    missing = next((tag for tag in taken if tag not in tags and tag != OPTIONAL), None)
+    if missing is not None:
+        return f"the object {missing:02X} is missing: {listed}"
+    return None if tags == [tag for tag in taken if tag in tags] else f"its objects stand in another order: {listed}"
 
 
 # 6A84

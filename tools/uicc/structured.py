@@ -4,11 +4,30 @@ and of the 5G system (3GPP TS 31.102, 4.2 and 4.4.11; 3GPP TS 31.103, 4.2; 3GPP 
 Each kind has a function that makes bytes of the fields, `encode_..`, and one that reads them, `.._of`; both raise BadContent."""
 import ipaddress
 
-from . import alphabet, rules
+from . import alphabet, tlv
 from .coding import (
     DIALLED, UPDATES, BadContent, coded_text, decode_plmn, dialled_digits, encode_plmn, exact_bytes, is_blank, is_digits, packed, text_of)
 
 BLANK = 0xFF
+
+
+def spelled(tag, value):
+    """An object of a file, with the shortest length (ISO 7816-4, 5.2.2.2)."""
+    return bytes((tag,)) + tlv.length_of(value) + value
+
+
+def objects(content):
+    """Each tag and value of a list of objects."""
+    at = 0
+    while at < len(content):
+        try:
+            length, start = tlv.length_at(content, at + 1)
+        except tlv.BadTlv as fault:
+            raise BadContent(f"the object {content[at]:02X}: {fault}") from None
+        if start + length > len(content):
+            raise BadContent(f"the object {content[at]:02X} has {length} bytes, and {len(content) - start} are there")
+        yield content[at], content[start:start + length]
+        at = start + length
 
 
 def objects_of(content):
@@ -16,20 +35,21 @@ def objects_of(content):
     content = bytes(content)
     end = content.rstrip(b"\xFF")
     try:
-        return list(rules.objects(end))
-    except rules.NoRule:
+        return list(objects(end))
+    except BadContent:
         # a value may end with FF
-        return list(rules.objects(content[:len(end) + missing(end)]))
+        return list(objects(content[:len(end) + missing(end)]))
 
 
 def missing(content):
     """How many bytes are missing of the last object."""
     at = 0
     while at + 1 < len(content):
-        length, head = content[at + 1], 2
-        if length == 0x81 and at + 2 < len(content):
-            length, head = content[at + 2], 3
-        at += head + length
+        try:
+            length, start = tlv.length_at(content, at + 1)
+        except tlv.BadTlv:
+            return 0
+        at = start + length
     return max(0, at - len(content))
 
 
@@ -131,7 +151,7 @@ def network_name_of(content):
 
 
 def encode_names(given, length):
-    content = b"".join(rules.spelled(tag, encode_network_name(given[key])) for key, tag in (("full", 0x43), ("short", 0x45)) if key in given)
+    content = b"".join(spelled(tag, encode_network_name(given[key])) for key, tag in (("full", 0x43), ("short", 0x45)) if key in given)
     return content.ljust(length or 0, b"\xFF")
 
 
@@ -160,7 +180,7 @@ def areas_of(record, size):
 
 
 def encode_displayed(plmns):
-    return rules.spelled(0xA3, rules.spelled(0x80, b"".join(map(encode_plmn, plmns))))
+    return spelled(0xA3, spelled(0x80, b"".join(map(encode_plmn, plmns))))
 
 
 def displayed_of(content):
@@ -251,14 +271,14 @@ def routing_of(content):
 def encode_concealing(given):
     """What the SUCI is calculated by: protection schemes with the place of their key, the most wanted first, and the home network's keys."""
     schemes = b"".join(bytes((one["scheme"], one.get("key", 0))) for one in given.get("schemes", []))
-    keys = b"".join(rules.spelled(0x80, bytes((one["id"],))) + rules.spelled(0x81, hexadecimal(one["key"]))
+    keys = b"".join(spelled(0x80, bytes((one["id"],))) + spelled(0x81, hexadecimal(one["key"]))
                     for one in given.get("keys", []))
-    return rules.spelled(0xA0, schemes) + rules.spelled(0xA1, keys)
+    return spelled(0xA0, schemes) + spelled(0xA1, keys)
 
 
 def concealing_of(content):
     found = dict(objects_of(content))
-    schemes, keys = found[0xA0], list(rules.objects(found.get(0xA1, b"")))
+    schemes, keys = found[0xA0], list(objects(found.get(0xA1, b"")))
     return {"schemes": [{"scheme": schemes[n], "key": schemes[n + 1]} for n in range(0, len(schemes) - 1, 2)],
             "keys": [{"id": keys[n][1][0], "key": keys[n + 1][1].hex().upper()} for n in range(0, len(keys) - 1, 2)]}
 
@@ -274,7 +294,7 @@ IDENTIFIERS = {"network_specific": 0x80, "global_line": 0x81, "global_cable": 0x
 
 
 def encode_identifiers(given):
-    return b"".join(rules.spelled(IDENTIFIERS[key], text.encode()) for key, text in given.items())
+    return b"".join(spelled(IDENTIFIERS[key], text.encode()) for key, text in given.items())
 
 
 def identifiers_of(content):
@@ -285,7 +305,7 @@ def identifiers_of(content):
 # identities and addresses of IMS
 
 def encode_uri(text, length):
-    return rules.spelled(0x80, text.encode()).ljust(length or 0, b"\xFF") if text else b""
+    return spelled(0x80, text.encode()).ljust(length or 0, b"\xFF") if text else b""
 
 
 def uri_of(content):
@@ -298,7 +318,7 @@ def encode_address(text, length):
         content = bytes((1 if number.version == 4 else 2,)) + number.packed
     except ValueError:
         content = b"\x00" + text.encode()
-    return rules.spelled(0x80, content).ljust(length or 0, b"\xFF") if text else b""
+    return spelled(0x80, content).ljust(length or 0, b"\xFF") if text else b""
 
 
 def server_of(content):

@@ -53,9 +53,13 @@ def template(content):
 
 def written(tag, value, flag=True):
     """An object, with the shortest length."""
+    return bytes((tag | 0x80 * flag,)) + length_of(value) + value
+
+
+def length_of(value):
+    """The shortest form of a value's length."""
     length = len(value)
-    head = bytes((length,)) if length < 0x80 else bytes((0x81, length)) if length < 0x100 else b"\x82" + length.to_bytes(2, "big")
-    return bytes((tag | 0x80 * flag,)) + head + value
+    return bytes((length,)) if length < 0x80 else bytes((0x81, length)) if length < 0x100 else b"\x82" + length.to_bytes(2, "big")
 
 
 def first(content, tag):

@@ -1,7 +1,7 @@
 """A card as a tree of its files with what they hold, its PINs and its applets."""
 import textwrap
 
-from . import contents, decode, kinds, names
+from . import contents, decode, kinds, layout, names
 from .follow import is_usim_card
 
 STRUCTURES = {"t": "transparent", "l": "linear fixed", "c": "cyclic"}
@@ -90,8 +90,9 @@ def lines(card, with_contents=True, whole=False):
     yield from below(card, (), "", usim, with_contents, whole)
     for pin in sorted(card.pins.values(), key=lambda pin: (0x01, 0x81, 0x0A).index(pin.key)):
         state = "enabled" if pin.enabled else "disabled"
-        yield (f"{names.key(pin.key)}: {decode.pin_value(pin.value)}, {state}, {pin.tries} tries left, unblocked by "
-               f"{decode.pin_value(pin.unblock)}, {pin.unblock_tries} tries left")
+        unblocked = ("can't be unblocked" if pin.key == layout.ADM else
+                     f"unblocked by {decode.pin_value(pin.unblock)}, {pin.unblock_tries} tries left")
+        yield f"{names.key(pin.key)}: {decode.pin_value(pin.value)}, {state}, {pin.tries} tries left, {unblocked}"
     for row in sorted(card.rows.values(), key=lambda row: row.shelf):
         known = kinds.of_program()
         yield f"applet on shelf {row.shelf}: {known.does_on(row.shelf)}, priority {row.priority}"
