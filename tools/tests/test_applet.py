@@ -225,8 +225,8 @@ def new_kind_event(code, body):
 
 
 class Words(Copy):
-    def told(self, *words, behind=False):
-        """The status, the lines and what is said on standard error; that the list of kinds is behind the sources stands among the lines only
+    def told(self, *words, out_of_date=False):
+        """The status, the lines and what is said on standard error; that the list of kinds is older than the sources stands among the lines only
         where that is asked for."""
         out, said = io.StringIO(), io.StringIO()
         place = os.path.join(self.folder, "kinds.json")
@@ -236,7 +236,7 @@ class Words(Copy):
                 mock.patch.object(sys, "argv", ["applet", *words]), contextlib.redirect_stdout(out), contextlib.redirect_stderr(said):
             status = applet.main()
         shown = out.getvalue().splitlines()
-        return status, [line for line in shown if behind or not line.startswith("kinds.json has other definitions")], said.getvalue()
+        return status, [line for line in shown if out_of_date or not line.startswith("kinds.json has other definitions")], said.getvalue()
 
     def test_words(self):
         status, shown, _ = self.told("new", "parrot", "--does", "says again what is typed")
@@ -404,11 +404,11 @@ class Words(Copy):
         """That the list of kinds has other definitions than the sources is told until it is written."""
         self.told("new", "parrot")
         self.change("parrot mind _ = done mind", "parrot mind Refused = done mind\nparrot mind _ = done mind", "applet_trait", "specs", "Tables.antt")
-        status, shown, _ = self.told("rows", behind=True)
+        status, shown, _ = self.told("rows", out_of_date=True)
         self.assertEqual((status, shown[0]), (0, "328 rows, 0 differ"))
         self.assertRegex(shown[1], r"^kinds\.json has other definitions, for the page and an installation: .* write$")
         self.told("write")
-        self.assertEqual(self.told("rows", behind=True)[1], ["328 rows, 0 differ"])
+        self.assertEqual(self.told("rows", out_of_date=True)[1], ["328 rows, 0 differ"])
 
     def test_what_there_is_to_use(self):
         """The page names each function by which the code makes an act, as it stands in acts.rt, and each name of an act's definition."""
