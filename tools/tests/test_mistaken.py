@@ -64,6 +64,18 @@ class Kinds(unittest.TestCase):
                     act()
                 self.assertEqual(mistaken.told(caught.exception), said)
 
+    def test_a_script_without_a_card(self):
+        """A script for `open`, cut as one for `play`: its commands find no file, and that is said."""
+        with tempfile.TemporaryDirectory() as folder, contextlib.chdir(folder):
+            for lines, said in (("start\napdu 00A40004023F00\n", "cuts: open.script describes no card before `start`"),
+                                ("df 7F10\nstart\napdu 00A40004027F10\n", "")):
+                with open("open.script", "w", encoding="ascii") as out:
+                    out.write(lines)
+                done = in_process("cuts", "open.script")
+                self.assertEqual(done.returncode, 0)
+                self.assertEqual(done.stderr.startswith(said), True, done.stderr)
+                self.assertEqual(bool(done.stderr), bool(said), done.stderr)
+
     def test_tools(self):
         with tempfile.TemporaryDirectory() as folder:
             for name, content in self.FILES.items():

@@ -216,6 +216,7 @@ class Mistakes(unittest.TestCase):
     HEAD = 'like = "usim"\n'
     # what stands after that line, and what is said
     TABLE = [
+        ('[EF_PIN]\nhex = "00"', ['line 2: [EF_PIN]: PINs are no files: they stand in [pins], as `pin1 = { value = "1234" }`']),
         ("[EF_IMSI]\nimsi = 262019876543210", ['line 3: [EF_IMSI] imsi is a number, and has to be text in quotes: imsi = "262019876543210"']),
         ("[EF_IMSI]\nimsi = 001010123456789",
          ["line 3: Expected newline or end of document after a statement: digits that begin with 0 stand in quotes"]),

@@ -68,7 +68,7 @@ def version_page():
 
 def run_program(words):
     """The launcher runs the program, and says what mends a run that ended badly."""
-    return subprocess.run([process.LAUNCHER, *words], check=False).returncode
+    return subprocess.run([process.LAUNCHER, *words], check=False, env=os.environ | {"UICC_CALLED": "uicc"}).returncode
 
 
 def run_tool(tool, words):

@@ -10,6 +10,7 @@ NO_PIN = "00000000"
 PIN_KEYS = {"pin1": 0x01, "pin2": 0x81, "adm": 0x0A}
 ARR = ("2F06",)
 # a path whose identifiers stand together, or with something else than a slash between them
+PIN_LIKE = re.compile(r"(?i)(?:^|_|\.)(?:pin|chv|puk|adm)\d?$")
 PATH_OTHERWISE = re.compile(r"[0-9A-Fa-f]{4}([.\\:_ -]?[0-9A-Fa-f]{4})+")
 # the keys at the top of a profile that name no file
 TOP = ("like", "pins", "default", "applet")
@@ -63,6 +64,8 @@ def identifier_of(part, folder, whole):
         several = PATH_OTHERWISE.fullmatch(part)
         if several:
             raise BadProfile(f"[{dump.printable(whole)}]: a path is written with slashes, [\"{'/'.join(re.findall('[0-9A-Fa-f]{4}', part))}\"]", whole)
+        if PIN_LIKE.search(part):
+            raise BadProfile(f"[{dump.printable(whole)}]: PINs are no files: they stand in [pins], as `pin1 = {{ value = \"1234\" }}`", whole)
         meant = names.near(part)
         raise BadProfile(f"[{dump.printable(whole)}] {dump.printable(part)}: no standard file is called so"
                          + (f", but {meant} is" if meant else "") + "; an identifier of four digits names any other", whole)
