@@ -25,6 +25,7 @@ deleting state channels file = record {
   passed = with_file_at state file.number None ∷ [];
 }
 
+-- DELETE FILE: what it comes to, or its refusal: P1 and P2, the data, no such file in the current DF, the condition of ADM1, a DF in use
 unfoldable pub deleted : Persistent → Verified → List (Option Selection) → ℕ → Apdu → Result TreeOutcome StatusWord
 deleted state seen channels channel apdu =
     needs (has_no_parameters apdu) WRONG_PARAMETERS (

@@ -61,20 +61,23 @@ told verified tries = record { status = tries_left tries; verified = verified; p
 
 -- ---- the tests that all five have
 
+-- P1 is 00; P2 is the key
 abbrev pub has_pin_parameters : Apdu → Bool
 has_pin_parameters apdu = apdu.p1 == 0x00
 
--- the first eight bytes of data, and those behind them
+-- the value that is presented: the first eight bytes of data
 abbrev pub value_presented : Apdu → List ℕ
 value_presented apdu = take 8 apdu.body
 
+-- the new value of the PIN: the data behind the first eight bytes
 abbrev pub new_value : Apdu → List ℕ
 new_value apdu = drop 8 apdu.body
 
--- a key that has a PIN; the administrator's cannot be disabled, enabled or unblocked
+-- the user's keys 01 and 81, whose PINs alone can be disabled, enabled and unblocked
 abbrev pub is_users_key : ℕ → Bool
 is_users_key key = key == PIN_1 || key == PIN_2
 
+-- the keys that have a PIN: 01, 81 and the administrator's, 0A
 abbrev pub is_pin_key : ℕ → Bool
 is_pin_key key = is_users_key key || key == ADM_1
 
@@ -86,11 +89,13 @@ pin_addressed pins apdu is_length is_key next =
     needs is_key REFERENCE_NOT_FOUND (
     given (pin_found pins apdu.p2) REFERENCE_NOT_FOUND next)))
 
+-- no tries are left
 abbrev pub is_blocked : Pin → Bool
 is_blocked pin = pin.tries == 0
 
 -- ---- the commands
 
+-- VERIFY PIN: what it comes to, or its refusal. Without data it asks how many tries are left; a right value of an enabled PIN sets the key's mark.
 unfoldable pub pin_verified : List Pin → Verified → Apdu → Result PinOutcome StatusWord
 pin_verified pins verified apdu =
     pin_addressed pins apdu (has_no_data apdu || length apdu.body == 8) (is_pin_key apdu.p2) (λ pin.
@@ -99,6 +104,7 @@ pin_verified pins verified apdu =
     else needs pin.is_enabled PIN_DISABLED (
     Ok (pin_presented pins verified pin (value_presented apdu) pin (marked verified pin.key true)))))
 
+-- CHANGE PIN: what it comes to, or its refusal. A right value of an enabled PIN brings in the new one and sets the key's mark.
 unfoldable pub pin_changed : List Pin → Verified → Apdu → Result PinOutcome StatusWord
 pin_changed pins verified apdu =
     pin_addressed pins apdu (length apdu.body == 16) (is_pin_key apdu.p2) (λ pin.
@@ -114,6 +120,7 @@ pin_disabled pins verified apdu =
     needs pin.is_enabled PIN_DISABLED (
     Ok (pin_presented pins verified pin (value_presented apdu) (record pin { is_enabled = false }) verified))))
 
+-- ENABLE PIN: what it comes to, or its refusal. A right value of a disabled PIN enables it and sets the key's mark.
 unfoldable pub pin_enabled : List Pin → Verified → Apdu → Result PinOutcome StatusWord
 pin_enabled pins verified apdu =
     pin_addressed pins apdu (length apdu.body == 8) (is_users_key apdu.p2) (λ pin.
@@ -121,6 +128,8 @@ pin_enabled pins verified apdu =
     refused_if pin.is_enabled CONDITIONS_NOT_SATISFIED (
     Ok (pin_presented pins verified pin (value_presented apdu) (record pin { is_enabled = true }) (marked verified pin.key true)))))
 
+-- UNBLOCK PIN: what it comes to, or its refusal. Without data it asks how many tries of the UNBLOCK PIN are left; a right one brings in the new
+-- value, enables the PIN and sets the key's mark.
 unfoldable pub pin_unblocked : List Pin → Verified → Apdu → Result PinOutcome StatusWord
 pin_unblocked pins verified apdu =
     pin_addressed pins apdu (has_no_data apdu || length apdu.body == 16) (is_users_key apdu.p2) (λ pin.
