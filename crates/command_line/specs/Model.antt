@@ -78,6 +78,7 @@ pub record AreChosen (before : ℕ) (words : List (List ℕ)) (transport : Trans
   pub transport_is : options.transport ≡ transport
   pub devices_are : devices ≡ devices_of options
 
+-- the words are a command and its options, and ask for a run in this mode, over these devices
 pub record IsRequest (words : List (List ℕ)) (asked : Request) : Type 0 where
   pub options : List (List ℕ)
   pub begins : IsCommand words options asked.mode
