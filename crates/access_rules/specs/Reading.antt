@@ -31,7 +31,7 @@ pub record Part : Type 0 where
 unfoldable pub part_of : ℕ → ℕ → List ℕ → Option Part
 part_of tag n bytes = if nat_le n (length bytes) then Some (record { tag = tag; value = take n bytes; rest = drop n bytes }) else None
 
--- the object at the front, with a tag of one byte; None where it is cut short, or has no length of this form
+-- the object at the front, and what follows it: a tag of one byte, a length of at most 255, and as many bytes of value; None where it is cut short
 unfoldable pub part_in : List ℕ → Option Part
 part_in [] = None
 part_in (tag ∷ bytes) = option_and_then (λ found. part_of tag found.0 found.1) (length_in bytes)

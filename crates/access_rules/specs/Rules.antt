@@ -13,7 +13,8 @@ pub record Naming : Type 0 where
   pub bit : ℕ
   pub instruction : ℕ
 
--- READ BINARY, READ RECORD and SEARCH RECORD share a bit, and so do UPDATE BINARY and UPDATE RECORD; INCREASE has none
+-- the bit and the instruction byte of each operation: READ BINARY, READ RECORD and SEARCH RECORD share a bit, and so do UPDATE BINARY and UPDATE
+-- RECORD; INCREASE has none
 abbrev pub naming : Op → Naming
 naming ReadBinary = record { bit = 0x01; instruction = 0xB0 }
 naming ReadRecord = record { bit = 0x01; instruction = 0xB2 }

@@ -178,7 +178,9 @@ unfoldable pub row_from : ℕ → ℕ → List ActionRow → Option (ℕ × Acti
 row_from from event all =
     find (λ placed. nat_le from placed.0 && (placed.1.event == event)) (enumerate_from 0 all)
 
--- what each action does with its argument, in phase 1 then; an action that is not known leaves nothing to do
+-- what an action does with its argument: it shows it as a text (01), plays it as a tone (02), sends MORE TIME (03), PROVIDE LOCAL INFORMATION (04),
+-- REFRESH (05) or GET INKEY (06), registers for the event (07) or deregisters (08), shows it when idle (09), or asks for a timer (0A); at another
+-- action the applet is done
 abbrev pub acting : AppletState → ℕ → ℕ → Turn
 acting mind action argument =
     if action == SHOW then turn mind (show (argument ∷ [])) 1
@@ -193,7 +195,7 @@ acting mind action argument =
     else (if action == TAKE_TIMER then turn mind TakeTimer 1
     else done mind)))))))))
 
--- the row that was found is acted on; where none was, the applet is done
+-- the row that was found is acted on, and its place is held with the event's code; where none was found, the applet is done
 abbrev pub at_row : AppletState → ℕ → Option (ℕ × ActionRow) → Turn
 at_row mind code None = done mind
 at_row mind code (Some (place, row)) =

@@ -33,7 +33,7 @@ pub record IsSound (channel : BipChannel) : Type 0 where
   pub stored_bound : length channel.stored ≤ channel.size
   pub size_bound : channel.size ≤ MOST_SIZE
 
--- a channel that was just opened, with a buffer of this size
+-- a channel that was just opened, with a buffer of this size: nothing is kept, and nothing was sent, came back or was taken
 abbrev pub new_channel : ℕ → BipChannel
 new_channel size = record { size = size; stored = []; sent = []; back = 0; taken = 0; dropped = false }
 
@@ -56,11 +56,11 @@ pub record Outcome (X : Type 0) : Type 0 where
   pub channel : X
   pub reply : List Object
 
--- an outcome by its parts
+-- what became of a channel, and the reply, by its parts
 abbrev pub outcome : {X : Type 0} → X → List Object → Outcome X
 outcome channel reply = record { channel = channel; reply = reply }
 
--- the channel stays open
+-- what became of a channel, which stays open
 abbrev pub still_open : Outcome BipChannel → Outcome (Option BipChannel)
 still_open x = outcome (Some x.channel) x.reply
 
@@ -84,12 +84,12 @@ abbrev pub with_bytes : List ℕ → Bool → BipChannel → BipChannel
 with_bytes bytes false channel = record channel { stored = channel.stored ++ bytes }
 with_bytes bytes true channel = record channel { stored = []; sent = channel.sent ++ (channel.stored ++ bytes) }
 
--- the bytes are taken, and the reply says how much room is left to keep bytes for later
+-- the bytes are taken, and the reply says how much room is left for bytes that are kept (6.4.30)
 abbrev pub accepting : List ℕ → Bool → BipChannel → Outcome BipChannel
 accepting bytes now channel =
     outcome (with_bytes bytes now channel) (performed (count_object (free (with_bytes bytes now channel)) ∷ []))
 
--- SEND DATA: where the bytes don't fit the terminal is unable to
+-- SEND DATA: the bytes are taken where they fit, and else the terminal is unable to process the command
 abbrev pub sending : List ℕ → Bool → BipChannel → Outcome BipChannel
 sending bytes now channel =
     if fits channel.size (outgoing channel) (length channel.stored) (length bytes) now then accepting bytes now channel else outcome channel unable
@@ -98,12 +98,12 @@ sending bytes now channel =
 abbrev pub with_taken : ℕ → BipChannel → BipChannel
 with_taken count channel = record channel { taken = channel.taken + count }
 
--- so many bytes are taken, and the reply says how many still wait
+-- so many bytes are taken; the reply brings them, and says whether they are fewer than were asked for and how many still wait
 abbrev pub taking : ℕ → ℕ → BipChannel → Outcome BipChannel
 taking asked count channel =
     outcome (with_taken count channel) (taken_bytes (is_short count asked) (take count (drop channel.taken channel.sent)) (waiting (with_taken count channel)))
 
--- RECEIVE DATA: as many bytes as were asked for, or as wait, or as one response has room for
+-- RECEIVE DATA: as many bytes as were asked for, but no more than wait and than one response has room for
 abbrev pub receiving : ℕ → BipChannel → Outcome BipChannel
 receiving asked channel = taking asked (received asked (waiting channel)) channel
 
@@ -127,7 +127,7 @@ abbrev pub opening_at : ℕ → List (Option BipChannel) → Option ℕ → Carr
 opening_at size channels None = carried channels (protocol_error NONE_AVAILABLE)
 opening_at size channels (Some place) = carried (slice_set channels place (Some (new_channel size))) (opened (place + 1) size)
 
--- OPEN CHANNEL: a channel of this size, if it is a size that the terminal has
+-- OPEN CHANNEL: the first channel that isn't open, if the size of the buffer is one that the terminal has
 abbrev pub opening : ℕ → List (Option BipChannel) → Carried (Option BipChannel)
 opening size channels =
     if is_available size then opening_at size channels (position is_none channels) else carried channels (protocol_error SIZE_NOT_AVAILABLE)
@@ -147,7 +147,7 @@ statuses number [] = []
 statuses number (None ∷ others) = statuses (number + 1) others
 statuses number (Some channel ∷ others) = status_object number channel.dropped ∷ statuses (number + 1) others
 
--- what each command comes to
+-- what each command comes to: RECEIVE DATA and SEND DATA need a channel that is open and whose link is up, CLOSE CHANNEL one that is open
 unfoldable pub carried_out : BipCommand → List (Option BipChannel) → Carried (Option BipChannel)
 carried_out (OpenChannel size) channels = opening size channels
 carried_out (CloseChannel number) channels = on_channel number closing channels
@@ -160,7 +160,7 @@ pub record Answered : Type 0 where
   pub channels : List (Option BipChannel)
   pub response : List ℕ
 
--- the answer to a command that was read, or to one that couldn't be
+-- a command that was read is carried out; one that couldn't be read changes no channel, and is answered with the result for its fault
 abbrev pub answering : List ℕ → List (Option BipChannel) → Result (Details × BipCommand) ProactiveFault → Answered
 answering bytes channels (Ok x) =
     record { channels = (carried_out x.1 channels).channels; response = response x.0 (carried_out x.1 channels).reply }
@@ -182,7 +182,7 @@ pub record Noted (X : Type 0) : Type 0 where
 abbrev pub noted : {X : Type 0} → X → Option (List ℕ) → Noted X
 noted channel event = record { channel = channel; event = event }
 
--- it becomes of a channel that is open and whose link is up; any other stays as it is, and nothing is told
+-- what becomes of a channel that is open and whose link is up; any other stays as it is, and nothing is told
 abbrev pub if_linked : (BipChannel → Noted BipChannel) → Option BipChannel → Noted (Option BipChannel)
 if_linked work None = noted None None
 if_linked work (Some channel) =
@@ -192,12 +192,12 @@ if_linked work (Some channel) =
 abbrev pub with_back : ℕ → BipChannel → BipChannel
 with_back count channel = record channel { back = channel.back + count }
 
--- so many bytes come back, and the card is told how many wait; where none do, nothing is told
+-- so many bytes come back, and the card is told how many wait now; where none come, nothing is told
 abbrev pub coming : ℕ → ℕ → BipChannel → Noted BipChannel
 coming number count channel =
     if count == 0 then noted channel None else noted (with_back count channel) (Some (bytes_available number (waiting (with_back count channel))))
 
--- the far end is to give so many bytes back, and gives as many as it has and as there is room for
+-- the far end is to give so many bytes back: as many come as it has, and as there is room for
 abbrev pub echoing : ℕ → ℕ → BipChannel → Noted BipChannel
 echoing number count channel = coming number (moved count channel.size (outgoing channel) (waiting channel)) channel
 
@@ -214,7 +214,7 @@ pub record Reported (X : Type 0) : Type 0 where
 abbrev pub reported : {X : Type 0} → List X → Option (List ℕ) → Reported X
 reported channels event = record { channels = channels; event = event }
 
--- what became of the channel at a place, and the event
+-- what became of the channels where this happens to the one at this place, and the event
 abbrev pub noted_at : {X : Type 0} → ℕ → X → (X → Noted X) → List X → Reported X
 noted_at place none work channels =
     reported (slice_set channels place (work (slice_index_or channels place none)).channel) (work (slice_index_or channels place none)).event

@@ -34,7 +34,7 @@ abbrev pub begins_with : ℕ → List ℕ → Bool
 begins_with general [] = false
 begins_with general (first ∷ others) = first == general
 
--- the first object of a reply is its result, and says that the command was performed
+-- the first object of a reply is its result, and it says that the command was performed (00)
 abbrev pub is_performed : List Object → Bool
 is_performed [] = false
 is_performed (result ∷ objects) = begins_with PERFORMED result.value

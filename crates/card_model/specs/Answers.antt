@@ -145,7 +145,7 @@ then_polled answered =
     let later = on_toolkit answered.state (coming_to answered.state [] (polled (toolkit_of answered.state))) in
     record answered { state = later.state; commits = answered.commits ++ later.commits }
 
--- the command is STATUS
+-- the instruction is that of STATUS
 abbrev pub is_status : Instruction → Bool
 is_status (File Status) = true
 is_status _ = false

@@ -32,8 +32,8 @@ instruction_row class ins instruction = record { class = class; ins = ins; instr
 abbrev pub basic_row : ℕ → ℕ → Instruction → InstructionRow
 basic_row class ins instruction = record { class = class; ins = ins; instruction = instruction; is_basic = true }
 
--- the commands of ETSI TS 102 221; those of the class F0, INSTALL and DELETE of an applet, which are the card's own; and CREATE, DELETE and RESIZE
--- FILE (ETSI TS 102 222)
+-- the commands of ETSI TS 102 221; INSTALL and DELETE of an applet, which are the card's own, in class F0; CREATE, DELETE and RESIZE FILE of
+-- ETSI TS 102 222
 abbrev pub instructions : List InstructionRow
 instructions =
     instruction_row 0x00 0xA4 (File Select)

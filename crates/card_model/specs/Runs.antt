@@ -128,7 +128,7 @@ plans_joined waiting plan = record {
 abbrev pub due : Plan → List Plan
 due waiting = if names_fault waiting then waiting ∷ [] else []
 
--- what the steps set where this plan waits: before each command and each reset the plans that came up to it, joined to one
+-- the plans that the steps set, where this one waits before them: before each command and each reset all that came up to it, joined to one
 abbrev pub armed_after : Plan → List Step → List Plan
 armed_after waiting [] = []
 armed_after waiting (step.Plan plan ∷ more) = armed_after (plans_joined waiting plan) more

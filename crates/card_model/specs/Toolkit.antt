@@ -47,7 +47,7 @@ states_passed persistent outcome = map (with_rows persistent outcome.next_sequen
 
 -- ---- TERMINAL PROFILE (11.2.1)
 
--- TERMINAL PROFILE: what it comes to, or its refusal
+-- TERMINAL PROFILE: what it comes to; it is refused where P1 and P2 are not 00 (6A86) and without data (6700)
 unfoldable pub profile_taken : CardState → Apdu → Result ToolkitOutcome StatusWord
 profile_taken card apdu =
     needs (has_no_parameters apdu) WRONG_PARAMETERS (

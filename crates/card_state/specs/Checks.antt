@@ -139,7 +139,7 @@ has_short_of node other = is_sibling node other && is_ef_kind other.kind && othe
 abbrev pub is_new_short : List Node → Node → Bool
 is_new_short earlier node = not (list_any (has_short_of node) earlier)
 
--- a short file identifier is 0 for none, or 1 to 30 and that of no other of these EFs in the DF (ETSI TS 102 221, 11.1.1.4.8)
+-- a short file identifier is 0 for none, or at most 30 and that of none of these EFs in the same DF (ETSI TS 102 221, 11.1.1.4.8)
 abbrev pub has_own_short : List Node → Node → Bool
 has_own_short earlier node = nat_le node.short 30 && (node.short == 0 || is_new_short earlier node)
 
@@ -147,11 +147,11 @@ has_own_short earlier node = nat_le node.short 30 && (node.short == 0 || is_new_
 abbrev pub lies_among_files : Bool → Node → Bool
 lies_among_files wide node = nat_le data_place node.place && nat_le 1 node.size && nat_le (node.place + node.size) (data_end wide)
 
--- no byte of this EF is one of these EFs'
+-- none of these EFs has a byte of this one
 abbrev pub shares_no_byte : List Node → Node → Bool
 shares_no_byte earlier node = list_all (λ other. not (is_ef_kind other.kind) || is_apart node other) earlier
 
--- the bytes of an EF lie where those of the files may, and none of them is one of these EFs'
+-- the bytes of an EF lie where those of the files may, and none of these EFs has one of them
 abbrev pub has_own_bytes : Bool → List Node → Node → Bool
 has_own_bytes wide earlier node = lies_among_files wide node && shares_no_byte earlier node
 

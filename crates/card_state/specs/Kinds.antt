@@ -46,8 +46,8 @@ activated = ACTIVATED
 abbrev pub deactivated : ℕ
 deactivated = DEACTIVATED
 
--- each event that an applet may be registered for, by its code, with its bit; the codes below 40 are the standard's (ETSI TS 102 223, 8.25), those
--- from 40 on the card's own
+-- each event that an applet may be registered for: its code, and its bit in a row. The codes below 40 are the standard's (ETSI TS 102 223, 8.25),
+-- those from 40 on the card's own.
 abbrev pub event_codes : List (ℕ × ℕ)
 event_codes =
     (MT_CALL, 0) ∷ (CALL_CONNECTED, 1) ∷ (CALL_DISCONNECTED, 2) ∷ (LOCATION_STATUS, 3) ∷ (USER_ACTIVITY, 4) ∷ (IDLE_SCREEN, 5) ∷ (LANGUAGE_SELECTION, 6)

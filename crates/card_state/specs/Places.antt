@@ -34,7 +34,7 @@ row_place shelf = if nat_lt shelf LOWER_ROW_COUNT then ROWS + ROW_STRIDE * shelf
 abbrev pub kept_place : ℕ → ℕ
 kept_place shelf = KEPT_APART + KEPT_WIDTH * shelf
 
--- the entry of the file of this number
+-- where the entry of the file of this number stands
 abbrev pub node_place : ℕ → ℕ
 node_place number = NODES + NODE_WIDTH * number
 
@@ -42,7 +42,7 @@ node_place number = NODES + NODE_WIDTH * number
 abbrev pub data_place : ℕ
 data_place = DATA
 
--- where the bytes of the files end: at 63,488 on a wide card, and with the memory on a narrow one
+-- where the bytes of the files end: at 63,488 on a wide card, and at the end of the memory on a narrow one
 abbrev pub data_end : Bool → ℕ
 data_end wide = if wide then UPPER_ROWS else MEMORY_SIZE
 

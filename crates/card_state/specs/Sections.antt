@@ -257,7 +257,7 @@ record_filled state number index bytes (Records old) =
 record_filled state number index bytes Files = Err Bad
 record_filled state number index bytes (Bytes old) = Err Bad
 
--- a line about the file at a path, which has to be there
+-- a line about a file at a path: the file has to be there
 abbrev pub if_file : Option File → (File → Result Persistent SectionFault) → Result Persistent SectionFault
 if_file None known = Err Bad
 if_file (Some file) known = known file

@@ -44,7 +44,7 @@ channel_opened channels selection apdu =
     given (closed_channel channels) NO_FREE_CHANNEL (λ channel.
     Ok (record { body = channel ∷ []; channels = slice_set channels channel (Some (first_selection (channel_of apdu.class) selection)) })))
 
--- closing takes no data and gives none, and the channel has to be open
+-- the channel in P2 is closed: the command has no data (6700), and the channel has to be open (6985)
 abbrev pub channel_closed : List (Option Selection) → Apdu → Result ChannelOutcome StatusWord
 channel_closed channels apdu =
     needs (has_no_data apdu) WRONG_LENGTH (

@@ -82,7 +82,8 @@ creating state channels channel file = record {
 abbrev pub created_if_room : Persistent → List (Option Selection) → ℕ → NewFile → Result TreeOutcome StatusWord
 created_if_room state channels channel asked = given (made_in state (df_on channels channel) asked) NO_ROOM (λ file. Ok (creating state channels channel file))
 
--- CREATE FILE: what it comes to, or its refusal: P1 and P2, the data, the condition of ADM1, the template, a file that is there already, no room
+-- CREATE FILE: what it comes to; it is refused where P1 and P2 are not 00 (6A86), without data (6700), where the condition of ADM1 is not satisfied
+-- (6982), where the data are no template (6A80), and where the current DF has the file already (6A89) or the card no room (6A84)
 unfoldable pub created : Persistent → Verified → List (Option Selection) → ℕ → Apdu → Result TreeOutcome StatusWord
 created state seen channels channel apdu =
     needs (has_no_parameters apdu) WRONG_PARAMETERS (

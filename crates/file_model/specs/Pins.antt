@@ -95,7 +95,8 @@ is_blocked pin = pin.tries == 0
 
 -- ---- the commands
 
--- VERIFY PIN: what it comes to, or its refusal. Without data it asks how many tries are left; a right value of an enabled PIN sets the key's mark.
+-- VERIFY PIN: what it comes to. Eight bytes are presented, and a right value sets the key's mark; without data it asks how many tries are left. It is
+-- refused for a blocked PIN (6983), and with data for a disabled one (6984).
 unfoldable pub pin_verified : List Pin → Verified → Apdu → Result PinOutcome StatusWord
 pin_verified pins verified apdu =
     pin_addressed pins apdu (has_no_data apdu || length apdu.body == 8) (is_pin_key apdu.p2) (λ pin.
@@ -104,7 +105,8 @@ pin_verified pins verified apdu =
     else needs pin.is_enabled PIN_DISABLED (
     Ok (pin_presented pins verified pin (value_presented apdu) pin (marked verified pin.key true)))))
 
--- CHANGE PIN: what it comes to, or its refusal. A right value of an enabled PIN brings in the new one and sets the key's mark.
+-- CHANGE PIN: what it comes to. The old value is presented; where it is right the PIN has the new one, and the key's mark is set. It is refused for a
+-- blocked PIN (6983) and a disabled one (6984).
 unfoldable pub pin_changed : List Pin → Verified → Apdu → Result PinOutcome StatusWord
 pin_changed pins verified apdu =
     pin_addressed pins apdu (length apdu.body == 16) (is_pin_key apdu.p2) (λ pin.
@@ -112,7 +114,8 @@ pin_changed pins verified apdu =
     needs pin.is_enabled PIN_DISABLED (
     Ok (pin_presented pins verified pin (value_presented apdu) (record pin { value = new_value apdu }) (marked verified pin.key true)))))
 
--- the mark stays
+-- DISABLE PIN: what it comes to. A right value disables the PIN, and the key's mark stays. It is refused for a blocked PIN (6983) and a disabled one
+-- (6984).
 unfoldable pub pin_disabled : List Pin → Verified → Apdu → Result PinOutcome StatusWord
 pin_disabled pins verified apdu =
     pin_addressed pins apdu (length apdu.body == 8) (is_users_key apdu.p2) (λ pin.
@@ -120,7 +123,8 @@ pin_disabled pins verified apdu =
     needs pin.is_enabled PIN_DISABLED (
     Ok (pin_presented pins verified pin (value_presented apdu) (record pin { is_enabled = false }) verified))))
 
--- ENABLE PIN: what it comes to, or its refusal. A right value of a disabled PIN enables it and sets the key's mark.
+-- ENABLE PIN: what it comes to. A right value enables the PIN and sets the key's mark. It is refused for a blocked PIN (6983) and an enabled one
+-- (6985).
 unfoldable pub pin_enabled : List Pin → Verified → Apdu → Result PinOutcome StatusWord
 pin_enabled pins verified apdu =
     pin_addressed pins apdu (length apdu.body == 8) (is_users_key apdu.p2) (λ pin.
@@ -128,8 +132,8 @@ pin_enabled pins verified apdu =
     refused_if pin.is_enabled CONDITIONS_NOT_SATISFIED (
     Ok (pin_presented pins verified pin (value_presented apdu) (record pin { is_enabled = true }) (marked verified pin.key true)))))
 
--- UNBLOCK PIN: what it comes to, or its refusal. Without data it asks how many tries of the UNBLOCK PIN are left; a right one brings in the new
--- value, enables the PIN and sets the key's mark.
+-- UNBLOCK PIN: what it comes to. The UNBLOCK PIN is presented; where it is right the PIN has the new value and is enabled, and the key's mark is set.
+-- Without data it asks how many tries the UNBLOCK PIN has left. It is refused where that has none (6983).
 unfoldable pub pin_unblocked : List Pin → Verified → Apdu → Result PinOutcome StatusWord
 pin_unblocked pins verified apdu =
     pin_addressed pins apdu (has_no_data apdu || length apdu.body == 16) (is_users_key apdu.p2) (λ pin.

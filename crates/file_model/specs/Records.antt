@@ -234,7 +234,7 @@ number_to_search file selection apdu =
     refused_if (nat_lt file.width (length apdu.body)) WRONG_LENGTH (
     Ok from))
 
--- from the test of access on: the record where the search begins has to be there, and the data may be as long as a record
+-- from the test of access on: the record where the search begins has to be there, and the data may not be longer than a record
 unfoldable pub search_in : Persistent → Verified → Selection → Apdu → Descriptor → Result FileOutcome StatusWord
 search_in state seen selection apdu file =
     needs (may state Search seen file) SECURITY_NOT_SATISFIED (
@@ -297,7 +297,7 @@ sum_to_write state apdu file =
     refused_if (nat_le (256 ^ file.width) (sum_of state file apdu)) OVERFLOW (
     Ok (bytes_of file.width (sum_of state file apdu))))
 
--- from the test of access on: the data may be as long as a record, and the sum has to fit into one
+-- from the test of access on: the data may not be longer than a record, and the sum has to fit into one
 unfoldable pub increase_in : Persistent → Verified → Selection → Apdu → Descriptor → Result FileOutcome StatusWord
 increase_in state seen selection apdu file =
     needs (may state Increase seen file) SECURITY_NOT_SATISFIED (

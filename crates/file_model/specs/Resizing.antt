@@ -64,8 +64,9 @@ resizing state channels size file = record {
 abbrev pub resized_if_room : Persistent → List (Option Selection) → ℕ → Descriptor → Result TreeOutcome StatusWord
 resized_if_room state channels size file = refused_if (has_no_room state size file) NO_ROOM (Ok (resizing state channels size file))
 
--- RESIZE FILE: what it comes to, or its refusal: P1 and P2, the data, no such file in the current DF, one that isn't transparent or is deactivated,
--- the condition of ADM1, the size, no room
+-- RESIZE FILE: what it comes to. Its data are the card's own, an identifier and a size. It is refused where P1 and P2 are not 00 (6A86), where the
+-- data are not four bytes (6700) or name no file of the current DF (6A82), where the file is not transparent (6981) or is deactivated (6985), where
+-- the condition of ADM1 is not satisfied (6982), where no file has that size (6A80), and where there is no room (6A84).
 unfoldable pub resized : Persistent → Verified → List (Option Selection) → ℕ → Apdu → Result TreeOutcome StatusWord
 resized state seen channels channel apdu =
     needs (has_no_parameters apdu) WRONG_PARAMETERS (

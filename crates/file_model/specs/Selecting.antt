@@ -38,7 +38,7 @@ selecting state apdu file = record {
   passed = [];
 }
 
--- SELECT: what it comes to, or its refusal
+-- SELECT: what it comes to; it is refused for P1 and P2 (6A86), for the length of the data (6700), and where no such file is found (6A82)
 unfoldable pub file_selected : Persistent → Selection → Apdu → Result FileOutcome StatusWord
 file_selected state selection apdu =
     needs (has_select_parameters apdu) WRONG_PARAMETERS (
@@ -61,7 +61,7 @@ telling state selection apdu df = record {
   passed = [];
 }
 
--- STATUS: what it comes to, or its refusal
+-- STATUS: what it comes to; it is refused for P1 and P2 (6A86) and with data (6700)
 unfoldable pub status_told : Persistent → Selection → Apdu → Result FileOutcome StatusWord
 status_told state selection apdu =
     needs (has_status_parameters apdu) WRONG_PARAMETERS (

@@ -82,7 +82,7 @@ abbrev pub brought : LastSent → Answer → Option Held
 brought Fetching answer = as_held (proactive_of answer.body)
 brought _ answer = None
 
--- something changed by the command that came, or as it was where none came
+-- something as the command changes it that came, or as it was where none came
 abbrev pub with_command : {A : Type 0} → (Proactive → A → A) → Option Held → A → A
 with_command change None old = old
 with_command change (Some held) old = change held.command old

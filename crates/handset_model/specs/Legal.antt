@@ -37,8 +37,8 @@ next_item h = item_of (asked h)
 abbrev pub MayLosePower : Duty → Type 0
 MayLosePower duty = (duty ≡ Await) ⊎ (duty ≡ ResetCard)
 
--- what happened is what was to be done: a line is read where nothing is left to do, an answer comes where one is awaited, and a command, a note or a
--- reset is the one that was asked for
+-- what happened is what was to be done: a line is read where nothing is left to do; a command, a note or a reset is the one that was asked for; an
+-- answer comes, or no power is found, where an answer is awaited; power is lost there or in a reset
 abbrev pub IsAsked : Happened → Duty → Type 0
 IsAsked (Said line) duty = duty ≡ Rest
 IsAsked (Sent command) duty = duty ≡ Transmit command

@@ -69,7 +69,7 @@ fetch_or_settle (Some size) known = Transmit (Fetch size)
 
 -- ---- carrying out a proactive command
 
--- the location is told; without one the handset is unable to (8.12)
+-- the location is told; where none is known the handset is unable to process the command
 abbrev pub located : Option (List ℕ) → Reply
 located None = Unable
 located (Some place) = Located place
@@ -148,12 +148,12 @@ answered Another answer known = followed answer known
 
 -- ---- what follows a note
 
--- the held command, if there is one, was performed
+-- the held command, if there is one, is answered as performed
 abbrev pub respond_done : Option Held → Duty
 respond_done held = with_held held (λ command. respond command (Result PERFORMED))
 
--- by the note: a text, a question and a choice wait for the user; a menu, a tone and an idle text were performed; after call control the announced
--- command is fetched; a busy card is left alone
+-- by the note: a text, a question and a choice wait for the user; a menu, a tone and an idle text are answered as performed; after call control the
+-- announced command is fetched; a busy card is left alone
 abbrev pub noted : Note → Known → Duty
 noted (Text text) known = settled known
 noted (Ask text) known = settled known

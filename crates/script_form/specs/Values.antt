@@ -124,8 +124,8 @@ identifier_bytes identifier = identifier.0 / 256 ∷ identifier.0 % 256 ∷ []
 abbrev pub IsFourDigits : List ℕ → FileId → Type 0
 IsFourDigits word identifier = IsSized 2 word (identifier_bytes identifier)
 
--- An identifier that a file other than the MF may have: it is neither the MF's nor that of the current application,
--- which are reserved (ETSI TS 102 221, 8.2).
+-- An identifier that a file other than the MF may have: it is neither the MF's nor that of the current application, which are reserved
+-- (ETSI TS 102 221, 8.6).
 pub record IsFree (identifier : FileId) : Type 0 where
   pub not_mf : identifier.0 ≢ MF.0
   pub not_application : identifier.0 ≢ CURRENT_ADF.0

@@ -34,12 +34,12 @@ registered_told code body state = in_turn (told_one code body) (targets state.ro
 abbrev pub with_profile : ToolkitState → List ℕ → ToolkitState
 with_profile state bytes = with_session state (record state.session { profile = Some (consulted bytes) })
 
--- TERMINAL PROFILE (11.2.1): the profile is taken, the applets that are registered for it run, and then what came late and the next command have
--- their turn
+-- TERMINAL PROFILE (11.2.1): the profile is taken, and the applets that are registered for it run; then idle applets catch up, and the next command
+-- goes out
 unfoldable pub profiled : List ℕ → ToolkitState → Passed
 profiled bytes state = before (registered_told PROFILE_DOWNLOAD bytes (with_profile state bytes)) driven
 
--- STATUS as an event: the applets that are registered for it run, and then what came late and the next command have their turn
+-- STATUS as an event: the applets that are registered for it run; then idle applets catch up, and the next command goes out
 unfoldable pub polled : ToolkitState → Passed
 polled state = before (registered_told STATUS_COMMAND [] state) driven
 
@@ -109,7 +109,7 @@ triggered envelope state =
     let trigger = triggered_by envelope state in
     in_turn (given_one trigger.code trigger.body) trigger.shelves (reported envelope state)
 
--- ENVELOPE (11.2.2): the applets that it triggers run or are told late, and then what came late and the next command have their turn
+-- ENVELOPE (11.2.2): the applets that it triggers run or are told late; then idle applets catch up, and the next command goes out
 unfoldable pub enveloped : Envelope → ToolkitState → Passed
 enveloped envelope state = before (triggered envelope state) driven
 
@@ -135,7 +135,7 @@ call_data envelope state = if is_call envelope then call_data_of (last_answer (t
 
 -- ---- FETCH and TERMINAL RESPONSE
 
--- the outstanding command, if there is one and the handset has fetched it, or has not fetched it
+-- the outstanding command, if there is one, and if the handset has fetched it or has not, as is asked
 abbrev pub if_fetched : Bool → Option Outstanding → Option Outstanding
 if_fetched is_fetched None = None
 if_fetched is_fetched (Some out) = if is_fetched then (if out.is_fetched then Some out else None) else (if out.is_fetched then None else Some out)
@@ -184,7 +184,7 @@ with_nothing_out state = with_session state (record state.session { out = None }
 unfoldable pub answered : Outstanding → Reply → ToolkitState → Passed
 answered out reply state = noting (Responded out reply ∷ []) (resumed out.owner reply (with_nothing_out state))
 
--- TERMINAL RESPONSE (11.2.4): the command is answered, and then what came late and the next command have their turn
+-- TERMINAL RESPONSE (11.2.4): the command is answered; then idle applets catch up, and the next command goes out
 unfoldable pub responded : Outstanding → Reply → ToolkitState → Passed
 responded out reply state = before (answered out reply state) driven
 
@@ -199,7 +199,7 @@ registering row state =
       log = Committed rows ∷ [];
     }
 
--- INSTALL: the applet is registered, and then what came late and the next command have their turn
+-- INSTALL: the applet is registered and wakes; then idle applets catch up, and the next command goes out
 unfoldable pub installed : Registration → ToolkitState → Passed
 installed row state = before (registering row state) driven
 
@@ -216,7 +216,7 @@ unregistering shelf state =
       log = Committed rows ∷ [];
     }
 
--- DELETE: the applet is gone, and then what came late and the next command have their turn
+-- DELETE: the applet is registered no more and is gone; then idle applets catch up, and the next command goes out
 unfoldable pub delete_carried : ℕ → ToolkitState → Passed
 delete_carried shelf state = before (unregistering shelf state) driven
 

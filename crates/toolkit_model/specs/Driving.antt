@@ -81,7 +81,7 @@ caught_up (suc count) state = catching (caught_up count) state (first_idle (asks
 
 -- ---- what the card itself sends
 
--- the events that a handset can report (ETSI TS 102 223, 8.25), ascending
+-- the events of ETSI TS 102 223, 8.25, that this card asks a handset to report, ascending
 abbrev pub download_codes : List ℕ
 download_codes = MT_CALL ∷ CALL_CONNECTED ∷ CALL_DISCONNECTED ∷ LOCATION_STATUS ∷ USER_ACTIVITY ∷ IDLE_SCREEN ∷ LANGUAGE_SELECTION ∷ DATA_AVAILABLE ∷ CHANNEL_STATUS ∷ []
 
@@ -157,7 +157,7 @@ abbrev pub filled : Option Outstanding → List Registration → SessionState �
 filled (Some out) rows session = session
 filled None rows session = next_out (wanted session.profile rows session.announced) session
 
--- where no command is outstanding, the next one becomes it
+-- where no command is outstanding, the next one goes out
 unfoldable pub with_next_command : ToolkitState → ToolkitState
 with_next_command state = with_session state (filled state.session.out state.rows state.session)
 

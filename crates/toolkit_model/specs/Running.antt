@@ -81,11 +81,11 @@ pub record Carried : Type 0 where
 abbrev pub ends : Works → Carried
 ends works = record { works = works; is_committed = false; tells = None }
 
--- the run goes on with what the applet is told, and nothing was committed
+-- the applet is told this, and nothing was committed
 abbrev pub answers : Stimulus → Works → Carried
 answers stimulus works = record { works = works; is_committed = false; tells = Some stimulus }
 
--- these rows are committed, and the applet is told that it went
+-- these rows are committed, and the applet is told that its act was carried out
 abbrev pub commits : Works → List Registration → Carried
 commits works rows = record { works = record works { rows = rows }; is_committed = true; tells = Some Went }
 
@@ -95,13 +95,14 @@ changing works rows (Ok true) = commits works rows
 changing works rows (Ok false) = answers Went works
 changing works rows (Err fault) = answers Refused works
 
--- the timer is the applet's then, and it is told which one; without a free one it is refused
+-- this free timer is the applet's then, and it is told so; where none is free it is refused
 abbrev pub taking : ℕ → Works → Option ℕ → Carried
 taking shelf works (Some timer) = answers (Timer timer) (record works { timers = given_to (record { 0 = shelf }) works.timers (Some timer) })
 taking shelf works None = answers Refused works
 
--- What each act comes to. Done ends the run, and so does a command that is admitted. Bytes are kept if they are at most 32; a registration changes by
--- the rules of Registry; a free timer is given, and an own one given back; an answer to call control is taken. What may not be done is refused.
+-- What each act comes to. Done ends the run, and so does a command that is admitted. At most 32 bytes are kept; the codes of the row change as
+-- `registers` and `deregisters` say; the smallest free timer is given, and one of its own taken back; an answer to call control is just taken. What
+-- may not be done is refused.
 abbrev pub carried : Setting → Act → Works → Carried
 carried at Done works = ends works
 carried at (Send command) works = if is_admitted at works.timers command then ends works else answers Refused works
