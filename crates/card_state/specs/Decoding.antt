@@ -95,7 +95,7 @@ pin_in bytes = let pin = pin_of bytes in if pin.key == 0 then absent_pin else pi
 abbrev pub row_in : List ℕ → List ℕ → Row
 row_in bytes more = let row = row_of bytes more in if row.used then row else unused_row
 
--- an entry by its number
+-- the entry of the file of this number
 abbrev pub node_at : List ℕ → ℕ → Node
 node_at content number = node_in (node_bytes content number)
 

@@ -7,10 +7,11 @@ use Rattle.card_state.specs.declared.sizes.TheConstants.{PIN_WIDTH, ROW_STRIDE, 
 abbrev pub memory_size : ℕ
 memory_size = MEMORY_SIZE
 
--- the four bytes by which a card is known, then the version, the byte of the kind of store, and the next sequence number
+-- where the byte of the version stands: 4, behind the four bytes by which a card is known
 abbrev pub version_place : ℕ
 version_place = VERSION
 
+-- the version of the layout: 2 of a wide card, 1 of a narrow one
 abbrev pub version_of : Bool → ℕ
 version_of wide = if wide then WIDE_VERSION else NARROW_VERSION
 
@@ -38,7 +39,7 @@ kept_place shelf = KEPT_APART + KEPT_WIDTH * shelf
 abbrev pub node_place : ℕ → ℕ
 node_place number = NODES + NODE_WIDTH * number
 
--- the bytes of the files begin here, and end at or below the place that the version gives
+-- where the bytes of the files begin: 3,968
 abbrev pub data_place : ℕ
 data_place = DATA
 

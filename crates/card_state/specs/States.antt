@@ -101,7 +101,7 @@ present_pins pins = filter (λ pin. not (pin.key == 0)) pins
 unfoldable pub files_of : Loaded → List ℕ → List File
 files_of loaded content = map (λ entry. file_of content entry.0 entry.1) (used_nodes loaded.nodes)
 
--- its PINs in the order of their slots, and its rows by ascending shelves, which the bytes of the files don't bear on
+-- the PINs of a table in the order of their slots; the bytes of the files don't bear on them, nor on the rows
 unfoldable pub pins_of : Loaded → List Pin
 pins_of loaded = map pin_state (present_pins loaded.pins)
 

@@ -56,12 +56,14 @@ short_in_p2 apdu = if short_bits apdu == 0 then None else Some (short_bits apdu)
 abbrev pub is_cyclic : Descriptor → Bool
 is_cyclic file = file.kind == cyclic_kind
 
--- behind the last record of a cyclic file comes the first, before the first the last; a linear one ends there
+-- the record behind this one; without a record pointer it is the first. Behind the last of a cyclic file comes its first; behind that of a linear
+-- fixed one there is none.
 abbrev pub next_record : Descriptor → Option ℕ → Option ℕ
 next_record file None = Some 1
 next_record file (Some pointer) = if nat_lt pointer file.count then Some (pointer + 1) else (if is_cyclic file then Some 1 else None)
 
--- the record before this one; without a record pointer it is the last
+-- the record before this one; without a record pointer it is the last. Before the first of a cyclic file comes its last; before that of a linear
+-- fixed one there is none.
 abbrev pub previous_record : Descriptor → Option ℕ → Option ℕ
 previous_record file None = Some file.count
 previous_record file (Some pointer) = if nat_lt 1 pointer then Some (pointer - 1) else (if is_cyclic file then Some file.count else None)
