@@ -209,7 +209,8 @@ class Texts(Copy):
     def test_too_long_for_its_use(self):
         """A text that the definition comes to use where there is less room is told with the line."""
         new_kind.put_text(self.crates, "SAY", "far too long")
-        self.change("done mind)\n\nabbrev pub menu", "turn mind (Send (SelectItem SAY.now [])) 2)\n\nabbrev pub menu", "applet_trait", "specs", "Tables.antt")
+        self.change("GENERAL_BEEP)) 2\n    else done mind)", "GENERAL_BEEP)) 2\n    else turn mind (Send (SelectItem SAY.now [])) 2)",
+                    "applet_trait", "specs", "Tables.antt")
         (path, line, why), = kind_faults.findings(self.crates)
         self.assertEqual(why, "item_chosen: SAY has 12 letters, and the title of a list has room for 10")
         self.assertIn("SelectItem SAY.now", self.text_of("applet_trait", "specs", "Tables.antt").split("\n")[line - 1])

@@ -36,6 +36,7 @@ count_object count = required CHANNEL_DATA_LENGTH (in_a_byte count ∷ [])
 
 -- ---- results (8.12), and the objects behind them
 
+-- the command was performed, with these objects behind the result
 abbrev pub performed : List Object → List Object
 performed objects = result_object PERFORMED ∷ objects
 
@@ -47,6 +48,7 @@ protocol_error cause = required RESULT (PROTOCOL_ERROR ∷ cause ∷ []) ∷ []
 abbrev pub unable : List Object
 unable = required RESULT (UNABLE_TO_PROCESS ∷ 0x00 ∷ []) ∷ []
 
+-- the channel was opened: its status, the default bearer and the size of its buffer
 abbrev pub opened : ℕ → ℕ → List Object
 opened channel size =
     performed (status_object channel false ∷ required BEARER_DESCRIPTION (DEFAULT_BEARER ∷ []) ∷ required BUFFER_SIZE (to_be_bytes w16 size) ∷ [])
@@ -77,6 +79,7 @@ heading details = required COMMAND_DETAILS (details.number ∷ details.kind ∷ 
 abbrev pub response : Details → List Object → List ℕ
 response details reply = spellings (required COMMAND_DETAILS (details.number ∷ details.kind ∷ details.qualifier ∷ []) ∷ from_terminal ∷ reply)
 
+-- the envelope of an event: its code, the devices, and what is told of it
 abbrev pub event : ℕ → List Object → List ℕ
 event code objects = tagged EVENT_DOWNLOAD (spellings (required EVENT_LIST (code ∷ []) ∷ from_terminal ∷ objects))
 

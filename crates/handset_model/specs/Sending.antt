@@ -21,14 +21,17 @@ use Rattle.handset_model.specs.declared.commands.Reply.TheVariants.{Result, Type
 abbrev pub from : ℕ → Object
 from device = required DEVICE_IDENTITIES (device ∷ CARD ∷ [])
 
+-- a timer identifier (TS 102 223, 8.37)
 abbrev pub timer_object : ℕ → Object
 timer_object timer = required TIMER_IDENTIFIER (timer ∷ [])
 
 -- ---- terminal responses
 
+-- the result that the command was performed (00), and one object behind it
 abbrev pub performed : Object → List Object
 performed object = result_object PERFORMED ∷ object ∷ []
 
+-- the result (TS 102 223, 8.12) and what goes with it: a text, an item, a duration, a location, a timer
 abbrev pub reply_objects : Reply → List Object
 reply_objects (Result general) = result_object general ∷ []
 reply_objects (Typed text) = performed (text_string text)
@@ -57,6 +60,7 @@ packed (first ∷ second ∷ others) = (16 * (second % 16) + first % 16) ∷ pac
 abbrev pub INTERNATIONAL : ℕ
 INTERNATIONAL = 0x81
 
+-- the first objects of an event download (TS 102 223, 7.5): the event, and who tells it
 abbrev pub event : ℕ → ℕ → List Object
 event code device = required EVENT_LIST (code ∷ []) ∷ from device ∷ []
 
@@ -64,6 +68,7 @@ event code device = required EVENT_LIST (code ∷ []) ∷ from device ∷ []
 abbrev pub NORMAL_SERVICE : ℕ
 NORMAL_SERVICE = 0x00
 
+-- the tag of each envelope: menu selection, event download, call control, timer expiration
 abbrev pub template_of : Report → ℕ
 template_of (MenuSelection item) = MENU_SELECTION
 template_of UserActivity = EVENT_DOWNLOAD
@@ -72,6 +77,7 @@ template_of (Location place) = EVENT_DOWNLOAD
 template_of (CallControl digits) = CALL_CONTROL
 template_of (Expired timer value due) = TIMER_EXPIRATION
 
+-- the objects of each envelope (TS 102 223, 7)
 abbrev pub report_objects : Report → List Object
 report_objects (MenuSelection item) = from KEYPAD ∷ required ITEM_IDENTIFIER (item ∷ []) ∷ []
 report_objects UserActivity = event USER_ACTIVITY TERMINAL
@@ -81,6 +87,7 @@ report_objects (Location place) =
 report_objects (CallControl digits) = from TERMINAL ∷ required ADDRESS (INTERNATIONAL ∷ packed digits) ∷ []
 report_objects (Expired timer value due) = from TERMINAL ∷ timer_object timer ∷ timer_value value ∷ []
 
+-- the bytes of an envelope
 abbrev pub envelope : Report → List ℕ
 envelope report = tagged (template_of report) (spellings (report_objects report))
 
