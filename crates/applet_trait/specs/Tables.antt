@@ -14,7 +14,7 @@ use Rattle.applet_trait.specs.declared.numbers.TheConstants.{LAST_GOOD, MOST_KEP
 use Rattle.applet_trait.specs.declared.texts.TheConstants.{GREETING, CHOICE_TITLE, TEXT_ITEM, TONE_ITEM, TICK, LOST, MOVED, ACTIVE, IDLE, ASK_FOR_DIGITS, ASK_FOR_NOTE}
 use Rattle.applet_trait.specs.Minds.{AppletState, Turn, in_phase, turn, done, keeping}
 
--- the command was performed (TS 102 223, 8.12)
+-- the command was performed, and the user did not end it (a result 0X of TS 102 223, 8.12)
 abbrev pub is_good : ℕ → Bool
 is_good result = nat_le result LAST_GOOD
 

@@ -7,7 +7,7 @@ use Rattle.toolkit_commands.specs.declared.commands.Details.{Details}
 use Rattle.toolkit_commands.specs.declared.faults.ProactiveFault.{ProactiveFault}
 use Rattle.toolkit_commands.specs.Responses.{result_object}
 use Rattle.bip_channels.specs.declared.channels.TheConstants.{MOST_SIZE, MOST_OUTGOING}
-use Rattle.bip_channels.specs.declared.codes.TheConstants.{NONE_AVAILABLE, LINK_IS_DOWN, NOT_VALID, SIZE_NOT_AVAILABLE}
+use Rattle.bip_channels.specs.declared.codes.TheConstants.{NONE_AVAILABLE, CHANNEL_CLOSED, NOT_VALID, SIZE_NOT_AVAILABLE}
 use Rattle.bip_channels.specs.declared.commands.BipCommand.{BipCommand}
 use Rattle.bip_channels.specs.declared.commands.BipCommand.TheVariants.{OpenChannel, CloseChannel, ReceiveBytes, SendBytes, ChannelStatus}
 use Rattle.bip_channels.specs.Reading.{bip_of}
@@ -72,7 +72,7 @@ if_open work (Some channel) = still_open (work channel)
 -- a command for a channel whose link was dropped is an error of the protocol; any other is carried out
 abbrev pub unless_dropped : (BipChannel → Outcome BipChannel) → BipChannel → Outcome BipChannel
 unless_dropped work channel =
-    if channel.dropped then outcome channel (protocol_error LINK_IS_DOWN) else work channel
+    if channel.dropped then outcome channel (protocol_error CHANNEL_CLOSED) else work channel
 
 -- CLOSE CHANNEL: also of a channel whose link was dropped
 abbrev pub closing : Option BipChannel → Outcome (Option BipChannel)

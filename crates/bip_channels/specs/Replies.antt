@@ -13,7 +13,7 @@ use Rattle.toolkit_commands.specs.declared.faults.ProactiveFault.TheVariants.{Tl
 use Rattle.toolkit_commands.specs.declared.results.TheConstants.{PERFORMED, UNABLE_TO_PROCESS, TYPE_NOT_UNDERSTOOD, DATA_NOT_UNDERSTOOD, VALUES_MISSING}
 use Rattle.toolkit_commands.specs.declared.tags.TheConstants.{EVENT_DOWNLOAD, COMMAND_DETAILS, DEVICE_IDENTITIES, RESULT, EVENT_LIST}
 use Rattle.bip_channels.specs.Rules.{in_a_byte}
-use Rattle.bip_channels.specs.declared.codes.TheConstants.{BEARER_DESCRIPTION, CHANNEL_DATA, CHANNEL_DATA_LENGTH, CHANNEL_STATUS, BUFFER_SIZE, DEFAULT_BEARER, PARTLY_PERFORMED, PROTOCOL_ERROR, LINK_UP, NOTHING_MORE, LINK_DROPPED}
+use Rattle.bip_channels.specs.declared.codes.TheConstants.{BEARER_DESCRIPTION, CHANNEL_DATA, CHANNEL_DATA_LENGTH, CHANNEL_STATUS, BUFFER_SIZE, DEFAULT_BEARER, MISSING_INFORMATION, PROTOCOL_ERROR, LINK_UP, NOTHING_MORE, LINK_DROPPED}
 
 -- the terminal speaks to the card (8.7)
 abbrev pub from_terminal : Object
@@ -56,7 +56,7 @@ opened channel size =
 -- the bytes that were taken, fewer than were asked for or not, and how many are left
 abbrev pub taken_bytes : Bool → List ℕ → ℕ → List Object
 taken_bytes is_short bytes left =
-    result_object (if is_short then PARTLY_PERFORMED else PERFORMED) ∷ required CHANNEL_DATA bytes ∷ count_object left ∷ []
+    result_object (if is_short then MISSING_INFORMATION else PERFORMED) ∷ required CHANNEL_DATA bytes ∷ count_object left ∷ []
 
 -- the status of each open channel, or that there is none
 abbrev pub or_none : List Object → List Object

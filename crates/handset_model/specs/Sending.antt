@@ -56,9 +56,9 @@ packed [] = []
 packed (first ∷ []) = (16 * 0xF + first % 16) ∷ []
 packed (first ∷ second ∷ others) = (16 * (second % 16) + first % 16) ∷ packed others
 
--- an international number
-abbrev pub INTERNATIONAL : ℕ
-INTERNATIONAL = 0x81
+-- the type of number is unknown, and the numbering plan is that of ISDN and telephony (TS 102 223, 8.1)
+abbrev pub UNKNOWN_TYPE_ISDN : ℕ
+UNKNOWN_TYPE_ISDN = 0x81
 
 -- the first objects of an event download (TS 102 223, 7.5): the event, and who tells it
 abbrev pub event : ℕ → ℕ → List Object
@@ -84,7 +84,7 @@ report_objects UserActivity = event USER_ACTIVITY TERMINAL
 report_objects IdleScreen = event IDLE_SCREEN DISPLAY
 report_objects (Location place) =
     event LOCATION_EVENT TERMINAL ++ required LOCATION_STATUS (NORMAL_SERVICE ∷ []) ∷ required LOCATION_INFORMATION place ∷ []
-report_objects (CallControl digits) = from TERMINAL ∷ required ADDRESS (INTERNATIONAL ∷ packed digits) ∷ []
+report_objects (CallControl digits) = from TERMINAL ∷ required ADDRESS (UNKNOWN_TYPE_ISDN ∷ packed digits) ∷ []
 report_objects (Expired timer value due) = from TERMINAL ∷ timer_object timer ∷ timer_value value ∷ []
 
 -- the bytes of an envelope
