@@ -186,10 +186,10 @@ class Commands(unittest.TestCase):
         ("02E000000A62088202782183027F20", "CREATE FILE DF 7F20, channel 2"),
         ("00E000000162", "CREATE FILE of no file: the template is none"),
         ("00FF0000", "unknown instruction FF"),
-        ("00A4", "no command: the bytes have no short form"),
+        ("00A4", "no command: 2 bytes, and a command has at least 4"), ("00", "no command: 1 byte, and a command has at least 4"),
         ("00A400040300", "no command: Lc says 3, and 1 byte follows"),
         ("00A40004013F00FF", "no command: Lc says 1, and 3 bytes follow"),
-        ("00A40004003F00", "no command: the bytes have no short form"),
+        ("00A40004003F00", "no command: it has 00 in the place of Lc, as lengths of two bytes begin, which no card here takes"),
     ]
     # the data of an answer to FETCH, and the last lines of what it says
     PROACTIVE = [

@@ -598,10 +598,12 @@ class Card:
         return self._command(decode.ENVELOPE, 0, 0, as_bytes(content), toolkit=True)
 
     def pick(self, item: int) -> Answer:
-        """The user picks an entry of the card's menu: the shelf of its applet plus one. CardError, where the menu has no such entry; `envelope`
-        sends one all the same."""
+        """The user picks an entry of the card's menu: the shelf of its applet plus one. CardError, where the menu has no such entry, or wasn't told
+        yet; `envelope` sends one all the same."""
         if not isinstance(item, int) or not 0 <= item <= 0xFF:
             raise ValueError(f"an entry of the menu is picked by its number, of one byte, and not by {item!r}")
+        if self._toolkit.profile is None and not self._toolkit.doubt:
+            raise CardError("the card tells its menu once it knows the terminal: `profile()` comes first, and after each reset")
         entries = self._toolkit.menu()
         if not self._toolkit.doubt and item not in entries:
             listed = ", ".join(f"{number} ({text.decode('latin-1')})" for number, text in sorted(entries.items()))

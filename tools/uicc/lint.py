@@ -29,11 +29,12 @@ class Finding:
 @dataclasses.dataclass
 class Script:
     """What was made of a script: the card that the lines before `start` describe, the lines after it with their numbers, what
-    is wrong, and the lines as they stand."""
+    is wrong, and the lines as they stand; and the bytes of the image that it is to go on with, None where it describes its card."""
     card: layout.Card
     steps: list
     findings: list
     lines: list
+    image: bytes | None = None
 
     def first(self):
         """The first line that is bad or has no room, as the program would end at it; None where there is none."""
