@@ -441,6 +441,14 @@ def told(read):
     return decode_fields
 
 
+def decode_suci(content):
+    """Which schemes conceal the SUPI, the most wanted first, each with the key that it takes; and the keys by their identifiers."""
+    found = structured.concealing_of(content)
+    schemes = "; ".join(f"scheme {one['scheme']}" + (f" with key {one['key']} of the list" if one["key"] else "") for one in found["schemes"])
+    keys = "; ".join(f"{one['id']} is {one['key']}" for one in found["keys"])
+    return ", keys: ".join(part for part in (schemes, keys) if part) or None
+
+
 def in_words(value):
     if isinstance(value, dict):
         return ", ".join(f"{key} {in_words(each)}" for key, each in value.items())
@@ -460,7 +468,7 @@ DECODERS = {
     "epsloci": told(lambda content: structured.location_of(content, 12, 2)),
     "5gsloci": told(lambda content: structured.location_of(content, 13, 3)),
     "access-identities": told(structured.access_identities_of), "routing": told(structured.routing_of),
-    "suci": told(structured.concealing_of), "supi-nai": told(structured.identifiers_of), "uri": told(structured.uri_of),
+    "suci": decode_suci, "supi-nai": told(structured.identifiers_of), "uri": told(structured.uri_of),
     "uris": told(structured.uri_of), "servers": told(structured.server_of),
 }
 
