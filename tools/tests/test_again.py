@@ -18,8 +18,11 @@ TABLE = {
     "what is written again is the same": (ADM + "apdu 00D6820004AABBCCDD\n", 36, 0, ["ends as it would have, after 0 otherwise"]),
     "a folder that is there already isn't selected by making it again": (
         ADM + "apdu 00E000000A62088202782183027F10\napdu 00E0000011620F8202412183026F5080020004880128\n", 36, 15,
-        ["7F10/6F50", "run again, line 6 shows `< 6A89` and not `< 9000`"]),
-    "a cyclic file gets one more record": ("apdu 00DC002B020102\n", 5, 10, ["otherwise: 2F05", "after 1 of 1 lines: 5"]),
+        ["otherwise: 7F10/6F50 is missing; ", "run again, line 6 shows `< 6A89` and not `< 9000`"]),
+    "what lies in that folder is made in the MF": (
+        ADM + "apdu 00E000000A62088202782183027F10\napdu 00E0000011620F8202412183026F5080020004880130\n", 29, 22,
+        ["otherwise: 7F10/6F50 is missing, 3F00/6F50 is too much; run again, line 6 shows `< 6A89` and not `< 9000`"]),
+    "a cyclic file gets one more record": ("apdu 00DC002B020102\n", 5, 10, ["otherwise: 2F05 EF.PL differs", "after 1 of 1 lines: 5"]),
     "a reset": ("reset\n", 0, 0, ["0 writes"]),
 }
 
@@ -64,7 +67,7 @@ class Again(unittest.TestCase):
         _, same, otherwise, _ = TABLE["a folder that is there already isn't selected by making it again"]
         svg = self.path + ".svg"
         done = self.again(TABLE["a folder that is there already isn't selected by making it again"][0], "--picture", svg)
-        self.assertTrue(done.stdout.startswith("Each write is cut, torn and failing once; then the card is reset, and the whole script is run again"))
+        self.assertTrue(done.stdout.startswith("Each write is cut, torn and made to fail; then the card is reset, and the whole script is run again"))
         with open(svg, encoding="utf-8") as text:
             drawn = text.read()
         # beside that of the legend

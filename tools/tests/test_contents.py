@@ -20,7 +20,7 @@ class Contents(unittest.TestCase):
         ("dialling", "FF" * 28, None),
         ("acc", "0200", "class 9"),
         ("ad", "00000002", "normal operation, the network's code has 2 digits"),
-        ("ust", "0008140401", "12 short message parameters, 19 service provider name, 21 MSISDN, 27 GSM access, 33 to be set to 1"),
+        ("ust", "0008140401", "12 short message parameters, 19 service provider name, 21 MSISDN, 27 GSM access, 33 reserved, shall be set to 1"),
         ("sst", "0F03", "1 CHV1 disable function, 2 abbreviated dialling numbers, 5 advice of charge"),
         ("loci", "FFFFFFFE00F1100001FF00", "TMSI FFFFFFFE, 001-01 area 0001, updated"),
         ("languages", "656E6672FFFF", "en, fr"),

@@ -366,7 +366,7 @@ def decode_languages(content):
 def encode_languages(languages):
     wrong = next((word for word in languages if len(word) != 2 or not word.isalpha() or not word.isascii() or not word.islower()), None)
     if wrong is not None:
-        raise BadContent(f"a language is two small letters (ISO 639), as `de`, and not `{wrong}`")
+        raise BadContent(f"a language is two lower-case letters (ISO 639), as `de`, and not `{wrong}`")
     return "".join(languages).encode()
 
 

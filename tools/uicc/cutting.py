@@ -500,6 +500,14 @@ def changes(old, new):
     return [entry_name(key) for key in dict.fromkeys([*old, *new]) if old.get(key) != new.get(key)]
 
 
+def otherwise(old, new):
+    """What of a card is otherwise than it should be, in words."""
+    if old is None or new is None:
+        return changes(old, new)
+    return [f"{entry_name(key)} {'is missing' if key not in new else 'is too much' if key not in old else 'differs'}"
+            for key in dict.fromkeys([*old, *new]) if old.get(key) != new.get(key)]
+
+
 def entry_name(key):
     kind, which = key
     if kind == "pin":
