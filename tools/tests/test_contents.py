@@ -68,7 +68,7 @@ class Contents(unittest.TestCase):
                 (contents.encode_ad, {"network_digits": 3}, "00000003"),
                 (contents.encode_ust, [12, 19, 21, 27, 33], "0008140401"),
                 (contents.encode_sst, [1, 2, 5], "0F03"),
-                (contents.encode_loci, {"plmn": "001-01", "area": "0001", "status": "updated"}, "FFFFFFFF00F11000010000"),
+                (contents.encode_loci, {"plmn": "001-01", "area": "0001", "status": "updated"}, "FFFFFFFF00F1100001FF00"),
                 (contents.encode_languages, ["en", "fr"], "656E6672")):
             with self.subTest(given=given):
                 self.assertEqual(encode(given).hex().upper(), content)

@@ -347,7 +347,8 @@ def encode_loci(given):
     updated = next((n for n, name in UPDATES.items() if name == given.get("status", "not updated")), None)
     if updated is None:
         raise BadContent(f"`{given['status']}` is no status: {', '.join(UPDATES.values())}")
-    return exact_bytes(given.get("tmsi", "FFFFFFFF"), 4, "a TMSI") + encode_plmn(given["plmn"]) + area + b"\x00" + bytes((updated,))
+    # the byte before the status is reserved, and FF on a new card (3GPP TS 31.102, annex E)
+    return exact_bytes(given.get("tmsi", "FFFFFFFF"), 4, "a TMSI") + encode_plmn(given["plmn"]) + area + b"\xFF" + bytes((updated,))
 
 
 # others
