@@ -691,7 +691,7 @@ def _made(make, given):
 
 def _card_in(path, store):
     if not os.path.exists(path):
-        raise CardError(f"{path} isn't there: where a script or a profile is given too, it is made")
+        raise CardError(f"{path} isn't there: name a script or a profile too, and its card is put into it")
     with open(path, "rb") as content:
         held = content.read()
     try:
