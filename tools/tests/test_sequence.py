@@ -1149,6 +1149,14 @@ class Tool(unittest.TestCase):
         self.assertIn("\n(no details)  ", done.stdout)
         self.assertNotIn("type 00", done.stdout)
 
+    def test_beyond_the_profile(self):
+        """What the terminal's profile doesn't have is played where that is asked for, to see what is answered."""
+        with tempfile.TemporaryDirectory() as folder:
+            path = self.put(folder, "sequence one", "command POLLING OFF", "response result 31")
+            for words, verdict in (((), "0 passed, 0 failed, 0 inconclusive, 1 not supported"), (("--beyond",), "1 passed, 0 failed, 0 inconclusive, 0 not supported")):
+                with self.subTest(words=words):
+                    self.assertEqual(tool(path, *words).stdout.splitlines()[-1], f"1 sequence on the handset in Python: {verdict}")
+
     def test_the_protocol(self):
         with tempfile.TemporaryDirectory() as folder:
             done = tool(self.put(folder, *self.PASSES, *self.FAILS, *self.NOT_FOR_IT), "--tap")
