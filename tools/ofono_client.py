@@ -63,10 +63,10 @@ QUESTIONS = {
 
 def yes_or_no(value):
     """What a user says to a question that wants yes or no, in a word or as a truth."""
-    words = {"yes": True, "no": False}
-    if isinstance(value, str) and value not in words:
+    words = {"yes": True, "no": False, True: True, False: False}
+    if not isinstance(value, (str, bool)) or value not in words:
         raise ValueError(f"{value} is neither yes nor no")
-    return words[value] if isinstance(value, str) else bool(value)
+    return words[value]
 
 
 KINDS = {"s": str, "y": int, "b": yes_or_no}

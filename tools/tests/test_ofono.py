@@ -7,6 +7,7 @@ import sys
 import tempfile
 import types
 import unittest
+import unittest.mock
 
 from common import TOOLS, load
 from uicc import Card, NotBuilt, daemon, modemmanager, ofono, ofono_tries, process, sim
@@ -125,6 +126,14 @@ class Answers(unittest.TestCase):
         asked = "  asks: Pick: Milk, Bread\n"
         self.assertEqual(shown.getvalue(), f"  shows: Hello\n{asked}  there is no item 7: 0 is Milk, 1 is Bread; the session is ended\n{asked}")
         self.assertTrue(prompt.failed)
+
+    def test_lines_that_have_nothing_to_tell(self):
+        session = types.SimpleNamespace(heard=[], phone=types.SimpleNamespace(menu=[]), proactive=lambda: [], asked=lambda: [])
+        tool, shown = load("ofono"), io.StringIO()
+        with contextlib.redirect_stdout(shown), unittest.mock.patch.object(tool.ofono_tries, "restart"):
+            for line in ("events", "menu", "power"):
+                tool.Prompt(session, False).onecmd(line)
+        self.assertEqual(shown.getvalue(), "  (nothing since)\n  (the menu is empty)\n  off and on again\n")
 
 
 @unittest.skipIf(MISSING, f"oFono isn't here: {MISSING}")
@@ -251,6 +260,16 @@ class Tool(unittest.TestCase):
 
 @unittest.skipUnless(daemon.python_with_dbus(), "D-Bus for Python isn't here")
 class Bus(unittest.TestCase):
+    def test_yes_and_no(self):
+        """What is neither ends the session, as a number does that is no item; `no` isn't taken for a truth."""
+        code = (f"import sys; sys.path.insert(0, {TOOLS!r}); import ofono_client\n"
+                "print([ofono_client.yes_or_no(word) for word in ('yes', 'no', True, False)])\n"
+                "for word in ('maybe', None, 0):\n"
+                "    try:\n        print(ofono_client.yes_or_no(word))\n"
+                "    except ValueError as fault:\n        print(fault)\n")
+        done = subprocess.run([daemon.python_with_dbus(), "-B", "-c", code], capture_output=True, text=True, check=False)
+        self.assertEqual(done.stdout.splitlines(), ["[True, False, True, False]", *(f"{word} is neither yes nor no" for word in ("maybe", None, 0))], done.stderr)
+
     def test_a_bus_leaves_nothing_where_it_is_started(self):
         """Its folder is named from the root: a relative one is refused, and nothing is written."""
         with tempfile.TemporaryDirectory() as folder:
