@@ -122,7 +122,7 @@ class Again(unittest.TestCase):
         held = kept.Place(["play"], 0, HEAD.splitlines()).play([]).image
         image = self.path + ".img"
         for content, script, words, why in (
-                (held, HEAD + ADM, [], "line 1: `open` takes the card from the memory: no line before `start` describes one"),
+                (held, HEAD + ADM, [], f"describes a card before its `start`, and --image goes on with the one in {image}: give one of the two"),
                 (held[:-1], "start\n" + ADM, [], f"cuts: {image}: it is no image of a card"),
                 (held, "start\n" + ADM, ["--store", "pages"], f"cuts: {image}: it is an image of the other store"),
                 (held, "start\n" + ADM, ["--phone"], "not allowed with argument")):
