@@ -170,7 +170,13 @@ class Cards(unittest.TestCase):
     def test_a_menu_that_wasnt_told(self):
         """Before TERMINAL PROFILE, and after a reset, the terminal has no menu of which a user could pick."""
         with Card.from_text("row 1 1 00044D656E75\nstart\n") as card:
-            for prepare in (lambda: None, lambda: (card.profile(), card.reset())):
+            def lost():
+                card.profile()
+                card.cut(1)
+                with self.assertRaises(PowerLost):
+                    card.install(3, 1, "014000")
+                card.reset()
+            for prepare in (lambda: None, lambda: (card.profile(), card.reset()), lost):
                 prepare()
                 sent = len(card.trace)
                 with self.assertRaisesRegex(CardError, "tells its menu once it knows the terminal: `profile\\(\\)` comes first"):

@@ -10,6 +10,7 @@
 A command that isn't answered 9000, 91XX or a warning raises StatusError, which has the status word and what it says."""
 import contextlib
 import dataclasses
+import itertools
 import os
 
 from . import coding, contents, decode, described, fields, grammar, image, kept, kinds, layout, lint, names, process, profile, refusals, tlv
@@ -18,6 +19,8 @@ from .status import Status
 from .toolkit import MEMORY_PROBLEM, Toolkit, ToolkitNow
 
 PROFILE = bytes.fromhex("2900BF6171000013")
+# how a TERMINAL PROFILE begins in a trace
+PROFILE_SENT = "> 8010"
 WARNINGS = ("6282", "6283")
 # the bytes that a command asks for at most, and those that it carries
 MOST, MOST_DATA = 256, 255
@@ -602,13 +605,18 @@ class Card:
         yet; `envelope` sends one all the same."""
         if not isinstance(item, int) or not 0 <= item <= 0xFF:
             raise ValueError(f"an entry of the menu is picked by its number, of one byte, and not by {item!r}")
-        if self._toolkit.profile is None and not self._toolkit.doubt:
+        if not self._was_told_profile():
             raise CardError("the card tells its menu once it knows the terminal: `profile()` comes first, and after each reset")
         entries = self._toolkit.menu()
         if not self._toolkit.doubt and item not in entries:
             listed = ", ".join(f"{number} ({text.decode('latin-1')})" for number, text in sorted(entries.items()))
             raise CardError(f"the card's menu has no entry {item}: {listed or 'it is empty'}; an entry is the shelf of its applet plus one")
         return self.envelope(b"\xD3\x07\x82\x02\x01\x81" + tlv.written(0x10, bytes((item,))))
+
+    def _was_told_profile(self):
+        """Whether a TERMINAL PROFILE was sent to the card since it was switched on, or reset."""
+        since = itertools.takewhile(lambda line: line != process.RESET, reversed(self.trace))
+        return any(line.startswith(PROFILE_SENT) for line in since)
 
     def install(self, shelf: int, priority: int, content: bytes | str) -> Answer:
         """INSTALL: registers the applet of a shelf, with the data of its installation."""
