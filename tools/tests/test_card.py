@@ -169,12 +169,12 @@ class Cards(unittest.TestCase):
 
     def test_a_menu_that_wasnt_told(self):
         """Before TERMINAL PROFILE, and after a reset, the terminal has no menu of which a user could pick."""
-        with Card.from_text("row 1 1 00044D656E75\nstart\n") as card:
+        with Card.from_text("pin 0A 3838383838383838 on 3030303030303030\nrow 1 1 00044D656E75\nstart\n") as card:
             def lost():
                 card.profile()
                 card.cut(1)
                 with self.assertRaises(PowerLost):
-                    card.install(3, 1, "014000")
+                    card.verify("adm", "88888888")
                 card.reset()
             for prepare in (lambda: None, lambda: (card.profile(), card.reset()), lost):
                 prepare()

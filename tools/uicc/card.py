@@ -10,7 +10,6 @@
 A command that isn't answered 9000, 91XX or a warning raises StatusError, which has the status word and what it says."""
 import contextlib
 import dataclasses
-import itertools
 import os
 
 from . import coding, contents, decode, described, fields, grammar, image, kept, kinds, layout, lint, names, process, profile, refusals, tlv
@@ -19,8 +18,8 @@ from .status import Status
 from .toolkit import MEMORY_PROBLEM, Toolkit, ToolkitNow
 
 PROFILE = bytes.fromhex("2900BF6171000013")
-# how a TERMINAL PROFILE begins in a trace
-PROFILE_SENT = "> 8010"
+# how a TERMINAL PROFILE begins
+PROFILE_SENT = bytes((0x80, decode.PROFILE))
 WARNINGS = ("6282", "6283")
 # the bytes that a command asks for at most, and those that it carries
 MOST, MOST_DATA = 256, 255
@@ -205,7 +204,7 @@ class Card:
         self.trace, self.pending = [], None
         # faults that are told to the card right before the command that they are for, and those that the next command isn't for
         self._planned, self._spared = [], ()
-        self._fetched = None
+        self._fetched, self._is_profile_sent = None, False
         kinds.warn()
         self._follower, self._toolkit = Follower(self.holds), Toolkit(dict(self.holds.rows))
         try:
@@ -284,6 +283,7 @@ class Card:
         if not 1 <= len(command) <= process.LONGEST_COMMAND:
             raise ValueError(f"a command has 1 to {process.LONGEST_COMMAND} bytes, and not {len(command)}")
         self._arm()
+        self._is_profile_sent |= command.startswith(PROFILE_SENT)
         self.trace.append("> " + decode.hexed(command))
         answer = self._simulator.exchange(command, word)
         if answer is None:
@@ -605,18 +605,13 @@ class Card:
         yet; `envelope` sends one all the same."""
         if not isinstance(item, int) or not 0 <= item <= 0xFF:
             raise ValueError(f"an entry of the menu is picked by its number, of one byte, and not by {item!r}")
-        if not self._was_told_profile():
+        if not self._is_profile_sent:
             raise CardError("the card tells its menu once it knows the terminal: `profile()` comes first, and after each reset")
         entries = self._toolkit.menu()
         if not self._toolkit.doubt and item not in entries:
             listed = ", ".join(f"{number} ({text.decode('latin-1')})" for number, text in sorted(entries.items()))
             raise CardError(f"the card's menu has no entry {item}: {listed or 'it is empty'}; an entry is the shelf of its applet plus one")
         return self.envelope(b"\xD3\x07\x82\x02\x01\x81" + tlv.written(0x10, bytes((item,))))
-
-    def _was_told_profile(self):
-        """Whether a TERMINAL PROFILE was sent to the card since it was switched on, or reset."""
-        since = itertools.takewhile(lambda line: line != process.RESET, reversed(self.trace))
-        return any(line.startswith(PROFILE_SENT) for line in since)
 
     def install(self, shelf: int, priority: int, content: bytes | str) -> Answer:
         """INSTALL: registers the applet of a shelf, with the data of its installation."""
@@ -670,6 +665,7 @@ class Card:
         self._follower.reset()
         self._toolkit.reset()
         self.pending = self._fetched = None
+        self._is_profile_sent = False
         self._arm()
         self._has_power = self._simulator.reset()
         self.trace.append(process.RESET if self._has_power else process.CUT)
