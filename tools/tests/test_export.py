@@ -7,7 +7,7 @@ import unittest
 
 import fuzz_profile
 from common import in_process
-from uicc import access, batch, comparing, contents, fields, image, lint, listing, names, process, profile, profile_text, rights, stored, tree
+from uicc import access, batch, comparing, contents, fields, image, lint, listing, names, process, profile, profile_text, rights, rules, stored, tree
 
 EXAMPLES = os.path.join(process.TOP, "examples")
 
@@ -433,6 +433,18 @@ class Batch(unittest.TestCase):
         self.assertEqual(shown, [["scheme 1 with key 1 of the list, keys: 27 is 0102; 28 is CCDD"], ["scheme 1 with key 1 of the list, keys: 30 is 0304; 28 is CCDD"]])
         done = self.batch(f"iccid,EF_SUCI_Calc_Info:key\n{self.ONE},0102\n")
         self.assertIn("`key` isn't known: schemes, schemes.scheme, schemes.key, keys, keys.id, keys.key, suci, hex are", done.stderr)
+
+    def test_shapes_and_rules_in_columns(self):
+        """A key of the file's table that says no content: its size, and who may do what."""
+        self.put(self.card, 'like = "usim"\n["7F10/6F99"]\nhex = "01"\n')
+        for cells, why in (("20,pin1 or adm", None), ("20,pin7", "pin7"), ("many,adm", "size is text, and has to be a number"), ("0,adm", "size")):
+            with self.subTest(cells=cells):
+                done = self.batch(f"iccid,7F10/6F99:size,7F10/6F99:update\n{self.ONE},{cells}\n", "--force")
+                self.assertEqual(done.returncode, 2 if why else 0, done.stderr)
+                self.assertIn(why or "", done.stderr)
+        card = card_of(stored.read(os.path.join(self.folder, self.ONE + ".script")).decode(process.ENCODING))
+        file = card.files[("7F10", "6F99")]
+        self.assertEqual((file.size, rules.in_words(access.condition(card, file, "update"))), (20, "pin1 or adm"))
 
     def test_columns_that_are_passed_over(self):
         """An operator's list has columns that say nothing of a card here: those that are named, in any letters' case, and no others."""

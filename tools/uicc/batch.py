@@ -153,6 +153,8 @@ def field_of(file, key):
     if key in fields.KEYS:
         kind = fields.kind_for(key, entry)
         return Field(kind, (), kind.form, key)
+    if key in profile.OF_FILE:
+        return Field(None, (), profile.OF_FILE[key][0], key)
     if key in profile.CHANGES_OF_SERVICES:
         profile.numbers_of(key, [], (entry or {}).get("content"))
         return Field(None, (), fields.SERVICES, key)
